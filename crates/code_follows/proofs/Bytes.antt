@@ -12,13 +12,13 @@ use Rattle.lower_expr.specs.Values.{byte_in}
 use Rattle.paris_code.specs.declared.instr.Instr.{Instr}
 use Rattle.paris_code.specs.declared.instr.Instr.TheVariants as I
 use Rattle.paris_code.specs.Code as Machine
-use Rattle.paris_code.specs.Code.{CodeState, Goes, begun, given, with_register}
+use Rattle.paris_code.specs.Code.{CodeState, begun, given, with_register}
 use Rattle.source_meaning.specs.Expressions.{next_byte}
 use Rattle.source_meaning.specs.State as Source
 use Rattle.source_meaning.specs.State.{Outcome, State}
 use Rattle.source_meaning.specs.Values.{Scalar, Value}
 use Rattle.code_follows.specs.Agreement.{AreBytes, mark_of}
-use Rattle.code_follows.proofs.Following.{Follows, HasRegisters, IsScalar, Sim, fresh_lasts, held, register_is, register_kept, register_set, variable_kept}
+use Rattle.code_follows.proofs.Following.{Follows, HasRegisters, IsScalar, Sim, arrives_fresh, held, register_is, register_kept, register_set, variable_kept}
 use Rattle.code_follows.proofs.Settings.{At, Reaches, Setting, Within, and_one, at_next, begins_here, ends_now, layout, one, placed_instr, regs_more}
 use Rattle.code_follows.proofs.Stores.{IsPut, below_free, sim_begun}
 use Rattle.code_follows.proofs.Values.{Does, Value_of, and_register, with_reg}
@@ -96,23 +96,10 @@ module _ (g : Setting) (has : HasRegisters g) (alive : Variable → Type 0) wher
       let instr : Instr = I.FrontGetByte d.regs in
       let regs = regs_more g instr (with_reg d) in
       let inside : d.regs < length s.registers = omega (arith, regs, within.regs, sim.registers) in
-      record {
-        extended = (0 + 1, extended d (with_reg d) (with_instr instr (with_reg d)) 0 1 (and_register d) (and_one g instr (with_reg d)));
-        t = with_register d.regs w (reading rest s);
-        go = go;
-        at = at_next g instr (with_reg d) s (s.at + 1) here refl;
-        sim = register_set g alive v (reading rest s) d.regs w has free later;
-        keeps = register_kept g d s d.regs w has free (omega arith) (omega (arith, regs, within.own));
-        holds = record {
-          register = d.regs;
-          word = w;
-          is = refl;
-          value = refl;
-          small = below_bits elem.bits w wide few;
-          lasts = λ u t after stays same.
-              fresh_lasts g alive (with_instr instr (with_reg d)) v (with_register d.regs w (reading rest s)) d.regs w (held elem w) free (omega (arith, regs)) (register_is g s d.regs w inside ∙ sym (held_wide elem w wide few)) u t after stays;
-        };
-      })
+      arrives_fresh g alive elem quiet d (with_instr instr (with_reg d)) s (with_register d.regs w (reading rest s)) v d.regs w
+      (0 + 1, extended d (with_reg d) (with_instr instr (with_reg d)) 0 1 (and_register d) (and_one g instr (with_reg d))) go (at_next g instr (with_reg d) s (s.at + 1) here refl)
+      (register_set g alive v (reading rest s) d.regs w has free later) (register_kept g d s d.regs w has free (omega arith) (omega (arith, regs, within.own)))
+      free (omega (arith, regs)) (below_bits elem.bits w wide few) (register_is g s d.regs w inside ∙ sym (held_wide elem w wide few)))
 
   -- the byte in a variable
   module _ (x : Variable) (info : VarInfo) (living : alive x) (scalar : IsScalar g x info) where

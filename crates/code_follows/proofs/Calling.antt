@@ -3,7 +3,6 @@ use Rattle.std.proofs.Common.{◌≡◌, ◌∙◌, ℕ, zero, suc, ◌+◌, ◌
 use Rattle.std.specs.List.{slice_index_or}
 use Rattle.std.proofs.lemmas.List.{get_or-set_other}
 use Rattle.std.proofs.lemmas.Option.{slice_get_cases}
-use Rattle.std.proofs.Math.ListN.{length-set}
 use Rattle.cstar_tree.specs.declared.typed.Instance.{Instance}
 use Rattle.cstar_tree.specs.declared.typed.VarInfo.{VarInfo}
 use Rattle.cstar_tree.specs.declared.typed.Variable.{Variable}
@@ -22,7 +21,7 @@ use Rattle.source_meaning.specs.State as Source
 use Rattle.source_meaning.specs.State.{Outcome, State, spend_turn}
 use Rattle.source_meaning.specs.Values.{Active, Scope, Value}
 use Rattle.code_follows.proofs.Callees.{AreGiven, Callee, CallsFollow, ComesBack, Enters, MayCall, RunsBody, Shared}
-use Rattle.code_follows.proofs.Following.{Follows, HasNumber, HasRegisters, IsKept, IsScalar, Keeps, Sim, at_once, finishes_later, held}
+use Rattle.code_follows.proofs.Following.{Follows, HasNumber, HasRegisters, IsKept, IsScalar, Keeps, Sim, apart_set, at_once, finishes_later, held}
 use Rattle.code_follows.proofs.Jumping.{behind_turn, sim_spent, spends, stops}
 use Rattle.code_follows.proofs.Settings.{At, Reaches, Setting, Within, and_one, at_next, begins_here, earlier, layout, one, onto, regs_more}
 
@@ -50,18 +49,8 @@ module _ (g : Setting) (has : HasRegisters g) (alive : Variable → Type 0) (fil
 
     -- a register of what is called takes a number
     pub sim_passed : (st : State) (s : CodeState) (r w : ℕ) → c.touches r → Sim g alive st s → Sim g alive st (with_register r w s)
-    sim_passed st s r w touched h = record {
-      registers = length-set s.registers r w ∙ h.registers;
-      scalars = λ x info known scalar. get_or-set_other s.registers r (register_of (layout g) x) w 0 (λ e. c.apart_variable r touched x info scalar.0 (sym e)) ∙ h.scalars x info known scalar;
-      small = h.small;
-      constants = λ word q is. get_or-set_other s.registers r q w 0 (λ e. c.apart_constant word q is (subst (λ (n : ℕ). c.touches n) (sym e) touched)) ∙ h.constants word q is;
-      turns = h.turns;
-      output = h.output;
-      input = h.input;
-      bytes = h.bytes;
-      returns = h.returns;
-      few = h.few;
-    }
+    sim_passed st s r w touched h =
+        apart_set g alive st s r w (λ x info scalar e. c.apart_variable r touched x info scalar.0 (sym e)) (λ word q is e. c.apart_constant word q is (subst (λ (n : ℕ). c.touches n) (sym e) touched)) h
 
     pub keeps_passed : (d : Draft) (s : CodeState) (r w : ℕ) → c.touches r → d.regs ≤ g.ends → Keeps g d s (with_register r w s)
     unfolding IsKept

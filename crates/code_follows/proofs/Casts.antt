@@ -18,7 +18,7 @@ use Rattle.source_meaning.specs.State as Source
 use Rattle.source_meaning.specs.State.{Outcome, State, then_do}
 use Rattle.source_meaning.specs.Values.{Scalar, Value, at as value_at, cast_through, cast_type}
 use Rattle.code_follows.proofs.Fresh.{IsFresh, made_so}
-use Rattle.code_follows.proofs.Following.{Arrives, Extends, Follows, HasRegisters, fresh_lasts, held, keeps_all, then_follows}
+use Rattle.code_follows.proofs.Following.{Arrives, Extends, Follows, HasRegisters, arrives_fresh, held, keeps_all, then_follows}
 use Rattle.code_follows.proofs.Numbers.{rounded_is}
 use Rattle.code_follows.proofs.Settings.{Setting, Within, and_one, earlier, stay}
 use Rattle.code_follows.proofs.Values.{Does, HasWord, Value_of, extends_in_register, mapped_is, takes_word}
@@ -67,23 +67,8 @@ module _ (g : Setting) (has : HasRegisters g) (alive : Variable → Type 0) wher
         (subst (λ (o : Out). Follows g (Value_of g has alive ty.elem quiet d s) s (Source.Gives (Scalar number) u) (behind_operand o e)) (sym arr.holds.is) (λ within.
         let h : HasWord g has alive (held (cast_type kinds from) number) d (casts_put kinds r e) s u r = casts_run kinds from w d e r s u arr.holds.small free is_fresh.0 is_fresh.1
         (record { grown = arr.extended; t = arr.t; go = arr.go; at = arr.at; sim = arr.sim; keeps = arr.keeps; is = arr.holds.lasts u arr.t arr.sim (keeps_all g e arr.t) (λ calm. refl) }) within in
-        record {
-          extended = h.grown;
-          t = h.t;
-          go = h.go;
-          at = h.at;
-          sim = h.sim;
-          keeps = h.keeps;
-          holds = record {
-            register = r;
-            word = number;
-            is = refl;
-            value = refl;
-            small = subst (λ (elem : Elem). number < 2 ^ elem.bits) (sym same) (through_below kinds from w arr.holds.small);
-            lasts = λ v t later stays still.
-                fresh_lasts g alive (casts_put kinds r e) u h.t r number (held ty.elem number) (omega (arith, free, is_fresh.0)) (omega (arith, is_fresh.1, longer)) (h.is ∙ ap (λ (elem : Elem). held elem number) (sym same)) v t later stays;
-          };
-        }))
+        arrives_fresh g alive ty.elem quiet d (casts_put kinds r e) s h.t u r number h.grown h.go h.at h.sim h.keeps (omega (arith, free, is_fresh.0)) (omega (arith, is_fresh.1, longer))
+        (subst (λ (elem : Elem). number < 2 ^ elem.bits) (sym same) (through_below kinds from w arr.holds.small)) (h.is ∙ ap (λ (elem : Elem). held elem number) (sym same))))
 
     pub casts_follow : (code : Code) (part : State → Outcome Value) → ((d : Draft) → IsFresh d (code d)) → Does g has alive from false part code
         → Does g has alive ty.elem quiet (λ st. then_do (part st) (λ v after. Source.Gives (mapped ty (λ w. cast_through kinds from w) v) after)) (λ d. then_make (code d) (λ v after. behind_operand v after))

@@ -15,10 +15,10 @@ use Rattle.lower_base.specs.Constants.{constant_register, first_free}
 use Rattle.lower_base.specs.Drafts.{Draft, Fails, Made, Makes, then_make}
 use Rattle.lower_base.specs.Layouts.{register_of, result_register}
 use Rattle.paris_code.specs.Code as Machine
-use Rattle.paris_code.specs.Code.{CodeEnd, CodeState, Goes, begun, onward, step, with_register}
+use Rattle.paris_code.specs.Code.{CodeState, with_register}
 use Rattle.source_meaning.specs.Reductions.{int_type}
 use Rattle.source_meaning.specs.State as Source
-use Rattle.source_meaning.specs.State.{Early, Outcome, State, is_same, then_do, with_scalar}
+use Rattle.source_meaning.specs.State.{Early, Outcome, State, then_do}
 use Rattle.source_meaning.specs.Values.{Scalar, Value}
 use Rattle.code_follows.specs.Agreement.{AreBytes, end_of, mark_of}
 use Rattle.code_follows.proofs.ConstantRegisters.{below_values}
@@ -173,14 +173,14 @@ module _ (g : Setting) where
     pub keeps : Keeps d s t
     pub holds : Holds alive elem quiet e st t out v
 
-  -- a register that holds no variable and no constant takes a number
-  pub register_set : (alive : Variable → Type 0) (st : State) (s : CodeState) (r v : ℕ) → HasRegisters g → g.begins ≤ r → Sim alive st s → Sim alive st (with_register r v s)
-  unfolding first_free
-  register_set alive st s r v has low h = record {
+  -- a register that is no variable's and no constant's takes a number
+  pub apart_set : (alive : Variable → Type 0) (st : State) (s : CodeState) (r v : ℕ) → ((x : Variable) (info : VarInfo) → IsScalar x info → register_of (layout g) x ≡ r → ⊥)
+      → ((word q : ℕ) → constant_register (layout g) word ≡ Some q → q ≡ r → ⊥) → Sim alive st s → Sim alive st (with_register r v s)
+  apart_set alive st s r v variables constants h = record {
     registers = length-set s.registers r v ∙ h.registers;
-    scalars = λ x info known scalar. get_or-set_other s.registers r (register_of (layout g) x) v 0 (λ e. let b = has.below x info scalar.0 in let free = has.free in omega (arith, e, b, free, low)) ∙ h.scalars x info known scalar;
+    scalars = λ x info known scalar. get_or-set_other s.registers r (register_of (layout g) x) v 0 (λ e. variables x info scalar e) ∙ h.scalars x info known scalar;
     small = h.small;
-    constants = λ word q is. get_or-set_other s.registers r q v 0 (λ e. let b = below_values (layout g) word q is in let free = has.free in omega (arith, e, b, free, low)) ∙ h.constants word q is;
+    constants = λ word q is. get_or-set_other s.registers r q v 0 (λ e. constants word q is e) ∙ h.constants word q is;
     turns = h.turns;
     output = h.output;
     input = h.input;
@@ -188,6 +188,13 @@ module _ (g : Setting) where
     returns = h.returns;
     few = h.few;
   }
+
+  -- a register of values is one
+  pub register_set : (alive : Variable → Type 0) (st : State) (s : CodeState) (r v : ℕ) → HasRegisters g → g.begins ≤ r → Sim alive st s → Sim alive st (with_register r v s)
+  unfolding first_free
+  register_set alive st s r v has low h =
+      apart_set alive st s r v (λ x info scalar e. let b = has.below x info scalar.0 in let free = has.free in omega (arith, e, b, free, low))
+      (λ word q is e. let b = below_values (layout g) word q is in let free = has.free in omega (arith, e, b, free, low)) h
 
   pub register_kept : (d : Draft) (s : CodeState) (r v : ℕ) → HasRegisters g → g.begins ≤ d.regs → d.regs ≤ r → r < g.ends → Keeps d s (with_register r v s)
   unfolding IsKept first_free
@@ -216,10 +223,23 @@ module _ (g : Setting) where
   pub keeps_all : (d : Draft) (s : CodeState) → Keeps d s s
   keeps_all d s r kept = refl
 
-  -- a register of a value
-  pub fresh_lasts : (alive : Variable → Type 0) (e : Draft) (st : State) (s : CodeState) (r w v : ℕ) → g.begins ≤ r → r < e.regs → slice_index s.registers r ≡ v → (u : State) (t : CodeState) → Sim alive u t → Keeps e s t → slice_index t.registers r ≡ v
+  -- a register of values that was taken for a number holds it as a value
+  pub holds_fresh : (alive : Variable → Type 0) (elem : Elem) (quiet : Bool) (e : Draft) (st : State) (t : CodeState) (r w : ℕ) → g.begins ≤ r → r < e.regs → w < 2 ^ elem.bits → slice_index t.registers r ≡ held elem w → Holds alive elem quiet e st t (O.Scalar r) (Scalar w)
   unfolding IsKept
-  fresh_lasts alive e st s r w v low below is u t sim keeps = keeps r (inl (low, below)) ∙ is
+  holds_fresh alive elem quiet e st t r w low below small is = record { register = r; word = w; is = refl; value = refl; small = small; lasts = λ u later held_so stays same. stays r (inl (low, below)) ∙ is }
+
+  -- so it has arrived there
+  pub arrives_fresh : (alive : Variable → Type 0) (elem : Elem) (quiet : Bool) (d e : Draft) (s t : CodeState) (st : State) (r w : ℕ) → ((n : ℕ) × Extended d n e) → Reaches g s t → At g t (length e.code) → Sim alive st t → Keeps d s t
+      → g.begins ≤ r → r < e.regs → w < 2 ^ elem.bits → slice_index t.registers r ≡ held elem w → Arrives alive elem quiet d s (Scalar w) st (O.Scalar r) e
+  arrives_fresh alive elem quiet d e s t st r w grown go at sim keeps low below small is = record {
+    extended = grown;
+    t = t;
+    go = go;
+    at = at;
+    sim = sim;
+    keeps = keeps;
+    holds = holds_fresh alive elem quiet e st t r w low below small is;
+  }
 
   -- a part, and what is made of its value
   pub then_gives : {A B C : Type 0} (R : A → State → B → Draft → Type 0) (Q : C → State → B → Draft → Type 0) (s : CodeState) (o : Outcome A) (f : A → C) (made : Made B) → Follows R s o made → ((x : A) (st : State) (y : B) (e : Draft) → R x st y e → Q (f x) st y e)

@@ -21,7 +21,7 @@ use Rattle.source_meaning.specs.State.{Outcome, State, then_do}
 use Rattle.source_meaning.specs.Values.{Active, Scalar, Value, at, each, nonzero, number}
 use Rattle.code_follows.specs.Fragment.{IsWord}
 use Rattle.code_follows.proofs.Branching.{IsMadeWord, decided_goes, decides, jump_long, jump_more, tested, then_from}
-use Rattle.code_follows.proofs.Following.{Arrives, Extends, Follows, HasRegisters, Keeps, Sim, delayed, fresh_lasts, held, keeps_all, keeps_on, value_kept}
+use Rattle.code_follows.proofs.Following.{Arrives, Extends, Follows, HasRegisters, Keeps, Sim, delayed, arrives_fresh, keeps_all, keeps_on, value_kept}
 use Rattle.code_follows.proofs.Jumping.{moved_to, sim_moved}
 use Rattle.code_follows.proofs.Settings.{At, Reaches, Setting, Within, and_one, earlier, onto, regs_more, start, stay}
 use Rattle.code_follows.proofs.Values.{Does, HasWord, Value_of, and_register, takes_word, with_reg}
@@ -133,22 +133,8 @@ module _ (g : Setting) (has : HasRegisters g) (alive : Variable → Type 0) (is_
     landed b t u go place held_so keeps is =
         let few : from_bool b < 2 ^ 32 = from_bool_below b in
         let regs = opened_done.regs in
-        record {
-          extended = (_, extended d opened done (0 + 1) _ to_opened opened_done);
-          t = t;
-          go = go;
-          at = place;
-          sim = held_so;
-          keeps = keeps;
-          holds = record {
-            register = d.regs;
-            word = from_bool b;
-            is = refl;
-            value = refl;
-            small = below_bits ty.elem.bits (from_bool b) word.1 few;
-            lasts = λ v later h stays same. fresh_lasts g alive done u t d.regs (from_bool b) (held ty.elem (from_bool b)) free (omega (arith, inside, regs)) (is ∙ sym (held_wide ty.elem (from_bool b) word.1 few)) v later h stays;
-          };
-        }
+        arrives_fresh g alive ty.elem quiet d done s t u d.regs (from_bool b) (_, extended d opened done (0 + 1) _ to_opened opened_done) go place held_so keeps free (omega (arith, inside, regs))
+        (below_bits ty.elem.bits (from_bool b) word.1 few) (is ∙ sym (held_wide ty.elem (from_bool b) word.1 few))
 
     -- from behind an operand that decides
     leaps : (x : ℕ) (e : Draft) (z : Bool) (t : CodeState) (u : State) → decides is_or z ≡ true → Within g (jump_if_decided is_or x target e) → At g t (length e.code) → Sim g alive u t → Reaches g s t → Keeps g d s t → slice_index t.registers d.regs ≡ from_bool is_or → nonzero (slice_index t.registers x) ≡ z

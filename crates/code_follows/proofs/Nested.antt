@@ -44,7 +44,7 @@ use Rattle.source_meaning.specs.Targets.{OfScalar, assigned, step_value, stepped
 use Rattle.source_meaning.specs.Values.{Active, Scalar, Scope, Value, at as value_at, number}
 use Rattle.code_follows.specs.Fragment.{IsGiven, IsWord, Takes}
 use Rattle.code_follows.proofs.Changing.{no_place, only_set, operated_set_is, scalar_type, set_is, stepped_is, stepping}
-use Rattle.code_follows.proofs.Following.{Arrives, Extends, Follows, HasRegisters, IsKept, IsScalar, Keeps, Sim, delayed, extends_then, finishes_later, fresh_lasts, held, keeps_all, keeps_on, register_is, register_kept, register_set, then_follows, then_on, keeps_less, value_kept}
+use Rattle.code_follows.proofs.Following.{Arrives, Extends, Follows, HasRegisters, IsKept, IsScalar, Keeps, Sim, delayed, extends_then, finishes_later, holds_fresh, held, keeps_all, keeps_on, register_is, register_kept, register_set, then_follows, then_on, keeps_less, value_kept}
 use Rattle.code_follows.proofs.Fresh.{IsClear, IsFresh, fresh_register, fresh_then, made_so}
 use Rattle.code_follows.proofs.Settings.{At, Reaches, Setting, Within, and_one, at_next, begins_here, earlier, layout, one, onto, regs_more, stay}
 use Rattle.code_follows.proofs.Stores.{IsPut, variable_dest}
@@ -270,15 +270,9 @@ module _ (g : Setting) (has : HasRegisters g) (alive : Variable → Type 0) (x :
         at = p.at;
         sim = p.sim;
         keeps = p.keeps;
-        holds = record {
-          register = res;
-          word = shown c.word;
-          is = refl;
-          value = refl;
-          small = small c.word;
-          lasts = λ v2 t2 later stays same. fresh_lasts g alive (in_place r e) u p.t res (shown c.word) (held info.elem (shown c.word)) (omega (arith, free, low_res)) (omega (arith, high_res, more)) (shows p.t c.word p.there p.others) v2 t2 later stays;
-        };
-      }) r (converted info.elem at_type c.word) p.there (converted_below info.elem at_type c.word) free within)))
+        holds = holds_fresh g alive info.elem false (in_place r e) u p.t res (shown c.word) (omega (arith, free, low_res)) (omega (arith, high_res, more)) (small c.word) (shows p.t c.word p.there p.others);
+      })
+      r (converted info.elem at_type c.word) p.there (converted_below info.elem at_type c.word) free within)))
 
   -- the old value of the variable in a register that is taken
   record Loaded (d e : Draft) (s : CodeState) (u : State) (r old : ℕ) : Type 0 where

@@ -1,7 +1,6 @@
 -- `return`, and the end of a function.
 use Rattle.std.proofs.Common.{◌≡◌, ◌∙◌, ℕ, ◌+◌, ◌<◌, ◌≤◌, ◌^◌, Bool, true, false, length, slice_index, [], Option, Some, None, refl, sym, ap, subst, if◌then◌else◌, arith}
 use Rattle.std.proofs.lemmas.List.{get_or-set_other, get_or-set_same}
-use Rattle.std.proofs.Math.ListN.{length-set}
 use Rattle.std.specs.Prelude.{IfSome}
 use Rattle.cstar_base.specs.declared.elem.Elem.{Elem}
 use Rattle.cstar_tree.specs.declared.typed.TExpr.{TExpr}
@@ -16,7 +15,7 @@ use Rattle.code_lengths.proofs.Drafting.{extended}
 use Rattle.lower_base.specs.declared.emit.Out.{Out}
 use Rattle.lower_base.specs.declared.emit.Out.TheVariants as O
 use Rattle.lower_base.specs.Drafts.{Draft, Fails, Made, Makes, in_register, step as step_of, then_make, with_instr}
-use Rattle.lower_base.specs.Layouts.{register_of, result_register}
+use Rattle.lower_base.specs.Layouts.{result_register}
 use Rattle.lower_expr.specs.Steps.{put_value}
 use Rattle.lower_expr.specs.Values.{next_of}
 use Rattle.lower_stmt.specs.declared.statement.Frame.{Frame}
@@ -38,7 +37,7 @@ use Rattle.code_follows.proofs.ConstantRegisters.{behind_variables}
 use Rattle.code_follows.proofs.Executing.{IsGiven, Leaves, Left, Returns}
 use Rattle.code_follows.proofs.Expressions.{operand}
 use Rattle.code_follows.proofs.Callees.{CallsFollow}
-use Rattle.code_follows.proofs.Following.{Extends, Follows, HasRegisters, Keeps, Ran, Sim, delayed, finished, held, keeps_all, result_kept, spared_kept}
+use Rattle.code_follows.proofs.Following.{Extends, Follows, HasRegisters, Keeps, Ran, Sim, apart_set, delayed, finished, held, keeps_all, result_kept, spared_kept}
 use Rattle.code_follows.proofs.Jumping.{nothing_restored}
 use Rattle.code_follows.proofs.Settings.{At, Reaches, Setting, Within, and_one, at_next, begins_here, earlier, layout, one, onto, stay}
 use Rattle.code_follows.proofs.Statements.{StandsIn}
@@ -92,18 +91,9 @@ module _ (g : Setting) (has : HasRegisters g) (alive : Variable → Type 0) (fil
 
   -- a number in the register of the result is that of no variable and no constant
   result_set : (st : State) (s : CodeState) (v : ℕ) → Sim g alive st s → Sim g alive st (with_register (result_register (layout g)) v s)
-  result_set st s v h = record {
-    registers = length-set s.registers (result_register (layout g)) v ∙ h.registers;
-    scalars = λ x info known scalar. get_or-set_other s.registers (result_register (layout g)) (register_of (layout g) x) v 0 (λ e. has.result_apart x info scalar.0 e) ∙ h.scalars x info known scalar;
-    small = h.small;
-    constants = λ word q is. get_or-set_other s.registers (result_register (layout g)) q v 0 (λ e. let a = behind_variables (layout g) word q is in let b = has.result in omega (arith, e, a, b)) ∙ h.constants word q is;
-    turns = h.turns;
-    output = h.output;
-    input = h.input;
-    bytes = h.bytes;
-    returns = h.returns;
-    few = h.few;
-  }
+  result_set st s v h =
+      apart_set g alive st s (result_register (layout g)) v (λ x info scalar e. has.result_apart x info scalar.0 e)
+      (λ word q is e. let a = behind_variables (layout g) word q is in let b = has.result in omega (arith, e, a, b)) h
 
   given_so : (elem : Elem) → ((info : VarInfo) → g.instance.result ≡ Some info → Takes info.elem elem) → (f : Frame) (d : Draft) (s0 : CodeState) (w : ℕ) (u : State) (given : Outcome) (n r : ℕ) (e : Draft) (t : CodeState) → (given ≡ R.Parallel → ⊥) → (given ≡ R.Nothing → g.instance.result ≡ None) → Reaches g s0 t → Keeps g d s0 t → At g t (length e.code) → Sim g alive u t
       → w < 2 ^ elem.bits → slice_index t.registers r ≡ held elem w → Follows g (Left g alive f d s0) s0 (Source.Gives (Returned (Some (Scalar w))) u) (stored_then_leaves given n (O.Scalar r) e)

@@ -31,7 +31,6 @@ pub record Setting : Type 1 where
   pub unit : CodeUnit
   pub is_unit : IsUnit before number unit
   pub instance : Instance
-  pub is_instance : slice_get typed.instances.items number ≡ Some instance
   -- whether it is `main`, the registers of its own values, those that its code leaves as they are until it
   -- returns, where the calls that are open go on, and how many turns are left at most, and
   -- which functions may be called

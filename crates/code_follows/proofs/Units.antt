@@ -381,7 +381,6 @@ module _ (t : Typed) (image : Image) (p : HasScalarInstances t) (codable : IsCod
     unit = (own_unit number i is).placed;
     is_unit = (own_unit number i is).is_unit;
     instance = i;
-    is_instance = is;
     is_main = number == 0;
     begins = begins number;
     ends = ends number;

@@ -49,7 +49,7 @@ use Rattle.source_meaning.specs.State.{Outcome, State, then_do}
 use Rattle.source_meaning.specs.Targets.{read, variable_target}
 use Rattle.source_meaning.specs.Values.{Active, Scalar, Scope, Value, at, convert_to, each, failing, unary_of, unless}
 use Rattle.code_follows.specs.Fragment.{IsWord}
-use Rattle.code_follows.proofs.Following.{Arrives, Extends, Follows, HasRegisters, IsScalar, Keeps, Sim, extends_then, finishes_later, fresh_lasts, held, keeps_all, keeps_on, knowing, register_is, register_kept, register_set, then_follows, keeps_less}
+use Rattle.code_follows.proofs.Following.{Arrives, Extends, Follows, HasRegisters, IsScalar, Keeps, Sim, extends_then, finishes_later, arrives_fresh, held, keeps_all, keeps_on, knowing, register_is, register_kept, register_set, then_follows, keeps_less}
 use Rattle.code_follows.proofs.Operators.{by_machine, machine_below, machine_same, minus_same, wide_signed}
 use Rattle.code_follows.proofs.Settings.{At, Reaches, Setting, Within, and_one, at_next, begins_here, earlier, ends_now, layout, one, onto, placed_instr, regs_more, stay}
 use Rattle.code_follows.proofs.Words.{below_bits, below_word, held_wide}
@@ -104,22 +104,7 @@ module _ (g : Setting) (has : HasRegisters g) (alive : Variable → Type 0) wher
   sets_register elem quiet d e n i s0 s st r w free go here sim grows keeps within plain does low high small =
       let h : HasWord (held elem w) d (with_instr i e) s0 st r = takes_word (held elem w) d e n i s0 s st r free go here sim grows keeps within plain does low high in
       let regs = regs_more g i e in
-      record {
-        extended = h.grown;
-        t = h.t;
-        go = h.go;
-        at = h.at;
-        sim = h.sim;
-        keeps = h.keeps;
-        holds = record {
-          register = r;
-          word = w;
-          is = refl;
-          value = refl;
-          small = small;
-          lasts = λ u v later stays same. fresh_lasts g alive (with_instr i e) st h.t r w (held elem w) (omega (arith, free, low)) (omega (arith, high, regs)) h.is u v later stays;
-        };
-      }
+      arrives_fresh g alive elem quiet d (with_instr i e) s0 h.t st r w h.grown h.go h.at h.sim h.keeps (omega (arith, free, low)) (omega (arith, high, regs)) small h.is
 
   -- A register that the last instruction of a value writes: behind this draft and from this state on, an
   -- instruction that puts a number of a type there has this said of it.
