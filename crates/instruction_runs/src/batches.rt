@@ -14,7 +14,7 @@ use paris_code::{Field, Instr};
 use std::alloc::Global;
 
 /// At most how many instructions a batch holds.
-pub const MOST: usize = 64;
+pub const MOST: usize = 128;
 
 /// Instructions of one set, in the order in which they are to be done, and room for all that a
 /// batch holds.
