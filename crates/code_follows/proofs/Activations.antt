@@ -1,19 +1,22 @@
 -- A function that runs: its setting, the registers that it spares, and what it knows of those that it calls.
-use Rattle.std.proofs.Common.{◌≡◌, ℕ, ◌+◌, ◌<◌, ◌≤◌, ◌⊎◌, inl, inr, List, length, slice_get, Some, sym, ap, subst, arith}
-use Rattle.std.specs.List.{All}
-use Rattle.std.proofs.lemmas.Option.{slice_get_within}
+use Rattle.std.proofs.Common.{◌≡◌, ◌∙◌, ℕ, ◌+◌, ◌<◌, ◌≤◌, ◌⊎◌, inl, inr, List, length, slice_get, Some, sym, ap, subst, arith}
+use Rattle.std.specs.List.{All, Contains}
+use Rattle.std.specs.Option.{option_map}
+use Rattle.std.proofs.lemmas.Option.{slice_get-get_or, slice_get-map, slice_get_within}
 use Rattle.cstar_compile.specs.Compiled.{IsCompiled}
 use Rattle.cstar_tree.specs.declared.typed.Instance.{Instance}
 use Rattle.cstar_tree.specs.declared.typed.Typed.{Typed}
 use Rattle.cstar_tree.specs.declared.typed.VarInfo.{VarInfo}
 use Rattle.cstar_tree.specs.declared.typed.Variable.{Variable}
 use Rattle.cstar_tree.specs.declared.typed.Variable.TheVariants as V
+use Rattle.cstar_tree.specs.Headers.{Leads, calls_it, is_it}
+use Rattle.cstar_tree.specs.TypedParts.{calls_within}
 use Rattle.code_lengths.specs.Naming.{variable_named}
 use Rattle.code_lengths.specs.Ready.{IsCodable}
 use Rattle.lower_base.specs.Constants.{constant_register, first_free}
 use Rattle.lower_base.specs.Layouts.{layout_of, register_of}
 use Rattle.paris_code.specs.declared.program.Image.{Image}
-use Rattle.code_follows.specs.Fragment.{IsScalarVariable, IsPlainVariable, IsScalarProgram, may_of}
+use Rattle.code_follows.specs.Fragment.{IsScalarVariable, IsPlainVariable, IsScalarProgram, called_in, may_of}
 use Rattle.code_follows.proofs.Callees.{Callee}
 use Rattle.code_follows.proofs.ConstantRegisters.{behind_variables, below_values}
 use Rattle.code_follows.proofs.Following.{HasRegisters}
@@ -50,7 +53,7 @@ module _ (t : Typed) (image : Image) (p : IsScalarProgram t) (codable : IsCodabl
     pub by : ℕ
     pub instance : Instance
     pub is : slice_get t.instances.items by ≡ Some instance
-    pub lesser : p.rank by ≤ p.rank number
+    pub leads : Leads (called_in t) number by
     pub of : IsOf by instance r
 
   -- and what it leaves as it is
@@ -58,11 +61,11 @@ module _ (t : Typed) (image : Image) (p : IsScalarProgram t) (codable : IsCodabl
   Spares number r = (length t.vars.items ≤ r) × (Touches number r → ⊥)
 
   pub touched : (number : ℕ) (i : Instance) (r : ℕ) → slice_get t.instances.items number ≡ Some i → IsOf number i r → Touches number r
-  touched number i r is of = record { by = number; instance = i; is = is; lesser = omega arith; of = of }
+  touched number i r is of = record { by = number; instance = i; is = is; leads = is_it; of = of }
 
   -- an instance in a run, with the calls that are open and the turns that are left at most
   abbrev pub activation : (number : ℕ) (i : Instance) → slice_get t.instances.items number ≡ Some i → List ℕ → ℕ → Setting
-  activation number i is returns most = setting t image scalars codable compiled number i is (λ r. Spares number r) returns most (may_of t p.rank number i)
+  activation number i is returns most = setting t image scalars codable compiled number i is (λ r. Spares number r) returns most (may_of t i)
 
   -- a value stands behind all variables and constants
   behind_all : (number k r : ℕ) → first_of k ≤ r → first_free (layout_of t words number) ≤ r
@@ -85,7 +88,7 @@ module _ (t : Typed) (image : Image) (p : IsScalarProgram t) (codable : IsCodabl
 
   pub registers_there : (number : ℕ) (i : Instance) (is : slice_get t.instances.items number ≡ Some i) (returns : List ℕ) (most : ℕ) → HasRegisters (activation number i is returns most)
   registers_there number i is returns most =
-      has_registers t image scalars codable compiled number i is (λ r. Spares number r) returns most (may_of t p.rank number i) variables (λ r spared low high. spared.1 (touched number i r is (inr (low, high))))
+      has_registers t image scalars codable compiled number i is (λ r. Spares number r) returns most (may_of t i) variables (λ r spared low high. spared.1 (touched number i r is (inr (low, high))))
       (λ spared. spared.1 (touched number i _ is (inl (result_own t scalars words number i is))))
     where
       variables : (r : ℕ) → Spares number r → (x : Variable) (info : VarInfo) → variable_named t i x ≡ Some info → r ≡ register_of (layout_of t words number) x → ⊥
@@ -95,19 +98,24 @@ module _ (t : Typed) (image : Image) (p : IsScalarProgram t) (codable : IsCodabl
           by (inl file) = let behind = spared.0 in omega (arith, file, behind, e)
           by (inr own) = spared.1 (touched number i r is (inl (subst (λ (q : ℕ). IsOwn t scalars words number i q) (sym e) own)))
 
-  -- ---- what a caller knows of a function of a lesser rank
+  -- ---- what a caller knows of a function that its body calls
 
-  module _ (me : ℕ) (a : Instance) (is_me : slice_get t.instances.items me ≡ Some a) (returns : List ℕ) (most : ℕ) (number : ℕ) (b : Instance) (is : slice_get t.instances.items number ≡ Some b) (lesser : p.rank number < p.rank me) where
-    -- what it touches is not the caller's
+  module _ (me : ℕ) (a : Instance) (is_me : slice_get t.instances.items me ≡ Some a) (returns : List ℕ) (most : ℕ) (number : ℕ) (b : Instance) (is : slice_get t.instances.items number ≡ Some b) (called : Contains (calls_within a.body) number) where
+    -- the call among those of the program
+    calls_mine : slice_get (called_in t) me ≡ Some (calls_within a.body)
+    calls_mine = slice_get-map (λ (i : Instance). calls_within i.body) t.instances.items me ∙ ap (option_map (λ (i : Instance). calls_within i.body)) is_me
+
+    call_there : slice_get (calls_within a.body) called.0 ≡ Some number
+    call_there = slice_get-get_or (calls_within a.body) called.0 number called.1 ∙ ap Some called.2
+
+    -- what it touches is not the caller's, since it does not lead back to that
     pub not_mine : (r : ℕ) → Touches number r → IsOf me a r → ⊥
     not_mine r h mine =
         let same : h.by ≡ me = of_one h.by me h.instance a r h.is is_me h.of mine in
-        let rank : p.rank h.by ≡ p.rank me = ap p.rank same in
-        let less = h.lesser in
-        omega (arith, rank, less, lesser)
+        p.no_cycle me number called.0 (calls_within a.body) calls_mine call_there (subst (λ (k : ℕ). Leads (called_in t) number k) same h.leads)
 
     pub mine_too : (r : ℕ) → Touches number r → Touches me r
-    mine_too r h = let less = h.lesser in record { by = h.by; instance = h.instance; is = h.is; lesser = omega (arith, less, lesser); of = h.of }
+    mine_too r h = record { by = h.by; instance = h.instance; is = h.is; leads = calls_it called.0 calls_mine call_there h.leads; of = h.of }
 
     -- it stands behind the variables of the file
     pub touched_behind : (r : ℕ) → Touches number r → length t.vars.items ≤ r

@@ -1,7 +1,7 @@
 -- The code of assignments to scalar variables, and of steps.
 use Rattle.std.specs.List.{All}
 use Rattle.std.proofs.Common.{◌≡◌, ◌∙◌, ℕ, ◌+◌, ◌<◌, ◌≤◌, ◌^◌, ◌&&◌, Bool, true, not, inl, length-append, Vec, Global, length, slice_index, Option, Some, None, refl, sym, ap, subst, if◌then◌else◌, arith}
-use Rattle.std.specs.Prelude.{IfSome}
+use Rattle.std.specs.Prelude.{IfSome, is_none, ◌||◌, ◌==◌}
 use Rattle.cstar_base.specs.declared.elem.Elem.{Elem}
 use Rattle.cstar_base.specs.declared.operators.Op.{Op}
 use Rattle.cstar_base.specs.declared.operators.Place.{Place}
@@ -23,7 +23,7 @@ use Rattle.code_lengths.specs.Growth.{Extended, Grows}
 use Rattle.code_lengths.specs.Lowerable.{Calls, IsLowerable}
 use Rattle.code_lengths.proofs.Drafting.{extended, fresh_grows}
 use Rattle.cstar_tree.specs.Typed.{type_of}
-use Rattle.code_lengths.specs.Naming.{HasVariable, plain}
+use Rattle.code_lengths.specs.Naming.{HasVariable, NamesVariables, plain}
 use Rattle.cstar_tree.specs.StatementTypes.{variable_info}
 use Rattle.code_lengths.specs.Ready.{HasCode, HaveCode, IsReady}
 use Rattle.lower_base.specs.declared.emit.Out.{Out}
@@ -34,7 +34,7 @@ use Rattle.lower_base.specs.Layouts.{register_of}
 use Rattle.lower_base.specs.Operators.{assign_op_of, is_signed, machine_of, operation_of}
 use Rattle.lower_expr.specs.declared.operands.Own.{Own}
 use Rattle.lower_expr.specs.Effects.{assignment_effect, effect_of, folds, put_to, register_operated, step_effect, variable_assigned, variable_operated, variable_stepped, with_settled, writes_itself, written_register}
-use Rattle.lower_expr.specs.Operands.{are_quiet, own_of, standing}
+use Rattle.lower_expr.specs.Operands.{are_quiet, standing}
 use Rattle.lower_expr.specs.Steps.{assigned_signed, is_kept, on_registers, operated as operated_in, with_register_check}
 use Rattle.lower_expr.specs.Values.{Code, call_to, next_of, step_operation, value_of, values_of}
 use Rattle.paris_code.specs.declared.instr.Instr.TheVariants as I
@@ -43,20 +43,22 @@ use Rattle.source_meaning.specs.Expressions.{evaluated}
 use Rattle.source_meaning.specs.Reductions.{promoted, working_type}
 use Rattle.source_meaning.specs.State as Source
 use Rattle.source_meaning.specs.State.{Outcome, State, then_do, with_scalar}
-use Rattle.source_meaning.specs.Targets.{OfScalar, assigned, stepped, variable_target, step_value}
+use Rattle.source_meaning.specs.Targets.{OfScalar, assigned, stepped, step_value}
 use Rattle.source_meaning.specs.Values.{Active, Scalar, Scope, Value, number}
-use Rattle.code_follows.specs.Fragment.{AreIn, IsEffect, IsIn, IsVariable, IsGiven, IsWord, Takes, elems_of, naming}
-use Rattle.code_follows.proofs.Changing.{no_place, only_set, operated_set_is, plain_type, scalar_type, set_is, stepped_is, stepping}
+use Rattle.source_meaning.proofs.ConstantLaws.{Boxed}
+use Rattle.code_follows.specs.Fragment.{AreIn, IsEffect, IsIn, IsGiven, IsWord, Takes, elems_of, naming}
+use Rattle.code_follows.proofs.Changing.{no_place, only_set, operated_set_is, scalar_type, set_is, stepped_is, stepping}
 use Rattle.code_follows.proofs.CallValues.{call_code}
-use Rattle.code_follows.proofs.Expressions.{arguments_do, assign_names, brackets_code, operand, step_names, target_named, value_follows}
+use Rattle.code_follows.proofs.Expressions.{arguments_do, assign_names, brackets_code, operand, step_names, value_follows}
 use Rattle.code_follows.proofs.Printing.{printf_code, printf_follows}
 use Rattle.code_follows.proofs.Arguments.{AreDone}
 use Rattle.code_follows.proofs.Callees.{CallsFollow, MayCall, TakesThese}
 use Rattle.code_follows.proofs.Passing.{call_follows, call_runs}
-use Rattle.code_follows.proofs.Following.{Arrives, Extends, Follows, HasRegisters, IsScalar, Ran, Sim, follows_other, keeps_all, keeps_less, then_follows, then_gives, then_silent}
+use Rattle.code_follows.proofs.Following.{Arrives, Extends, Follows, HasRegisters, IsScalar, Ran, Sim, follows_other, follows_same, keeps_all, keeps_less, then_follows, then_gives, then_silent}
 use Rattle.code_follows.proofs.Putting.{Put, put_follows}
 use Rattle.code_follows.proofs.Settings.{At, Setting, layout, stay}
 use Rattle.code_follows.proofs.Standing.{some_same}
+use Rattle.code_follows.proofs.Targets.{TargetIs, assign_means, step_means, target_type, variable_in}
 use Rattle.code_follows.proofs.Values.{fresh_dest, with_reg, Value_of, HasWord, extends_in_register, word_follows}
 use Rattle.code_follows.proofs.Words.{below_word, held_wide, kept, scalar_of}
 use Rattle.code_follows.proofs.Numbers.{takes_fits, takes_same}
@@ -160,46 +162,82 @@ module _ (g : Setting) (has : HasRegisters g) (alive : Variable → Type 0) (n :
   abbrev pub Runs : (State → Outcome Value) → (Draft → Made Out) → Type 0
   Runs part code = (d : Draft) (s : CodeState) (st : State) → g.begins ≤ d.regs → At g s (length d.code) → Sim g alive st s → Follows g (λ v u out e. Ran g alive d s u e) s (part st) (code d)
 
-  -- the variable, where it is written so
+  -- the target, where it is written so
   abbrev chosen : Variable → Bool → Option Own
   chosen x b = if b then Some (record { shape = None; variable = x }) else None
 
-  -- an assignment to a scalar variable writes it itself
-  writes_it : (elem : Elem) (x : Variable) (op : AssignOp) (place : Place) (value : TExpr) (whole : Code) (d : Draft) → is_kept value ≡ true
-      → assignment_effect g.typed (layout g) op place (T.Variable (scalar_type elem) x) value whole d ≡ variable_assigned g.typed (layout g) op place (T.Variable (scalar_type elem) x) value (O.Scalar (register_of (layout g) x)) d
-  unfolding assignment_effect own_of writes_itself folds standing then_make
-  writes_it elem x op place value whole d is =
-      ap (λ (k : Bool). elim (chosen x (not (true && not k) && (elim (assign_op_of op) as (λ _. Bool) [ None ↦ true | Some o ↦ true ]))) as (λ _. Made Out) [
-        | Some own ↦ then_make (standing g.typed (layout g) elem.bits own d) (λ dest after. variable_assigned g.typed (layout g) op place (T.Variable (scalar_type elem) x) value dest after)
-        | None ↦ whole d
-      ]) is ∙ by (assign_op_of op)
-    where
-      by : (m : Option Op) → (elim (chosen x (not (true && not true) && (elim m as (λ _. Bool) [ None ↦ true | Some o ↦ true ]))) as (λ _. Made Out) [
-        | Some own ↦ then_make (standing g.typed (layout g) elem.bits own d) (λ dest after. variable_assigned g.typed (layout g) op place (T.Variable (scalar_type elem) x) value dest after)
-        | None ↦ whole d
-      ]) ≡ variable_assigned g.typed (layout g) op place (T.Variable (scalar_type elem) x) value (O.Scalar (register_of (layout g) x)) d
-      by None = refl
-      by (Some o) = refl
+  module _ (target : TExpr) (v : TargetIs g alive n target) where
+    abbrev target_register : ℕ
+    target_register = register_of (layout g) v.variable
 
-  steps_it : (elem : Elem) (x : Variable) (op : StepOp) (whole : Code) (d : Draft) → step_effect g.typed (layout g) op (T.Variable (scalar_type elem) x) whole d ≡ variable_stepped (layout g) elem op (O.Scalar (register_of (layout g) x)) d
-  unfolding step_effect own_of standing then_make
-  steps_it elem x op whole d = refl
+    -- an assignment to a scalar variable writes it itself, and so does a step
+    writes_it : (op : AssignOp) (place : Place) (value : TExpr) (whole : Code) (d : Draft) → is_kept value ≡ true → assignment_effect g.typed (layout g) op place target value whole d ≡ variable_assigned g.typed (layout g) op place target value (O.Scalar target_register) d
+    unfolding assignment_effect writes_itself folds standing then_make
+    writes_it op place value whole d is =
+        ap (λ (o : Option Own). written (elim o as (λ _. Option Own) [ Some own ↦ if writes_itself own op (type_of target).elem value then Some own else None | None ↦ None ])) (v.own 1)
+        ∙ ap (λ (k : Bool). written (chosen v.variable (not (true && not k) && (elim (assign_op_of op) as (λ _. Bool) [ None ↦ true | Some o ↦ true ])))) is ∙ by (assign_op_of op)
+      where
+        written : Option Own → Made Out
+        written o = elim o as (λ _. Made Out) [
+          | Some own ↦ then_make (standing g.typed (layout g) (type_of target).elem.bits own d) (λ dest after. variable_assigned g.typed (layout g) op place target value dest after)
+          | None ↦ whole d
+        ]
 
-  assigns : (elem : Elem) (place : Place) (op : AssignOp) (x : Variable) (value : TExpr) (whole : Code) → HasVariable g.typed g.instance n x (plain (scalar_type elem)) → alive x → IsGiven op (scalar_type elem) (type_of value) → (IsIn (naming g.may alive)) value → HasCode g.typed g.instance n value
-      → Runs (λ st. then_do (evaluated scope value active st) (λ v after. assigned scope active place op (scalar_type elem) (type_of value) (OfScalar x) v after)) (λ d. assignment_effect g.typed (layout g) op place (T.Variable (scalar_type elem) x) value whole d)
-  unfolding variable_operated
-  assigns elem place op x value whole v living given isin c d s st free here sim =
-      subst (λ (made : Made Out). Follows g (λ v u out e. Ran g alive d s u e) s (then_do (evaluated scope value active st) (λ v after. assigned scope active place op (scalar_type elem) (type_of value) (OfScalar x) v after)) made)
-      (sym (writes_it elem x op place value whole d (kept (naming g.may alive) value isin))) (by op given (assign_op_of op) refl)
-    where
-      info : VarInfo
-      info = variable_info v.word (plain (scalar_type elem)) v.start
+        by : (m : Option Op) → written (chosen v.variable (not (true && not true) && (elim m as (λ _. Bool) [ None ↦ true | Some o ↦ true ]))) ≡ variable_assigned g.typed (layout g) op place target value (O.Scalar target_register) d
+        by None = refl
+        by (Some o) = refl
 
-      by : (op : AssignOp) → IsGiven op (scalar_type elem) (type_of value) → (m : Option Op) → assign_op_of op ≡ m → Follows g (λ v u out e. Ran g alive d s u e) s (then_do (evaluated scope value active st) (λ v after. assigned scope active place op (scalar_type elem) (type_of value) (OfScalar x) v after))
-          (elim m as (λ _. Made Out) [ None ↦ put_to g.typed (layout g) (O.Scalar (register_of (layout g) x)) value d | Some o ↦ variable_operated g.typed (layout g) o place (T.Variable (scalar_type elem) x) value (O.Scalar (register_of (layout g) x)) d ])
-      by op its (Some o) is = operated_set_follows g has alive n files ready scope active calls_follow x info living (v.named, refl) place op o value (given_word op o (scalar_type elem) (type_of value) is its) isin c is d s st free here sim
-      by op its None is = subst (λ (q : AssignOp). Follows g (λ v u out e. Ran g alive d s u e) s (then_do (evaluated scope value active st) (λ v after. assigned scope active place q (scalar_type elem) (type_of value) (OfScalar x) v after)) (put_to g.typed (layout g) (O.Scalar (register_of (layout g) x)) value d))
-          (sym (only_set op is)) (set_follows g has alive n files ready scope active calls_follow x info living (v.named, refl) place (scalar_type elem) value refl (given_set op (scalar_type elem) (type_of value) is its) isin c d s st free here sim)
+    steps_it : (op : StepOp) (whole : Code) (d : Draft) → step_effect g.typed (layout g) op target whole d ≡ variable_stepped (layout g) (type_of target).elem op (O.Scalar target_register) d
+    unfolding step_effect standing then_make
+    steps_it op whole d = ap (λ (o : Option Own). written (elim o as (λ _. Option Own) [ Some own ↦ if is_none own.shape || not ((type_of target).elem.bits == 1) then Some own else None | None ↦ None ])) (v.own 1)
+      where
+        written : Option Own → Made Out
+        written o = elim o as (λ _. Made Out) [
+          | Some own ↦ then_make (standing g.typed (layout g) (type_of target).elem.bits own d) (λ dest after. variable_stepped (layout g) (type_of target).elem op dest after)
+          | None ↦ whole d
+        ]
+
+    -- what the register of the variable takes
+    assigns : (place : Place) (op : AssignOp) (value : TExpr) → NamesVariables g.typed g.instance n target → IsGiven op (type_of target) (type_of value) → (IsIn (naming g.may alive)) value → HasCode g.typed g.instance n value
+        → Runs (λ st. then_do (evaluated scope value active st) (λ u after. assigned scope active place op (scalar_type (type_of target).elem) (type_of value) (OfScalar v.variable) u after)) (λ d. variable_assigned g.typed (layout g) op place target value (O.Scalar target_register) d)
+    unfolding variable_operated
+    assigns place op value names given isin c d s st free here sim = by op its (assign_op_of op) refl
+      where
+        w : HasVariable g.typed g.instance n v.variable (plain (type_of target))
+        w = v.named names
+
+        info : VarInfo
+        info = variable_info w.word (plain (type_of target)) w.start
+
+        its : IsGiven op (scalar_type (type_of target).elem) (type_of value)
+        its = subst (λ (t : ValueType). IsGiven op t (type_of value)) (target_type g alive n target v) given
+
+        by : (op : AssignOp) → IsGiven op (scalar_type (type_of target).elem) (type_of value) → (m : Option Op) → assign_op_of op ≡ m
+            → Follows g (λ v u out e. Ran g alive d s u e) s (then_do (evaluated scope value active st) (λ u after. assigned scope active place op (scalar_type (type_of target).elem) (type_of value) (OfScalar v.variable) u after))
+            (elim m as (λ _. Made Out) [ None ↦ put_to g.typed (layout g) (O.Scalar target_register) value d | Some o ↦ variable_operated g.typed (layout g) o place target value (O.Scalar target_register) d ])
+        by op its (Some o) is =
+            operated_set_follows g has alive n files ready scope active calls_follow v.variable info v.living (w.named, v.scalar) place op o value (given_word op o (scalar_type (type_of target).elem) (type_of value) is its) isin c is d s st free here sim
+        by op its None is =
+            subst (λ (q : AssignOp). Follows g (λ v u out e. Ran g alive d s u e) s (then_do (evaluated scope value active st) (λ u after. assigned scope active place q (scalar_type (type_of target).elem) (type_of value) (OfScalar v.variable) u after)) (put_to g.typed (layout g) (O.Scalar target_register) value d))
+            (sym (only_set op is)) (set_follows g has alive n files ready scope active calls_follow v.variable info v.living (w.named, v.scalar) place (scalar_type (type_of target).elem) value refl (given_set op (scalar_type (type_of target).elem) (type_of value) is its) isin c d s st free here sim)
+
+    -- what both do as they stand in the tree
+    assign_runs : (ty : ValueType) (place : Place) (op : AssignOp) (p q : Boxed) (value : TExpr) → NamesVariables g.typed g.instance n target → ty ≡ type_of target → IsGiven op (type_of target) (type_of value) → (IsIn (naming g.may alive)) value → HasCode g.typed g.instance n value
+        → Runs (λ st. evaluated scope (T.Assign' ty place op p target q value) active st) (λ d. effect_of g.typed (layout g) (T.Assign' ty place op p target q value) d)
+    unfolding effect_of
+    assign_runs ty place op p q value names same given isin c d s st free here sim =
+        let whole : Code = λ e. value_of g.typed (layout g) ty.elem.bits (T.Assign' ty place op p target q value) e in
+        follows_same g (λ v u out e. Ran g alive d s u e) s (assign_means g alive n target v ty place op p q value same scope active st) (writes_it op place value whole d (kept (naming g.may alive) value isin))
+        (assigns place op value names given isin c d s st free here sim)
+
+    step_runs : (ty : ValueType) (op : StepOp) (order : StepOrder) (p : Boxed) → NamesVariables g.typed g.instance n target → ty ≡ type_of target
+        → Runs (λ st. evaluated scope (T.Step' ty op order p target) active st) (λ d. effect_of g.typed (layout g) (T.Step' ty op order p target) d)
+    unfolding effect_of
+    step_runs ty op order p names same d s st free here sim =
+        let w = v.named names in
+        let whole : Code = λ e. value_of g.typed (layout g) ty.elem.bits (T.Step' ty op order p target) e in
+        follows_same g (λ v u out e. Ran g alive d s u e) s (step_means g alive n target v ty op order p same scope active st) (steps_it op whole d)
+        (stepped_follows g has alive n files ready scope active calls_follow v.variable (variable_info w.word (plain (type_of target)) w.start) v.living (w.named, v.scalar) no_place op order d s st free here sim)
 
   -- an expression without effects
   pure_follows : (e : TExpr) → (IsIn (naming g.may alive)) e → HasCode g.typed g.instance n e → Runs (λ st. evaluated scope e active st) (λ d. value_of g.typed (layout g) (type_of e).elem.bits e d)
@@ -212,23 +250,6 @@ module _ (g : Setting) (has : HasRegisters g) (alive : Variable → Type 0) (n :
       nothing_done : (o : Outcome Value) → then_do o (λ v after. Source.Gives v after) ≡ o
       nothing_done (Source.Gives v u) = refl
       nothing_done (Source.Ends early u) = refl
-
-  assign_runs : (tty : ValueType) (place : Place) (op : AssignOp) (x : Variable) (value : TExpr) (whole : Code) → (tty.shape ≡ None) × alive x → HasVariable g.typed g.instance n x (plain tty) → IsGiven op tty (type_of value) → (IsIn (naming g.may alive)) value → HasCode g.typed g.instance n value
-      → Runs (λ st. then_do (Source.Gives (variable_target tty.shape x 0) st) (λ there between. then_do (evaluated scope value active between) (λ v after. assigned scope active place op tty (type_of value) there v after)))
-      (λ d. assignment_effect g.typed (layout g) op place (T.Variable tty x) value whole d)
-  unfolding then_do variable_target
-  assign_runs tty place op x value whole named_so v given isin c =
-      subst (λ (t : ValueType). HasVariable g.typed g.instance n x (plain t) → IsGiven op t (type_of value) → Runs (λ st. then_do (Source.Gives (variable_target t.shape x 0) st) (λ there between. then_do (evaluated scope value active between) (λ v after. assigned scope active place op t (type_of value) there v after)))
-      (λ d. assignment_effect g.typed (layout g) op place (T.Variable t x) value whole d)) (sym (plain_type tty named_so.0)) (λ w its. assigns tty.elem place op x value whole w named_so.1 its isin c) v given
-
-  step_runs : (tty : ValueType) (op : StepOp) (order : StepOrder) (x : Variable) (whole : Code) → (tty.shape ≡ None) × alive x → HasVariable g.typed g.instance n x (plain tty)
-      → Runs (λ st. then_do (Source.Gives (variable_target tty.shape x 0) st) (λ there after. stepped scope active op order tty there after)) (λ d. step_effect g.typed (layout g) op (T.Variable tty x) whole d)
-  unfolding then_do variable_target
-  step_runs tty op order x whole named_so v =
-      subst (λ (t : ValueType). HasVariable g.typed g.instance n x (plain t) → Runs (λ st. then_do (Source.Gives (variable_target t.shape x 0) st) (λ there after. stepped scope active op order t there after)) (λ d. step_effect g.typed (layout g) op (T.Variable t x) whole d))
-      (sym (plain_type tty named_so.0)) (λ w d s st free here sim.
-      subst (λ (made : Made Out). Follows g (λ v u out e. Ran g alive d s u e) s (stepped scope active op order (scalar_type tty.elem) (OfScalar x) st) made) (sym (steps_it tty.elem x op whole d))
-      (stepped_follows g has alive n files ready scope active calls_follow x (variable_info w.word (plain (scalar_type tty.elem)) w.start) named_so.1 (w.named, refl) no_place op order d s st free here sim)) v
 
   printf_runs : (ty : ValueType) (pieces : Vec Piece Global) (p : Vec (Unit {0}) Global) (arguments : _) → (AreIn (naming g.may alive)) arguments → All (λ (elem : Elem). elem.bits ≡ 32) (elems_of arguments) → HaveCode g.typed g.instance n arguments
       → Runs (λ st. evaluated scope (T.Printf' ty pieces p arguments) active st) (λ d. effect_of g.typed (layout g) (T.Printf' ty pieces p arguments) d)
@@ -280,17 +301,11 @@ module _ (g : Setting) (has : HasRegisters g) (alive : Variable → Type 0) (n :
 
   -- what has a value of the fragment
   value_effect : (e : TExpr) → (IsIn (naming g.may alive)) e → HasCode g.typed g.instance n e → Runs (λ st. evaluated scope e active st) (λ d. effect_of g.typed (layout g) e d)
-  unfolding effect_of evaluated IsVariable IsIn
-  value_effect (T.Assign' ty place op p (T.Variable tty x) q value) h c =
-      let names = assign_names g has alive n files ready scope active calls_follow ty place op p q (T.Variable tty x) value c in
-      subst (λ (t : ValueType). Runs (λ st. then_do (Source.Gives (variable_target tty.shape x 0) st) (λ there between. then_do (evaluated scope value active between) (λ v after. assigned scope active place op t (type_of value) there v after)))
-      (λ d. assignment_effect g.typed (layout g) op place (T.Variable tty x) value (λ e. value_of g.typed (layout g) ty.elem.bits (T.Assign' ty place op p (T.Variable tty x) q value) e) d)) (sym h.1)
-      (assign_runs tty place op x value (λ e. value_of g.typed (layout g) ty.elem.bits (T.Assign' ty place op p (T.Variable tty x) q value) e) h.2 (target_named g has alive n files ready scope active calls_follow tty x names.0) h.4 h.3 names.1)
-  value_effect (T.Assign' ty place op p _ q value) h c = absurd h.2
-  value_effect (T.Step' ty op order p (T.Variable tty x)) h c =
-      subst (λ (t : ValueType). Runs (λ st. then_do (Source.Gives (variable_target tty.shape x 0) st) (λ there after. stepped scope active op order t there after)) (λ d. step_effect g.typed (layout g) op (T.Variable tty x) (λ e. value_of g.typed (layout g) ty.elem.bits (T.Step' ty op order p (T.Variable tty x)) e) d)) (sym h.1)
-      (step_runs tty op order x (λ e. value_of g.typed (layout g) ty.elem.bits (T.Step' ty op order p (T.Variable tty x)) e) h.2 (target_named g has alive n files ready scope active calls_follow tty x (step_names g has alive n files ready scope active calls_follow ty op order p (T.Variable tty x) c)))
-  value_effect (T.Step' ty op order p _) h c = absurd h.2
+  unfolding effect_of evaluated IsIn
+  value_effect (T.Assign' ty place op p target q value) h c =
+      let names = assign_names g has alive n files ready scope active calls_follow ty place op p q target value c in
+      assign_runs target (variable_in g alive n target h.2) ty place op p q value names.0 h.1 h.4 h.3 names.1
+  value_effect (T.Step' ty op order p target) h c = step_runs target (variable_in g alive n target h.2) ty op order p (step_names g has alive n files ready scope active calls_follow ty op order p target c) h.1
   value_effect (T.Brackets' ty p inner) h c = value_effect inner h.1 (brackets_code g has alive n files ready scope active calls_follow ty p inner c)
   value_effect (T.Number ty value) h c = pure_follows (T.Number ty value) h c
   value_effect (T.PositionsOf ty shape value) h c = pure_follows (T.PositionsOf ty shape value) h c

@@ -1,5 +1,6 @@
 -- A called function runs, from its first instruction to where it goes back.
 use Rattle.std.proofs.Common.{◌≡◌, ◌∙◌, ℕ, zero, suc, take, ◌+◌, ◌-◌, ◌<◌, ◌≤◌, ◌^◌, ◌==◌, Bool, true, false, [], ◌∷◌, ◌++◌, List, Vec, Global, length, map, slice_get, slice_index, Option, Some, None, refl, sym, ap, subst, if◌then◌else◌, arith, length-append}
+use Rattle.std.specs.List.{Contains}
 use Rattle.cstar_compile.specs.Compiled.{IsCompiled}
 use Rattle.cstar_link.specs.Linked.{entries_from}
 use Rattle.cstar_tree.specs.declared.typed.Instance.{Instance}
@@ -10,6 +11,7 @@ use Rattle.cstar_tree.specs.declared.typed.Typed.{Typed}
 use Rattle.cstar_tree.specs.declared.typed.VarInfo.{VarInfo}
 use Rattle.cstar_tree.specs.declared.typed.Variable.{Variable}
 use Rattle.cstar_tree.specs.declared.typed.Variable.TheVariants as V
+use Rattle.cstar_tree.specs.TypedParts.{calls_within}
 use Rattle.code_lengths.specs.Naming.{IsDeclared, variable_named}
 use Rattle.code_lengths.specs.Ready.{HasStatementCode, IsCodable}
 use Rattle.code_lengths.proofs.Declaring.{all_at}
@@ -118,13 +120,13 @@ module _ (image : Image) (t : Typed) (p : IsScalarProgram t) (codable : IsCodabl
   result_given Continued u info found h closed zero_there = absurd closed
 
 module _ (t : Typed) (image : Image) (p : IsScalarProgram t) (codable : IsCodable t) (compiled : IsCompiled t image) (me : ℕ) (a : Instance) (is_me : slice_get t.instances.items me ≡ Some a) (back_to : List ℕ) (number : ℕ) (b : Instance) (is : slice_get t.instances.items number ≡ Some b)
-    (some : 0 < number) (lesser : p.rank number < p.rank me) (m : ℕ) where
+    (some : 0 < number) (called : Contains (calls_within a.body) number) (m : ℕ) where
   -- the caller, and the function that is called as the caller knows it
   abbrev caller : Setting
   caller = activation t image p codable compiled me a is_me back_to (suc m)
 
   abbrev called_one : Callee caller number
-  called_one = callee_known t image p codable compiled me a is_me back_to (suc m) number b is lesser
+  called_one = callee_known t image p codable compiled me a is_me back_to (suc m) number b is called
 
   module _ (active : Active) (arguments : List Value) (st : State) (s : CodeState) (back : ℕ) (starts : s.at ≡ start_at image number) (stacked : s.returns ≡ back_to ++ back ∷ []) (shared : Shared caller st s) (few : st.turns ≤ m) (given : AreGiven caller called_one arguments s)
       (zero_there : (info : VarInfo) → b.result ≡ Some info → slice_index s.registers ((layout_of t (words t image p codable compiled) number).base + length b.params.items) ≡ 0) where
@@ -281,12 +283,12 @@ module _ (t : Typed) (image : Image) (p : IsScalarProgram t) (codable : IsCodabl
   abbrev running : (number : ℕ) (i : Instance) → slice_get t.instances.items number ≡ Some i → List ℕ → ℕ → Setting
   running number i is opens most = activation t image p codable compiled number i is opens most
 
-  abbrev known : (number : ℕ) (i : Instance) (is : slice_get t.instances.items number ≡ Some i) (opens : List ℕ) (most index : ℕ) (c : Instance) (is_c : slice_get t.instances.items index ≡ Some c) (lesser : p.rank index < p.rank number) → Callee (running number i is opens most) index
-  known number i is opens most index c is_c lesser = callee_known t image p codable compiled number i is opens most index c is_c lesser
+  abbrev known : (number : ℕ) (i : Instance) (is : slice_get t.instances.items number ≡ Some i) (opens : List ℕ) (most index : ℕ) (c : Instance) (is_c : slice_get t.instances.items index ≡ Some c) (called : Contains (calls_within i.body) index) → Callee (running number i is opens most) index
+  known number i is opens most index c is_c called = callee_known t image p codable compiled number i is opens most index c is_c called
 
   -- the calls in a function follow, where those with one turn fewer do
   pub calls_so : (most number : ℕ) (i : Instance) (is : slice_get t.instances.items number ≡ Some i) (opens : List ℕ)
-      → ((index : ℕ) (c : Instance) (is_c : slice_get t.instances.items index ≡ Some c) → 0 < index → (lesser : p.rank index < p.rank number) (m : ℕ) → most ≡ suc m → Enters (running number i is opens most) (known number i is opens most index c is_c lesser) m active)
+      → ((index : ℕ) (c : Instance) (is_c : slice_get t.instances.items index ≡ Some c) → 0 < index → (called : Contains (calls_within i.body) index) (m : ℕ) → most ≡ suc m → Enters (running number i is opens most) (known number i is opens most index c is_c called) m active)
       → CallsFollow (running number i is opens most) (scope_of t i (calls t most)) active
   unfolding scope_of callee_known
   calls_so most number i is opens enters = record {
@@ -297,19 +299,19 @@ module _ (t : Typed) (image : Image) (p : IsScalarProgram t) (codable : IsCodabl
     returns = λ elem h. h;
   }
     where
-      may_call : (index : ℕ) (c : Instance) (is_c : slice_get t.instances.items index ≡ Some c) → 0 < index → p.rank index < p.rank number → MayCall (running number i is opens most) active index
-      may_call index c is_c some lesser = record { callee = known number i is opens most index c is_c lesser; enters = λ m e. enters index c is_c some lesser m e }
+      may_call : (index : ℕ) (c : Instance) (is_c : slice_get t.instances.items index ≡ Some c) → 0 < index → Contains (calls_within i.body) index → MayCall (running number i is opens most) active index
+      may_call index c is_c some called = record { callee = known number i is opens most index c is_c called; enters = λ m e. enters index c is_c some called m e }
 
-  pub enters_so : (m me : ℕ) (a : Instance) (is_me : slice_get t.instances.items me ≡ Some a) (back_to : List ℕ) (number : ℕ) (b : Instance) (is : slice_get t.instances.items number ≡ Some b) → 0 < number → (lesser : p.rank number < p.rank me)
-      → Enters (running me a is_me back_to (suc m)) (known me a is_me back_to (suc m) number b is lesser) m active
+  pub enters_so : (m me : ℕ) (a : Instance) (is_me : slice_get t.instances.items me ≡ Some a) (back_to : List ℕ) (number : ℕ) (b : Instance) (is : slice_get t.instances.items number ≡ Some b) → 0 < number → (called : Contains (calls_within a.body) number)
+      → Enters (running me a is_me back_to (suc m)) (known me a is_me back_to (suc m) number b is called) m active
   unfolding callee_known Enters
-  enters_so zero me a is_me back_to number b is some lesser arguments st s back starts stacked shared few given zero_there =
-      body_follows t image p codable compiled me a is_me back_to number b is some lesser zero active arguments st s back starts stacked shared few given zero_there
-      (calls_so zero number b is (back_to ++ back ∷ []) (λ index c is_c some_c lesser_c m e. absurd (omega (arith, e)))) b.body refl (p.each number b is).body
-  enters_so (suc m) me a is_me back_to number b is some lesser arguments st s back starts stacked shared few given zero_there =
-      body_follows t image p codable compiled me a is_me back_to number b is some lesser (suc m) active arguments st s back starts stacked shared few given zero_there
-      (calls_so (suc m) number b is (back_to ++ back ∷ []) (λ index c is_c some_c lesser_c k e.
-      subst (λ (n : ℕ). Enters (running number b is (back_to ++ back ∷ []) (suc m)) (known number b is (back_to ++ back ∷ []) (suc m) index c is_c lesser_c) n active) (fewer m k e) (enters_so m number b is (back_to ++ back ∷ []) index c is_c some_c lesser_c)))
+  enters_so zero me a is_me back_to number b is some called arguments st s back starts stacked shared few given zero_there =
+      body_follows t image p codable compiled me a is_me back_to number b is some called zero active arguments st s back starts stacked shared few given zero_there
+      (calls_so zero number b is (back_to ++ back ∷ []) (λ index c is_c some_c called_c m e. absurd (omega (arith, e)))) b.body refl (p.each number b is).body
+  enters_so (suc m) me a is_me back_to number b is some called arguments st s back starts stacked shared few given zero_there =
+      body_follows t image p codable compiled me a is_me back_to number b is some called (suc m) active arguments st s back starts stacked shared few given zero_there
+      (calls_so (suc m) number b is (back_to ++ back ∷ []) (λ index c is_c some_c called_c k e.
+      subst (λ (n : ℕ). Enters (running number b is (back_to ++ back ∷ []) (suc m)) (known number b is (back_to ++ back ∷ []) (suc m) index c is_c called_c) n active) (fewer m k e) (enters_so m number b is (back_to ++ back ∷ []) index c is_c some_c called_c)))
       b.body refl (p.each number b is).body
     where
       fewer : (m k : ℕ) → suc m ≡ suc k → m ≡ k

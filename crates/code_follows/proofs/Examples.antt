@@ -1,6 +1,6 @@
 -- The example is a scalar program.
 use Rattle.source_meaning.specs.State.{is_among}
-use Rattle.std.proofs.Common.{◌≡◌, ◌∙◌, ℕ, zero, suc, ◌-◌, List, [], ◌∷◌, ◌++◌, slice_get, length, Some, None, Global, refl, sym, ap, subst, arith, lit<, inl, inr}
+use Rattle.std.proofs.Common.{◌≡◌, ◌∙◌, ℕ, zero, suc, List, [], ◌∷◌, ◌++◌, slice_get, length, Some, None, Global, refl, sym, ap, subst, arith, lit<, inl, inr}
 use Rattle.std.specs.List.{All}
 use Rattle.cstar_base.specs.declared.elem.Elem.{Elem}
 use Rattle.cstar_tree.specs.declared.typed.Instance.{Instance}
@@ -11,6 +11,7 @@ use Rattle.code_lengths.proofs.Declaring.{of_block, of_expression, of_for, of_re
 use Rattle.source_meaning.specs.Examples.{number, variable, vec}
 use Rattle.code_follows.specs.Example.{ExampleIsScalar, body, char, doubled, example, main, prints, sums, turns, twice}
 use Rattle.code_follows.specs.Fragment.{AreClosed, AreIn, AreInStatements, IsBody, IsClosed, IsEffect, IsGiven, IsIn, IsScalarLocal, AreInitials, OfFileOrParam, IsInStatement, IsPlainVariable, IsScalarFunction, IsTested, IsVariable, IsScalarVariable, may_of, Takes}
+use Rattle.code_follows.proofs.ExampleCalls.{calls_twice, no_cycle}
 use Rattle.code_follows.proofs.Standing.{some_same}
 
 all_none : {A : Type 0} (P : A → Type 0) → All P []
@@ -41,12 +42,8 @@ none_own : (heap : Global) → variables_of (twice heap).body ≡ []
 unfolding row_variables
 none_own heap = of_block (vec heap [] (lit< tt)) (vec heap (tt ∷ []) (lit< tt)) (more_of-TStmt (doubled heap) end_of-TStmt) ∙ ap (λ (xs : List VarInfo). xs ++ []) (of_return _)
 
--- `main` calls the other function
-rank : ℕ → ℕ
-rank number = 1 - number
-
-main_is : (heap : Global) → IsScalarFunction (may_of (example heap) rank 0 (main heap)) (main heap)
-unfolding IsBody IsInStatement IsEffect IsGiven IsIn IsTested IsVariable AreIn AreInitials AreInStatements AreClosed IsClosed OfFileOrParam is_among rank
+main_is : (heap : Global) → IsScalarFunction (may_of (example heap) (main heap)) (main heap)
+unfolding IsBody IsInStatement IsEffect IsGiven IsIn IsTested IsVariable AreIn AreInitials AreInStatements AreClosed IsClosed OfFileOrParam is_among
 main_is heap = record {
   params = all_none IsScalarVariable;
   result = λ info is. subst IsScalarVariable (some_same (variable number None 0) info is) refl;
@@ -59,7 +56,7 @@ main_is heap = record {
           (refl, refl, (refl, inr refl), (refl, ((refl, refl), omega arith)), inl refl),
           ((refl, refl), (refl, (refl, inr refl)), ((refl, refl), omega arith), (refl, refl), (refl, refl)),
           (refl, refl, (refl, inr refl)),
-          (refl, refl, (refl, inl tt), ((refl, refl), (refl, inl tt), (refl, (refl, (twice heap, (refl, omega arith, omega arith, (variable char None 0, (refl, inl refl)), (inl refl, tt))), ((refl, inr refl), tt))), (refl, refl), (refl, refl)), inl refl),
+          (refl, refl, (refl, inl tt), ((refl, refl), (refl, inl tt), (refl, (refl, (twice heap, (refl, omega arith, calls_twice heap, (variable char None 0, (refl, inl refl)), (inl refl, tt))), ((refl, inr refl), tt))), (refl, refl), (refl, refl)), inl refl),
         ),
         ((((refl, inl tt), tt), all_one (λ (elem : Elem). elem.bits ≡ 32) number.elem refl), tt),
       ),
@@ -69,7 +66,7 @@ main_is heap = record {
   locals = subst (λ (xs : List VarInfo). All IsScalarVariable xs) (sym (own heap)) (all_one IsScalarVariable (variable char None 0) refl);
 }
 
-twice_is : (heap : Global) → IsScalarFunction (may_of (example heap) rank 1 (twice heap)) (twice heap)
+twice_is : (heap : Global) → IsScalarFunction (may_of (example heap) (twice heap)) (twice heap)
 unfolding IsBody IsInStatement IsIn AreInitials AreInStatements AreClosed IsClosed OfFileOrParam
 twice_is heap = record {
   params = all_one IsScalarVariable (variable char None 0) refl;
@@ -89,9 +86,9 @@ module _ (heap : Global) where
   abbrev instances : List Instance
   instances = main heap ∷ twice heap ∷ []
 
-  each : (number : ℕ) (i : Instance) → slice_get instances number ≡ Some i → IsScalarFunction (may_of (example heap) rank number i) i
-  each zero i is = subst (λ (x : Instance). IsScalarFunction (may_of (example heap) rank 0 x) x) (some_same (main heap) i is) (main_is heap)
-  each (suc zero) i is = subst (λ (x : Instance). IsScalarFunction (may_of (example heap) rank 1 x) x) (some_same (twice heap) i is) (twice_is heap)
+  each : (number : ℕ) (i : Instance) → slice_get instances number ≡ Some i → IsScalarFunction (may_of (example heap) i) i
+  each zero i is = subst (λ (x : Instance). IsScalarFunction (may_of (example heap) x) x) (some_same (main heap) i is) (main_is heap)
+  each (suc zero) i is = subst (λ (x : Instance). IsScalarFunction (may_of (example heap) x) x) (some_same (twice heap) i is) (twice_is heap)
   each (suc (suc k)) i is = cc
 
   names : (j k : ℕ) (a b : Instance) → slice_get instances j ≡ Some a → slice_get instances k ≡ Some b → a.name ≡ b.name → j ≡ k
@@ -114,7 +111,7 @@ is_scalar heap = record {
   main = main heap;
   is_main = refl;
   params = refl;
-  rank = rank;
+  no_cycle = no_cycle heap;
   each = each heap;
   names = names heap;
   variables = all_one IsPlainVariable (variable number None 1) (refl, omega arith);

@@ -15,7 +15,7 @@ use Rattle.lower_base.specs.declared.emit.Out.{Out}
 use Rattle.lower_base.specs.declared.emit.Out.TheVariants as O
 use Rattle.lower_base.specs.Drafts.{Draft, Fails, Made, Makes, here, in_register, then_make}
 use Rattle.lower_base.specs.Layouts.{result_register}
-use Rattle.lower_expr.specs.Lengths.{bare, is_send, is_sent, used_length_of}
+use Rattle.lower_expr.specs.Lengths.{used_length_of}
 use Rattle.lower_expr.specs.Steps.{is_kept}
 use Rattle.lower_expr.specs.Values.{next_of}
 use Rattle.lower_stmt.specs.declared.statement.Frame.{Frame}
@@ -27,11 +27,12 @@ use Rattle.source_meaning.specs.State as Source
 use Rattle.source_meaning.specs.State.{Early, Outcome, State, then_do}
 use Rattle.source_meaning.specs.Statements.{Broke, Continued, Leaving, Onward, Returned, passes, then_go}
 use Rattle.source_meaning.specs.Values.{Active, Scope, Value, nonzero, number}
-use Rattle.code_follows.specs.Fragment.{IsIn, IsVariable, May, elems_of, naming}
+use Rattle.code_follows.specs.Fragment.{IsIn, May, elems_of, naming}
 use Rattle.code_follows.proofs.Expressions.{operand}
 use Rattle.code_follows.proofs.Callees.{CallsFollow}
 use Rattle.code_follows.proofs.Following.{Arrives, Extends, Follows, HasNumber, HasRegisters, Keeps, Ran, Sim, finishes_later, keeps_all, keeps_on, then_follows, spared_kept, result_kept, delayed, finished}
 use Rattle.code_follows.proofs.Settings.{At, Reaches, Setting, layout, onto, stay}
+use Rattle.code_follows.proofs.Targets.{variable_in}
 use Rattle.code_follows.proofs.Values.{Value_of, extends_in_register}
 use Rattle.code_follows.proofs.Numbers.{held_nonzero}
 use Rattle.code_follows.proofs.Words.{kept}
@@ -178,7 +179,7 @@ module _ (g : Setting) (alive : Variable → Type 0) where
             (λ within. record { grown = arr.extended; t = arr.t; go = arr.go; at = arr.at; sim = arr.sim; keeps = arr.keeps; is = there }))
 
     pub gives : (e : TExpr) → (IsIn (naming g.may alive)) e → GivesValue g.typed e
-    unfolding GivesValue IsIn IsVariable is_send bare is_sent
+    unfolding GivesValue IsIn
     gives (T.Number ty value) h = tt
     gives (T.PositionsOf ty shape value) h = tt
     gives (T.RankOf ty shape value) h = tt
@@ -193,8 +194,7 @@ module _ (g : Setting) (alive : Variable → Type 0) where
     gives (T.LogicalOr' ty p left q right) h = tt
     gives (T.LogicalAnd' ty p left q right) h = tt
     gives (T.Choice' ty p test q first r second) h = tt
-    gives (T.Assign' ty place op p (T.Variable tty x) q value) h = refl
-    gives (T.Assign' ty place op p _ q value) h = absurd h.2
+    gives (T.Assign' ty place op p target q value) h = (variable_in g alive n target h.2).sends
     gives (T.Step' ty op order p target) h = tt
     gives (T.Call' ty index p arguments) h = (calls_follow.value ty.elem index (elems_of arguments) h.1).1.0
     gives _ h = absurd h

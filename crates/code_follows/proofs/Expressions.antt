@@ -43,19 +43,19 @@ use Rattle.lower_expr.specs.Values.{Code, arm_by, arm_of, cast_from, choice_by, 
 use Rattle.quiet_operands.proofs.Unchanged as Quiet
 use Rattle.source_meaning.specs.Constants.{constant_of, is_constant, then_value}
 use Rattle.source_meaning.specs.Constants as Const
-use Rattle.source_meaning.specs.Expressions.{evaluated, mapped, located}
+use Rattle.source_meaning.specs.Expressions.{evaluated, mapped}
 use Rattle.source_meaning.specs.Narrowing.{and_then, choose, or_then}
 use Rattle.source_meaning.specs.State as Source
 use Rattle.source_meaning.specs.State.{Outcome, State, then_do}
 use Rattle.source_meaning.specs.Values.{Active, Scalar, Scope, Value, at, convert_to, nonzero, number, unary_of}
 use Rattle.source_meaning.proofs.ConstantLaws.{Boxed, value_means}
-use Rattle.code_follows.specs.Fragment.{AreIn, IsGiven, IsIn, IsOperand, IsWord, IsVariable, naming}
+use Rattle.code_follows.specs.Fragment.{AreIn, IsGiven, IsIn, IsOperand, IsWord, naming}
 use Rattle.code_follows.proofs.Arguments.{AreDone}
 use Rattle.code_follows.proofs.Branching.{IsMadeWord, made_word}
 use Rattle.code_follows.proofs.Choosing.{Arm_does, IsMadeTo, Lands, arm_follows, arm_made, choice_is, choose_is, constant_arm, fresh_lands, scalar_choice_follows}
 use Rattle.code_follows.proofs.CallValues.{call_code, call_value, fresh_call}
 use Rattle.code_follows.proofs.Callees.{CallsFollow}
-use Rattle.code_follows.proofs.Following.{Arrives, Extends, Follows, HasRegisters, IsScalar, Sim, held, keeps_all, then_gives}
+use Rattle.code_follows.proofs.Following.{Arrives, Extends, Follows, HasRegisters, IsScalar, Sim, follows_same, held, keeps_all, then_gives}
 use Rattle.code_follows.proofs.Logical.{and_is, joined, logical_follows, or_is}
 use Rattle.code_follows.proofs.Settings.{At, Setting, layout, stay}
 use Rattle.code_follows.proofs.Values.{Dest, Does, Value_of, binary_follows, constant_follows, conversion_is, extends_grown, fresh_dest, mapped_is, read_is, rewrapped, unary_follows, variable_follows, with_reg}
@@ -67,11 +67,11 @@ use Rattle.code_follows.proofs.Numbers.{held_zero}
 use Rattle.code_follows.proofs.Conversions.{conversion_follows, fresh_conversion}
 use Rattle.std.proofs.lemmas.Bool.{eqb-true}
 use Rattle.code_follows.proofs.Fresh.{IsFresh, fresh_binary, fresh_byte, fresh_choice, fresh_constant, fresh_logical, fresh_unary, fresh_variable, IsClear, clear_fresh}
-use Rattle.source_meaning.specs.Targets.{variable_target}
 use Rattle.code_follows.proofs.ConstantRegisters.{below_values}
-use Rattle.code_follows.proofs.Changing.{plain_type, scalar_type}
+use Rattle.code_follows.proofs.Changing.{scalar_type}
 use Rattle.code_follows.proofs.Nested.{assigned_value, fresh_assigned, fresh_stepped, stepped_value}
 use Rattle.code_follows.proofs.Stores.{before_values}
+use Rattle.code_follows.proofs.Targets.{TargetIs, assign_code, assign_means, bare_target, step_code, step_means, target_type, variable_in}
 use Rattle.code_follows.proofs.Standing.{some_same}
 use Rattle.code_follows.proofs.Words.{below_bits, below_word, constant_below, held_converted, held_wide, kept, scalar_of}
 
@@ -270,11 +270,7 @@ module _ (g : Setting) (has : HasRegisters g) (alive : Variable → Type 0) (n :
   unfolding IsShaped IsLowerable NamesVariables
   right_code ty place op p q left right h = record { shaped = h.shaped.1; lowerable = h.lowerable.3; names = h.names.1 }
 
-  -- what is known of the variable that is written
-  pub target_named : (tty : ValueType) (x : Variable) → NamesVariables g.typed g.instance n (T.Variable tty x) → HasVariable g.typed g.instance n x (plain tty)
-  unfolding NamesVariables
-  target_named tty x v = v
-
+  -- what the target of an assignment or a step names
   pub assign_names : (ty : ValueType) (place : Place) (op : AssignOp) (p q : Boxed) (target value : TExpr) → HasCode g.typed g.instance n (T.Assign' ty place op p target q value) → NamesVariables g.typed g.instance n target × HasCode g.typed g.instance n value
   unfolding NamesVariables IsShaped IsLowerable
   assign_names ty place op p q target value c = (c.names.0, record { shaped = c.shaped.3; lowerable = c.lowerable.3; names = c.names.1 })
@@ -370,23 +366,23 @@ module _ (g : Setting) (has : HasRegisters g) (alive : Variable → Type 0) (n :
   other_grows : (m k : ℕ) (e : TExpr) → HasCode g.typed g.instance n e → (d : Draft) → Extends g d (operand_by g.typed (layout g) m (value_of g.typed (layout g) k e) true e d)
   other_grows m k e c d = extends_grown g has alive _ d _ _ (operand_grown g.typed g.instance (layout g) n m true e (value_of g.typed (layout g) k e) _ d c (ready d) ((expressions g.typed g.instance (layout g)).value k n e d c (ready d)))
 
-  fresh_assign : (bits : ℕ) (ty tty : ValueType) (place : Place) (op : AssignOp) (p q : Boxed) (x : Variable) (value : TExpr) → (tty.shape ≡ None) × alive x → HasVariable g.typed g.instance n x (plain tty) → (IsIn (naming g.may alive)) value → HasCode g.typed g.instance n value
-      → ((m : ℕ) (d : Draft) → IsFresh d (value_of g.typed (layout g) m value d)) → (d : Draft) → IsFresh d (value_of g.typed (layout g) bits (T.Assign' ty place op p (T.Variable tty x) q value) d)
-  unfolding value_of
-  fresh_assign bits ty tty place op p q x value named_so v isin c fresh d =
-      subst (λ (t : ValueType). HasVariable g.typed g.instance n x (plain t) → IsFresh d (value_of g.typed (layout g) bits (T.Assign' ty place op p (T.Variable t x) q value) d)) (sym (plain_type tty named_so.0)) (λ w.
-      let target : TExpr = T.Variable (scalar_type tty.elem) x in
-      fresh_assigned g has alive x (variable_info w.word (plain (scalar_type tty.elem)) w.start) named_so.1 (w.named, refl) place op (T.Assign' ty place op p target q value) value bits (λ e. value_of g.typed (layout g) (taken_bits bits op target value) value e) d (kept (naming g.may alive) value isin)
-      (fresh (taken_bits bits op target value) d) (λ m b. other_grows m (taken_bits bits op target value) value c b)) v
+  fresh_assign : (bits : ℕ) (ty : ValueType) (place : Place) (op : AssignOp) (p q : Boxed) (target value : TExpr) → TargetIs g alive n target → NamesVariables g.typed g.instance n target → (IsIn (naming g.may alive)) value → HasCode g.typed g.instance n value
+      → ((m : ℕ) (d : Draft) → IsFresh d (value_of g.typed (layout g) m value d)) → (d : Draft) → IsFresh d (value_of g.typed (layout g) bits (T.Assign' ty place op p target q value) d)
+  fresh_assign bits ty place op p q target value v names isin c fresh d =
+      let w = v.named names in
+      let m : ℕ = taken_bits bits op (bare_target g alive n target v) value in
+      subst (λ (made : Made Out). IsFresh d made) (sym (assign_code g alive n target v ty place op p q value bits d))
+      (fresh_assigned g has alive v.variable (variable_info w.word (plain (type_of target)) w.start) v.living (w.named, v.scalar) place op (T.Assign' ty place op p target q value) value bits (λ e. value_of g.typed (layout g) m value e) d (kept (naming g.may alive) value isin)
+      (fresh m d) (λ k b. other_grows k m value c b))
 
-  fresh_step : (bits : ℕ) (ty tty : ValueType) (op : StepOp) (order : StepOrder) (p : Boxed) (x : Variable) → (tty.shape ≡ None) × alive x → HasVariable g.typed g.instance n x (plain tty) → (d : Draft) → IsFresh d (value_of g.typed (layout g) bits (T.Step' ty op order p (T.Variable tty x)) d)
-  unfolding value_of
-  fresh_step bits ty tty op order p x named_so v d =
-      subst (λ (t : ValueType). HasVariable g.typed g.instance n x (plain t) → IsFresh d (value_of g.typed (layout g) bits (T.Step' ty op order p (T.Variable t x)) d)) (sym (plain_type tty named_so.0)) (λ w.
-      fresh_stepped g has alive x (variable_info w.word (plain (scalar_type tty.elem)) w.start) named_so.1 (w.named, refl) scope active op order (T.Step' ty op order p (T.Variable (scalar_type tty.elem) x)) bits d) v
+  fresh_step : (bits : ℕ) (ty : ValueType) (op : StepOp) (order : StepOrder) (p : Boxed) (target : TExpr) → TargetIs g alive n target → NamesVariables g.typed g.instance n target → (d : Draft) → IsFresh d (value_of g.typed (layout g) bits (T.Step' ty op order p target) d)
+  fresh_step bits ty op order p target v names d =
+      let w = v.named names in
+      subst (λ (made : Made Out). IsFresh d made) (sym (step_code g alive n target v ty op order p bits d))
+      (fresh_stepped g has alive v.variable (variable_info w.word (plain (type_of target)) w.start) v.living (w.named, v.scalar) scope active op order (T.Step' ty op order p target) bits d)
 
   fresh_value : (bits : ℕ) (e : TExpr) → (IsIn (naming g.may alive)) e → HasCode g.typed g.instance n e → (d : Draft) → IsFresh d (value_of g.typed (layout g) bits e d)
-  unfolding value_of IsIn IsVariable
+  unfolding value_of IsIn
   fresh_value bits (T.Number ty value) h c d = fresh_constant g has alive value d
   fresh_value bits (T.PositionsOf ty shape value) h c d = fresh_constant g has alive value d
   fresh_value bits (T.RankOf ty shape value) h c d = fresh_constant g has alive value d
@@ -405,12 +401,10 @@ module _ (g : Setting) (has : HasRegisters g) (alive : Variable → Type 0) (n :
   fresh_value bits (T.Choice' ty p test q first r second) h c d =
       let parts = choice_parts ty p q r test first second c in
       fresh_choice g has alive ty bits (is_kept test) _ _ _ first second _ _ d h.0.0 (kept (naming g.may alive) test h.1) (operand_grows (is_kept test || is_quiet first) (bits_of (kind_of test)) test parts.condition) (operand_grows true bits first parts.one) (operand_grows true bits second parts.other)
-  fresh_value bits (T.Assign' ty place op p (T.Variable tty x) q value) h c d =
-      let names = assign_names ty place op p q (T.Variable tty x) value c in
-      fresh_assign bits ty tty place op p q x value h.2 (target_named tty x names.0) h.3 names.1 (λ m e. fresh_value m value h.3 names.1 e) d
-  fresh_value bits (T.Assign' ty place op p _ q value) h c d = absurd h.2
-  fresh_value bits (T.Step' ty op order p (T.Variable tty x)) h c d = fresh_step bits ty tty op order p x h.2 (target_named tty x (step_names ty op order p (T.Variable tty x) c)) d
-  fresh_value bits (T.Step' ty op order p _) h c d = absurd h.2
+  fresh_value bits (T.Assign' ty place op p target q value) h c d =
+      let names = assign_names ty place op p q target value c in
+      fresh_assign bits ty place op p q target value (variable_in g alive n target h.2) names.0 h.3 names.1 (λ m e. fresh_value m value h.3 names.1 e) d
+  fresh_value bits (T.Step' ty op order p target) h c d = fresh_step bits ty op order p target (variable_in g alive n target h.2) (step_names ty op order p target c) d
   fresh_value bits (T.Call' ty index p arguments) h c d = fresh_call g has alive n files ready scope active calls_follow bits ty index p arguments h.0 h.1 c d
   fresh_value bits _ h c d = absurd h
 
@@ -482,27 +476,27 @@ module _ (g : Setting) (has : HasRegisters g) (alive : Variable → Type 0) (n :
       (arm_length_of g.typed (layout g) ty bits first) (arm_length_of g.typed (layout g) ty bits second) d word.0 (kept (naming g.may alive) test h)))
       (choice_goes ty bits test first second word h k m a b c tests one other (with_reg d) s st (Value_of g has alive ty.elem quiet d s) d.regs (omega (arith, free)) here sim (fresh_dest g has alive ty.elem quiet d s free) (fresh_lands g has alive ty.elem quiet d s d.regs))
 
-  assign_value : (quiet : Bool) (bits : ℕ) (ty tty : ValueType) (place : Place) (op : AssignOp) (p q : Boxed) (x : Variable) (value : TExpr) → (tty.shape ≡ None) × alive x → ty ≡ tty → HasVariable g.typed g.instance n x (plain tty) → (IsIn (naming g.may alive)) value → IsGiven op tty (type_of value) → HasCode g.typed g.instance n value
-      → ((m : ℕ) (d : Draft) → IsFresh d (value_of g.typed (layout g) m value d)) → ((calm : Bool) (m : ℕ) → Agrees calm m value) → Agrees quiet bits (T.Assign' ty place op p (T.Variable tty x) q value)
-  unfolding value_of evaluated located then_do variable_target
-  assign_value quiet bits ty tty place op p q x value named_so same v isin given c fresh agrees =
-      subst (λ (t : ValueType). Agrees quiet bits (T.Assign' t place op p (T.Variable tty x) q value)) (sym same)
-      (subst (λ (t : ValueType). HasVariable g.typed g.instance n x (plain t) → IsGiven op t (type_of value) → Agrees quiet bits (T.Assign' t place op p (T.Variable t x) q value)) (sym (plain_type tty named_so.0)) (λ w its.
-      let target : TExpr = T.Variable (scalar_type tty.elem) x in
-      let m : ℕ = taken_bits bits op target value in
+  assign_value : (quiet : Bool) (bits : ℕ) (ty : ValueType) (place : Place) (op : AssignOp) (p q : Boxed) (target value : TExpr) → TargetIs g alive n target → NamesVariables g.typed g.instance n target → ty ≡ type_of target → (IsIn (naming g.may alive)) value → IsGiven op (type_of target) (type_of value) → HasCode g.typed g.instance n value
+      → ((m : ℕ) (d : Draft) → IsFresh d (value_of g.typed (layout g) m value d)) → ((calm : Bool) (m : ℕ) → Agrees calm m value) → Agrees quiet bits (T.Assign' ty place op p target q value)
+  assign_value quiet bits ty place op p q target value v names same isin given c fresh agrees d s st free here sim =
+      let w = v.named names in
+      let its : IsGiven op (scalar_type (type_of target).elem) (type_of value) = subst (λ (t : ValueType). IsGiven op t (type_of value)) (target_type g alive n target v) given in
+      let m : ℕ = taken_bits bits op (bare_target g alive n target v) value in
       let code : Code = λ e. value_of g.typed (layout g) m value e in
-      assigned_value g has alive x (variable_info w.word (plain (scalar_type tty.elem)) w.start) named_so.1 (w.named, refl) scope active place op (T.Assign' (scalar_type tty.elem) place op p target q value) value bits quiet code (λ st. evaluated scope value active st) its
-      (scalar_of (naming g.may alive) value isin) (kept (naming g.may alive) value isin) (agrees false m) (λ k. operand_follows true k value code isin c.names (agrees true m)) (λ k st s sim d. clear_operand k value code isin c.names (fresh m) st sim.small d)) v given)
+      subst (λ (elem : Elem). Follows g (Value_of g has alive elem quiet d s) s (evaluated scope (T.Assign' ty place op p target q value) active st) (value_of g.typed (layout g) bits (T.Assign' ty place op p target q value) d)) (sym (ap (λ (t : ValueType). t.elem) same))
+      (follows_same g (Value_of g has alive (type_of target).elem quiet d s) s (assign_means g alive n target v ty place op p q value same scope active st) (assign_code g alive n target v ty place op p q value bits d)
+      (assigned_value g has alive v.variable (variable_info w.word (plain (type_of target)) w.start) v.living (w.named, v.scalar) scope active place op (T.Assign' ty place op p target q value) value bits quiet code (λ u. evaluated scope value active u) its
+      (scalar_of (naming g.may alive) value isin) (kept (naming g.may alive) value isin) (agrees false m) (λ k. operand_follows true k value code isin c.names (agrees true m)) (λ k u t other b. clear_operand k value code isin c.names (fresh m) u other.small b) d s st free here sim))
 
-  step_value_follows : (quiet : Bool) (bits : ℕ) (ty tty : ValueType) (op : StepOp) (order : StepOrder) (p : Boxed) (x : Variable) → (tty.shape ≡ None) × alive x → ty ≡ tty → HasVariable g.typed g.instance n x (plain tty) → Agrees quiet bits (T.Step' ty op order p (T.Variable tty x))
-  unfolding value_of evaluated located then_do variable_target
-  step_value_follows quiet bits ty tty op order p x named_so same v =
-      subst (λ (t : ValueType). Agrees quiet bits (T.Step' t op order p (T.Variable tty x))) (sym same)
-      (subst (λ (t : ValueType). HasVariable g.typed g.instance n x (plain t) → Agrees quiet bits (T.Step' t op order p (T.Variable t x))) (sym (plain_type tty named_so.0)) (λ w.
-      stepped_value g has alive x (variable_info w.word (plain (scalar_type tty.elem)) w.start) named_so.1 (w.named, refl) scope active op order quiet bits (T.Step' (scalar_type tty.elem) op order p (T.Variable (scalar_type tty.elem) x))) v)
+  step_value_follows : (quiet : Bool) (bits : ℕ) (ty : ValueType) (op : StepOp) (order : StepOrder) (p : Boxed) (target : TExpr) → TargetIs g alive n target → NamesVariables g.typed g.instance n target → ty ≡ type_of target → Agrees quiet bits (T.Step' ty op order p target)
+  step_value_follows quiet bits ty op order p target v names same d s st free here sim =
+      let w = v.named names in
+      subst (λ (elem : Elem). Follows g (Value_of g has alive elem quiet d s) s (evaluated scope (T.Step' ty op order p target) active st) (value_of g.typed (layout g) bits (T.Step' ty op order p target) d)) (sym (ap (λ (t : ValueType). t.elem) same))
+      (follows_same g (Value_of g has alive (type_of target).elem quiet d s) s (step_means g alive n target v ty op order p same scope active st) (step_code g alive n target v ty op order p bits d)
+      (stepped_value g has alive v.variable (variable_info w.word (plain (type_of target)) w.start) v.living (w.named, v.scalar) scope active op order quiet bits (T.Step' ty op order p target) d s st free here sim))
 
   mutual
-    unfolding evaluated value_of IsIn AreIn IsVariable AreDone HaveCode
+    unfolding evaluated value_of IsIn AreIn AreDone HaveCode
 
     pub value_follows : (quiet : Bool) (bits : ℕ) (e : TExpr) → (IsIn (naming g.may alive)) e → HasCode g.typed g.instance n e → Agrees quiet bits e
     value_follows quiet bits (T.Number ty value) h c = λ d s st free here sim. constant_follows g has alive ty.elem quiet value d s st h.0.1 h.1 free here sim
@@ -539,12 +533,10 @@ module _ (g : Setting) (has : HasRegisters g) (alive : Variable → Type 0) (n :
     value_follows quiet bits (T.Choice' ty p test q first r second) h c =
         let o = choice_parts ty p q r test first second c in
         choice_value ty quiet bits p q r test first second h.0 h.1 h.2 h.3 h.4 h.5 o (value_follows true (bits_of (kind_of test)) test h.1 o.condition) (value_follows true bits first h.2 o.one) (value_follows true bits second h.3 o.other)
-    value_follows quiet bits (T.Assign' ty place op p (T.Variable tty x) q value) h c =
-        let names = assign_names ty place op p q (T.Variable tty x) value c in
-        assign_value quiet bits ty tty place op p q x value h.2 h.1 (target_named tty x names.0) h.3 h.4 names.1 (λ m d. fresh_value m value h.3 names.1 d) (λ calm m. value_follows calm m value h.3 names.1)
-    value_follows quiet bits (T.Assign' ty place op p _ q value) h c = absurd h.2
-    value_follows quiet bits (T.Step' ty op order p (T.Variable tty x)) h c = step_value_follows quiet bits ty tty op order p x h.2 h.1 (target_named tty x (step_names ty op order p (T.Variable tty x) c))
-    value_follows quiet bits (T.Step' ty op order p _) h c = absurd h.2
+    value_follows quiet bits (T.Assign' ty place op p target q value) h c =
+        let names = assign_names ty place op p q target value c in
+        assign_value quiet bits ty place op p q target value (variable_in g alive n target h.2) names.0 h.1 h.3 h.4 names.1 (λ m d. fresh_value m value h.3 names.1 d) (λ calm m. value_follows calm m value h.3 names.1)
+    value_follows quiet bits (T.Step' ty op order p target) h c = step_value_follows quiet bits ty op order p target (variable_in g alive n target h.2) (step_names ty op order p target c) h.1
     value_follows quiet bits (T.Call' ty index p arguments) h c = call_value g has alive n files ready scope active calls_follow quiet bits ty index p arguments h.0 h.1 (arguments_do true (are_quiet arguments) arguments h.2 (call_code g has alive n files ready scope active calls_follow ty index p arguments c)) c
     value_follows quiet bits _ h c = absurd h
 

@@ -258,6 +258,10 @@ module _ (g : Setting) where
   follows_other R Q s (Source.Gives x st) Fails h next = tt
   follows_other R Q s (Source.Ends early st) Fails h next = tt
 
+  -- the same of a part that does the same by the same code
+  pub follows_same : {A B : Type 0} (R : A → State → B → Draft → Type 0) (s : CodeState) {o other : Outcome A} {made alike : Made B} → o ≡ other → made ≡ alike → Follows R s other alike → Follows R s o made
+  follows_same R s {other = other} {made = made} is code h = subst (λ (o : Outcome _). Follows R s o made) (sym is) (subst (λ (m : Made _). Follows R s other m) (sym code) h)
+
   -- a part whose code is made, and then another
   pub then_on : {A B C D : Type 0} (R : A → State → B → Draft → Type 0) (Q : C → State → D → Draft → Type 0) (s : CodeState) (o : Outcome A) (k : A → State → Outcome C) (y : B) (e : Draft) (made : Made D) → Follows R s o (Makes y e) → Extends e made
       → ((x : A) (st : State) → R x st y e → Follows Q s (k x st) made) → Follows Q s (then_do o k) made

@@ -18,6 +18,7 @@ pub mod ConstantRegisters
 pub mod Declaring
 pub mod Effects
 pub mod Entering
+pub mod ExampleCalls
 pub mod Examples
 pub mod Endings
 pub mod Executing
@@ -49,5 +50,6 @@ pub mod Starting
 pub mod Statements
 pub mod Stores
 pub mod Units
+pub mod Targets
 pub mod Values
 pub mod Words

@@ -183,9 +183,9 @@ module _ (t : Typed) (image : Image) (p : IsScalarProgram t) (codable : IsCodabl
 
   -- every call in `main` follows
   main_calls : CallsFollow main_setting (scope t image p codable compiled 0 p.main p.is_main [] turns) active
-  main_calls = calls_so t image p codable compiled active turns 0 p.main p.is_main [] (λ index c is_c some lesser m e.
-      subst (λ (most : ℕ). Rattle.code_follows.proofs.Callees.Enters (g t image p codable compiled 0 p.main p.is_main [] most) (Rattle.code_follows.proofs.Activations.callee_known t image p codable compiled 0 p.main p.is_main [] most index c is_c lesser) m active) (sym e)
-      (enters_so t image p codable compiled active m 0 p.main p.is_main [] index c is_c some lesser))
+  main_calls = calls_so t image p codable compiled active turns 0 p.main p.is_main [] (λ index c is_c some called m e.
+      subst (λ (most : ℕ). Rattle.code_follows.proofs.Callees.Enters (g t image p codable compiled 0 p.main p.is_main [] most) (Rattle.code_follows.proofs.Activations.callee_known t image p codable compiled 0 p.main p.is_main [] most index c is_c called) m active) (sym e)
+      (enters_so t image p codable compiled active m 0 p.main p.is_main [] index c is_c some called))
 
   module _ {k : Count} (locals : List LocalVar) (row : Row_of-TStmt k) where
     abbrev begun_body : State

@@ -151,8 +151,14 @@ constant_below may (T.Call' ty index p arguments) h = tt
 constant_below may _ h = absurd h
 
 -- what names variables of some names variables of more
+target_widened : (may : May) (more : Variable → Type 0) → ((x : Variable) → may.names x → more x) → (target : TExpr) → IsVariable may target → IsVariable (naming may more) target
+unfolding IsVariable
+target_widened may more fits (T.Variable ty x) h = (h.0, fits x h.1)
+target_widened may more fits (T.Brackets' ty p inner) h = (h.0, target_widened may more fits inner h.1)
+target_widened may more fits _ h = absurd h
+
 mutual
-  unfolding IsIn AreIn IsVariable
+  unfolding IsIn AreIn
 
   pub widened : (may : May) (more : Variable → Type 0) → ((x : Variable) → may.names x → more x) → (e : TExpr) → IsIn may e → IsIn (naming may more) e
   widened may more fits (T.Number ty value) h = h
@@ -169,10 +175,8 @@ mutual
   widened may more fits (T.LogicalOr' ty p left q right) h = (h.0, widened may more fits left h.1, widened may more fits right h.2)
   widened may more fits (T.LogicalAnd' ty p left q right) h = (h.0, widened may more fits left h.1, widened may more fits right h.2)
   widened may more fits (T.Choice' ty p test q first r second) h = (h.0, widened may more fits test h.1, widened may more fits first h.2, widened may more fits second h.3, h.4, h.5)
-  widened may more fits (T.Assign' ty place op p (T.Variable tty x) q value) h = (h.0, h.1, (h.2.0, fits x h.2.1), widened may more fits value h.3, h.4)
-  widened may more fits (T.Assign' ty place op p _ q value) h = absurd h.2
-  widened may more fits (T.Step' ty op order p (T.Variable tty x)) h = (h.0, h.1, (h.2.0, fits x h.2.1))
-  widened may more fits (T.Step' ty op order p _) h = absurd h.2
+  widened may more fits (T.Assign' ty place op p target q value) h = (h.0, h.1, target_widened may more fits target h.2, widened may more fits value h.3, h.4)
+  widened may more fits (T.Step' ty op order p target) h = (h.0, h.1, target_widened may more fits target h.2)
   widened may more fits (T.Call' ty index p arguments) h = (h.0, h.1, all_widened may more fits arguments h.2)
   widened may more fits _ h = absurd h
 

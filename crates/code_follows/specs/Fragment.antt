@@ -3,7 +3,7 @@
 -- operands of operators, which typing promotes, have 32 bits, and so has what is printed. Expressions name
 -- variables of open blocks alone, as typing gives.
 use Rattle.std.specs.Prelude.{ℕ, List, map, slice_get, ◌≡◌, ◌<◌, ◌^◌, [], IfSome, Option, Some, None, ◌⊎◌, ◌+◌, ◌∷◌, length, true}
-use Rattle.std.specs.List.{All, AllZip}
+use Rattle.std.specs.List.{All, AllZip, Contains}
 use Rattle.cstar_base.specs.declared.elem.Elem.{Elem}
 use Rattle.cstar_tree.specs.declared.syntax.AssignOp.{AssignOp}
 use Rattle.cstar_tree.specs.declared.syntax.AssignOp.TheVariants as A
@@ -21,7 +21,9 @@ use Rattle.cstar_tree.specs.declared.typed.VarInfo.{VarInfo}
 use Rattle.cstar_tree.specs.declared.typed.Variable.{Variable}
 use Rattle.cstar_tree.specs.declared.typed.Variable.TheVariants as V
 use Rattle.cstar_tree.specs.Typed.{type_of}
+use Rattle.cstar_tree.specs.TypedParts.{calls_within}
 use Rattle.cstar_tree.specs.Variables.{variables_of}
+use Rattle.shape_room.specs.CallOrders.{HasNoCycle}
 use Rattle.code_lengths.specs.NamingStatements.{behind}
 use Rattle.source_meaning.specs.State.{is_among}
 use Rattle.source_meaning.specs.Values.{cast_type}
@@ -67,9 +69,10 @@ OrAmong names n many x = names x ⊎ (is_among n many x ≡ true)
 abbrev pub within : May → ℕ → ℕ → May
 within may n many = naming may (λ x. OrAmong may.names n many x)
 
--- a scalar variable that may be named, as it is used
+-- a scalar variable that may be named, as it is used, maybe in brackets
 unfoldable pub IsVariable : May → TExpr → Type 0
 IsVariable may (T.Variable ty x) = IsScalarType ty × may.names x
+IsVariable may (T.Brackets' ty p inner) = (ty ≡ type_of inner) × IsVariable may inner
 IsVariable may _ = ⊥
 
 -- the types of arguments
@@ -204,22 +207,26 @@ AreTaken params given = AllZip (λ (param : VarInfo) (elem : Elem). Takes param.
 abbrev pub IsResult : Option VarInfo → Elem → Type 0
 IsResult result elem = (info : VarInfo) × ((result ≡ Some info) × Takes elem info.elem)
 
--- Functions of a lesser rank, but `main`, may be called with arguments that their parameters take, those with such
--- a result where its value is used. What is returned is a number of the result's type, if there is a result.
-abbrev pub may_of : Typed → (ℕ → ℕ) → ℕ → Instance → May
-may_of t rank number i = record {
+-- What the body of a function calls, but for `main`, may be called with arguments that its parameters take, and
+-- with such a result where its value is used. What is returned is a number of the result's type, if there is a result.
+abbrev pub may_of : Typed → Instance → May
+may_of t i = record {
   calls = λ used index given.
-      (callee : Instance) × ((slice_get t.instances.items index ≡ Some callee) × (0 < index) × (rank index < rank number) × IfSome used (λ elem. IsResult callee.result elem) × AreTaken callee.params.items given);
+      (callee : Instance) × ((slice_get t.instances.items index ≡ Some callee) × (0 < index) × Contains (calls_within i.body) index × IfSome used (λ elem. IsResult callee.result elem) × AreTaken callee.params.items given);
   returns = λ elem. (info : VarInfo) → i.result ≡ Some info → Takes info.elem elem;
   names = OfFileOrParam;
 }
 
--- A program of functions without recursion: they can be ranked so that each calls lesser ones alone.
+-- the numbers of the instances that each instance calls
+abbrev pub called_in : Typed → List (List ℕ)
+called_in t = map (λ (i : Instance). calls_within i.body) t.instances.items
+
+-- A program of functions without recursion.
 pub record IsScalarProgram (t : Typed) : Type 0 where
   pub main : Instance
   pub is_main : slice_get t.instances.items 0 ≡ Some main
   pub params : main.params.items ≡ []
-  pub rank : ℕ → ℕ
-  pub each : (number : ℕ) (i : Instance) → slice_get t.instances.items number ≡ Some i → IsScalarFunction (may_of t rank number i) i
+  pub no_cycle : HasNoCycle (called_in t)
+  pub each : (number : ℕ) (i : Instance) → slice_get t.instances.items number ≡ Some i → IsScalarFunction (may_of t i) i
   pub names : (j k : ℕ) (a b : Instance) → slice_get t.instances.items j ≡ Some a → slice_get t.instances.items k ≡ Some b → a.name ≡ b.name → j ≡ k
   pub variables : All IsPlainVariable t.vars.items
