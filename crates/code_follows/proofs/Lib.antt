@@ -18,8 +18,6 @@ pub mod ConstantRegisters
 pub mod Declaring
 pub mod Effects
 pub mod Entering
-pub mod ExampleCalls
-pub mod Examples
 pub mod Endings
 pub mod Executing
 pub mod Expressions

@@ -1,6 +1,6 @@
 -- The run of a whole program.
 use mathlib.Core.Former.{Count}
-use Rattle.std.proofs.Common.{◌≡◌, ◌∙◌, ℕ, zero, ◌+◌, ◌<◌, ◌≤◌, ◌^◌, ◌&&◌, if◌then◌else◌, nat_lt, Bool, true, false, List, [], ◌∷◌, map, length, slice_get, slice_index, Option, Some, None, refl, sym, ap, subst, arith, inl, inr}
+use Rattle.std.proofs.Common.{◌≡◌, ◌∙◌, ℕ, zero, suc, ◌+◌, ◌<◌, ◌≤◌, ◌^◌, ◌&&◌, if◌then◌else◌, nat_lt, Bool, true, false, List, [], ◌∷◌, map, length, slice_get, slice_index, Option, Some, None, refl, sym, ap, subst, arith, inl, inr}
 use Rattle.std.proofs.lemmas.List.{get_or-replicate, length-replicate}
 use Rattle.std.specs.Prelude.{nat_le}
 use Rattle.cstar_base.specs.declared.operators.Winner.{Winner}
@@ -31,7 +31,7 @@ use Rattle.source_meaning.specs.Programs.{Run, by_owner, calls, entered, left, m
 use Rattle.source_meaning.specs.State as Source
 use Rattle.source_meaning.specs.State.{Outcome, State, is_among, then_do, zeroed}
 use Rattle.source_meaning.specs.Statements.{Leaving, executed, initialised}
-use Rattle.source_meaning.specs.Values.{Active}
+use Rattle.source_meaning.specs.Values.{Active, number}
 use Rattle.code_follows.specs.Agreement.{AreBytes, CodeMeansSource, ComesTo, end_of, mark_of}
 use Rattle.code_follows.specs.Fragment.{IsBody, IsPlainVariable, IsScalarProgram, IsInStatement, OfFileOrParam, OrAmong, within}
 use Rattle.code_follows.proofs.Activations.{scalars, words}
@@ -50,7 +50,7 @@ use Rattle.code_follows.proofs.Openings.{constants_run}
 use Rattle.std.proofs.lemmas.Nat.{pow_pos}
 use Rattle.source_meaning.specs.Reductions.{int_type}
 use Rattle.code_follows.proofs.Numbers.{zero_converted}
-use Rattle.code_follows.proofs.Regions.{base_behind, base_inside, behind_files, below}
+use Rattle.code_follows.proofs.Regions.{IsOwn, base_behind, base_inside, below, local_own, own_behind, param_own}
 use Rattle.code_follows.proofs.Settings.{At, EndsIn, Reaches, Setting, Within, earlier, ends_later, ends_now, onto, start}
 use Rattle.code_follows.proofs.Standing.{start_in}
 use Rattle.code_follows.proofs.Starting.{none_cleared, Now, settled_so}
@@ -99,6 +99,20 @@ module _ (t : Typed) (image : Image) (p : IsScalarProgram t) (codable : IsCodabl
       let h = constant_at (own t image p codable compiled 0 p.main p.is_main [] turns) word r is in
       ap (λ (q : ℕ). slice_index u.registers q) h.register ∙ are h.index h.inside ∙ h.value
 
+  -- nothing is given to `main`
+  none_given : (k : ℕ) → in_main.scalar (V.Param k) ≡ 0
+  unfolding entered by_owner scalar_given number
+  none_given zero = refl
+  none_given (suc k) = refl
+
+  -- a parameter of `main`, if it has any, and a variable of its blocks is 0
+  own_zero : (x : Variable) (info : VarInfo) → variable_named t p.main x ≡ Some info → (u : CodeState)
+      → ((q : ℕ) → 0 + length t.vars.items ≤ q → q < (own t image p codable compiled 0 p.main p.is_main [] turns).end → slice_index u.registers q ≡ 0)
+      → IsOwn t (scalars t image p codable compiled) (words t image p codable compiled) 0 p.main (register_of (own t image p codable compiled 0 p.main p.is_main [] turns) x) → slice_index u.registers (register_of (own t image p codable compiled 0 p.main p.is_main [] turns) x) ≡ held info.elem 0
+  own_zero x info is u zeros mine =
+      let behind = own_behind t (scalars t image p codable compiled) (words t image p codable compiled) 0 p.main _ p.is_main mine in
+      zeros _ (omega (arith, behind)) (below t (scalars t image p codable compiled) (words t image p codable compiled) 0 p.main p.is_main x info is) ∙ sym (zero_converted int_type info.elem)
+
   register_value : (x : Variable) (info : VarInfo) → variable_named t p.main x ≡ Some info → (u : CodeState) → ((k : ℕ) (info : VarInfo) → slice_get t.vars.items k ≡ Some info → slice_index u.registers (0 + k) ≡ held info.elem info.start)
       → ((q : ℕ) → 0 + length t.vars.items ≤ q → q < (own t image p codable compiled 0 p.main p.is_main [] turns).end → slice_index u.registers q ≡ 0) → slice_index u.registers (register_of (own t image p codable compiled 0 p.main p.is_main [] turns) x) ≡ held info.elem (in_main.scalar x)
   unfolding entered start_state by_owner start_of scalar_given variable_named register_of
@@ -106,15 +120,14 @@ module _ (t : Typed) (image : Image) (p : IsScalarProgram t) (codable : IsCodabl
     where
       front : (k : ℕ) → k ≡ 0 + k
       front k = omega arith
-  register_value (V.Param k) info is u files zeros = let none : slice_get p.main.params.items k ≡ None = ap (λ (xs : List VarInfo). slice_get xs k) p.params in cc
-  register_value (V.Local k) info is u files zeros =
-      zeros (register_of (own t image p codable compiled 0 p.main p.is_main [] turns) (V.Local k)) (behind_files t (scalars t image p codable compiled) (words t image p codable compiled) 0 p.main p.is_main k)
-      (below t (scalars t image p codable compiled) (words t image p codable compiled) 0 p.main p.is_main (V.Local k) info is) ∙ sym (zero_converted int_type info.elem)
+  register_value (V.Param k) info is u files zeros =
+      own_zero (V.Param k) info is u zeros (param_own t (scalars t image p codable compiled) (words t image p codable compiled) 0 p.main k info p.is_main is) ∙ ap (held info.elem) (sym (none_given k))
+  register_value (V.Local k) info is u files zeros = own_zero (V.Local k) info is u zeros (local_own t (scalars t image p codable compiled) (words t image p codable compiled) 0 p.main k info p.is_main is)
 
   zero_or_started : (x : Variable) (info : VarInfo) → variable_named t p.main x ≡ Some info → in_main.scalar x < 2 ^ info.elem.bits
   unfolding entered start_state by_owner start_of scalar_given variable_named
   zero_or_started (V.File k) info is = subst (λ (o : Option VarInfo). (elim o as (λ _. ℕ) [ None ↦ 0 | Some info ↦ info.start ]) < 2 ^ info.elem.bits) (sym is) (all_at IsPlainVariable t.vars.items k info p.variables is).1
-  zero_or_started (V.Param k) info is = let none : slice_get p.main.params.items k ≡ None = ap (λ (xs : List VarInfo). slice_get xs k) p.params in cc
+  zero_or_started (V.Param k) info is = subst (λ (n : ℕ). n < 2 ^ info.elem.bits) (sym (none_given k)) (pow_pos info.elem.bits)
   zero_or_started (V.Local k) info is = pow_pos info.elem.bits
 
   -- the code is at the body, with the constants and the values of the file's variables in their registers

@@ -362,10 +362,10 @@ module _ (t : Typed) (p : HasScalarInstances t) (words : List ℕ) where
   result_apart number i is (V.Local k) info named e = let at = local_register number i k is in let result = result_is number i is in omega (arith, at, result, e)
 
   -- its own variables stand behind those of the file
-  pub params_behind : (number : ℕ) (i : Instance) → slice_get t.instances.items number ≡ Some i → (k : ℕ) → 0 + length t.vars.items ≤ register_of (layout_of t words number) (V.Param k)
+  params_behind : (number : ℕ) (i : Instance) → slice_get t.instances.items number ≡ Some i → (k : ℕ) → 0 + length t.vars.items ≤ register_of (layout_of t words number) (V.Param k)
   params_behind number i is k = let at = param_register number k in let low = base_behind number i is in omega (arith, at, low)
 
-  pub behind_files : (number : ℕ) (i : Instance) → slice_get t.instances.items number ≡ Some i → (k : ℕ) → 0 + length t.vars.items ≤ register_of (layout_of t words number) (V.Local k)
+  behind_files : (number : ℕ) (i : Instance) → slice_get t.instances.items number ≡ Some i → (k : ℕ) → 0 + length t.vars.items ≤ register_of (layout_of t words number) (V.Local k)
   behind_files number i is k = let at = local_register number i k is in let low = base_behind number i is in omega (arith, at, low)
 
   -- no two variables have one register

@@ -225,7 +225,6 @@ called_in t = map (λ (i : Instance). calls_within i.body) t.instances.items
 pub record IsScalarProgram (t : Typed) : Type 0 where
   pub main : Instance
   pub is_main : slice_get t.instances.items 0 ≡ Some main
-  pub params : main.params.items ≡ []
   pub no_cycle : HasNoCycle (called_in t)
   pub each : (number : ℕ) (i : Instance) → slice_get t.instances.items number ≡ Some i → IsScalarFunction (may_of t i) i
   pub names : (j k : ℕ) (a b : Instance) → slice_get t.instances.items j ≡ Some a → slice_get t.instances.items k ≡ Some b → a.name ≡ b.name → j ≡ k

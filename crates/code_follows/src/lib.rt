@@ -3,7 +3,6 @@
 #![tactic(auto)]
 
 ghost use Rattle.code_follows.specs.Agreement.{CodeMeansSource};
-ghost use Rattle.code_follows.specs.Example.{ExampleIsScalar};
 
 /// The code that the compiler makes of a program of functions without recursion on scalar variables of every
 /// type, of the file and of blocks within blocks, with parameters and results of every type, with all operators,
@@ -13,10 +12,4 @@ ghost use Rattle.code_follows.specs.Example.{ExampleIsScalar};
 /// name variables of open blocks alone, as typing gives.
 pub fn code_means_source()
     ensures { CodeMeansSource }
-{}
-
-/// Such a program is this one, which counts in a `char`, calls a function of a `char` in a loop and prints: so the
-/// law speaks of some.
-pub fn example_is_scalar()
-    ensures { ExampleIsScalar }
 {}
