@@ -1,5 +1,5 @@
 -- Texts go on behind declarations within the bounds.
-use Rattle.std.proofs.Common.{◌≡◌, ℕ, ◌+◌, ◌≤◌, Bool, List, [], ◌∷◌, map, Option, arith, refl, ap, if◌then◌else◌}
+use Rattle.std.proofs.Common.{◌≡◌, ℕ, ◌+◌, ◌≤◌, List, [], ◌∷◌, map, Option, arith, refl, ap}
 use Rattle.cstar_tree.specs.declared.token.Token.{Token}
 use Rattle.cstar_tree.specs.declared.token.Mark.TheVariants as M
 use Rattle.cstar_tree.specs.declared.syntax.Expr.{Expr}
@@ -16,19 +16,18 @@ use Rattle.cstar_tree.specs.TypedParts.{concat, optional}
 use Rattle.grammar_parts.specs.Parts.{Part, enter, skip, levels}
 use Rattle.grammar_parts.specs.Parts as P
 use Rattle.grammar_parts.specs.Actions.{act}
-use Rattle.grammar_parts.proofs.ReadDeclarations.{EndsName, comma_ends, names_end_type, semicolon_ends, start_expression, start_type}
-use Rattle.grammar_parts.proofs.ReadExpressions.{starts_expression}
+use Rattle.grammar_parts.proofs.ReadDeclarations.{EndsName, comma_ends, names_end_type, semicolon_ends}
 use Rattle.grammar_parts.proofs.ReadTypes.{starts_type}
 use Rattle.grammar_parts.proofs.Words.{Quiet, quiet_at, quiet_bracket}
 use Rattle.bounded_texts.proofs.Flowing.{Flow, begins, less, plain, same_act, skipped}
 use Rattle.bounded_texts.proofs.FlowExpressions.{expression_flows}
 use Rattle.bounded_texts.proofs.FlowTypes.{type_flows}
-use Rattle.bounded_texts.proofs.Sizes.{greatest_one}
-use Rattle.bounded_texts.proofs.StatementSizes.{among_both, among_first, among_more}
+use Rattle.bounded_texts.proofs.Sizes.{among_both, among_first, among_more, greatest_one}
+use Rattle.cstar_parser.proofs.Outside.{expression_start, type_start, typed_declaration}
 
 -- a whole expression
 pub whole_flows : {tokens : List Token} {from to : ℕ} {e : Expr} {behind : List Part} → IsExpr tokens from e to → Quiet (token_kind tokens to) → levels behind + levels_in e ≤ 100 → operators_in e ≤ 1000 → Flow tokens to behind 1000 → Flow tokens from (P.whole ∷ behind) 1000
-whole_flows {tokens} {from} {behind = behind} x quiet low few f = begins P.whole P.expression [] refl (start_expression (token_kind tokens from) (starts_expression x)) (omega arith) (expression_flows x quiet behind 0 low (less f (omega arith)))
+whole_flows {tokens} {from} {behind = behind} x quiet low few f = begins P.whole P.expression [] refl (expression_start (token_kind tokens from)) (omega arith) (expression_flows x quiet behind 0 low (less f (omega arith)))
 
 initial_flows : {tokens : List Token} {from to : ℕ} {initial : Option Initializer} {behind : List Part} → IsInitial tokens from initial to → EndsName (token_kind tokens to) → levels behind + among levels_in (initial_values initial) ≤ 100 → among operators_in (initial_values initial) ≤ 1000 → Flow tokens to behind 1000 → Flow tokens from (P.initial_or_none ∷ behind) 1000
 initial_flows D.no_initial q low few f = skipped P.initial_or_none q.no_equal f
@@ -78,7 +77,7 @@ typed_names_flow (D.next_name {list = list} {d = d} l comma x) q low few f =
 declaration_flows : {tokens : List Token} {from to : ℕ} {d : Declaration} {behind : List Part} → IsDeclaration tokens from d to → levels behind + among levels_in (declaration_expressions d) ≤ 100 → among operators_in (declaration_expressions d) ≤ 1000 → Flow tokens to (P.declarations ∷ behind) 1000 → Flow tokens from (P.declarations ∷ behind) 1000
 declaration_flows {tokens} {from} (D.declaration type names semicolon) low few f =
     begins P.declarations P.type (P.name ∷ P.length_or_none ∷ P.initial_or_none ∷ P.more_names ∷ P.declarations ∷ [])
-    (ap (λ (b : Bool). if b then enter P.type (P.name ∷ P.length_or_none ∷ P.initial_or_none ∷ P.more_names ∷ P.declarations ∷ []) else skip) (starts_type type)) (start_type (token_kind tokens from) (starts_type type)) (omega arith)
+    (typed_declaration (token_kind tokens from) (starts_type type)) (type_start (token_kind tokens from)) (omega arith)
     (type_flows type (names_end_type names) (omega arith) (less (names_flow names (semicolon_ends semicolon) (omega arith) few (plain P.more_names semicolon refl (omega arith) f)) (omega arith)))
 
 pub declarations_flow : {tokens : List Token} {from to : ℕ} {list : List Declaration} {behind : List Part} → AreDeclarations tokens from list to → levels behind + among levels_in (declared_expressions list) ≤ 100 → among operators_in (declared_expressions list) ≤ 1000 → Flow tokens to (P.declarations ∷ behind) 1000 → Flow tokens from (P.declarations ∷ behind) 1000

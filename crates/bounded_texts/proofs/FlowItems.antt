@@ -29,15 +29,16 @@ use Rattle.grammar_parts.specs.Parts.{Part, enter, levels}
 use Rattle.grammar_parts.specs.Parts as P
 use Rattle.grammar_parts.specs.Readings.{may_end}
 use Rattle.grammar_parts.specs.Verdicts.{read, verdict_on}
-use Rattle.grammar_parts.proofs.ReadDeclarations.{names_end_type, semicolon_ends, start_type, type_apart}
+use Rattle.grammar_parts.proofs.ReadDeclarations.{names_end_type, semicolon_ends, type_apart}
 use Rattle.grammar_parts.proofs.ReadTypes.{at_token, ends_type, name_ends_type, starts_type}
 use Rattle.grammar_parts.proofs.Words.{quiet_at, quiet_bracket}
 use Rattle.bounded_texts.proofs.Flowing.{Flow, begins, judged_end, less, plain, skipped}
 use Rattle.bounded_texts.proofs.FlowDeclarations.{typed_names_flow, whole_flows}
 use Rattle.bounded_texts.proofs.FlowStatements.{block_flows}
 use Rattle.bounded_texts.proofs.FlowTypes.{type_flows}
-use Rattle.bounded_texts.proofs.Sizes.{greatest_more, greatest_one}
-use Rattle.bounded_texts.proofs.StatementSizes.{among_first, among_more}
+use Rattle.bounded_texts.proofs.Sizes.{among_first, among_more, greatest_one}
+use Rattle.cstar_parser.proofs.Fitting.{greatest_more}
+use Rattle.cstar_parser.proofs.Outside.{type_start}
 
 extents_flow : {tokens : List Token} {from to : ℕ} {place : Place} {list : List Expr} {behind : List Part} → AreIndexes tokens from place list to → levels behind + among levels_in list ≤ 100 → among operators_in list ≤ 1000 → Flow tokens to (P.extents ∷ behind) 1000 → Flow tokens from (P.shape_definition ∷ behind) 1000
 extents_flow (X.first_index {e = e} (X.index_is open_it x close_it)) low few f = plain P.shape_definition open_it refl (omega arith)
@@ -62,12 +63,12 @@ definitions_flow (I.next_shape {list = list} {s = s} l comma x) low few f =
 
 -- a type where no `void` and no `shape` stands
 typed_item : {tokens : List Token} {from to : ℕ} {t : TypeName} {behind : List Part} → IsType tokens from t to → Flow tokens from (P.type ∷ P.name ∷ P.behind_typed_name ∷ P.items ∷ behind) 0 → Flow tokens from (P.items ∷ behind) 1000
-typed_item {tokens} {from} t f = begins P.items P.type (P.name ∷ P.behind_typed_name ∷ P.items ∷ []) (rw (type_apart (token_kind tokens from) M.Shape refl (starts_type t), starts_type t) refl) (start_type (token_kind tokens from) (starts_type t)) (omega arith) f
+typed_item {tokens} {from} t f = begins P.items P.type (P.name ∷ P.behind_typed_name ∷ P.items ∷ []) (rw (type_apart (token_kind tokens from) M.Shape refl (starts_type t), starts_type t) refl) (type_start (token_kind tokens from)) (omega arith) f
 
 named_flow : {tokens : List Token} {from to : ℕ} {list : List Parameter} {behind : List Part} → AreNamed tokens from list to → levels behind ≤ 100 → Flow tokens to (P.more_parameters ∷ behind) 1000 → Flow tokens from (P.parameters ∷ behind) 1000
-named_flow {tokens} {from} (I.first_parameter (I.parameter type name)) low f = begins P.parameters P.type (P.name ∷ P.more_parameters ∷ []) (rw (type_apart (token_kind tokens from) M.Void refl (starts_type type), starts_type type) refl) (start_type (token_kind tokens from) (starts_type type)) (omega arith)
+named_flow {tokens} {from} (I.first_parameter (I.parameter type name)) low f = begins P.parameters P.type (P.name ∷ P.more_parameters ∷ []) (rw (type_apart (token_kind tokens from) M.Void refl (starts_type type), starts_type type) refl) (type_start (token_kind tokens from)) (omega arith)
     (type_flows type (ends_type name (name_ends_type _)) (omega arith) (less (plain P.name name refl (omega arith) f) (omega arith)))
-named_flow {tokens} (I.next_parameter {next = next} list comma (I.parameter type name)) low f = named_flow list low (plain P.more_parameters comma refl (omega arith) (begins P.parameter P.type (P.name ∷ []) refl (start_type (token_kind tokens next) (starts_type type)) (omega arith)
+named_flow {tokens} (I.next_parameter {next = next} list comma (I.parameter type name)) low f = named_flow list low (plain P.more_parameters comma refl (omega arith) (begins P.parameter P.type (P.name ∷ []) refl (type_start (token_kind tokens next)) (omega arith)
     (type_flows type (ends_type name (name_ends_type _)) (omega arith) (less (plain P.name name refl (omega arith) f) (omega arith)))))
 
 -- what stands behind the `(` of a function

@@ -14,6 +14,7 @@ use Rattle.grammar_parts.specs.Readings.{is_skipped, kinds_from, may_end}
 use Rattle.grammar_parts.specs.Verdicts.{State, Verdict, around, depth_at, entering, inner_step, is_deep, outer_step, read, syntax_at, verdict, verdict_at, within}
 use Rattle.grammar_parts.proofs.Judging.{levels-append, opens_as, skips, takes}
 use Rattle.grammar_parts.proofs.Reaching.{kinds_at, kinds_end}
+use Rattle.cstar_parser.proofs.Outside.{begin_outside, opened_outside, skipped_outside}
 
 -- From a token on the text is read, where these parts are open and there are at most so many operators
 -- before it. Which of the parts are open inside the present expression is not said, so that the parts
@@ -24,6 +25,12 @@ pub record Flow (tokens : List Token) (at : ℕ) (parts : List Part) (n : ℕ) :
 
 pub less : {tokens : List Token} {at n m : ℕ} {parts : List Part} → Flow tokens at parts m → n ≤ m → Flow tokens at parts n
 less f low = record { few = let most = f.few in omega arith; on = λ inside outside k e l. f.on inside outside k e (omega arith) }
+
+heads : {p q : Part} {ps qs : List Part} → p ∷ ps ≡ q ∷ qs → p ≡ q
+heads e = cc
+
+tails : {p q : Part} {ps qs : List Part} → p ∷ ps ≡ q ∷ qs → ps ≡ qs
+tails e = cc
 
 -- ---- states that do the same
 
@@ -52,12 +59,13 @@ step_within : (p : Part) (kind : Kind) (inside : List Part) (k : ℕ) (outside :
 unfolding inner_step
 step_within p kind inside k outside is = ap (λ (a : Action). within a kind inside k outside (inner_step inside k outside kind)) is
 
-outer : (outside : List Part) (k : ℕ) (kind : Kind) → outer_step outside kind ≡ inner_step [] k outside kind
-unfolding inner_step
-outer outside k kind = refl
-
 shallow : (b : Bool) (at : ℕ) (v : Verdict) → b ≡ false → (if b then depth_at at else v) ≡ v
 shallow b at v e = ap (λ (x : Bool). if x then depth_at at else v) e
+
+-- operators are forgotten where no expression is open
+forget : (tokens : List Token) (at k : ℕ) (outside : List Part) → verdict_at tokens at [] k outside ≡ verdict_at tokens at [] 0 outside
+unfolding inner_step
+forget tokens at k outside = alike tokens at [] k outside [] 0 outside (λ kind h. refl) (λ h. refl)
 
 -- ---- the same where no expression is open
 
@@ -68,28 +76,14 @@ takes_around {tokens} {at} {c = c} {kind = kind} {parts = parts} p k outside s i
     ∙ shallow _ at _ (ap (λ (b : Bool). b || nat_lt 1000 0) (le-ltb 100 (levels [] + levels (parts ++ outside)) (let e = levels-append parts outside in omega arith)) ∙ le-ltb 1000 0 (omega arith))
     ∙ ap (λ (i : ℕ). verdict_at tokens i [] 0 (parts ++ outside)) (sym s.next_is)
 
-skips_around : (tokens : List Token) (at : ℕ) (p : Part) (k : ℕ) (outside : List Part) → act p (token_kind tokens at) ≡ skip → verdict_at tokens at [] k (p ∷ outside) ≡ verdict_at tokens at [] k outside
-unfolding may_end
-skips_around tokens at p k outside is = alike tokens at [] k (p ∷ outside) [] k outside (λ kind h. step_around p kind k outside (sym (ap (act p) h) ∙ is) ∙ outer outside k kind) (λ h. ap (λ (a : Action). is_skipped a && may_end outside) (sym (ap (act p) h) ∙ is))
+skips_around : (tokens : List Token) (at : ℕ) (p : Part) (k : ℕ) (outside : List Part) → act p (token_kind tokens at) ≡ skip → verdict_at tokens at [] k (p ∷ outside) ≡ verdict_at tokens at [] 0 outside
+skips_around tokens at p k outside is = forget tokens at k (p ∷ outside) ∙ (skipped_outside p [] is begin_outside).on outside refl
 
-opens_around : (tokens : List Token) (at : ℕ) (p q : Part) (parts : List Part) (k : ℕ) (outside : List Part) → act p (token_kind tokens at) ≡ before (act q (token_kind tokens at)) parts → IsReal (act q (token_kind tokens at)) → verdict_at tokens at [] k (p ∷ outside) ≡ verdict_at tokens at [] k (q ∷ parts ++ outside)
-unfolding may_end
-opens_around tokens at p q parts k outside is real = alike tokens at [] k (p ∷ outside) [] k (q ∷ parts ++ outside)
-    (λ kind h. step_around p kind k outside (subst {0, 0} (λ (x : Option Kind). act p x ≡ before (act q x) parts) h is) ∙ both kind (act q (Some kind)) (subst {0, 0} (λ (x : Option Kind). IsReal (act q x)) h real) ∙ sym (step_around q kind k (parts ++ outside) refl))
-    (λ h. ap (λ (a : Action). is_skipped a && may_end outside) (subst {0, 0} (λ (x : Option Kind). act p x ≡ before (act q x) parts) h is) ∙ ends (act q None) (subst {0, 0} (λ (x : Option Kind). IsReal (act q x)) h real)) where
-      both : (kind : Kind) (a : Action) → IsReal a → around (before a parts) kind outside (outer_step outside kind) ≡ around a kind (parts ++ outside) (outer_step (parts ++ outside) kind)
-      both kind (take_it c qs) r = ap (λ (list : List Part). Some (record { inside = []; operators = 0; outside = list })) (append_assoc qs parts outside)
-      both kind refuse r = refl
-      both kind skip r = absurd r
-      both kind (enter r rs) h = ap (entering (act r (Some kind))) (append_assoc rs parts outside)
+opens_around : (tokens : List Token) (at : ℕ) (p q : Part) (parts : List Part) (k : ℕ) (outside : List Part) → act p (token_kind tokens at) ≡ before (act q (token_kind tokens at)) parts → IsReal (act q (token_kind tokens at)) → verdict_at tokens at [] k (p ∷ outside) ≡ verdict_at tokens at [] 0 (q ∷ parts ++ outside)
+opens_around tokens at p q parts k outside is real = forget tokens at k (p ∷ outside) ∙ (opened_outside p q parts [] is real begin_outside).on outside refl ∙ ap (λ (list : List Part). verdict_at tokens at [] 0 (q ∷ list ++ outside)) (append-nil parts)
 
-      ends : (a : Action) → IsReal a → is_skipped (before a parts) && may_end outside ≡ is_skipped a && may_end (parts ++ outside)
-      ends (take_it c qs) r = refl
-      ends refuse r = refl
-      ends skip r = absurd r
-      ends (enter q qs) r = refl
+-- ---- a whole expression or type begins
 
--- a whole expression or type begins
 starting : (a : Action) (kind : Kind) (outside : List Part) → IsStart a → entering a outside ≡ within a kind [] 0 outside (inner_step [] 0 outside kind)
 starting (take_it c qs) kind outside s =
     let none : c ≡ 0 + c = omega arith in
@@ -104,17 +98,16 @@ no_end refuse b s = refl
 no_end skip b s = absurd s
 no_end (enter q qs) b s = absurd s
 
-enters_around : (tokens : List Token) (at : ℕ) (p q : Part) (parts : List Part) (k : ℕ) (outside : List Part) → act p (token_kind tokens at) ≡ enter q parts → IsStart (act q (token_kind tokens at)) → verdict_at tokens at [] k (p ∷ outside) ≡ verdict_at tokens at (q ∷ []) 0 (parts ++ outside)
+enters : (tokens : List Token) (at : ℕ) (p q : Part) (parts behind inside : List Part) (k : ℕ) (outside : List Part) → inside ++ outside ≡ p ∷ behind → act p (token_kind tokens at) ≡ enter q parts → IsStart (act q (token_kind tokens at)) → verdict_at tokens at inside k outside ≡ verdict_at tokens at (q ∷ []) 0 (parts ++ behind)
 unfolding may_end
-enters_around tokens at p q parts k outside is start = alike tokens at [] k (p ∷ outside) (q ∷ []) 0 (parts ++ outside)
-    (λ kind h. step_around p kind k outside (sym (ap (act p) h) ∙ is) ∙ starting (act q (Some kind)) kind (parts ++ outside) (subst {0, 0} (λ (x : Option Kind). IsStart (act q x)) h start) ∙ sym (step_within q kind [] 0 (parts ++ outside) refl))
-    (λ h. ap (λ (a : Action). is_skipped a && may_end outside) (sym (ap (act p) h) ∙ is) ∙ no_end (act q None) (may_end (parts ++ outside)) (subst {0, 0} (λ (x : Option Kind). IsStart (act q x)) h start))
+enters tokens at p q parts behind inside k outside e is start = alike tokens at inside k outside (q ∷ []) 0 (parts ++ behind)
+    (λ kind h. entered kind inside outside e (sym (ap (act p) h) ∙ is) ∙ starting (act q (Some kind)) kind (parts ++ behind) (subst {0, 0} (λ (x : Option Kind). IsStart (act q x)) h start) ∙ sym (step_within q kind [] 0 (parts ++ behind) refl))
+    (λ h. ap may_end e ∙ ap (λ (a : Action). is_skipped a && may_end behind) (sym (ap (act p) h) ∙ is) ∙ no_end (act q None) (may_end (parts ++ behind)) (subst {0, 0} (λ (x : Option Kind). IsStart (act q x)) h start)) where
+      entered : (kind : Kind) (inside outside : List Part) → inside ++ outside ≡ p ∷ behind → act p (Some kind) ≡ enter q parts → inner_step inside k outside kind ≡ entering (act q (Some kind)) (parts ++ behind)
+      entered kind [] outside e is = ap (λ (list : List Part). inner_step [] k list kind) e ∙ step_around p kind k behind is
+      entered kind (r ∷ inside) outside e is = step_within r kind inside k outside (ap (λ (x : Part). act x (Some kind)) (heads e) ∙ is) ∙ ap (λ (list : List Part). entering (act q (Some kind)) (parts ++ list)) (tails e)
 
-enters_within : (tokens : List Token) (at : ℕ) (p q : Part) (parts inside : List Part) (k : ℕ) (outside : List Part) → act p (token_kind tokens at) ≡ enter q parts → IsStart (act q (token_kind tokens at)) → verdict_at tokens at (p ∷ inside) k outside ≡ verdict_at tokens at (q ∷ []) 0 (parts ++ (inside ++ outside))
-unfolding may_end
-enters_within tokens at p q parts inside k outside is start = alike tokens at (p ∷ inside) k outside (q ∷ []) 0 (parts ++ (inside ++ outside))
-    (λ kind h. step_within p kind inside k outside (sym (ap (act p) h) ∙ is) ∙ starting (act q (Some kind)) kind (parts ++ (inside ++ outside)) (subst {0, 0} (λ (x : Option Kind). IsStart (act q x)) h start) ∙ sym (step_within q kind [] 0 (parts ++ (inside ++ outside)) refl))
-    (λ h. ap (λ (a : Action). is_skipped a && may_end (inside ++ outside)) (sym (ap (act p) h) ∙ is) ∙ no_end (act q None) (may_end (parts ++ (inside ++ outside))) (subst {0, 0} (λ (x : Option Kind). IsStart (act q x)) h start))
+-- ---- two parts do the same
 
 same_around : (tokens : List Token) (at : ℕ) (p q : Part) (k : ℕ) (outside : List Part) → act p (token_kind tokens at) ≡ act q (token_kind tokens at) → verdict_at tokens at [] k (p ∷ outside) ≡ verdict_at tokens at [] k (q ∷ outside)
 unfolding may_end
@@ -129,22 +122,6 @@ same_within tokens at p q inside k outside is = alike tokens at (p ∷ inside) k
     (λ h. ap (λ (a : Action). is_skipped a && may_end (inside ++ outside)) (subst {0, 0} (λ (x : Option Kind). act p x ≡ act q x) h is))
 
 -- ---- one token
-
-head_or : Part → List Part → Part
-head_or x [] = x
-head_or x (y ∷ ys) = y
-
-tail_of : List Part → List Part
-tail_of [] = []
-tail_of (x ∷ xs) = xs
-
-heads : {p q : Part} {ps qs : List Part} → p ∷ ps ≡ q ∷ qs → p ≡ q
-unfolding head_or
-heads {p} e = ap (head_or p) e
-
-tails : {p q : Part} {ps qs : List Part} → p ∷ ps ≡ q ∷ qs → ps ≡ qs
-unfolding tail_of
-tails e = ap tail_of e
 
 acts : (tokens : List Token) (at : ℕ) {p q : Part} {ps qs : List Part} → p ∷ ps ≡ q ∷ qs → act p (token_kind tokens at) ≡ act q (token_kind tokens at)
 acts tokens at e = ap (λ (x : Part). act x (token_kind tokens at)) (heads e)
@@ -167,7 +144,7 @@ plain p s is low f = taken p s is low (less f (omega arith))
 pub skipped : {tokens : List Token} {at n : ℕ} {behind : List Part} (p : Part) → act p (token_kind tokens at) ≡ skip → Flow tokens at behind n → Flow tokens at (p ∷ behind) n
 skipped {tokens} {at} {n} {behind} p is f = record { few = f.few; on = on } where
   on : (inside outside : List Part) (k : ℕ) → inside ++ outside ≡ p ∷ behind → k ≤ n → verdict_at tokens at inside k outside ≡ read
-  on [] outside k e l = ap (λ (list : List Part). verdict_at tokens at [] k list) e ∙ skips_around tokens at p k behind is ∙ f.on [] behind k refl l
+  on [] outside k e l = ap (λ (list : List Part). verdict_at tokens at [] k list) e ∙ skips_around tokens at p k behind is ∙ f.on [] behind 0 refl (omega arith)
   on (q ∷ inside) outside k e l = skips tokens at q inside k outside (acts tokens at e ∙ is) ∙ f.on inside outside k (tails e) l
 
 -- the same the other way
@@ -178,7 +155,7 @@ unskipped {tokens} {at} p is f = record { few = f.few; on = λ inside outside k 
 pub opens : {tokens : List Token} {at n : ℕ} {behind : List Part} (p q : Part) (parts : List Part) → act p (token_kind tokens at) ≡ before (act q (token_kind tokens at)) parts → IsReal (act q (token_kind tokens at)) → Flow tokens at (q ∷ parts ++ behind) n → Flow tokens at (p ∷ behind) n
 opens {tokens} {at} {n} {behind} p q parts is real f = record { few = f.few; on = on } where
   on : (inside outside : List Part) (k : ℕ) → inside ++ outside ≡ p ∷ behind → k ≤ n → verdict_at tokens at inside k outside ≡ read
-  on [] outside k e l = ap (λ (list : List Part). verdict_at tokens at [] k list) e ∙ opens_around tokens at p q parts k behind is real ∙ f.on [] (q ∷ parts ++ behind) k refl l
+  on [] outside k e l = ap (λ (list : List Part). verdict_at tokens at [] k list) e ∙ opens_around tokens at p q parts k behind is real ∙ f.on [] (q ∷ parts ++ behind) 0 refl (omega arith)
   on (r ∷ inside) outside k e l = opens_as tokens at r q parts inside k outside (acts tokens at e ∙ is) real ∙ f.on (q ∷ parts ++ inside) outside k (ap (λ (list : List Part). q ∷ list) (append_assoc parts inside outside ∙ ap (λ (list : List Part). parts ++ list) (tails e))) l
 
 -- it does the same
@@ -190,7 +167,4 @@ same_act {tokens} {at} {n} {behind} p q is f = record { few = f.few; on = on } w
 
 -- a whole expression or type begins, in which operators are counted anew
 pub begins : {tokens : List Token} {at n : ℕ} {behind : List Part} (p q : Part) (parts : List Part) → act p (token_kind tokens at) ≡ enter q parts → IsStart (act q (token_kind tokens at)) → n ≤ 1000 → Flow tokens at (q ∷ parts ++ behind) 0 → Flow tokens at (p ∷ behind) n
-begins {tokens} {at} {n} {behind} p q parts is start few f = record { few = few; on = on } where
-  on : (inside outside : List Part) (k : ℕ) → inside ++ outside ≡ p ∷ behind → k ≤ n → verdict_at tokens at inside k outside ≡ read
-  on [] outside k e l = ap (λ (list : List Part). verdict_at tokens at [] k list) e ∙ enters_around tokens at p q parts k behind is start ∙ f.on (q ∷ []) (parts ++ behind) 0 refl (omega arith)
-  on (r ∷ inside) outside k e l = enters_within tokens at r q parts inside k outside (acts tokens at e ∙ is) start ∙ f.on (q ∷ []) (parts ++ (inside ++ outside)) 0 (ap (λ (list : List Part). q ∷ parts ++ list) (tails e)) (omega arith)
+begins {tokens} {at} {n} {behind} p q parts is start few f = record { few = few; on = λ inside outside k e l. enters tokens at p q parts behind inside k outside e is start ∙ f.on (q ∷ []) (parts ++ behind) 0 refl (omega arith) }

@@ -5,4 +5,3 @@ pub mod FlowStatements
 pub mod FlowTypes
 pub mod Flowing
 pub mod Sizes
-pub mod StatementSizes
