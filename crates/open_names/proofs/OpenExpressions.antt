@@ -70,13 +70,8 @@ module _ (blocks : Open) where
   bits (X.bit {n = name} {v = v} {elem = elem} {shape = shape} segments is one current) k = k name.word v (record { value = parallel elem shape; array = None }) is
 
   module _ (program : Program) where
-    -- the same names are known at the place of an index
-    in_index : (here : Here) (word : List ℕ) (axis : ℕ) → KnowsOpen blocks here → KnowsOpen blocks (index_place here word axis)
-    unfolding index_place meaning
-    in_index here word axis k = k
-
     mutual
-      unfolding NamesOpen meaning
+      unfolding NamesOpen index_place meaning
 
       pub named : {here : Here} {e : Expr} {f : TExpr} {has_value : Bool} → Types program here e f has_value → KnowsOpen blocks here → NamesOpen blocks f
       named X.number k = tt
@@ -120,5 +115,5 @@ module _ (blocks : Open) where
 
       named_indexes : {here : Here} {name : Name} {axis : ℕ} {es : List Expr} {ts : List TExpr} → TypesIndexes program here name axis es ts → KnowsOpen blocks here → All (NamesOpen blocks) ts
       named_indexes X.no_index k = All-nil (NamesOpen blocks)
-      named_indexes (X.next_index {here = here} {n = name} {axis = axis} {t = f} {ts = ts} at more) k =
-          All-cons (NamesOpen blocks) f ts (named at (in_index here name.word axis k)) (named_indexes more k)
+      -- the same names are known at the place of an index
+      named_indexes (X.next_index {t = f} {ts = ts} at more) k = All-cons (NamesOpen blocks) f ts (named at k) (named_indexes more k)

@@ -117,14 +117,10 @@ module _ (blocks : Open) (n : ℕ) where
 
     all_initials : (before : ℕ) (locals rest : List LocalVar) → InitialsNameOpen blocks n before locals → InitialsNameOpen blocks n (before + length locals) rest → InitialsNameOpen blocks n before (locals ++ rest)
     unfolding InitialsNameOpen
-    all_initials before [] rest h k = subst (λ (m : ℕ). InitialsNameOpen blocks n m rest) (nothing_more before) k
-      where
-        nothing_more : (m : ℕ) → m + 0 ≡ m
-        nothing_more m = omega arith
-    all_initials before (local ∷ locals) rest h k = (h.0, all_initials (before + 1) locals rest h.1 (subst (λ (m : ℕ). InitialsNameOpen blocks n m rest) (one_later before (length locals)) k))
-      where
-        one_later : (m l : ℕ) → m + suc l ≡ m + 1 + l
-        one_later m l = omega arith
+    all_initials before [] rest h k = let same : before + 0 ≡ before = omega arith in subst (λ (m : ℕ). InitialsNameOpen blocks n m rest) same k
+    all_initials before (local ∷ locals) rest h k =
+        let same : before + suc (length locals) ≡ before + 1 + length locals = omega arith in
+        (h.0, all_initials (before + 1) locals rest h.1 (subst (λ (m : ℕ). InitialsNameOpen blocks n m rest) same k))
 
     initial_names : {here : Here} {ty : ValueType} {initial : Option Initializer} {f : Option TExpr} (many : ℕ) → TypesInitial program here ty initial f → KnowsSoMany many here → IfSome f (NamesOpen (opened blocks n many))
     initial_names many Y.no_initial k = tt
