@@ -52,6 +52,23 @@ pub struct Taking<'a> {
     pub step: Step,
 }
 
+/// The quotient and the remainder of a number by a length: by the usual ones without a division, which
+/// would take as long as a plane.
+#[inline(always)]
+fn parted(n: u32, len: u32) -> (u32, u32)
+    requires { 1 ≤ len }
+    ensures quotient { result.0 ≡ n / len }
+    ensures remainder { result.1 ≡ n % len }
+{
+    match len {
+        1 => (n, 0),
+        8 => (n / 8, n % 8),
+        16 => (n / 16, n % 16),
+        32 => (n / 32, n % 32),
+        _ => (n / len, n % len),
+    }
+}
+
 /// The plane at place `n` where the planes of a field of each block lie side by side.
 #[inline(always)]
 fn plane_of(blocks: &[Block], field: Field, n: u32) -> Plane
@@ -61,7 +78,8 @@ fn plane_of(blocks: &[Block], field: Field, n: u32) -> Plane
     ensures { result.bits ≡ plane_at (planes_at blocks.now (n / field.len)) (field.offset + n % field.len) }
 {
     let len = u32::from(field.len);
-    blocks[(n / len) as usize].planes[field.offset as usize + (n % len) as usize]
+    let (k, j) = parted(n, len);
+    blocks[k as usize].planes[field.offset as usize + j as usize]
 }
 
 /// Copies the planes of a field of each block to the first planes that are held, side by side.

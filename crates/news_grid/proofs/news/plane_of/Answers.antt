@@ -13,11 +13,16 @@ returns c =
     let n = c.args.n in
     let len = c.from-len.result in
     let is : len ≡ field.len = c.from-len.ensures in
+    let k = c.parted-k.result.0 in
+    let j = c.parted-k.result.1 in
+    let quotient : k ≡ n / len = c.parted-k.ensures.quotient in
+    let remainder : j ≡ n % len = c.parted-k.ensures.remainder in
     let some : 0 < len = omega (arith, c.requires.len) in
-    let kb : n / len < length blocks = place_block n (length blocks) len some (subst (λ l. n < length blocks * l) (sym is) c.requires.place) in
-    let block = c.index-blocks-n.result in
-    let jb : n % len < len = mod-lt n some in
-    block_read blocks (n / len) (field.offset + n % len) block c.index.result.now kb c.index-blocks-n.is
-    (c.index.ensures ∙ ap (λ (b : Block). get_or (planes_in b) (field.offset + n % len) c.index.result.now) (sym c.index-blocks-n.is))
-    (omega (arith, c.requires.planes (n / len) block kb, c.index-blocks-n.is, ap (λ (b : Block). length b.planes.items) c.index-blocks-n.is, jb, is))
+    let kb : k < length blocks = subst (λ m. m < length blocks) (sym quotient) (place_block n (length blocks) len some (subst (λ l. n < length blocks * l) (sym is) c.requires.place)) in
+    let block = c.index-blocks-k.result in
+    let jb : j < len = subst (λ m. m < len) (sym remainder) (mod-lt n some) in
+    block_read blocks k (field.offset + j) block c.index.result.now kb c.index-blocks-k.is
+    (c.index.ensures ∙ ap (λ (b : Block). get_or (planes_in b) (field.offset + j) c.index.result.now) (sym c.index-blocks-k.is))
+    (omega (arith, c.requires.planes k block kb, c.index-blocks-k.is, ap (λ (b : Block). length b.planes.items) c.index-blocks-k.is, jb, is))
+    ∙ ap (λ m. plane_at (planes_at blocks m) (field.offset + j)) quotient ∙ ap (λ m. plane_at (planes_at blocks (n / len)) (field.offset + m)) remainder
     ∙ ap (λ l. plane_at (planes_at blocks (n / l)) (field.offset + n % l)) is
