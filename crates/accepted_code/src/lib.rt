@@ -17,8 +17,8 @@ pub fn image_has_every_unit()
 {}
 
 /// An image that the compiler makes of an accepted text comes, on every input and with every number of
-/// turns, to the end of the text's meaning, with its turns and its output: so far where the text's program
-/// is scalar.
+/// turns, to the end of the text's meaning, with its turns and its output: so far where the text declares no
+/// shape.
 pub fn scalar_image_means_its_text()
     ensures { ScalarImagesMeanTheirText }
 {}

@@ -56,9 +56,9 @@ is_run image s run course later comes n mid goes at =
     }
 
 pub scalar_runs : ScalarRunsMeanTheirText
-scalar_runs text typed image is compiled scalar winner input rest turns course are on =
+scalar_runs text typed image short is none compiled sound winner input rest turns course are on =
     let from : Origin = new_start image winner in
     let given : Rest = record { bytes = input; mark = mark_of rest } in
     let ran = run_on from given turns course on in
-    is_run image (opening image on.ran.begun turns given) (meaning typed input rest turns winner) course on.given.0 (scalar_means text typed image is compiled scalar on.ran.begun input rest turns winner are)
+    is_run image (opening image on.ran.begun turns given) (meaning typed input rest turns winner) course on.given.0 (scalar_means text typed image short is none compiled sound on.ran.begun input rest turns winner are)
     ran.0 ran.2.0 ran.2.1 (ends_at image ran.2.0 (left_by course on.given.0) course.end on.whole ran.2.2)

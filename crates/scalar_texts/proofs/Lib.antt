@@ -1,0 +1,13 @@
+pub mod CallsAllowed
+pub mod FilesWithoutShapes
+pub mod FunctionsApart
+pub mod InstancesMet
+pub mod OpenBodies
+pub mod ScalarCalls
+pub mod ScalarConversions
+pub mod ScalarDeclarations
+pub mod ScalarExpressions
+pub mod ScalarPlaces
+pub mod ScalarStatements
+pub mod ScalarVariables
+pub mod WholeFiles
