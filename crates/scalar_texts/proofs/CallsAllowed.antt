@@ -42,7 +42,7 @@ module _ (tree : Tree) where
           let cs = calls_of_placed (file_known tree).shapes r (Some placed) in
           All-weaker (Contains cs) (λ (c : Call). Leads (program_of tree).calls f c.function) (λ c among. leads_on leads (blocks_call tree r placed found c among)) cs (All-contains_itself cs)
 
-  pub main_leads : (number : ℕ) (r first : Reached) → slice_get (instances_of tree) 0 ≡ Some first → slice_get (instances_of tree) number ≡ Some r → Leads (program_of tree).calls first.function r.function
+  main_leads : (number : ℕ) (r first : Reached) → slice_get (instances_of tree) 0 ≡ Some first → slice_get (instances_of tree) number ≡ Some r → Leads (program_of tree).calls first.function r.function
   main_leads number r first at_first at =
       all_at (λ (r : Reached). Leads (program_of tree).calls first.function r.function) (instances_of tree) number r
       (all_met (file_known tree).shapes (file_functions tree) (λ (r : Reached). Leads (program_of tree).calls first.function r.function) (leads_to_calls first.function) (main_of tree) first at_first is_it) at

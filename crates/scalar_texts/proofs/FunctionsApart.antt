@@ -1,8 +1,9 @@
 -- The functions of a file have names apart: a function is none whose name the file has before it.
-use Rattle.std.proofs.Common.{◌≡◌, ℕ, zero, suc, ◌+◌, Bool, true, false, bytes_eq, if◌then◌else◌, is_some, List, [], ◌∷◌, ◌++◌, length, Option, Some, None, refl, sym, ap, ◌∙◌, subst}
-use Rattle.std.proofs.lemmas.Option.{none-some, same_Some}
+use Rattle.std.proofs.Common.{◌≡◌, ℕ, Bool, true, false, bytes_eq, if◌then◌else◌, is_some, List, [], ◌∷◌, ◌++◌, length, Option, Some, None, refl, sym, ap, ◌∙◌, subst}
+use Rattle.std.proofs.lemmas.Option.{none-some}
 use Rattle.std.proofs.lemmas.Slice.Eq.{bytes_eq-Decides}
-use Rattle.std.specs.List.{slice_get}
+use Rattle.std.proofs.lemmas.List.Elements.{All-cons, All-nil, All-weaker}
+use Rattle.std.specs.List.{All}
 use Rattle.cstar_tree.specs.declared.syntax.Declarator.{Declarator}
 use Rattle.cstar_tree.specs.declared.syntax.Function.{Function}
 use Rattle.cstar_tree.specs.declared.syntax.Item.{Item}
@@ -15,6 +16,8 @@ use Rattle.cstar_tree.specs.BlockScopes.{declared_type}
 use Rattle.cstar_tree.specs.FileScopes.{Known, behind_function, behind_item, behind_shape, behind_shapes, behind_variable, behind_variables, file_functions, file_place, functions_named, nothing_known, placed_from, with_name}
 use Rattle.cstar_tree.specs.Headers.{Placed}
 use Rattle.cstar_tree.specs.Scopes.{Binding, Meaning, a_function, a_shape, a_variable, find, written_type}
+use Rattle.shape_types.proofs.FunctionNames.{function_behind}
+use Rattle.scalar_texts.proofs.Apart.{AreApart, IsOther, none_apart, one_apart}
 
 -- what is known behind a name that is new stands for what was known before, and for that name
 missing_one : (known more : Known) (new word : List ℕ) (m : Meaning) (b : Bool) → more.names ≡ with_name known new m → find (if b then known else more).names word ≡ None → find known.names word ≡ None
@@ -45,74 +48,49 @@ missing_item functions known (I.Shapes p shapes) word missing = missing_shapes f
 missing_item functions known (I.Variables d) word missing = missing_variables functions (written_type (file_place functions known) d.type_name) known d.variables.items word missing
 missing_item functions known (I.Function f) word missing = missing_one known _ f.name.word word (a_function known.functions) (is_some (find known.names f.name.word)) refl missing
 
--- behind a function its name is known
-named_behind : (known : Known) (f : Function) → find (behind_function known f).names f.name.word ≡ None → ⊥
-unfolding behind_function find
-named_behind known f missing = by_name (find known.names f.name.word) refl missing
-  where
-    by_name : (m : Option Meaning) → find known.names f.name.word ≡ m → find (if is_some m then known else record {
-      names = with_name known f.name.word (a_function known.functions);
-      shapes = known.shapes;
-      variables = known.variables;
-      functions = known.functions + 1;
-    }).names f.name.word ≡ None → ⊥
-    by_name (Some m) is missing = none-some m (sym missing ∙ is)
-    by_name None is missing = none-some (a_function known.functions) (sym missing ∙ ap (λ (b : Bool). if b then Some (a_function known.functions) else find known.names f.name.word) ((bytes_eq-Decides f.name.word f.name.word).1 refl))
+-- behind a function that is new its name is known
+named_behind : (known : Known) (f : Function) → find known.names f.name.word ≡ None → find (behind_function known f).names f.name.word ≡ None → ⊥
+unfolding find
+named_behind known f new missing =
+    none-some (a_function known.functions)
+    (sym (subst (λ (k : Known). find k.names f.name.word ≡ None) (function_behind known f new) missing)
+    ∙ ap (λ (b : Bool). if b then Some (a_function known.functions) else find known.names f.name.word) ((bytes_eq-Decides f.name.word f.name.word).1 refl))
+
+abbrev word_of : Placed → List ℕ
+word_of placed = placed.function.name.word
+
+abbrev IsMissing : Known → Placed → Type 0
+IsMissing known placed = find known.names (word_of placed) ≡ None
 
 module _ (functions : List Binding) where
-  abbrev placed_at : Known → List Item → ℕ → Option Placed
-  placed_at known items k = slice_get (placed_from functions known items) k
+  earlier : (known : Known) (item : Item) (list : List Placed) → All (IsMissing (behind_item functions known item)) list → All (IsMissing known) list
+  earlier known item = All-weaker (IsMissing (behind_item functions known item)) (IsMissing known) (λ (placed : Placed). missing_item functions known item (word_of placed))
 
-  -- so its name is missing before it
-  missing_placed : (known : Known) (items : List Item) (k : ℕ) (placed : Placed) → placed_at known items k ≡ Some placed → find known.names placed.function.name.word ≡ None
+  -- the names of functions are missing before them, and so none stands twice
+  placed_apart : (known : Known) (items : List Item) → All (IsMissing known) (placed_from functions known items) × AreApart word_of (placed_from functions known items)
   unfolding placed_from behind_item
-  missing_placed known [] k placed at = elim (none-some placed at) [ ]
-  missing_placed known (I.Shapes p shapes ∷ items) k placed at =
-      missing_shapes functions known shapes.items placed.function.name.word (missing_placed (behind_shapes functions known shapes.items) items k placed at)
-  missing_placed known (I.Variables d ∷ items) k placed at =
-      let ty = written_type (file_place functions known) d.type_name in
-      missing_variables functions ty known d.variables.items placed.function.name.word (missing_placed (behind_variables functions ty known d.variables.items) items k placed at)
-  missing_placed known (I.Function f ∷ items) k placed at =
-      by_name (find known.names f.name.word) refl (λ k at. missing_item functions known (I.Function f) placed.function.name.word (missing_placed (behind_function known f) items k placed at)) k at
+  placed_apart known [] = (All-nil (IsMissing known), none_apart word_of)
+  placed_apart known (I.Shapes p shapes ∷ items) =
+      let behind = placed_apart (behind_item functions known (I.Shapes p shapes)) items in
+      (earlier known (I.Shapes p shapes) _ behind.0, behind.1)
+  placed_apart known (I.Variables d ∷ items) =
+      let behind = placed_apart (behind_item functions known (I.Variables d)) items in
+      (earlier known (I.Variables d) _ behind.0, behind.1)
+  placed_apart known (I.Function f ∷ items) =
+      let behind = placed_apart (behind_item functions known (I.Function f)) items in
+      by_name (find known.names f.name.word) refl _ behind.0 behind.1
     where
-      rest : List Placed
-      rest = placed_from functions (behind_function known f) items
-
-      by_name : (m : Option Meaning) → find known.names f.name.word ≡ m → ((k : ℕ) → slice_get rest k ≡ Some placed → find known.names placed.function.name.word ≡ None) →
-          (k : ℕ) → slice_get ((if is_some m then [] else record { function = f; known = known.names ++ functions } ∷ []) ++ rest) k ≡ Some placed → find known.names placed.function.name.word ≡ None
-      by_name (Some m) is behind k at = behind k at
-      by_name None is behind zero at = subst (λ (one : Placed). find known.names one.function.name.word ≡ None) (same_Some _ placed at) is
-      by_name None is behind (suc k) at = behind k at
-
-  -- two functions of one name are one
-  same_placed : (known : Known) (items : List Item) (j k : ℕ) (a b : Placed) → placed_at known items j ≡ Some a → placed_at known items k ≡ Some b → a.function.name.word ≡ b.function.name.word → j ≡ k
-  unfolding placed_from behind_item
-  same_placed known [] j k a b at_j at_k same = elim (none-some a at_j) [ ]
-  same_placed known (I.Shapes p shapes ∷ items) j k a b at_j at_k same = same_placed (behind_shapes functions known shapes.items) items j k a b at_j at_k same
-  same_placed known (I.Variables d ∷ items) j k a b at_j at_k same =
-      same_placed (behind_variables functions (written_type (file_place functions known) d.type_name) known d.variables.items) items j k a b at_j at_k same
-  same_placed known (I.Function f ∷ items) j k a b at_j at_k same =
-      by_name (is_some (find known.names f.name.word)) (λ j k at_j at_k. same_placed (behind_function known f) items j k a b at_j at_k same) j k at_j at_k
-    where
-      rest : List Placed
-      rest = placed_from functions (behind_function known f) items
-
       one : Placed
       one = record { function = f; known = known.names ++ functions }
 
-      -- none behind it has its name
-      apart : (k : ℕ) (placed first : Placed) → slice_get rest k ≡ Some placed → Some one ≡ Some first → first.function.name.word ≡ placed.function.name.word → ⊥
-      apart k placed first at is same =
-          let word : placed.function.name.word ≡ f.name.word = sym (ap (λ (p : Placed). p.function.name.word) (same_Some one first is) ∙ same) in
-          named_behind known f (subst (λ (word : List ℕ). find (behind_function known f).names word ≡ None) word (missing_placed (behind_function known f) items k placed at))
+      other : find known.names f.name.word ≡ None → (placed : Placed) → IsMissing (behind_function known f) placed → IsOther word_of one placed
+      other is placed missing same = named_behind known f is (subst (λ (word : List ℕ). find (behind_function known f).names word ≡ None) (sym same) missing)
 
-      by_name : (old : Bool) → ((j k : ℕ) → slice_get rest j ≡ Some a → slice_get rest k ≡ Some b → j ≡ k) →
-          (j k : ℕ) → slice_get ((if old then [] else one ∷ []) ++ rest) j ≡ Some a → slice_get ((if old then [] else one ∷ []) ++ rest) k ≡ Some b → j ≡ k
-      by_name true behind j k at_j at_k = behind j k at_j at_k
-      by_name false behind zero zero at_j at_k = refl
-      by_name false behind zero (suc k) at_j at_k = elim (apart k b a at_k at_j same) [ ]
-      by_name false behind (suc j) zero at_j at_k = elim (apart j a b at_j at_k (sym same)) [ ]
-      by_name false behind (suc j) (suc k) at_j at_k = ap suc (behind j k at_j at_k)
+      by_name : (m : Option Meaning) → find known.names f.name.word ≡ m → (rest : List Placed) → All (IsMissing (behind_item functions known (I.Function f))) rest → AreApart word_of rest →
+          All (IsMissing known) ((if is_some m then [] else one ∷ []) ++ rest) × AreApart word_of ((if is_some m then [] else one ∷ []) ++ rest)
+      by_name (Some m) is rest missing apart = (earlier known (I.Function f) rest missing, apart)
+      by_name None is rest missing apart =
+          (All-cons (IsMissing known) one rest is (earlier known (I.Function f) rest missing), one_apart word_of one rest (All-weaker (IsMissing (behind_function known f)) (IsOther word_of one) (other is) rest missing) apart)
 
-pub functions_apart : (tree : Tree) (j k : ℕ) (a b : Placed) → slice_get (file_functions tree) j ≡ Some a → slice_get (file_functions tree) k ≡ Some b → a.function.name.word ≡ b.function.name.word → j ≡ k
-functions_apart tree j k a b = same_placed (functions_named tree) nothing_known tree.items.items j k a b
+pub functions_apart : (tree : Tree) → AreApart word_of (file_functions tree)
+functions_apart tree = let all = placed_apart (functions_named tree) nothing_known tree.items.items in all.1

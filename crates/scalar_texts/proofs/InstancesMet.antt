@@ -3,7 +3,7 @@
 use Rattle.std.proofs.Common.{◌≡◌, ℕ, zero, suc, ◌&&◌, Bool, true, false, if◌then◌else◌, List, [], ◌∷◌, map, Option, Some, None, refl, sym, ap, ◌∙◌, subst}
 use Rattle.std.specs.List.{All, slice_get}
 use Rattle.std.proofs.lemmas.Bool.{eq-eqb}
-use Rattle.std.proofs.lemmas.List.Elements.{All-append, All-cons, All-head, All-nil, All-tail}
+use Rattle.std.proofs.lemmas.List.Elements.{All-append, All-cons, All-head, All-nil, All-tail, All-weaker}
 use Rattle.std.proofs.lemmas.Option.{none-some, same_Some}
 use Rattle.cstar_tree.specs.declared.typed.Instance.{Instance}
 use Rattle.cstar_tree.specs.Calls.{Call}
@@ -12,6 +12,7 @@ use Rattle.cstar_tree.specs.Instances.{after_rounds, calls_of, first_met, instan
 use Rattle.cstar_tree.specs.ProgramTypes.{TypesInstance, TypesInstances}
 use Rattle.cstar_tree.specs.ProgramTypes as Y
 use Rattle.cstar_tree.specs.TypedParts.{concat}
+use Rattle.scalar_texts.proofs.Apart.{AreApart, IsOther, none_apart, one_apart}
 
 -- ---- none is met twice
 
@@ -22,63 +23,52 @@ same_shape_itself (Some number) = eq-eqb number number refl
 same_itself : (r : Reached) → same r r ≡ true
 same_itself r = ap (λ (b : Bool). b && same_shape r.current r.current) (eq-eqb r.function r.function refl) ∙ same_shape_itself r.current
 
--- what is not met in a list is not met in what is behind its first
-not_met_behind : (x r : Reached) (before : List Reached) → is_met r (x ∷ before) ≡ false → is_met r before ≡ false
+not_met : (x r : Reached) (before : List Reached) → is_met r (x ∷ before) ≡ false → (same x r ≡ false) × (is_met r before ≡ false)
 unfolding is_met
-not_met_behind x r before = by_first (same x r)
+not_met x r before = by_first (same x r)
   where
-    by_first : (b : Bool) → (if b then true else is_met r before) ≡ false → is_met r before ≡ false
+    by_first : (b : Bool) → (if b then true else is_met r before) ≡ false → (b ≡ false) × (is_met r before ≡ false)
     by_first true is = absurd (cc)
-    by_first false is = is
+    by_first false is = (refl, is)
 
-met_first : (r : Reached) (before : List Reached) → is_met r (r ∷ before) ≡ true
-unfolding is_met
-met_first r before = ap (λ (b : Bool). if b then true else is_met r before) (same_itself r)
+abbrev itself : Reached → Reached
+itself r = r
 
--- what is first met behind others is none of them
-first_met_new : (before list : List Reached) (k : ℕ) (r : Reached) → slice_get (first_met before list) k ≡ Some r → is_met r before ≡ false
+abbrev IsNew : List Reached → Reached → Type 0
+IsNew before r = is_met r before ≡ false
+
+-- none of these is among those before, and each stands once
+abbrev AreNew : List Reached → List Reached → Type 0
+AreNew before list = All (IsNew before) list × AreApart itself list
+
+first_met_new : (before list : List Reached) → AreNew before (first_met before list)
 unfolding first_met
-first_met_new before [] k r at = elim (none-some r at) [ ]
-first_met_new before (x ∷ rest) k r at = by_met (is_met x before) refl (first_met_new before rest) (λ k r at. not_met_behind x r before (first_met_new (x ∷ before) rest k r at)) k r at
+first_met_new before [] = (All-nil (IsNew before), none_apart itself)
+first_met_new before (x ∷ rest) = by_met (is_met x before) refl (first_met_new before rest) (first_met_new (x ∷ before) rest)
   where
-    by_met : (b : Bool) → is_met x before ≡ b → ((k : ℕ) (r : Reached) → slice_get (first_met before rest) k ≡ Some r → is_met r before ≡ false) → ((k : ℕ) (r : Reached) → slice_get (first_met (x ∷ before) rest) k ≡ Some r → is_met r before ≡ false) →
-        (k : ℕ) (r : Reached) → slice_get (if b then first_met before rest else x ∷ first_met (x ∷ before) rest) k ≡ Some r → is_met r before ≡ false
-    by_met true is old new k r at = old k r at
-    by_met false is old new zero r at = subst (λ (one : Reached). is_met one before ≡ false) (same_Some x r at) is
-    by_met false is old new (suc k) r at = new k r at
-
-first_met_once : (before list : List Reached) (j k : ℕ) (r : Reached) → slice_get (first_met before list) j ≡ Some r → slice_get (first_met before list) k ≡ Some r → j ≡ k
-unfolding first_met
-first_met_once before [] j k r at_j at_k = elim (none-some r at_j) [ ]
-first_met_once before (x ∷ rest) j k r at_j at_k = by_met (is_met x before) (λ j k at_j at_k. first_met_once before rest j k r at_j at_k) (λ j k at_j at_k. first_met_once (x ∷ before) rest j k r at_j at_k) j k at_j at_k
-  where
-    -- the first is not met again
-    apart : (k : ℕ) → Some x ≡ Some r → slice_get (first_met (x ∷ before) rest) k ≡ Some r → ⊥
-    apart k first at =
-        let new = first_met_new (x ∷ before) rest k x (at ∙ sym first) in
-        let met = met_first x before in
+    other : (r : Reached) → IsNew (x ∷ before) r → IsOther itself x r
+    other r new is =
+        let differs = not_met x x before (subst (IsNew (x ∷ before)) (sym is) new) in
+        let alike = same_itself x in
+        let no = differs.0 in
         cc
 
-    by_met : (b : Bool) → ((j k : ℕ) → slice_get (first_met before rest) j ≡ Some r → slice_get (first_met before rest) k ≡ Some r → j ≡ k) →
-        ((j k : ℕ) → slice_get (first_met (x ∷ before) rest) j ≡ Some r → slice_get (first_met (x ∷ before) rest) k ≡ Some r → j ≡ k) →
-        (j k : ℕ) → slice_get (if b then first_met before rest else x ∷ first_met (x ∷ before) rest) j ≡ Some r → slice_get (if b then first_met before rest else x ∷ first_met (x ∷ before) rest) k ≡ Some r → j ≡ k
-    by_met true old new j k at_j at_k = old j k at_j at_k
-    by_met false old new zero zero at_j at_k = refl
-    by_met false old new zero (suc k) at_j at_k = elim (apart k at_j at_k) [ ]
-    by_met false old new (suc j) zero at_j at_k = elim (apart j at_k at_j) [ ]
-    by_met false old new (suc j) (suc k) at_j at_k = ap suc (new j k at_j at_k)
+    by_met : (b : Bool) → is_met x before ≡ b → AreNew before (first_met before rest) → AreNew (x ∷ before) (first_met (x ∷ before) rest) → AreNew before (if b then first_met before rest else x ∷ first_met (x ∷ before) rest)
+    by_met true is old new = old
+    by_met false is old new = (
+      All-cons (IsNew before) x _ is (All-weaker (IsNew (x ∷ before)) (IsNew before) (λ (r : Reached) new. let parts = not_met x r before new in parts.1) _ new.0),
+      one_apart itself x _ (All-weaker (IsNew (x ∷ before)) (IsOther itself x) other _ new.0) new.1,
+    )
 
 module _ (shapes : List (List ℕ)) (functions : List Placed) where
-  once_from : (rounds : ℕ) (main r : Reached) (j k : ℕ) → slice_get (after_rounds rounds shapes functions main) j ≡ Some r → slice_get (after_rounds rounds shapes functions main) k ≡ Some r → j ≡ k
+  once_from : (rounds : ℕ) (main : Reached) → AreApart itself (after_rounds rounds shapes functions main)
   unfolding after_rounds next_round
-  once_from zero main r zero zero at_j at_k = refl
-  once_from zero main r zero (suc k) at_j at_k = elim (none-some r at_k) [ ]
-  once_from zero main r (suc j) k at_j at_k = elim (none-some r at_j) [ ]
-  once_from (suc rounds) main r j k at_j at_k = first_met_once [] (main ∷ concat (map (λ (r : Reached). reached_by (calls_of shapes functions r)) (after_rounds rounds shapes functions main))) j k r at_j at_k
+  once_from zero main = one_apart itself main [] (All-nil (IsOther itself main)) (none_apart itself)
+  once_from (suc rounds) main = let new = first_met_new [] (main ∷ concat (map (λ (r : Reached). reached_by (calls_of shapes functions r)) (after_rounds rounds shapes functions main))) in new.1
 
-  pub met_once : (main : Option ℕ) (r : Reached) (j k : ℕ) → slice_get (instances_from shapes functions main) j ≡ Some r → slice_get (instances_from shapes functions main) k ≡ Some r → j ≡ k
-  met_once None r j k at_j at_k = elim (none-some r at_j) [ ]
-  met_once (Some main) r j k at_j at_k = once_from _ (record { function = main; current = None }) r j k at_j at_k
+  pub met_once : (main : Option ℕ) → AreApart itself (instances_from shapes functions main)
+  met_once None = none_apart itself
+  met_once (Some main) = once_from _ (record { function = main; current = None })
 
   -- ---- the first, and what goes on from it
 

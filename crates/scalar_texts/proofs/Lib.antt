@@ -1,3 +1,4 @@
+pub mod Apart
 pub mod CallsAllowed
 pub mod FilesWithoutShapes
 pub mod FunctionsApart

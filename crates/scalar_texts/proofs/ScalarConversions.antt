@@ -1,9 +1,8 @@
 -- What a scalar value of the fragment is brought to is of the fragment, and has 32 bits where an operator takes it.
-use Rattle.std.proofs.Common.{◌≡◌, ℕ, Bool, true, List, [], ◌∷◌, inl, map, Option, Some, None, Vec, refl, ap, ap₂, ◌∙◌, sym, subst}
+use Rattle.std.proofs.Common.{◌≡◌, Bool, true, List, [], ◌∷◌, inl, map, Some, None, Vec, refl, ap, ap₂, ◌∙◌, sym, subst}
 use Rattle.std.specs.declared.alloc.Global.{Global}
 use Rattle.std.specs.List.{All}
 use Rattle.std.proofs.lemmas.List.Elements.{All-nil, All-cons, All-head, All-tail}
-use Rattle.std.proofs.lemmas.Option.{none-some}
 use mathlib.Core.Former.{Count}
 use Rattle.cstar_base.specs.declared.elem.Elem.{Elem}
 use Rattle.cstar_tree.specs.declared.syntax.AssignOp.{AssignOp}
@@ -20,6 +19,7 @@ use Rattle.cstar_tree.specs.ExpressionTypes.{cast_elem}
 use Rattle.cstar_tree.specs.Operations.{Target, assigned_elem, target_of}
 use Rattle.cstar_tree.specs.Typed.{type_of}
 use Rattle.code_follows.specs.Fragment.{AreIn, elems_of, IsEffect, IsGiven, IsIn, IsOperand, IsScalarType, IsVariable, IsWord, May}
+use Rattle.constant_trees.proofs.Bringing.{spread_scalar}
 use Rattle.constant_trees.proofs.Words.{common_wide, promoted_wide}
 use Rattle.source_meaning.specs.Values.{cast_type}
 
@@ -91,17 +91,11 @@ typed_row (T.Call' _ _ _ row) = (_, row)
 typed_row (T.Printf' _ _ _ row) = (_, row)
 typed_row _ = (_, end_of-TExpr)
 
--- a scalar value stays alone where no shape is wanted
-pub spread_alone : {e f : TExpr} {wanted : Option ℕ} → IsSpread e wanted f → wanted ≡ None → IsScalarType (type_of e) → f ≡ e
-spread_alone C.none_wanted none scalar = refl
-spread_alone (C.is_parallel {shape = shape} has) none scalar = elim (none-some shape (sym scalar ∙ has)) [ ]
-spread_alone (C.at_each_position {shape = shape} operand is alone) none scalar = elim (none-some shape (sym none)) [ ]
-
 module _ (may : May) where
   pub fitted : {e f : TExpr} {ty : ValueType} → IsFitted e ty f → IsScalarType ty → IsScalarValue may true e → IsValueOf may ty.elem f
   fitted {ty = ty} fit scalar v =
       let c = converted may fit.conversion v in
-      subst (IsValueOf may ty.elem) (sym (spread_alone fit.spread scalar c.scalar)) c
+      subst (IsValueOf may ty.elem) (spread_scalar fit.spread scalar) c
 
   -- ---- lists
 

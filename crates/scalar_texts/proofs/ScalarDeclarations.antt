@@ -27,7 +27,7 @@ use Rattle.scalar_texts.specs.Places.{AllowsCalls, IsScalarPlace}
 use Rattle.scalar_texts.proofs.ScalarCalls.{AreCalled, both_called, fitted_called, same_called}
 use Rattle.scalar_texts.proofs.ScalarConversions.{fitted}
 use Rattle.scalar_texts.proofs.ScalarExpressions.{expression_is}
-use Rattle.scalar_texts.proofs.ScalarPlaces.{behind_one, local_plain, written_scalar}
+use Rattle.scalar_texts.proofs.ScalarPlaces.{behind_one, declared_plain, written_scalar}
 
 -- the numbers of an expression have 32 bits, wherever it stands
 abbrev pub Plainly : Here → Expr → Type 0
@@ -93,10 +93,10 @@ module _ (program : Program) (shapes : List (List ℕ)) (around : ℕ) (Called :
   unfolding behind_declarators InDeclarators DeclaratorNamesShapes AreInitials concat
   locals_are s n w c scalar Y.no_variable = record { place = s; loop = refl; scalars = All-nil IsScalarLocal; initials = λ may m a. tt }
   locals_are {here = here} s n w c scalar (Y.next_variable {ty = ty} {d = d} {ds = ds} {l = l} {ls = ls} typed more) =
-      let place = behind_one typed scalar s in
+      let plain = declared_plain here ty d.length typed.its_type typed.declarable scalar in
+      let place = behind_one typed plain s in
       let calls = both_called Called (concat (map calls_in (optional l.initial))) (initial_calls ls) (calls_append (optional l.initial) (initials_of ls)) c in
       let rest = locals_are place n.1 (All-tail DeclaratorNamesShapes d ds w) calls.1 scalar more in
-      let plain = local_plain typed scalar in
       let names = All-head DeclaratorNamesShapes d ds w in
       record {
         place = rest.place;
@@ -115,7 +115,7 @@ module _ (program : Program) (shapes : List (List ℕ)) (around : ℕ) (Called :
   declarations_are {here = here} s n w c (Y.next_declaration {ty = ty} {d = d} {ds = ds} {ls = ls} {rest = rest} is typed more) =
       let plain = subst (λ (known : Option ValueType). InDeclarators Plainly here known d.variables.items × InDeclarations Plainly (behind_declarators here known d.variables.items) ds) is n in
       let calls = both_called Called (initial_calls ls) (initial_calls rest) (ap (λ (ts : List TExpr). concat (map calls_in ts)) (initials_append ls rest) ∙ calls_append (initials_of ls) (initials_of rest)) c in
-      let first = locals_are s plain.0 (All-head DeclarationNamesShapes d ds w) calls.0 (written_scalar d.type_name s is) typed in
+      let first = locals_are s plain.0 (All-head DeclarationNamesShapes d ds w) calls.0 (written_scalar here d.type_name s.means s.current is) typed in
       let others = declarations_are first.place plain.1 (All-tail DeclarationNamesShapes d ds w) calls.1 more in
       record {
         place = subst (λ (known : Option ValueType). IsScalarPlace shapes around (behind_declarations (behind_declarators here known d.variables.items) ds)) (sym is) others.place;

@@ -12,12 +12,12 @@ use Rattle.cstar_tree.specs.declared.typed.TExpr.{TExpr, items_hidden-the_row-TE
 use Rattle.cstar_tree.specs.declared.typed.TExpr as T
 use Rattle.cstar_tree.specs.declared.typed.ValueType.{ValueType}
 use Rattle.cstar_tree.specs.declared.typed.Variable.{Variable}
-use Rattle.cstar_tree.specs.Conversions.{IsSpread, either, int, promoted, scalar, unsigned}
+use Rattle.cstar_tree.specs.Conversions.{either, int, promoted, scalar, unsigned}
 use Rattle.cstar_tree.specs.ExpressionTypes.{Gives, IsKnownAtHand, IsPlaceOf, Types, TypesEach, callee, result_known}
 use Rattle.cstar_tree.specs.ExpressionTypes as X
 use Rattle.cstar_tree.specs.Headers.{Leads, Placed, Program, Reached, Returns, parameter_types, returns_of}
 use Rattle.cstar_tree.specs.Operations.{many, one, target_of}
-use Rattle.cstar_tree.specs.Scopes.{Here, part}
+use Rattle.cstar_tree.specs.Scopes.{Here, a_variable, part}
 use Rattle.cstar_tree.specs.Typed.{type_of}
 use Rattle.cstar_tree.specs.TypedParts.{calls_in, concat}
 use Rattle.code_follows.specs.Fragment.{IsEffect, IsIn, IsOperand, IsScalarType, IsVariable, May}
@@ -29,8 +29,9 @@ use Rattle.shaped_trees.proofs.Rows.{names_each}
 use Rattle.type_expressions.specs.Walks.{ArePlain, IsPlain}
 use Rattle.scalar_texts.specs.Places.{AllowsCalls, IsScalarPlace, IsUsed, callee_place}
 use Rattle.scalar_texts.proofs.ScalarCalls.{AreCalled, EachCalled, both_called, converted_called, each_fitted_called, each_promoted_called, fitted_called, same_called, spread_called}
-use Rattle.scalar_texts.proofs.ScalarConversions.{IsScalarValue, cast_same, converted, each_fitted, each_promoted, fitted, is_given, is_word, list_in, spread_alone, word_operand}
+use Rattle.scalar_texts.proofs.ScalarConversions.{IsScalarValue, cast_same, converted, each_fitted, each_promoted, fitted, is_given, is_word, list_in, word_operand}
 use Rattle.scalar_texts.proofs.ScalarPlaces.{at_hand_scalar, goes_on, no_shape, written_scalar}
+use Rattle.constant_trees.proofs.Bringing.{spread_scalar}
 use Rattle.constant_trees.proofs.Words.{common_wide, left_wide, promoted_wide, result_wide, right_wide}
 
 -- ---- lists of the text
@@ -86,10 +87,6 @@ module _ (program : Program) (shapes : List (List ℕ)) (around : ℕ) (Called :
   place_target (X.one_place is) g = g.target one is
   place_target (X.targets {p = p} is whole sends) g = g.target (many p) is
 
-  -- what is brought to the positions of no shape
-  alone : {e f : TExpr} {wanted : Option ℕ} → IsSpread e wanted f → wanted ≡ None → IsScalarValue may true e → IsScalarValue may true f
-  alone sp none g = subst (IsScalarValue may true) (sym (spread_alone sp none g.scalar)) g
-
   in_part : {here : Here} → IsScalarPlace shapes around here → IsScalarPlace shapes around (part here)
   in_part {here = here} s = goes_on false here.locals here.loop s
 
@@ -114,14 +111,14 @@ module _ (program : Program) (shapes : List (List ℕ)) (around : ℕ) (Called :
     pub expression_is : {here : Here} {e : Expr} {t : TExpr} {has_value : Bool} → IsScalarPlace shapes around here → IsPlain e → ExpressionNamesShapes e → AreCalled Called (calls_in t) → Types program here e t has_value → IsScalarValue may has_value t
     expression_is s n w c (X.number {u = u}) = no_target refl (λ has. ((refl, number_wide u), n)) ((refl, number_wide u), n) refl
     expression_is s n w c (X.name {n = name} {v = v} {ty = ty} is at_hand) =
-        let scalar = s.variables name.word v (record { value = ty; array = None }) is in
+        let scalar = s.means name.word (a_variable v (Some (record { value = ty; array = None }))) is in
         record { scalar = scalar.0; used = λ has. (scalar.0, every v); effect = (scalar.0, every v); target = λ which h. (scalar.0, every v) }
     expression_is s n w c (X.element {n = name} {v = v} {ty = ty} {length = length} index i is typed scalar_index at_hand) =
-        let scalar = s.variables name.word v (record { value = ty; array = Some length }) is in
+        let scalar = s.means name.word (a_variable v (Some (record { value = ty; array = Some length }))) is in
         elim (none-some length (sym scalar.1)) [ ]
     expression_is s n w c (X.dot {axis = axis} is) = elim (none-some axis (sym s.dot ∙ is)) [ ]
     expression_is s n w c (X.left_index {n = name} {v = v} {elem = elem} {of = of} indexes ss is known as_many typed spreads) =
-        let scalar = s.variables name.word v (record { value = record { elem = elem; shape = Some of }; array = None }) is in
+        let scalar = s.means name.word (a_variable v (Some (record { value = record { elem = elem; shape = Some of }; array = None }))) is in
         elim (none-some of (sym scalar.0)) [ ]
     expression_is s n w c (X.brackets inner i typed) =
         let g = expression_is s n w (same_called Called (brackets_calls _ _ i refl) c) typed in
@@ -160,12 +157,12 @@ module _ (program : Program) (shapes : List (List ℕ)) (around : ℕ) (Called :
     expression_is s n w c (X.logical_or left right x y typed_left typed_right sp) =
         let calls = both_called Called (calls_in x.value) (calls_in y.value) (pair_calls _ x y (inl (_, refl))) c in
         let g = expression_is (in_part s) n.0 w.0 calls.0 typed_left in
-        let h = alone sp g.scalar (expression_is (in_part s) n.1 w.1 (spread_called Called sp calls.1) typed_right) in
+        let h = subst (IsScalarValue may true) (spread_scalar sp g.scalar) (expression_is (in_part s) n.1 w.1 (spread_called Called sp calls.1) typed_right) in
         no_target h.scalar (λ has. ((h.scalar, refl), g.used refl, h.used refl)) ((h.scalar, refl), g.used refl, h.used refl) refl
     expression_is s n w c (X.logical_and left right x y typed_left typed_right sp) =
         let calls = both_called Called (calls_in x.value) (calls_in y.value) (pair_calls _ x y (inr (inl (_, refl)))) c in
         let g = expression_is (in_part s) n.0 w.0 calls.0 typed_left in
-        let h = alone sp g.scalar (expression_is (in_part s) n.1 w.1 (spread_called Called sp calls.1) typed_right) in
+        let h = subst (IsScalarValue may true) (spread_scalar sp g.scalar) (expression_is (in_part s) n.1 w.1 (spread_called Called sp calls.1) typed_right) in
         no_target h.scalar (λ has. ((h.scalar, refl), g.used refl, h.used refl)) ((h.scalar, refl), g.used refl, h.used refl) refl
     expression_is s n w c (X.signed {sign = sign} {a = a} operand x sign_is typed conversion) =
         let g = expression_is (in_part s) n w (converted_called Called conversion (same_called Called (operand_calls _ x (inl (_, _, refl))) c)) typed in
@@ -190,7 +187,7 @@ module _ (program : Program) (shapes : List (List ℕ)) (around : ℕ) (Called :
         let elem_is = cast_same chain.items (type_of x.value).elem ∙ ap (λ (es : List Elem). cast_type es (type_of x.value).elem) (sym are) in
         no_target refl (λ has. (refl, elem_is, g.used refl)) (refl, elem_is, g.used refl) refl
     expression_is {here = here} s n w c (X.parallel_cast {written = written} {ty = ty} operand x is at_hand typed sp) =
-        let scalar = written_scalar written s is in
+        let scalar = written_scalar here written s.means s.current is in
         let parallel = written_parallel here written ty w.0 is in
         absurd (cc)
     expression_is s n w c (X.call {n = name} {f = f} {instance = instance} {placed = placed} {types = types} {ty = ty} arguments fs means is around_is no_way reached types_are callable gives typed fits) =
@@ -203,9 +200,9 @@ module _ (program : Program) (shapes : List (List ℕ)) (around : ℕ) (Called :
         no_target scalar (λ has. (scalar, subst (may.calls (Some ty.elem) instance) (sym given.1) (allowed (Some ty.elem) (inr (has, refl))), given.0)) (subst (may.calls None instance) (sym given.1) (allowed None (inl refl)), given.0) refl
     expression_is s n w c (X.call_outside arguments ts means is outside types callable gives typed taken) = elim (none-some around (sym outside ∙ s.its_function)) [ ]
     expression_is s n w c (X.pcoord {shape = shape} axis current known is) = elim (none-some shape (sym s.current ∙ current)) [ ]
-    expression_is s n w c (X.positions_of {written = written} {shape = shape} is known) = elim (none-some shape (sym (no_shape written s) ∙ is)) [ ]
-    expression_is s n w c (X.rank_of {written = written} {shape = shape} is known) = elim (none-some shape (sym (no_shape written s) ∙ is)) [ ]
-    expression_is s n w c (X.dim_of {written = written} {shape = shape} axis is known among at_axis) = elim (none-some shape (sym (no_shape written s) ∙ is)) [ ]
+    expression_is s n w c (X.positions_of {written = written} {shape = shape} is known) = elim (none-some shape (sym (no_shape _ written s.means s.current) ∙ is)) [ ]
+    expression_is s n w c (X.rank_of {written = written} {shape = shape} is known) = elim (none-some shape (sym (no_shape _ written s.means s.current) ∙ is)) [ ]
+    expression_is s n w c (X.dim_of {written = written} {shape = shape} axis is known among at_axis) = elim (none-some shape (sym (no_shape _ written s.means s.current) ∙ is)) [ ]
     expression_is s n w c (X.scan {shape = shape} source axis x current known is segments typed parallel conversion) = elim (none-some shape (sym s.current ∙ current)) [ ]
     expression_is s n w c (X.enumerate {shape = shape} axis current known is segments) = elim (none-some shape (sym s.current ∙ current)) [ ]
     expression_is s n w c (X.printf {p = p} {text = text} {given = ts} arguments pieces values typed none are as_many promotes) =

@@ -182,7 +182,7 @@ module _ (program : Program) (shapes : List (List ℕ)) (around : ℕ) (Called :
     statement_is may a s n w c (Y.return_value {f = f} typed is) =
         let given = returned_is may a s n w (called_if Called (Some f) (same_called Called (return_calls _ (Some f) refl) c)) typed is in
         record { is_in = λ m. given; closed = λ none. tt }
-    statement_is may a s n w c (Y.with {written = written} {shape = shape} body b is typed) = elim (none-some shape (sym (no_shape written s) ∙ is)) [ ]
+    statement_is may a s n w c (Y.with {written = written} {shape = shape} body b is typed) = elim (none-some shape (sym (no_shape _ written s.means s.current) ∙ is)) [ ]
     statement_is may a s n w c (Y.everywhere {shape = shape} body b is typed) = elim (none-some shape (sym s.current ∙ is)) [ ]
     statement_is may a s n w c (Y.where_alone {shape = shape} second b is test parallel typed) = elim (none-some shape (sym s.current ∙ is)) [ ]
     statement_is may a s n w c (Y.where_else {shape = shape} second third b d is test parallel typed other) = elim (none-some shape (sym s.current ∙ is)) [ ]

@@ -1,11 +1,22 @@
 -- What is known at the places of a file without shapes, and which calls may be made there.
-use Rattle.std.specs.Prelude.{◌≡◌, ◌⊎◌, ℕ, Bool, true, List, map, slice_get, Option, Some, None}
+use Rattle.std.specs.Prelude.{◌≡◌, ◌⊎◌, ℕ, Bool, true, IfSome, List, map, slice_get, Option, Some, None}
 use Rattle.cstar_base.specs.declared.elem.Elem.{Elem}
 use Rattle.cstar_tree.specs.declared.typed.ValueType.{ValueType}
-use Rattle.cstar_tree.specs.declared.typed.Variable.{Variable}
 use Rattle.cstar_tree.specs.ExpressionTypes.{Gives}
 use Rattle.cstar_tree.specs.Headers.{Leads, Placed, Program, header_place, parameter_types, returns_of}
-use Rattle.cstar_tree.specs.Scopes.{Here, VariableType, a_shape, a_variable, meaning}
+use Rattle.cstar_tree.specs.Scopes.{Here, Meaning, VariableType, a_function, a_shape, a_variable, meaning}
+
+abbrev pub IsPlainType : VariableType → Type 0
+IsPlainType ty = (ty.value.shape ≡ None) × (ty.array ≡ None)
+
+-- a name stands for no shape, and for a scalar variable if for one
+abbrev pub MeansScalar : Meaning → Type 0
+MeansScalar (a_shape number) = ⊥
+MeansScalar (a_function number) = Unit {0}
+MeansScalar (a_variable v ty) = IfSome ty IsPlainType
+
+abbrev pub NamesScalars : Here → Type 0
+NamesScalars here = (word : List ℕ) (m : Meaning) → meaning here word ≡ Some m → MeansScalar m
 
 -- A place in the function of this number, of a file with these shapes: no shape is named, none is current, and the
 -- variables that names stand for are scalar ones.
@@ -14,8 +25,7 @@ pub record IsScalarPlace (shapes : List (List ℕ)) (around : ℕ) (here : Here)
   pub its_function : here.around ≡ Some around
   pub current : here.current ≡ None
   pub dot : here.dot ≡ None
-  pub named : (word : List ℕ) (number : ℕ) → meaning here word ≡ Some (a_shape number) → ⊥
-  pub variables : (word : List ℕ) (v : Variable) (ty : VariableType) → meaning here word ≡ Some (a_variable v (Some ty)) → (ty.value.shape ≡ None) × (ty.array ≡ None)
+  pub means : NamesScalars here
 
 -- where the header of a function stands that is reached under no shape
 abbrev pub callee_place : List (List ℕ) → Placed → ℕ → Here
