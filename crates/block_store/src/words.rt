@@ -13,8 +13,8 @@ use crate::set::{BlockSet, Cell};
 use bit_planes::{Block, Rows};
 use lane_kernels::{Target, in_place};
 use std::simd::prelude::*;
-use std::thread;
 use std::thread::Threads;
+use worker_forks::for_each_mut;
 
 /// The numbers of a field of a block.
 pub fn words_of(block: &Block, offset: u32, len: u8) -> [u32; 512]
@@ -52,7 +52,7 @@ pub fn lift<R: Threads + Sync>(
         → slice_index (slice_index_or room.new.cells.items k none).words i ≡ number (slice_index_or set.now.blocks.items k other).planes.items offset len i }
 {
     let blocks = set.blocks.as_slice();
-    thread::for_each_mut(
+    for_each_mut(
         rt,
         room.cells.as_mut_slice(),
         workers as usize,

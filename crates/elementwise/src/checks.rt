@@ -23,8 +23,8 @@ use cstar_io::Gate;
 use paris_code::{Instr, Reply};
 use phase_elements::checked_set;
 use std::simd::prelude::*;
-use std::thread;
 use std::thread::Threads;
+use worker_forks::for_each_mut;
 
 /// The first lane in which a plane is 1; 512 where there is none.
 pub(crate) fn first_lane(plane: u64x8) -> u32
@@ -80,7 +80,7 @@ fn look_in_blocks<R: Threads + Sync, G: Gate + Sync>(
         → IsFirstFailing (map shape_of_plan plans.now) instr.now args.now k (slice_index_or set.now.blocks.items k other).planes.items (slice_index (slice_index_or room.new.cells.items k none).words 0) }
 {
     let blocks = set.blocks.as_slice();
-    thread::for_each_mut(
+    for_each_mut(
         rt,
         room.cells.as_mut_slice(),
         workers as usize,

@@ -21,8 +21,8 @@ use bit_planes::Block;
 use block_store::{BlockSet, SetPlan, Store};
 use cstar_io::Gate;
 use paris_code::{Instr, Reply};
-use std::thread;
 use std::thread::Threads;
+use worker_forks::for_each_mut;
 
 /// Does the instruction in all blocks of its set, with a call of the gate for each.
 fn do_in_set<R: Threads + Sync, G: Gate + Sync>(
@@ -49,7 +49,7 @@ fn do_in_set<R: Threads + Sync, G: Gate + Sync>(
     ensures each { (k : ℕ) (none : Block) → k < length set.old.blocks.items → DoneInBlock (map shape_of_plan plans.now) instr.now args.now k
         (slice_index_or set.old.blocks.items k none).planes.items (slice_index_or set.new.blocks.items k none).planes.items }
 {
-    thread::for_each_mut(
+    for_each_mut(
         rt,
         set.blocks.as_mut_slice(),
         workers as usize,

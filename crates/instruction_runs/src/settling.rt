@@ -25,8 +25,8 @@ use block_store::{BlockSet, Room, SetPlan, Store};
 use cstar_io::Gate;
 use news_grid::{News, Step, Taking, hold, step_block};
 use paris_code::Field;
-use std::thread;
 use std::thread::Threads;
+use worker_forks::for_each_mut;
 
 /// What a pass over the blocks of a batch's set needs: the sets, the instructions, and the planes
 /// that are held of each block's field from which shifts take.
@@ -149,7 +149,7 @@ fn do_all_in_set<R: Threads + Sync, G: Gate + Sync>(
         → AllDoneInBlock (map shape_of_plan pass.now.plans.now) (held_in pass.now.held.now) pass.now.batch.now.set pass.now.batch.now.deferred.items k
         (slice_index_or set.old.blocks.items k none).planes.items (slice_index_or set.new.blocks.items k none).planes.items }
 {
-    thread::for_each_mut(
+    for_each_mut(
         rt,
         set.blocks.as_mut_slice(),
         workers as usize,

@@ -27,8 +27,8 @@ use lane_kernels::{Target, are_all};
 use paris_code::Field;
 use phase_meaning::arith::signed;
 use std::simd::prelude::*;
-use std::thread;
 use std::thread::Threads;
+use worker_forks::for_each_mut;
 
 /// A NEWS shift: the active positions of `dest`, or all, take what `source` holds `by` steps along
 /// an axis, round its ends.
@@ -99,7 +99,7 @@ fn copy_fields<R: Threads + Sync>(
     ensures planes { (n : ℕ) → n < length blocks.now * field.len → plane_at held.new n ≡ plane_at (planes_at blocks.now (n / field.len)) (field.offset + n % field.len) }
 {
     let count = blocks.len() * field.len as usize;
-    thread::for_each_mut(
+    for_each_mut(
         rt,
         &mut held[..count],
         workers as usize,
@@ -300,7 +300,7 @@ fn step_blocks<R: Threads + Sync, G: Gate + Sync>(
     ensures each { (k : ℕ) (none : Block) → k < length set.old.blocks.items
         → Stepped taking.now k (slice_index_or set.old.blocks.items k none).planes.items (slice_index_or set.new.blocks.items k none).planes.items }
 {
-    thread::for_each_mut(
+    for_each_mut(
         rt,
         set.blocks.as_mut_slice(),
         workers as usize,

@@ -10,8 +10,8 @@ use bit_planes::Block;
 use block_store::{BlockSet, Cell, SetPlan, fetched, put_words, taking_lanes, words_of};
 use cstar_io::Gate;
 use paris_code::Field;
-use std::thread;
 use std::thread::Threads;
+use worker_forks::for_each_mut;
 
 /// What a pass over the blocks of a set needs for a get: the words that the cells hold of so many
 /// positions, and the fields that take them and that name their places.
@@ -55,7 +55,7 @@ pub(crate) fn spread<R: Threads + Sync, G: Gate + Sync>(
     ensures each { (k : ℕ) (none : Block) → k < length set.old.blocks.items
         → Taken taking.now k (slice_index_or set.old.blocks.items k none).planes.items (slice_index_or set.new.blocks.items k none).planes.items }
 {
-    thread::for_each_mut(
+    for_each_mut(
         rt,
         set.blocks.as_mut_slice(),
         workers as usize,

@@ -24,8 +24,8 @@ use cstar_base::{Direction, Inclusion};
 use cstar_io::Gate;
 use paris_code::Reduction;
 use std::simd::prelude::*;
-use std::thread;
 use std::thread::Threads;
+use worker_forks::for_each_mut;
 
 /// Holds words, and the lanes at which something begins.
 fn keep(cell: &mut Cell, words: [u32; 512], lanes: u64x8)
@@ -67,7 +67,7 @@ pub(crate) fn hold_blocks<R: Threads + Sync>(
         → Holds set.now.blocks.items task.now.scan task.now.lines k (slice_index_or room.new.cells.items k none) }
 {
     let blocks = set.blocks.len();
-    thread::for_each_mut(
+    for_each_mut(
         rt,
         room.cells.as_mut_slice(),
         workers as usize,
@@ -229,7 +229,7 @@ pub(crate) fn take_words<R: Threads + Sync, G: Gate + Sync>(
         (λ i. taken_at task.now.scan.combiner task.now.scan.inclusion task.now.lines room.now.cells.items (512 * k + i) % 2 ^ task.now.dest.len)
         (slice_index_or set.old.blocks.items k none).planes.items (slice_index_or set.new.blocks.items k none).planes.items }
 {
-    thread::for_each_mut(
+    for_each_mut(
         rt,
         set.blocks.as_mut_slice(),
         workers as usize,

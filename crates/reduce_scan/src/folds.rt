@@ -19,8 +19,8 @@ use cstar_base::numbers::identity;
 use cstar_io::Gate;
 use lane_kernels::count;
 use paris_code::{Field, Reduction};
-use std::thread;
 use std::thread::Threads;
+use worker_forks::for_each_mut;
 
 /// A fold of a field over the active lanes of blocks, with the place of the context flag. Each number
 /// is taken as a word: in two's complement where the combiner reads its numbers so.
@@ -73,7 +73,7 @@ pub(crate) fn fold_blocks<R: Threads + Sync, G: Gate + Sync>(
         → slice_index (slice_index_or room.new.cells.items k none).words 0 ≡ block_fold fold.now.combiner (slice_index_or set.now.blocks.items k other).planes.items fold.now.source fold.now.context 512 }
 {
     let blocks = set.blocks.as_slice();
-    thread::for_each_mut(
+    for_each_mut(
         rt,
         room.cells.as_mut_slice(),
         workers as usize,

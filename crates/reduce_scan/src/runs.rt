@@ -16,8 +16,8 @@ use block_store::{BlockSet, Cell, Room};
 use cstar_base::numbers::{fold_step, identity};
 use cstar_base::{Direction, SegmentMode};
 use paris_code::{Field, Reduction};
-use std::thread;
 use std::thread::Threads;
+use worker_forks::for_each_mut;
 
 /// Whether the bit that parts the segments is 1 at a position.
 pub(crate) fn is_marked(set: &BlockSet, bit: Option<Field>, context: u32, position: u32) -> bool
@@ -104,7 +104,7 @@ pub(crate) fn fold_parts<R: Threads + Sync>(
         → IsFolded set.now.blocks.items task.now.scan task.now.lines k (slice_index_or room.new.cells.items k none).words }
 {
     let blocks = set.blocks.len();
-    thread::for_each_mut(
+    for_each_mut(
         rt,
         room.cells.as_mut_slice(),
         workers as usize,

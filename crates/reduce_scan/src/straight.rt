@@ -27,8 +27,8 @@ use cstar_io::Gate;
 use lane_kernels::{Target, count, in_place};
 use paris_code::Field;
 use std::simd::prelude::*;
-use std::thread;
 use std::thread::Threads;
+use worker_forks::for_each_mut;
 
 /// The lanes of block `k` at which a line of so many positions begins.
 fn line_starts(extent: u32, k: u32) -> u64x8
@@ -182,7 +182,7 @@ pub(crate) fn scan_blocks<R: Threads + Sync, G: Gate + Sync>(
         (slice_index_or set.old.blocks.items k none).planes.items (slice_index_or set.new.blocks.items k none).planes.items }
 {
     let cells = room.cells.as_slice();
-    thread::for_each_mut(
+    for_each_mut(
         rt,
         set.blocks.as_mut_slice(),
         workers as usize,

@@ -1,0 +1,99 @@
+//! Work on the places of a slice by several threads. One thread starts all others, each for its part, and
+//! does the last part itself; where threads that were started started more, these would begin late.
+#![tactic(auto)]
+
+ghost use Rattle.std.specs.Prelude.{◌+◌, ◌^◌, ◌<◌, length};
+ghost use Rattle.std.specs.Fork.{AcceptsAt, AcceptsEach, ChangesAt, ChangesEach};
+ghost use Rattle.worker_forks.specs.Parts.{AcceptsFrom, ChangesFrom};
+ghost use denote.Param.Send.{IsSend, IsSync};
+
+use std::thread::{Threads, join_mut};
+
+/// Calls f(i, &mut s[i]) at each place, in at most `threads` threads: each takes as many neighbours as the
+/// others, but the last one, which may take fewer.
+pub fn for_each_mut<R: Threads + Sync, T: Send, F: Fn(usize, &mut T) + Sync>(
+    rt: &R,
+    s: &mut [T],
+    threads: usize,
+    f: &F,
+)
+    requires threads { 0 < threads }
+    requires accepts { AcceptsEach F.Fn f.now s.old }
+    ensures { ChangesEach F.Fn f.now s.old s.new }
+{
+    if !s.is_empty() {
+        let size = s.len().div_ceil(threads);
+        from_place(rt, f, size, 0, s);
+    }
+}
+
+/// The same of the places from one on, in parts of so many.
+#[cycle(parts)]
+fn from_place<R: Threads + Sync, T: Send, F: Fn(usize, &mut T) + Sync>(
+    rt: &R,
+    f: &F,
+    size: usize,
+    base: usize,
+    s: &mut [T],
+)
+    requires size { 0 < size }
+    requires room { base + length s.old < 2 ^ 64 }
+    requires accepts { AcceptsFrom F.Fn f.now base s.old }
+    ensures { ChangesFrom F.Fn f.now base s.old s.new }
+{
+    if s.len() <= size {
+        in_turn(f, base, s);
+        return;
+    }
+    let (part, rest) = s.split_at_mut(size);
+    part_and_rest(rt, f, size, base, part, base + size, rest);
+}
+
+/// The same of a part, in a thread of its own where one can be made, and of the places behind it.
+#[cycle(parts)]
+fn part_and_rest<R: Threads + Sync, T: Send, F: Fn(usize, &mut T) + Sync>(
+    rt: &R,
+    f: &F,
+    size: usize,
+    base: usize,
+    part: &mut [T],
+    behind: usize,
+    rest: &mut [T],
+)
+    requires size { 0 < size }
+    requires part_room { base + length part.old < 2 ^ 64 }
+    requires rest_room { behind + length rest.old < 2 ^ 64 }
+    requires part { AcceptsFrom F.Fn f.now base part.old }
+    requires rest { AcceptsFrom F.Fn f.now behind rest.old }
+    ensures part { ChangesFrom F.Fn f.now base part.old part.new }
+    ensures rest { ChangesFrom F.Fn f.now behind rest.old rest.new }
+{
+    let mut own = ||
+        requires { IsSync F.row × IsSend T.row × (base + length part.now < 2 ^ 64) × AcceptsFrom F.Fn f.now base part.now }
+        ensures { ChangesFrom F.Fn f.entry.now base part.entry.now part.exit.now }
+    { in_turn(f, base, part) };
+    let mut others = ||
+        requires { IsSync R.row × IsSync F.row × IsSend T.row × (0 < size) × (behind + length rest.now < 2 ^ 64) × AcceptsFrom F.Fn f.now behind rest.now }
+        ensures { ChangesFrom F.Fn f.entry.now behind rest.entry.now rest.exit.now }
+    { from_place(rt, f, size, behind, rest) };
+    join_mut(rt, &mut own, &mut others);
+}
+
+/// A call at one place.
+fn at_place<T, F: Fn(usize, &mut T)>(f: &F, i: usize, it: &mut T)
+    requires { AcceptsAt F.Fn f.now i it.old }
+    ensures { ChangesAt F.Fn f.now i it.old it.new }
+{
+    f(i, it);
+}
+
+/// The calls at the places from one on, one after the other.
+fn in_turn<T, F: Fn(usize, &mut T)>(f: &F, base: usize, s: &mut [T])
+    requires room { base + length s.old < 2 ^ 64 }
+    requires accepts { AcceptsFrom F.Fn f.now base s.old }
+    ensures { ChangesFrom F.Fn f.now base s.old s.new }
+{
+    for k in 0..s.len() {
+        at_place(f, base + k, &mut s[k]);
+    }
+}
