@@ -13,8 +13,6 @@ mod overlap;
 mod planar;
 mod preparing;
 mod relations;
-#[cfg(test)]
-mod tests;
 mod ways;
 mod writes;
 

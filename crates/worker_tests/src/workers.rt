@@ -1,8 +1,8 @@
 ghost use Rattle.std.specs.Prelude.{◌≡◌};
 
-use crate::run;
 use block_store::{SetPlan, Store};
 use cstar_io::Gate;
+use elementwise::run;
 use paris_code::{Field, Instr};
 use std::sync::atomic::{AtomicU64, Ordering};
 use std::test::Fail;

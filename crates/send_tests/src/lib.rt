@@ -1,5 +1,0 @@
-//! Tests of sends by several workers.
-#![tactic(auto)]
-
-#[cfg(test)]
-mod tests;
