@@ -13,9 +13,9 @@ use combine_core::Combine;
 use cstar_base::{Combiner, Memory};
 use cstar_io::Gate;
 use std::alloc::Global;
-use std::thread;
 use std::thread::Threads;
 use vp_sets::BLOCK_SIZE;
+use worker_forks::map_indices;
 
 /// Whether so many targets are few for these senders: where so many workers join cells of their own
 /// for each target, that is little beside combining the messages.
@@ -96,7 +96,7 @@ pub(crate) fn combine_apart<R: Threads + Sync, C: Combine + Sync, G: Gate + Sync
     ensures { OnOk result (HasCombined (C.combines combiner.now) senders.now 0 count cells.old cells.new) }
 {
     let size = senders.blocks.len().div_ceil(workers as usize) as u32;
-    let parts = thread::map_indices(
+    let parts = map_indices(
         rt,
         alloc,
         workers as usize,

@@ -1,13 +1,16 @@
-//! Work on the places of a slice by several threads. One thread starts all others, each for its part, and
-//! does the last part itself; where threads that were started started more, these would begin late.
+//! Work on the places of a slice, or at the indices below a number, by several threads. One thread starts
+//! all others, each for its part, and does the last part itself; where threads that were started started
+//! more, these would begin late.
 #![tactic(auto)]
 
-ghost use Rattle.std.specs.Prelude.{◌+◌, ◌^◌, ◌<◌, length};
-ghost use Rattle.std.specs.Fork.{AcceptsAt, AcceptsEach, ChangesAt, ChangesEach};
+ghost use Rattle.std.specs.Prelude.{◌≡◌, ℕ, ◌+◌, ◌^◌, ◌<◌, ◌≤◌, IfOk, length, vec_len};
+ghost use Rattle.std.specs.Fork.{AcceptsAt, AcceptsEach, ChangesAt, ChangesEach, GivesEach};
+ghost use Rattle.std.specs.Fork.Halves.{GivesFrom};
 ghost use Rattle.worker_forks.specs.Parts.{AcceptsFrom, ChangesFrom};
-ghost use denote.Param.Send.{IsSend, IsSync};
+ghost use denote.Param.Send.{Frees, IsSend, IsSync};
 
-use std::thread::{Threads, join_mut};
+use std::alloc::{AllocError, Allocator};
+use std::thread::{Threads, join, join_mut};
 
 /// Calls f(i, &mut s[i]) at each place, in at most `threads` threads: each takes as many neighbours as the
 /// others, but the last one, which may take fewer.
@@ -96,4 +99,57 @@ fn in_turn<T, F: Fn(usize, &mut T)>(f: &F, base: usize, s: &mut [T])
     for k in 0..s.len() {
         at_place(f, base + k, &mut s[k]);
     }
+}
+
+/// Calls f(0) to f(n - 1), each in a thread of its own where one can be made, the last in this one, and
+/// gives the results in order. The stack grows with `n`. On `Err`, which means that memory ran out, the
+/// results are dropped.
+pub fn map_indices<
+    R: Threads + Sync,
+    X: Send + Drop,
+    A: Allocator + Clone + Send,
+    F: Fn(usize) -> X + Sync,
+>(rt: &R, alloc: A, n: usize, f: &F) -> Result<Vec<X, A>, AllocError>
+    requires { (i : ℕ) → i < n → F.pre f.now i }
+    ensures len { IfOk result (λ v. vec_len v ≡ n) }
+    ensures each { IfOk result (λ v. GivesEach F.Fn f.now n v.items) }
+{
+    if n == 0 {
+        return Ok(Vec::new(alloc));
+    }
+    calls_from(rt, alloc, 0, n, f)
+}
+
+/// The same of so many indices from one on.
+#[cycle(calls)]
+fn calls_from<
+    R: Threads + Sync,
+    X: Send + Drop,
+    A: Allocator + Clone + Send,
+    F: Fn(usize) -> X + Sync,
+>(rt: &R, alloc: A, from: usize, count: usize, f: &F) -> Result<Vec<X, A>, AllocError>
+    requires count { 0 < count }
+    requires room { from + count < 2 ^ 64 }
+    requires accepts { (i : ℕ) → from ≤ i → i < from + count → F.pre f.now i }
+    ensures { IfOk result (λ v. GivesFrom F.Fn f.now from count v.items) }
+{
+    if count == 1 {
+        let mut one = Vec::new(alloc);
+        one.push(f(from))?;
+        return Ok(one);
+    }
+    let up = from + 1;
+    let high = count - 1;
+    let own = move || -> X
+        requires { IsSync F.row × IsSend X.row × F.pre f.now from }
+        ensures { F.post f.entry.now from result }
+    { f(from) };
+    let others = move || -> Result<Vec<X, A>, AllocError>
+        requires { IsSync R.row × IsSync F.row × IsSend X.row × IsSend A.row × Frees A.Allocator A.dealloc_token × (0 < high) × (up + high < 2 ^ 64) × ((i : ℕ) → up ≤ i → i < up + high → F.pre f.now i) }
+        ensures { IfOk result (λ v. GivesFrom F.Fn f.entry.now up high v.items) }
+    { calls_from(rt, alloc, up, high, f) };
+    let (first, rest) = join(rt, own, others);
+    let mut all = rest?;
+    all.insert(0, first)?;
+    Ok(all)
 }

@@ -1,0 +1,11 @@
+use Rattle.std.proofs.Common.{◌+◌, get_or, refl, subst, arith, rules}
+use Rattle.std.specs.Fn.{FnReturns}
+use Rattle.std.proofs.lemmas.Result.{IfOk-weaker}
+use Rattle.worker_forks.proofs.map_indices.Goals as goal
+
+pub returns : goal.returns
+returns g c =
+    record {
+      len = IfOk-weaker c.calls_from.result _ _ (λ v h. search rules) c.calls_from.ensures;
+      each = IfOk-weaker c.calls_from.result _ _ (λ v h i d l. (refl, subst (λ k. FnReturns g.F.Fn c.args.f.now (k, tt) (get_or v.items i d)) {x = 0 + i} (omega arith) (h.each i d l))) c.calls_from.ensures;
+    }
