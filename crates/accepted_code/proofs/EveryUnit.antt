@@ -2,6 +2,7 @@
 use Rattle.std.proofs.Common.{◌≡◌, ℕ, suc, ◌+◌, ◌<◌, List, [], ◌∷◌, length, map, refl, sym, ap, ◌∙◌, subst, arith}
 use Rattle.std.proofs.lemmas.List.{length-map}
 use Rattle.lower_base.specs.Drafts.{draft}
+use Rattle.cstar_tree.specs.declared.typed.Typed.{Typed}
 use Rattle.paris_code.specs.declared.program.Entry.{Entry}
 use Rattle.paris_code.specs.declared.program.Image.{Image}
 use Rattle.paris_code.specs.declared.program.Unit.{Unit}
@@ -13,15 +14,21 @@ use Rattle.cstar_link.specs.Linked.{entries_from}
 use Rattle.field_alloc.specs.Placed.{ArePlacedUnits}
 use Rattle.lower_base.specs.Layouts.{layout_of}
 use Rattle.lower_base.specs.Constants.{first_free}
+use Rattle.code_lengths.specs.Ready.{IsCodable}
 use Rattle.code_lengths.proofs.UnitLengths.{programs}
+use Rattle.cstar_top.specs.Accepted.{IsProgramOf}
 use Rattle.shaped_trees.proofs.NamedFiles.{file_code}
 use Rattle.shaped_trees.proofs.SpelledCasts.{spelled}
 use Rattle.code_follows.proofs.Programs.{means_source}
 use Rattle.scalar_texts.proofs.WholeFiles.{files_are_scalar}
 use Rattle.accepted_code.specs.Laws.{AcceptedProgramsHaveCode, ImagesHaveEveryUnit, ScalarImagesMeanTheirText}
 
+-- each function of the program of a text has code
+pub codable : (text : List ℕ) (typed : Typed) → IsProgramOf text typed → IsCodable typed
+codable text typed is = file_code is.tree typed (spelled is.tokens is.tree is.spelled) is.new is.types
+
 pub accepted : AcceptedProgramsHaveCode
-accepted text typed words regs is = programs typed words regs (file_code is.tree typed (spelled is.tokens is.tree is.spelled) is.new is.types)
+accepted text typed words regs is = programs typed words regs (codable text typed is)
 
 -- as many stand in the list of entries, and over bits
 entries_long : (start : ℕ) (units : List Unit) → length (entries_from start units) ≡ length units
@@ -58,4 +65,4 @@ scalar_means text typed image short is none compiled sound =
     let plain = tree_is_plain is.tokens is.tree (text_has_words text is.tokens.list.items short is.read) is.spelled in
     let units = some_units image sound.units in
     let as_many = every_unit text typed image is compiled in
-    means_source typed image (files_are_scalar is.tree typed named plain is.types (omega (arith, units, as_many)) none) (file_code is.tree typed named is.new is.types) compiled
+    means_source typed image (files_are_scalar is.tree typed named plain is.types (omega (arith, units, as_many)) none) (codable text typed is) compiled

@@ -6,8 +6,6 @@ mod block;
 mod lanes;
 pub mod plane;
 mod rows;
-#[cfg(test)]
-mod tests;
 mod transpose;
 
 pub use block::Block;

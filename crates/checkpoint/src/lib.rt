@@ -6,8 +6,6 @@ mod determined;
 mod loading;
 mod point;
 mod saving;
-#[cfg(test)]
-mod tests;
 
 pub use bits::Bits;
 pub use determined::bytes_determine_point;

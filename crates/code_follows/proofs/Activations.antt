@@ -1,6 +1,6 @@
 -- A function that runs: its setting, the registers that it spares, and what it knows of those that it calls.
 use Rattle.std.proofs.Common.{◌≡◌, ◌∙◌, ℕ, ◌+◌, ◌<◌, ◌≤◌, ◌⊎◌, inl, inr, List, length, slice_get, Some, sym, ap, subst, arith}
-use Rattle.std.specs.List.{All, Contains}
+use Rattle.std.specs.List.{Contains}
 use Rattle.std.specs.Option.{option_map}
 use Rattle.std.proofs.lemmas.Option.{slice_get-get_or, slice_get-map, slice_get_within}
 use Rattle.cstar_compile.specs.Compiled.{IsCompiled}
@@ -16,23 +16,25 @@ use Rattle.code_lengths.specs.Ready.{IsCodable}
 use Rattle.lower_base.specs.Constants.{constant_register, first_free}
 use Rattle.lower_base.specs.Layouts.{layout_of, register_of}
 use Rattle.paris_code.specs.declared.program.Image.{Image}
-use Rattle.code_follows.specs.Fragment.{IsScalarVariable, IsPlainVariable, IsScalarProgram, called_in, may_of}
+use Rattle.code_follows.specs.Fragment.{Beside, IsProgramBeside, IsScalarVariable, called_in, may_of}
 use Rattle.code_follows.proofs.Callees.{Callee}
 use Rattle.code_follows.proofs.ConstantRegisters.{behind_variables, below_values}
 use Rattle.code_follows.proofs.Following.{HasRegisters}
-use Rattle.code_follows.proofs.Regions.{HasScalarInstances, IsOwn, base_at, base_behind, base_inside, local_own, own_apart, own_behind, own_inside, param_own, result_own, same_end, size_of}
-use Rattle.code_follows.proofs.Settings.{Setting}
+use Rattle.code_follows.proofs.Regions.{BeginsAsScalar, HasScalarInstances, IsOwn, base_at, base_behind, base_inside, local_own, own_apart, own_behind, own_inside, param_own, result_own, same_end, size_of}
+use Rattle.code_follows.proofs.Settings.{Held, Setting}
 use Rattle.code_follows.proofs.Units.{begins, begins_free, ends, has_registers, setting, the_words, values_apart}
 
-scalars_alone : (infos : List VarInfo) → All IsPlainVariable infos → All IsScalarVariable infos
-scalars_alone infos all k other inside = (all k other inside).0
+-- a parallel variable of the file begins with 0
+begins_as_scalar : (beside : Beside) (info : VarInfo) → IsScalarVariable info ⊎ (beside.variables info × (info.start ≡ 0)) → BeginsAsScalar info
+begins_as_scalar beside info (inl scalar) = inl scalar
+begins_as_scalar beside info (inr parallel) = inr parallel.1
 
-module _ (t : Typed) (image : Image) (p : IsScalarProgram t) (codable : IsCodable t) (compiled : IsCompiled t image) where
+module _ (t : Typed) (image : Image) {beside : Beside} (p : IsProgramBeside beside t) (codable : IsCodable t) (compiled : IsCompiled t image) (holding : Held) where
   pub scalars : HasScalarInstances t
   scalars = record {
     each = λ k i is. let f = p.each k i is in (f.params, f.result, f.locals);
     names = p.names;
-    variables = scalars_alone t.vars.items p.variables;
+    variables = λ k other inside. begins_as_scalar beside _ (p.variables k other inside).0;
   }
 
   abbrev pub words : List ℕ
@@ -65,7 +67,7 @@ module _ (t : Typed) (image : Image) (p : IsScalarProgram t) (codable : IsCodabl
 
   -- an instance in a run, with the calls that are open and the turns that are left at most
   abbrev pub activation : (number : ℕ) (i : Instance) → slice_get t.instances.items number ≡ Some i → List ℕ → ℕ → Setting
-  activation number i is returns most = setting t image scalars codable compiled number i is (λ r. Spares number r) returns most (may_of t i)
+  activation number i is returns most = setting t image scalars codable compiled number i is (λ r. Spares number r) returns most (may_of beside t i) holding
 
   -- a value stands behind all variables and constants
   behind_all : (number k r : ℕ) → first_of k ≤ r → first_free (layout_of t words number) ≤ r
@@ -88,7 +90,7 @@ module _ (t : Typed) (image : Image) (p : IsScalarProgram t) (codable : IsCodabl
 
   pub registers_there : (number : ℕ) (i : Instance) (is : slice_get t.instances.items number ≡ Some i) (returns : List ℕ) (most : ℕ) → HasRegisters (activation number i is returns most)
   registers_there number i is returns most =
-      has_registers t image scalars codable compiled number i is (λ r. Spares number r) returns most (may_of t i) variables (λ r spared low high. spared.1 (touched number i r is (inr (low, high))))
+      has_registers t image scalars codable compiled number i is (λ r. Spares number r) returns most (may_of beside t i) holding variables (λ r spared low high. spared.1 (touched number i r is (inr (low, high))))
       (λ spared. spared.1 (touched number i _ is (inl (result_own t scalars words number i is))))
     where
       variables : (r : ℕ) → Spares number r → (x : Variable) (info : VarInfo) → variable_named t i x ≡ Some info → r ≡ register_of (layout_of t words number) x → ⊥

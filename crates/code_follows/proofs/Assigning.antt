@@ -1,6 +1,6 @@
 -- The code of assignments to scalar variables, and of steps.
 use Rattle.std.specs.List.{All}
-use Rattle.std.proofs.Common.{◌≡◌, ◌∙◌, ℕ, ◌+◌, ◌<◌, ◌≤◌, ◌^◌, ◌&&◌, Bool, true, not, inl, length-append, Vec, Global, length, slice_index, Option, Some, None, refl, sym, ap, subst, if◌then◌else◌, arith}
+use Rattle.std.proofs.Common.{◌≡◌, ◌∙◌, ℕ, ◌+◌, ◌<◌, ◌≤◌, ◌^◌, ◌&&◌, Bool, true, not, inl, inr, length-append, Vec, Global, length, slice_index, Option, Some, None, refl, sym, ap, subst, if◌then◌else◌, arith}
 use Rattle.std.specs.Prelude.{IfSome, is_none, ◌||◌, ◌==◌}
 use Rattle.cstar_base.specs.declared.elem.Elem.{Elem}
 use Rattle.cstar_base.specs.declared.operators.Op.{Op}
@@ -46,7 +46,7 @@ use Rattle.source_meaning.specs.State.{Outcome, State, then_do, with_scalar}
 use Rattle.source_meaning.specs.Targets.{OfScalar, assigned, stepped, step_value}
 use Rattle.source_meaning.specs.Values.{Active, Scalar, Scope, Value, number}
 use Rattle.source_meaning.proofs.ConstantLaws.{Boxed}
-use Rattle.code_follows.specs.Fragment.{AreIn, IsEffect, IsIn, IsGiven, IsWord, Takes, elems_of, naming}
+use Rattle.code_follows.specs.Fragment.{AreIn, IsBeside, IsEffect, IsGiven, IsIn, IsWord, Takes, elems_of, naming}
 use Rattle.code_follows.proofs.Changing.{no_place, only_set, operated_set_is, scalar_type, set_is, stepped_is, stepping}
 use Rattle.code_follows.proofs.CallValues.{call_code}
 use Rattle.code_follows.proofs.Expressions.{arguments_do, assign_names, brackets_code, operand, step_names, value_follows}
@@ -321,7 +321,12 @@ module _ (g : Setting) (has : HasRegisters g) (alive : Variable → Type 0) (n :
   value_effect (T.LogicalAnd' ty p left q right) h c = pure_follows (T.LogicalAnd' ty p left q right) h c
   value_effect (T.Choice' ty p test q first r second) h c = pure_follows (T.Choice' ty p test q first r second) h c
   value_effect (T.Call' ty index p arguments) h c = pure_follows (T.Call' ty index p arguments) h c
+  value_effect (T.Reduce' ty op p operand) h c = pure_follows (T.Reduce' ty op p operand) h c
   value_effect _ h c = absurd h
+
+  -- a parallel one
+  beside : (e : TExpr) → IsBeside (naming g.may alive) e → HasCode g.typed g.instance n e → Runs (λ st. evaluated scope e active st) (λ d. effect_of g.typed (layout g) e d)
+  beside e may c d s st free here sim = (calls_follow.beside has).effects alive files n ready e may.0 may.1 c d s st free here sim
 
   pub effect_follows : (e : TExpr) → (IsEffect (naming g.may alive)) e → HasCode g.typed g.instance n e → Runs (λ st. evaluated scope e active st) (λ d. effect_of g.typed (layout g) e d)
   unfolding IsEffect IsIn effect_of evaluated
@@ -341,6 +346,9 @@ module _ (g : Setting) (has : HasRegisters g) (alive : Variable → Type 0) (n :
   effect_follows (T.LogicalOr' ty p left q right) h c = value_effect (T.LogicalOr' ty p left q right) h c
   effect_follows (T.LogicalAnd' ty p left q right) h c = value_effect (T.LogicalAnd' ty p left q right) h c
   effect_follows (T.Choice' ty p test q first r second) h c = value_effect (T.Choice' ty p test q first r second) h c
-  effect_follows (T.Assign' ty place op p target q value) h c = value_effect (T.Assign' ty place op p target q value) h c
-  effect_follows (T.Step' ty op order p target) h c = value_effect (T.Step' ty op order p target) h c
+  effect_follows (T.Assign' ty place op p target q value) (inl h) c = value_effect (T.Assign' ty place op p target q value) h c
+  effect_follows (T.Assign' ty place op p target q value) (inr h) c = beside (T.Assign' ty place op p target q value) h c
+  effect_follows (T.Step' ty op order p target) (inl h) c = value_effect (T.Step' ty op order p target) h c
+  effect_follows (T.Step' ty op order p target) (inr h) c = beside (T.Step' ty op order p target) h c
+  effect_follows (T.Reduce' ty op p operand) h c = value_effect (T.Reduce' ty op p operand) h c
   effect_follows _ h c = absurd h

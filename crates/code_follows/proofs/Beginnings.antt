@@ -1,5 +1,5 @@
 -- The values that the variables of the file begin with.
-use Rattle.std.proofs.Common.{◌≡◌, ◌∙◌, ℕ, zero, suc, ◌+◌, ◌<◌, ◌≤◌, ◌==◌, Bool, true, false, List, [], ◌∷◌, length, slice_get, slice_index, Some, refl, sym, ap, if◌then◌else◌, arith}
+use Rattle.std.proofs.Common.{◌≡◌, ◌∙◌, ℕ, zero, suc, ◌+◌, ◌<◌, ◌≤◌, ◌^◌, ◌==◌, Bool, true, false, List, [], ◌∷◌, length, slice_get, slice_index, Some, refl, sym, ap, if◌then◌else◌, arith}
 use Rattle.std.specs.List.{All}
 use Rattle.std.proofs.lemmas.Bool.{eqb-true}
 use Rattle.std.proofs.lemmas.List.{get_or-set_other, get_or-set_same}
@@ -14,13 +14,16 @@ use Rattle.lower_stmt.specs.Programs.{scalar_begun}
 use Rattle.paris_code.specs.declared.instr.Instr.TheVariants as I
 use Rattle.paris_code.specs.Code.{CodeState, Goes, begun, with_register}
 use Rattle.paris_code.specs.Scalar.{rounded}
-use Rattle.code_follows.specs.Fragment.{IsPlainVariable}
 use Rattle.code_follows.proofs.Lists.{all_first, all_rest}
 use Rattle.code_follows.proofs.Settings.{At, Reaches, Setting, Within, and_one, at_next, begins_here, earlier, one, onto, stay}
 use Rattle.code_follows.proofs.Standing.{some_same}
 use Rattle.source_meaning.specs.Reductions.{int_type}
 use Rattle.code_follows.proofs.Following.{held}
 use Rattle.code_follows.proofs.Numbers.{bits_rounded, zero_converted}
+
+-- it begins with a number of its type
+abbrev pub Begins : VarInfo → Type 0
+Begins info = info.start < 2 ^ info.elem.bits
 
 module _ (l : Layout) where
   -- a variable takes its number, unless it begins with 0
@@ -66,10 +69,11 @@ module _ (l : Layout) where
       pub output : t.output ≡ s.output
       pub input : t.input ≡ s.input
       pub returns : t.returns ≡ s.returns
+      pub memory : t.memory ≡ s.memory
 
-    one_run : (info : VarInfo) (n : ℕ) (d : Draft) (s : CodeState) → IsPlainVariable info → At g s (length d.code) → Within g (start_put info n d) → n < length s.registers → slice_index s.registers n ≡ 0 → Written n (held info.elem info.start) s (start_put info n d)
+    one_run : (info : VarInfo) (n : ℕ) (d : Draft) (s : CodeState) → Begins info → At g s (length d.code) → Within g (start_put info n d) → n < length s.registers → slice_index s.registers n ≡ 0 → Written n (held info.elem info.start) s (start_put info n d)
     unfolding start_put scalar_begun begun step_of register_of
-    one_run info n d s plain here within room zero_there = by (info.start == 0) refl within
+    one_run info n d s few here within room zero_there = by (info.start == 0) refl within
       where
         between : Draft
         between = with_instr (I.FrontConst n info.start) d
@@ -78,13 +82,13 @@ module _ (l : Layout) where
         last = with_instr (I.FrontConvert n n info.elem) between
 
         by : (b : Bool) → (info.start == 0) ≡ b → Within g (if b then d else last) → Written n (held info.elem info.start) s (if b then d else last)
-        by true none within = record { t = s; go = stay g s; at = here; registers = refl; is = zero_there ∙ sym (ap (held info.elem) (eqb-true info.start 0 none) ∙ zero_converted int_type info.elem); others = λ q apart. refl; turns = refl; output = refl; input = refl; returns = refl }
+        by true none within = record { t = s; go = stay g s; at = here; registers = refl; is = zero_there ∙ sym (ap (held info.elem) (eqb-true info.start 0 none) ∙ zero_converted int_type info.elem); others = λ q apart. refl; turns = refl; output = refl; input = refl; returns = refl; memory = refl }
         by false some within =
             let s1 : CodeState = with_register n info.start s in
             let s2 : CodeState = with_register n (held info.elem info.start) s1 in
             let long : length s1.registers ≡ length s.registers = length-set s.registers n info.start in
             let there : slice_index s1.registers n ≡ info.start = get_or-set_same s.registers n info.start 0 room in
-            let word : rounded info.elem (slice_index s1.registers n) ≡ held info.elem info.start = ap (λ (x : ℕ). rounded info.elem x) there ∙ bits_rounded info.elem info.start plain.1 in
+            let word : rounded info.elem (slice_index s1.registers n) ≡ held info.elem info.start = ap (λ (x : ℕ). rounded info.elem x) there ∙ bits_rounded info.elem info.start few in
             let first : Within g between = earlier g between last 1 (and_one g (I.FrontConvert n n info.elem) between) within in
             let at1 : At g s1 (length between.code) = at_next g (I.FrontConst n info.start) d s (s.at + 1) here refl in
             record {
@@ -99,6 +103,7 @@ module _ (l : Layout) where
               output = refl;
               input = refl;
               returns = refl;
+              memory = refl;
             }
 
     -- the variables from a number on have their numbers, and the other registers what they had
@@ -114,10 +119,11 @@ module _ (l : Layout) where
       pub output : t.output ≡ s.output
       pub input : t.input ≡ s.input
       pub returns : t.returns ≡ s.returns
+      pub memory : t.memory ≡ s.memory
 
-    pub starts_run : (infos : List VarInfo) (n : ℕ) (d : Draft) (s : CodeState) → All IsPlainVariable infos → At g s (length d.code) → Within g (starts_put infos n d) → n + length infos ≤ length s.registers → ((q : ℕ) → n ≤ q → q < n + length infos → slice_index s.registers q ≡ 0) → Started infos n s (starts_put infos n d)
+    pub starts_run : (infos : List VarInfo) (n : ℕ) (d : Draft) (s : CodeState) → All Begins infos → At g s (length d.code) → Within g (starts_put infos n d) → n + length infos ≤ length s.registers → ((q : ℕ) → n ≤ q → q < n + length infos → slice_index s.registers q ≡ 0) → Started infos n s (starts_put infos n d)
     unfolding starts_put
-    starts_run [] n d s all here within room zeros = record { t = s; go = stay g s; at = here; registers = refl; are = λ k info is. none k info is; below = λ q b. refl; above = λ q b. refl; turns = refl; output = refl; input = refl; returns = refl }
+    starts_run [] n d s all here within room zeros = record { t = s; go = stay g s; at = here; registers = refl; are = λ k info is. none k info is; below = λ q b. refl; above = λ q b. refl; turns = refl; output = refl; input = refl; returns = refl; memory = refl }
       where
         nothing : List VarInfo
         nothing = []
@@ -127,9 +133,9 @@ module _ (l : Layout) where
     starts_run (info ∷ infos) n d s all here within room zeros =
         let middle : Draft = start_put info n d in
         let grown = starts_grow infos (n + 1) g middle in
-        let first = one_run info n d s (all_first IsPlainVariable info infos all) here (earlier g middle (starts_put infos (n + 1) middle) grown.0 grown.1 within) (fits (length infos) room) (zeros n (omega arith) (first_of (length infos))) in
+        let first = one_run info n d s (all_first Begins info infos all) here (earlier g middle (starts_put infos (n + 1) middle) grown.0 grown.1 within) (fits (length infos) room) (zeros n (omega arith) (first_of (length infos))) in
         let long = first.registers in
-        let rest = starts_run infos (n + 1) middle first.t (all_rest IsPlainVariable info infos all) first.at within (fits_on (length infos) room (length first.t.registers) long)
+        let rest = starts_run infos (n + 1) middle first.t (all_rest Begins info infos all) first.at within (fits_on (length infos) room (length first.t.registers) long)
         (λ q lo hi. first.others q (λ e. omega (arith, e, lo)) ∙ zeros q (omega (arith, lo)) (inside (length infos) q hi)) in
         record {
           t = rest.t;
@@ -143,6 +149,7 @@ module _ (l : Layout) where
           output = rest.output ∙ first.output;
           input = rest.input ∙ first.input;
           returns = rest.returns ∙ first.returns;
+          memory = rest.memory ∙ first.memory;
         }
       where
         fits : (k : ℕ) → n + suc k ≤ length s.registers → n < length s.registers

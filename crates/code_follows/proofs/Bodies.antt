@@ -43,7 +43,7 @@ use Rattle.code_follows.proofs.Jumping.{nothing_restored, jumps, moved_to, sim_m
 use Rattle.code_follows.proofs.Returning.{return_follows}
 use Rattle.code_follows.proofs.Settings.{At, Setting, Within, layout, start, stay}
 use Rattle.code_follows.proofs.Starting.{AreCoded, AreSettled, Now, coded, settled_so, go_after, initials_follow, initials_grow}
-use Rattle.code_follows.proofs.Statements.{StandsIn, expression_code, returned_code, statement_made}
+use Rattle.code_follows.proofs.Statements.{StandsIn, expression_code, returned_code, statement_made, with_body}
 
 module _ (g : Setting) (has : HasRegisters g) (alive : Variable → Type 0) (files : (k : ℕ) → alive (V.File k)) (numbers : NumbersVariables g.instance (layout g)) (ready : (n : ℕ) (d : Draft) → IsReady g.typed g.instance (layout g) n d)
     (declares : (n : ℕ) (d : Draft) → d.homes ≡ [] → HasDeclared g.typed g.instance (layout g) n d) (scope : Scope) (active : Active) (calls_follow : CallsFollow g scope active)
@@ -250,6 +250,7 @@ module _ (g : Setting) (has : HasRegisters g) (numbers : NumbersVariables g.inst
     statement_follows alive files n before (S.For' first test step p body) h f d s0 st framed among none free at sim c =
         for_agrees g has alive files numbers ready declares scope active calls_follow falls n first step test p body h.0 h.1 h.2 (statement_follows alive files n before body h.3) f d s0 st framed among none free at sim c
     statement_follows alive files n before (S.Do' p body test) h f d s0 st framed among none free at sim c = do_agrees g has alive files numbers ready declares scope active calls_follow falls n test p body h.1 (statement_follows alive files n before body h.0) f d s0 st framed among none free at sim c
+    statement_follows alive files n before (S.With' shape p body) h f d s0 st framed among none free at sim c = statement_follows alive files n before body h f d s0 st framed among none free at sim (with_body g numbers declares n shape p body c)
     statement_follows alive files n before S.Break h f d s0 st framed among none free at sim c = breaks g has alive files numbers ready declares scope active calls_follow falls f f.saved.in_loop n d s0 st at sim
     statement_follows alive files n before S.Continue h f d s0 st framed among none free at sim c = continues g has alive files numbers ready declares scope active calls_follow falls f f.saved.in_loop n d s0 st at sim
     statement_follows alive files n before (S.Return e) h f d s0 st framed among none free at sim c = return_follows g has alive files ready scope active calls_follow e h f n d s0 st framed free at sim (returned_code g numbers declares e n c)

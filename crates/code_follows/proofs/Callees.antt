@@ -18,7 +18,8 @@ use Rattle.source_meaning.specs.State.{Outcome, State}
 use Rattle.source_meaning.specs.Values.{Active, Nothing, Scope, Value, number}
 use Rattle.code_follows.specs.Agreement.{AreBytes}
 use Rattle.code_follows.specs.Fragment.{AreTaken, IsResult, IsScalarVariable, Takes}
-use Rattle.code_follows.proofs.Following.{Finishes, HasNumber, held, input_of}
+use Rattle.code_follows.proofs.Besides.{BesideFollows}
+use Rattle.code_follows.proofs.Following.{Finishes, HasNumber, HasRegisters, held, input_of}
 use Rattle.code_follows.proofs.Settings.{Reaches, Setting, layout}
 
 module _ (g : Setting) where
@@ -45,13 +46,14 @@ module _ (g : Setting) where
   -- the registers hold the scalar variables of the file and the constants; the rest is as in the source
   pub record Shared (st : State) (s : CodeState) : Type 0 where
     pub registers : length s.registers ≡ g.image.slots
-    pub files : (k : ℕ) (info : VarInfo) → slice_get g.typed.vars.items k ≡ Some info → slice_index s.registers k ≡ held info.elem (st.scalar (V.File k))
-    pub small : (k : ℕ) (info : VarInfo) → slice_get g.typed.vars.items k ≡ Some info → st.scalar (V.File k) < 2 ^ info.elem.bits
+    pub files : (k : ℕ) (info : VarInfo) → slice_get g.typed.vars.items k ≡ Some info → IsScalarVariable info → slice_index s.registers k ≡ held info.elem (st.scalar (V.File k))
+    pub small : (k : ℕ) (info : VarInfo) → slice_get g.typed.vars.items k ≡ Some info → IsScalarVariable info → st.scalar (V.File k) < 2 ^ info.elem.bits
     pub constants : (word r : ℕ) → constant_register (layout g) word ≡ Some r → slice_index s.registers r ≡ word
     pub turns : s.turns ≡ st.turns
     pub output : s.output ≡ st.output
     pub input : s.input ≡ input_of st
     pub bytes : AreBytes st.input
+    pub memory : g.held.holds st s.memory
 
   module _ {index : ℕ} (c : Callee index) where
     -- the register of its result
@@ -97,10 +99,10 @@ module _ (g : Setting) where
   TakesThese active index given = (m : MayCall active index) × AreTaken m.callee.callee.params.items given
 
   -- Calls follow the source: a call means what the source says of so many turns, and what is called is known. The
-  -- result takes what is returned. All variables of the file are scalar.
+  -- result takes what is returned. And so do the parallel expressions beside scalar ones.
   pub record CallsFollow (scope : Scope) (active : Active) : Type 1 where
     pub meant : scope.call ≡ calls g.typed g.most
-    pub plain_files : (k : ℕ) (info : VarInfo) → slice_get g.typed.vars.items k ≡ Some info → info.shape ≡ None
     pub value : (elem : Elem) (index : ℕ) (given : List Elem) → g.may.calls (Some elem) index given → (h : TakesThese active index given) × (HasResult g.typed index × IsResult h.0.callee.callee.result elem)
     pub effect : (index : ℕ) (given : List Elem) → g.may.calls None index given → TakesThese active index given
     pub returns : (elem : Elem) → g.may.returns elem → (info : VarInfo) → g.instance.result ≡ Some info → Takes info.elem elem
+    pub beside : (has : HasRegisters g) → BesideFollows g has scope active

@@ -31,13 +31,14 @@ module _ (g : Setting) (has : HasRegisters g) (alive : Variable → Type 0) (fil
   unfolding register_of variable_named
   shared_of st s h = record {
     registers = h.registers;
-    files = λ k info is. h.scalars (V.File k) info (files_live k) (is, calls_follow.plain_files k info is);
-    small = λ k info is. h.small (V.File k) info (files_live k) (is, calls_follow.plain_files k info is);
+    files = λ k info is scalar. h.scalars (V.File k) info (files_live k) (is, scalar);
+    small = λ k info is scalar. h.small (V.File k) info (files_live k) (is, scalar);
     constants = h.constants;
     turns = h.turns;
     output = h.output;
     input = h.input;
     bytes = h.bytes;
+    memory = h.memory;
   }
 
   module _ {index : ℕ} (m : MayCall g active index) where
@@ -104,6 +105,7 @@ module _ (g : Setting) (has : HasRegisters g) (alive : Variable → Type 0) (fil
       output = b.shared.output;
       input = b.shared.input;
       bytes = b.shared.bytes;
+      memory = b.shared.memory;
       returns = b.returns;
       few = let fewer = b.turned in let few = sim.few in omega (arith, fewer, few);
     }
@@ -115,12 +117,12 @@ module _ (g : Setting) (has : HasRegisters g) (alive : Variable → Type 0) (fil
         stays x info scalar behind = b.stays (register_of (layout g) x) (λ touch. c.apart_variable (register_of (layout g) x) touch x info scalar.0 refl) behind ∙ ap (λ (list : List ℕ). slice_index list (register_of (layout g) x)) same
 
         scalars : (x : Variable) (info : VarInfo) → alive x → IsScalar g x info → slice_index b.t.registers (register_of (layout g) x) ≡ held info.elem (u.scalar x)
-        scalars (V.File k) info known scalar = b.shared.files k info scalar.0
+        scalars (V.File k) info known scalar = b.shared.files k info scalar.0 scalar.1
         scalars (V.Param k) info known scalar = stays (V.Param k) info scalar (let f = files in omega (arith, f)) ∙ sim.scalars (V.Param k) info known scalar ∙ ap (λ (w : ℕ). held info.elem w) (sym (b.params_kept k))
         scalars (V.Local k) info known scalar = stays (V.Local k) info scalar (let f = files in omega (arith, f)) ∙ sim.scalars (V.Local k) info known scalar ∙ ap (λ (w : ℕ). held info.elem w) (sym (b.locals_kept k))
 
         small : (x : Variable) (info : VarInfo) → alive x → IsScalar g x info → u.scalar x < 2 ^ info.elem.bits
-        small (V.File k) info known scalar = b.shared.small k info scalar.0
+        small (V.File k) info known scalar = b.shared.small k info scalar.0 scalar.1
         small (V.Param k) info known scalar = subst (λ (w : ℕ). w < 2 ^ info.elem.bits) (sym (b.params_kept k)) (sim.small (V.Param k) info known scalar)
         small (V.Local k) info known scalar = subst (λ (w : ℕ). w < 2 ^ info.elem.bits) (sym (b.locals_kept k)) (sim.small (V.Local k) info known scalar)
 
@@ -158,7 +160,7 @@ module _ (g : Setting) (has : HasRegisters g) (alive : Variable → Type 0) (fil
           sim_turned = sim_spent g alive st s left some sim
 
           shared : Shared g begun_body (enters_in left)
-          shared = let h = shared_of begun_body spent sim_turned in record { registers = h.registers; files = h.files; small = h.small; constants = h.constants; turns = h.turns; output = h.output; input = h.input; bytes = h.bytes }
+          shared = let h = shared_of begun_body spent sim_turned in record { registers = h.registers; files = h.files; small = h.small; constants = h.constants; turns = h.turns; output = h.output; input = h.input; bytes = h.bytes; memory = h.memory }
 
           fewer : left ≤ k
           fewer = let few = sim.few in omega (arith, few, most, some)

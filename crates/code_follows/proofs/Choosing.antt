@@ -32,7 +32,7 @@ use Rattle.code_follows.proofs.Following.{Arrives, Extends, Follows, HasRegister
 use Rattle.code_follows.proofs.Jumping.{jumps, moved_to, sim_moved}
 use Rattle.code_follows.proofs.Settings.{At, Reaches, Setting, Within, and_one, earlier, onto, start, stay}
 use Rattle.code_follows.proofs.Stores.{IsPut}
-use Rattle.code_follows.proofs.Values.{Dest, Does, Value_of, with_reg}
+use Rattle.code_follows.proofs.Values.{Dest, Does, Value_of, with_reg, put_by}
 use Rattle.code_follows.proofs.Words.{below_bits, below_word, constant_below, held_wide}
 
 pub choose_is : (of : Option ℕ) (v : Value) (first second : Operand) (active : Active) (st : State) → of ≡ None → choose of v first second active st ≡ (if nonzero (number v) then first active st else second active st)
@@ -150,14 +150,14 @@ module _ (g : Setting) (has : HasRegisters g) (alive : Variable → Type 0) wher
           let there : slice_index arr.t.registers computed.register ≡ held elem w =
           ap (λ (o : Out). slice_index arr.t.registers (elim o as (λ _. ℕ) [ O.Scalar x ↦ x | O.Field f ↦ 0 | O.Nothing ↦ 0 ])) arr.holds.is ∙ arr.holds.lasts u arr.t arr.sim (keeps_all g computed.behind arr.t) (λ h. refl) ∙ held_wide from w also few ∙ sym (held_wide elem w wide few) in
           subst (λ (x : Value). R x u (O.Scalar r) (with_instr (I.FrontMove r computed.register) computed.behind)) (sym arr.holds.value)
-          (dest.puts computed.behind (n + long) (I.FrontMove r computed.register) arr.t u w (onto g s0 s arr.t go arr.go) arr.at arr.sim (extended d before computed.behind n long grows computed.extended) (keeps_on g d before n s0 s arr.t grows keeps arr.keeps) within refl
+          (put_by g has alive dest computed.behind (n + long) (I.FrontMove r computed.register) arr.t u w (onto g s0 s arr.t go arr.go) arr.at arr.sim (extended d before computed.behind n long grows computed.extended) (keeps_on g d before n s0 s arr.t grows keeps arr.keeps) within refl
           (ap (λ (x : ℕ). Goes (with_register r x arr.t)) there) (below_bits elem.bits w wide few))
 
       by : (o : Option ℕ) → register_word e ≡ o → Follows g R s0 (part st) (elim o as (λ _. Made Out) [ Some word ↦ Makes (O.Scalar r) (with_instr (I.FrontConst r word) before) | None ↦ then_make (code before) (λ v after. put_value (O.Scalar r) v after) ])
       by (Some w) is =
           let c : IsNumber part w = constant w is in
           subst (λ (o : Outcome Value). Follows g R s0 o (Makes (O.Scalar r) (with_instr (I.FrontConst r w) before))) (sym (c.gives st))
-          (λ within. dest.puts before n (I.FrontConst r w) s st w go place sim grows keeps within refl (ap (λ (x : ℕ). Goes (with_register r x s)) (sym (held_wide elem w wide c.small))) (below_bits elem.bits w wide c.small))
+          (λ within. put_by g has alive dest before n (I.FrontConst r w) s st w go place sim grows keeps within refl (ap (λ (x : ℕ). Goes (with_register r x s)) (sym (held_wide elem w wide c.small))) (below_bits elem.bits w wide c.small))
       by None is =
           subst (λ (mk : Made Out). Follows g R s0 (part st) (then_make mk (λ v after. put_value (O.Scalar r) v after))) (sym computed.is)
           (goes_on g alive (Value_of g has alive from true before s) R s0 s (part st) (O.Scalar computed.register) computed.behind (O.Scalar r) (with_instr (I.FrontMove r computed.register) computed.behind) 1 go

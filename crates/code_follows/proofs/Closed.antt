@@ -86,6 +86,7 @@ module _ (scope : Scope) (active : Active) where
     closed may m (S.While' test p body) h k n st = rounds_closed st.turns _ _ _ st (λ s. tt)
     closed may m (S.Do' p body test) h k n st = round_closed _ _ (λ s. rounds_closed s.turns _ _ _ s (λ u. tt))
     closed may m (S.For' first test step p body) h k n st = go_closed _ _ (done_closed first st) (λ s. rounds_closed s.turns _ _ _ s (λ u. done_closed step u))
+    closed may m (S.With' shape p body) h k n st = closed may m body h k n st
     closed may m (S.Return None) h k n st = tt
     closed may m (S.Return (Some e)) h k n st = do_closed _ _ (λ v u. tt)
     closed may m S.Break h k n st = absurd k

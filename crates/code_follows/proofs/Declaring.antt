@@ -67,8 +67,8 @@ started_before (local ∷ locals) n m (V.Local k) less h = ((λ b e. let same = 
 
 module _ (g : Setting) where
   -- what is said of the source's state is said of one with the same scalar variables
-  pub sim_same : (alive : Variable → Type 0) (u v : State) (s : CodeState) → ((x : Variable) → v.scalar x ≡ u.scalar x) → v.turns ≡ u.turns → v.output ≡ u.output → input_of v ≡ input_of u → Sim g alive u s → Sim g alive v s
-  sim_same alive u v s same turns output input h = record {
+  pub sim_same : (alive : Variable → Type 0) (u v : State) (s : CodeState) → ((x : Variable) → v.scalar x ≡ u.scalar x) → ((k e p : ℕ) → v.parallel (V.File k) e p ≡ u.parallel (V.File k) e p) → v.winner ≡ u.winner → v.turns ≡ u.turns → v.output ≡ u.output → input_of v ≡ input_of u → Sim g alive u s → Sim g alive v s
+  sim_same alive u v s same fields winner turns output input h = record {
     registers = h.registers;
     scalars = λ x info living scalar. h.scalars x info living scalar ∙ ap (λ (w : ℕ). held info.elem w) (sym (same x));
     small = λ x info living scalar. subst (λ (w : ℕ). w < 2 ^ info.elem.bits) (sym (same x)) (h.small x info living scalar);
@@ -79,6 +79,7 @@ module _ (g : Setting) where
     returns = h.returns;
     few = subst (λ (k : ℕ). k ≤ g.most) (sym turns) h.few;
     bytes = subst (λ (i : Machine.Rest). AreBytes i.bytes) (sym input) h.bytes;
+    memory = g.held.still u v s.memory fields winner h.memory;
   }
 
   -- what holds of more variables holds of fewer
@@ -94,11 +95,12 @@ module _ (g : Setting) where
     bytes = h.bytes;
     returns = h.returns;
     few = h.few;
+    memory = h.memory;
   }
 
-  ran_fewer : (more fewer : Variable → Type 0) (d : Draft) (s : CodeState) (u v : State) (e : Draft) → ((x : Variable) → fewer x → more x) → ((x : Variable) → v.scalar x ≡ u.scalar x) → v.turns ≡ u.turns → v.output ≡ u.output → input_of v ≡ input_of u
+  ran_fewer : (more fewer : Variable → Type 0) (d : Draft) (s : CodeState) (u v : State) (e : Draft) → ((x : Variable) → fewer x → more x) → ((x : Variable) → v.scalar x ≡ u.scalar x) → ((k e p : ℕ) → v.parallel (V.File k) e p ≡ u.parallel (V.File k) e p) → v.winner ≡ u.winner → v.turns ≡ u.turns → v.output ≡ u.output → input_of v ≡ input_of u
       → Ran g more d s u e → Ran g fewer d s v e
-  ran_fewer more fewer d s u v e among same turns output input r = record { grown = r.grown; t = r.t; go = r.go; at = r.at; keeps = r.keeps; sim = sim_fewer more fewer v r.t (λ x info named. among x) (sim_same more u v r.t same turns output input r.sim) }
+  ran_fewer more fewer d s u v e among same fields winner turns output input r = record { grown = r.grown; t = r.t; go = r.go; at = r.at; keeps = r.keeps; sim = sim_fewer more fewer v r.t (λ x info named. among x) (sim_same more u v r.t same fields winner turns output input r.sim) }
 
   -- the first of variables that stand from a number on, and the others
   pub first_is_named : (n : ℕ) (info : VarInfo) (rest : List VarInfo) → StandFrom (variables_of g.instance.body) n (info ∷ rest) → variable_named g.typed g.instance (V.Local n) ≡ Some info
@@ -108,6 +110,15 @@ module _ (g : Setting) where
 
   pub others_stand : (n : ℕ) (info : VarInfo) (rest : List VarInfo) → StandFrom (variables_of g.instance.body) n (info ∷ rest) → StandFrom (variables_of g.instance.body) (n + 1) rest
   others_stand n info rest stand = second_part (info ∷ []) rest stand
+
+  -- the parallel variables of the file stay
+  pub zeroed_files : (n m : ℕ) (st : State) (k e p : ℕ) → (zeroed n m st).parallel (V.File k) e p ≡ st.parallel (V.File k) e p
+  unfolding zeroed is_among
+  zeroed_files n m st k e p = refl
+
+  pub same_zeroed : (n m i j x w : ℕ) (st : State) (k e p : ℕ) → (zeroed n m st).parallel (V.File k) e p ≡ (zeroed i j (with_scalar (V.Local x) w st)).parallel (V.File k) e p
+  unfolding zeroed is_among with_scalar
+  same_zeroed n m i j x w st k e p = refl
 
   nothing_zeroed : (n : ℕ) (st : State) (y : Variable) → (zeroed n 0 st).scalar y ≡ st.scalar y
   unfolding zeroed is_among
@@ -218,7 +229,7 @@ module _ (g : Setting) (has : HasRegisters g) where
         let sim1 : Sim g others st1 s = waiting before st s sim in
         let ran = rest.runs s st1 free at sim1 within in
         ran_fewer g (λ x. Alive others locals (n + 1) x) (λ x. Alive before (local ∷ locals) n x) d s (zeroed (n + 1) (length locals) st1) (zeroed n (suc (length locals)) st) rest.e
-        (λ x h. (waiting_still x (h.1.0 begins) (first_or_later before n (length locals) x h.0), h.1.1)) (zeroed_more n (length locals) st) refl refl refl ran;
+        (λ x h. (waiting_still x (h.1.0 begins) (first_or_later before n (length locals) x h.0), h.1.1)) (zeroed_more n (length locals) st) (λ k e p. same_zeroed g n (suc (length locals)) (n + 1) (length locals) n 0 st k e p) refl refl refl refl ran;
   }
     where
       waiting_still : (x : Variable) → (x ≡ V.Local n → ⊥) → (before x ⊎ (is_among (n + 1) (length locals) x ≡ true)) ⊎ (x ≡ V.Local n) → (before x × (x ≡ V.Local n → ⊥)) ⊎ (is_among (n + 1) (length locals) x ≡ true)
@@ -238,6 +249,7 @@ module _ (g : Setting) (has : HasRegisters g) where
         bytes = sim.bytes;
         returns = sim.returns;
         few = sim.few;
+        memory = g.held.still st (with_scalar (V.Local n) 0 st) s.memory (λ k e p. refl) refl sim.memory;
       }
         where
           not_it : (x : Variable) → (x ≡ V.Local n → ⊥) → (with_scalar (V.Local n) 0 st).scalar x ≡ st.scalar x
@@ -273,7 +285,7 @@ module _ (g : Setting) (has : HasRegisters g) where
             let ran = rest.runs s1 st1 (omega (arith, free, more)) (at_next g (I.FrontConst r 0) d s (s.at + 1) at refl) sim1 within in
             let all = ran_from g (λ x. Alive now locals (n + 1) x) d between 1 s s1 (zeroed (n + 1) (length locals) st1) rest.e (and_one g (I.FrontConst r 0) d) (one g s s1 (begins_here g (I.FrontConst r 0) d s first_within refl at)) kept ran in
             ran_fewer g (λ x. Alive now locals (n + 1) x) (λ x. Alive before (local ∷ locals) n x) d s (zeroed (n + 1) (length locals) st1) (zeroed n (suc (length locals)) st) rest.e
-            (λ x h. (is_now x (first_or_later before n (length locals) x h.0), h.1.1)) (zeroed_more n (length locals) st) refl refl refl all;
+            (λ x h. (is_now x (first_or_later before n (length locals) x h.0), h.1.1)) (zeroed_more n (length locals) st) (λ k e p. same_zeroed g n (suc (length locals)) (n + 1) (length locals) n 0 st k e p) refl refl refl refl all;
       }
     where
       is_now : (x : Variable) → (before x ⊎ (is_among (n + 1) (length locals) x ≡ true)) ⊎ (x ≡ V.Local n) → (before x ⊎ (x ≡ V.Local n)) ⊎ (is_among (n + 1) (length locals) x ≡ true)
@@ -298,7 +310,7 @@ module _ (g : Setting) (has : HasRegisters g) where
       go = stay g s;
       at = at;
       keeps = keeps_all g d s;
-      sim = sim_fewer g before (λ x. Alive before [] n x) (zeroed n 0 st) s (λ x info named h. nothing_more x h.0) (sim_same g before st (zeroed n 0 st) s (nothing_zeroed g n st) refl refl refl sim);
+      sim = sim_fewer g before (λ x. Alive before [] n x) (zeroed n 0 st) s (λ x info named h. nothing_more x h.0) (sim_same g before st (zeroed n 0 st) s (nothing_zeroed g n st) (λ k e p. zeroed_files g n 0 st k e p) refl refl refl refl sim);
     };
   }
     where

@@ -14,7 +14,6 @@ use Rattle.cstar_tree.specs.declared.typed.Variable.TheVariants as V
 use Rattle.cstar_tree.specs.TypedParts.{calls_within}
 use Rattle.code_lengths.specs.Naming.{IsDeclared, variable_named}
 use Rattle.code_lengths.specs.Ready.{HasStatementCode, IsCodable}
-use Rattle.code_lengths.proofs.Declaring.{all_at}
 use Rattle.lower_base.specs.Constants.{constant_register, register_with}
 use Rattle.lower_base.specs.Drafts.{Draft, Made, Makes, then_make}
 use Rattle.lower_base.specs.Layouts.{layout_of, register_of, result_register}
@@ -32,22 +31,23 @@ use Rattle.source_meaning.specs.State as Source
 use Rattle.source_meaning.specs.State.{Outcome, State, is_among, then_do}
 use Rattle.source_meaning.specs.Statements.{Broke, Continued, Leaving, Onward, Returned, executed, initialised}
 use Rattle.source_meaning.specs.Values.{Active, Value, each}
-use Rattle.code_follows.specs.Fragment.{IsPlainVariable, IsBody, IsScalarProgram, OfFileOrParam, IsInStatement, within}
+use Rattle.code_follows.specs.Fragment.{IsBody, Beside, IsProgramBeside, OfFileOrParam, IsInStatement, within}
 use Rattle.lower_stmt.specs.declared.statement.Frame.{Frame}
 use Rattle.code_follows.proofs.Activations.{activation, callee_known, scalars, words}
+use Rattle.code_follows.proofs.Besides.{BesideFollows}
 use Rattle.code_follows.proofs.Bodies.{statement_follows}
 use Rattle.code_follows.proofs.Callees.{AreGiven, Callee, CallsFollow, ComesBack, Enters, MayCall, RunsBody, Shared}
 use Rattle.code_follows.proofs.Closed.{NoJump, begins_closed, closed_row, go_closed}
 use Rattle.code_follows.proofs.Endings.{NeverOnward, body_never, never_second}
 use Rattle.code_follows.proofs.Executing.{IsGiven, Left, Returns}
-use Rattle.code_follows.proofs.Following.{Finishes, Follows, HasNumber, Sim, held}
+use Rattle.code_follows.proofs.Following.{Finishes, Follows, HasNumber, HasRegisters, IsScalar, Sim, held}
 use Rattle.code_follows.proofs.Functions.{RunsFunction, among, body_made, declares, ends_by, falls, frame, framed, given_back, has, numbered, ready, runs_function, scope}
 use Rattle.std.specs.Option.{is_some}
 use Rattle.std.proofs.lemmas.Nat.{pow_pos}
 use Rattle.source_meaning.specs.Reductions.{int_type}
 use Rattle.code_follows.proofs.Numbers.{zero_converted}
 use Rattle.code_follows.proofs.Regions.{result_is, same_constants, same_end}
-use Rattle.code_follows.proofs.Settings.{At, Setting, one, onto, start}
+use Rattle.code_follows.proofs.Settings.{At, Held, Setting, one, onto, start}
 use Rattle.code_follows.proofs.Standing.{start_in, unit_there}
 use Rattle.code_follows.proofs.Units.{blank_homes, blank_regs, not_main, other_is, unit_at}
 
@@ -87,18 +87,18 @@ before_all (V.Param k) h = tt
 before_all (V.Local k) h = absurd h
 
 -- what stands in the register of the result of a function that was left
-module _ (image : Image) (t : Typed) (p : IsScalarProgram t) (codable : IsCodable t) (compiled : IsCompiled t image) (number : ℕ) (b : Instance) (is : slice_get t.instances.items number ≡ Some b) (calls_open : List ℕ) (m : ℕ) (s r : CodeState) where
+module _ (image : Image) (t : Typed) {beside : Beside} (p : IsProgramBeside beside t) (codable : IsCodable t) (compiled : IsCompiled t image) (holding : Held) (number : ℕ) (b : Instance) (is : slice_get t.instances.items number ≡ Some b) (calls_open : List ℕ) (m : ℕ) (s r : CodeState) where
   abbrev result_there : ℕ
-  result_there = (layout_of t (words t image p codable compiled) number).base + length b.params.items
+  result_there = (layout_of t (words t image p codable compiled holding) number).base + length b.params.items
 
   abbrev function : Setting
-  function = activation t image p codable compiled number b is calls_open m
+  function = activation t image p codable compiled holding number b is calls_open m
 
-  where_it_is : result_register (layout_of t (words t image p codable compiled) number) ≡ result_there
-  where_it_is = result_is t (scalars t image p codable compiled) (words t image p codable compiled) number b is
+  where_it_is : result_register (layout_of t (words t image p codable compiled holding) number) ≡ result_there
+  where_it_is = result_is t (scalars t image p codable compiled holding) (words t image p codable compiled holding) number b is
 
   -- 0 where it was left without a value
-  zero_given : (leaving : Leaving) (info : VarInfo) → b.result ≡ Some info → result_of (Some info) leaving ≡ each info.shape (λ q. 0) → slice_index r.registers (result_register (layout_of t (words t image p codable compiled) number)) ≡ slice_index s.registers (result_register (layout_of t (words t image p codable compiled) number))
+  zero_given : (leaving : Leaving) (info : VarInfo) → b.result ≡ Some info → result_of (Some info) leaving ≡ each info.shape (λ q. 0) → slice_index r.registers (result_register (layout_of t (words t image p codable compiled holding) number)) ≡ slice_index s.registers (result_register (layout_of t (words t image p codable compiled holding) number))
       → slice_index s.registers result_there ≡ 0 → HasNumber info.elem (result_of b.result leaving) result_there r
   unfolding each
   zero_given leaving info found gives same zero_there = (
@@ -119,29 +119,29 @@ module _ (image : Image) (t : Typed) (p : IsScalarProgram t) (codable : IsCodabl
   result_given Broke u info found h closed zero_there = absurd closed
   result_given Continued u info found h closed zero_there = absurd closed
 
-module _ (t : Typed) (image : Image) (p : IsScalarProgram t) (codable : IsCodable t) (compiled : IsCompiled t image) (me : ℕ) (a : Instance) (is_me : slice_get t.instances.items me ≡ Some a) (back_to : List ℕ) (number : ℕ) (b : Instance) (is : slice_get t.instances.items number ≡ Some b)
+module _ (t : Typed) (image : Image) {beside : Beside} (p : IsProgramBeside beside t) (codable : IsCodable t) (compiled : IsCompiled t image) (holding : Held) (me : ℕ) (a : Instance) (is_me : slice_get t.instances.items me ≡ Some a) (back_to : List ℕ) (number : ℕ) (b : Instance) (is : slice_get t.instances.items number ≡ Some b)
     (some : 0 < number) (called : Contains (calls_within a.body) number) (m : ℕ) where
   -- the caller, and the function that is called as the caller knows it
   abbrev caller : Setting
-  caller = activation t image p codable compiled me a is_me back_to (suc m)
+  caller = activation t image p codable compiled holding me a is_me back_to (suc m)
 
   abbrev called_one : Callee caller number
-  called_one = callee_known t image p codable compiled me a is_me back_to (suc m) number b is called
+  called_one = callee_known t image p codable compiled holding me a is_me back_to (suc m) number b is called
 
   module _ (active : Active) (arguments : List Value) (st : State) (s : CodeState) (back : ℕ) (starts : s.at ≡ start_at image number) (stacked : s.returns ≡ back_to ++ back ∷ []) (shared : Shared caller st s) (few : st.turns ≤ m) (given : AreGiven caller called_one arguments s)
-      (zero_there : (info : VarInfo) → b.result ≡ Some info → slice_index s.registers ((layout_of t (words t image p codable compiled) number).base + length b.params.items) ≡ 0) where
+      (zero_there : (info : VarInfo) → b.result ≡ Some info → slice_index s.registers ((layout_of t (words t image p codable compiled holding) number).base + length b.params.items) ≡ 0) where
     abbrev open_calls : List ℕ
     open_calls = back_to ++ back ∷ []
 
     -- the called function
     abbrev inner : Setting
-    inner = activation t image p codable compiled number b is open_calls m
+    inner = activation t image p codable compiled holding number b is open_calls m
 
     abbrev opening_state : State
     opening_state = entered b arguments active st
 
     is_other : (number == 0) ≡ false
-    is_other = not_main t image (scalars t image p codable compiled) codable compiled number (λ e. omega (arith, some, e))
+    is_other = not_main t image (scalars t image p codable compiled holding) codable compiled number (λ e. omega (arith, some, e))
 
     abbrev begin : Draft
     begin = blank b.name inner.begins
@@ -153,18 +153,18 @@ module _ (t : Typed) (image : Image) (p : IsScalarProgram t) (codable : IsCodabl
         let there = ap (λ (es : List Entry). slice_index (map start_of es) number) compiled.linked.units ∙ starts_there compiled.after.units.items number 0 u.0 u.1.0 in
         omega (arith, starts, there)
 
-    constants_same : (word : ℕ) → constant_register (layout_of t (words t image p codable compiled) number) word ≡ constant_register (layout_of t (words t image p codable compiled) me) word
+    constants_same : (word : ℕ) → constant_register (layout_of t (words t image p codable compiled holding) number) word ≡ constant_register (layout_of t (words t image p codable compiled holding) me) word
     unfolding constant_register
     constants_same word =
-        ap (λ (ws : List ℕ). register_with word ws (layout_of t (words t image p codable compiled) number).end) (same_constants t (scalars t image p codable compiled) (words t image p codable compiled) number me)
-        ∙ ap (λ (n : ℕ). register_with word (layout_of t (words t image p codable compiled) me).constants n) (same_end t (scalars t image p codable compiled) (words t image p codable compiled) number me)
+        ap (λ (ws : List ℕ). register_with word ws (layout_of t (words t image p codable compiled holding) number).end) (same_constants t (scalars t image p codable compiled holding) (words t image p codable compiled holding) number me)
+        ∙ ap (λ (n : ℕ). register_with word (layout_of t (words t image p codable compiled holding) me).constants n) (same_end t (scalars t image p codable compiled holding) (words t image p codable compiled holding) number me)
 
     sim : Sim inner OfFileOrParam opening_state s
     unfolding entered by_owner scalar_given OfFileOrParam variable_named register_of callee_known
     sim = record {
       registers = shared.registers;
-      scalars = λ x info living scalar. value x info living scalar.0;
-      small = λ x info living scalar. small x info living scalar.0;
+      scalars = λ x info living scalar. value x info living scalar;
+      small = λ x info living scalar. small x info living scalar;
       constants = λ word r there. shared.constants word r (sym (constants_same word) ∙ there);
       turns = shared.turns;
       output = shared.output;
@@ -172,23 +172,24 @@ module _ (t : Typed) (image : Image) (p : IsScalarProgram t) (codable : IsCodabl
       returns = stacked;
       few = few;
       bytes = shared.bytes;
+      memory = inner.held.still st opening_state s.memory (λ k e p. refl) refl shared.memory;
     }
       where
-        value : (x : Variable) (info : VarInfo) → OfFileOrParam x → variable_named t b x ≡ Some info → slice_index s.registers (register_of (layout_of t (words t image p codable compiled) number) x) ≡ held info.elem (opening_state.scalar x)
-        value (V.File k) info living named = shared.files k info named
-        value (V.Param k) info living named = given.words k info named
+        value : (x : Variable) (info : VarInfo) → OfFileOrParam x → IsScalar inner x info → slice_index s.registers (register_of (layout_of t (words t image p codable compiled holding) number) x) ≡ held info.elem (opening_state.scalar x)
+        value (V.File k) info living named = shared.files k info named.0 named.1
+        value (V.Param k) info living named = given.words k info named.0
         value (V.Local k) info living named = absurd living
 
-        small : (x : Variable) (info : VarInfo) → OfFileOrParam x → variable_named t b x ≡ Some info → opening_state.scalar x < 2 ^ info.elem.bits
-        small (V.File k) info living named = shared.small k info named
-        small (V.Param k) info living named = given.few k info named
+        small : (x : Variable) (info : VarInfo) → OfFileOrParam x → IsScalar inner x info → opening_state.scalar x < 2 ^ info.elem.bits
+        small (V.File k) info living named = shared.small k info named.0 named.1
+        small (V.Param k) info living named = given.few k info named.0
         small (V.Local k) info living named = absurd living
 
     -- ---- what its body gives, and where it goes back
 
     -- what is said of the inner function's early end is said of the caller's
     ends_early : (early : Source.Early) (u : State) → Finishes inner early u s → Finishes caller early u s
-    ends_early early u f = record { t = f.t; ends = record { steps = f.ends.steps; is = f.ends.is }; turns = f.turns; output = f.output; input = f.input }
+    ends_early early u f = record { t = f.t; ends = record { steps = f.ends.steps; is = f.ends.is }; turns = f.turns; output = f.output; input = f.input; memory = f.memory }
 
     goes_back : (leaving : Leaving) (u : State) → u.turns ≤ st.turns → Returns inner OfFileOrParam s u (given_back leaving) → NoJump (Source.Gives leaving u) → ComesBack caller called_one back s st (result_of b.result leaving) (left st u)
     unfolding left by_owner variable_named register_of callee_known OfFileOrParam
@@ -199,13 +200,14 @@ module _ (t : Typed) (image : Image) (p : IsScalarProgram t) (codable : IsCodabl
       returns = ap (λ (places : List ℕ). take (length places - 1) places) r.sim.returns ∙ below_place back_to back;
       shared = record {
         registers = r.sim.registers;
-        files = λ k info named. r.sim.scalars (V.File k) info tt (named, plain k info named);
-        small = λ k info named. r.sim.small (V.File k) info tt (named, plain k info named);
+        files = λ k info named scalar. r.sim.scalars (V.File k) info tt (named, scalar);
+        small = λ k info named scalar. r.sim.small (V.File k) info tt (named, scalar);
         constants = λ word q is_there. r.sim.constants word q (constants_same word ∙ is_there);
         turns = r.sim.turns;
         output = r.sim.output;
         input = r.sim.input;
         bytes = r.sim.bytes;
+        memory = inner.held.still u (left st u) r.t.memory (λ k e p. refl) refl r.sim.memory;
       };
       turned = less;
       params_kept = λ k. refl;
@@ -220,29 +222,26 @@ module _ (t : Typed) (image : Image) (p : IsScalarProgram t) (codable : IsCodabl
         leaves : Rattle.paris_code.specs.Code.step image r.t ≡ Goes there
         leaves = r.leaves ∙ ap (λ (c : Bool). if c then Rattle.paris_code.specs.Code.Ends Rattle.paris_code.specs.Code.Done r.t else Goes there) is_other
 
-        plain : (k : ℕ) (info : VarInfo) → slice_get t.vars.items k ≡ Some info → info.shape ≡ None
-        plain k info named = (all_at IsPlainVariable t.vars.items k info p.variables named).0
-
         given_so : (leaving : Leaving) (info : VarInfo) → b.result ≡ Some info → IsGiven inner OfFileOrParam s r.t (given_back leaving) → NoJump (Source.Gives leaving u)
-            → HasNumber info.elem (result_of b.result leaving) ((layout_of t (words t image p codable compiled) number).base + length b.params.items) r.t
-        given_so leaving info found h closed = result_given image t p codable compiled number b is open_calls m s r.t leaving u info found h closed (zero_there info found)
+            → HasNumber info.elem (result_of b.result leaving) ((layout_of t (words t image p codable compiled holding) number).base + length b.params.items) r.t
+        given_so leaving info found h closed = result_given image t p codable compiled holding number b is open_calls m s r.t leaving u info found h closed (zero_there info found)
 
     -- the code of the body, as that of a block whose variables are cleared
-    as_block : (locals : Vec LocalVar Global) (q : Vec (Unit {0}) Global) (row : _) → body_of t (layout_of t (words t image p codable compiled) number) (frame t image p codable compiled number b is open_calls m) (S.Block' locals q row) begin
-        ≡ then_make (declared_in t (layout_of t (words t image p codable compiled) number) false locals.items 0 begin) (λ n after. statements_of t (layout_of t (words t image p codable compiled) number) row (frame t image p codable compiled number b is open_calls m) [] n after)
+    as_block : (locals : Vec LocalVar Global) (q : Vec (Unit {0}) Global) (row : _) → body_of t (layout_of t (words t image p codable compiled holding) number) (frame t image p codable compiled holding number b is open_calls m) (S.Block' locals q row) begin
+        ≡ then_make (declared_in t (layout_of t (words t image p codable compiled holding) number) false locals.items 0 begin) (λ n after. statements_of t (layout_of t (words t image p codable compiled holding) number) row (frame t image p codable compiled holding number b is open_calls m) [] n after)
     unfolding body_of body_frame
-    as_block locals q row = ap (λ (c : Bool). then_make (declared_in t (layout_of t (words t image p codable compiled) number) c locals.items 0 begin) (λ n after. statements_of t (layout_of t (words t image p codable compiled) number) row (frame t image p codable compiled number b is open_calls m) [] n after)) is_other
+    as_block locals q row = ap (λ (c : Bool). then_make (declared_in t (layout_of t (words t image p codable compiled holding) number) c locals.items 0 begin) (λ n after. statements_of t (layout_of t (words t image p codable compiled holding) number) row (frame t image p codable compiled holding number b is open_calls m) [] n after)) is_other
 
-    made_here : (body : TStmt) → b.body ≡ body → then_make (body_of t (layout_of t (words t image p codable compiled) number) (frame t image p codable compiled number b is open_calls m) body begin) (λ n e. Makes (tt {0}) (ended (number == 0) b.body e)) ≡ Makes (tt {0}) (unit_at t image (scalars t image p codable compiled) codable compiled number b is)
+    made_here : (body : TStmt) → b.body ≡ body → then_make (body_of t (layout_of t (words t image p codable compiled holding) number) (frame t image p codable compiled holding number b is open_calls m) body begin) (λ n e. Makes (tt {0}) (ended (number == 0) b.body e)) ≡ Makes (tt {0}) (unit_at t image (scalars t image p codable compiled holding) codable compiled number b is)
     unfolding body_frame
     made_here body body_is =
-        ap (λ (x : TStmt). then_make (body_of t (layout_of t (words t image p codable compiled) number) (frame t image p codable compiled number b is open_calls m) x begin) (λ n e. Makes (tt {0}) (ended (number == 0) b.body e))) (sym body_is)
-        ∙ ap (λ (c : Bool). then_make (body_of t (layout_of t (words t image p codable compiled) number) (body_frame c b) b.body begin) (λ n e. Makes (tt {0}) (ended c b.body e))) is_other
-        ∙ other_is t image (scalars t image p codable compiled) codable compiled number b is is_other
+        ap (λ (x : TStmt). then_make (body_of t (layout_of t (words t image p codable compiled holding) number) (frame t image p codable compiled holding number b is open_calls m) x begin) (λ n e. Makes (tt {0}) (ended (number == 0) b.body e))) (sym body_is)
+        ∙ ap (λ (c : Bool). then_make (body_of t (layout_of t (words t image p codable compiled holding) number) (body_frame c b) b.body begin) (λ n e. Makes (tt {0}) (ended c b.body e))) is_other
+        ∙ other_is t image (scalars t image p codable compiled holding) codable compiled number b is is_other
 
     -- the body of the function follows, where its own calls do
-    module _ (calls_follow : CallsFollow inner (scope t image p codable compiled number b is open_calls m) active) where
-      came : (o : Outcome Leaving) → (state_after o).turns ≤ st.turns → NoJump o → RunsFunction t image p codable compiled number b is open_calls m s o → RunsBody caller called_one back s st (then_do o (λ leaving after. Source.Gives (result_of b.result leaving) (left st after)))
+    module _ (calls_follow : CallsFollow inner (scope t image p codable compiled holding number b is open_calls m) active) where
+      came : (o : Outcome Leaving) → (state_after o).turns ≤ st.turns → NoJump o → RunsFunction t image p codable compiled holding number b is open_calls m s o → RunsBody caller called_one back s st (then_do o (λ leaving after. Source.Gives (result_of b.result leaving) (left st after)))
       unfolding RunsFunction RunsBody then_do state_after left
       came (Source.Gives leaving u) less closed runs = goes_back leaving u less runs closed
       came (Source.Ends early u) less closed runs = ends_early early u runs
@@ -250,68 +249,72 @@ module _ (t : Typed) (image : Image) (p : IsScalarProgram t) (codable : IsCodabl
       pub body_follows : (body : TStmt) → b.body ≡ body → IsBody inner.may body → RunsBody caller called_one back s st (run_body t (calls t m) (Some b) arguments active st)
       unfolding IsBody IsInStatement OfFileOrParam statement_of run_body scope_of executed entered
       body_follows (S.Block' locals q row) body_is isin =
-          let f = frame t image p codable compiled number b is open_calls m in
+          let f = frame t image p codable compiled holding number b is open_calls m in
           let body : TStmt = S.Block' locals q row in
           let c : HasStatementCode t b 0 body = subst (λ (x : TStmt). HasStatementCode t b 0 x) body_is (codable number b is).1 in
-          let h = has t image p codable compiled number b is open_calls m in
-          let numbers = numbered t image p codable compiled number b is open_calls m in
-          let is_ready = ready t image p codable compiled number b is open_calls m in
-          let declared = declares t image p codable compiled number b is open_calls m in
-          let where_it_is = scope t image p codable compiled number b is open_calls m in
-          let never_rises = falls t image p codable compiled number b is open_calls m active in
-          let runs : Follows inner (Left inner OfFileOrParam f begin s) s (executed where_it_is body 0 active opening_state) (body_of t (layout_of t (words t image p codable compiled) number) f body begin) =
+          let h = has t image p codable compiled holding number b is open_calls m in
+          let numbers = numbered t image p codable compiled holding number b is open_calls m in
+          let is_ready = ready t image p codable compiled holding number b is open_calls m in
+          let declared = declares t image p codable compiled holding number b is open_calls m in
+          let where_it_is = scope t image p codable compiled holding number b is open_calls m in
+          let never_rises = falls t image p codable compiled holding number b is open_calls m active in
+          let runs : Follows inner (Left inner OfFileOrParam f begin s) s (executed where_it_is body 0 active opening_state) (body_of t (layout_of t (words t image p codable compiled holding) number) f body begin) =
           subst (λ (made : Made ℕ). Follows inner (Left inner OfFileOrParam f begin s) s (executed where_it_is body 0 active opening_state) made) (sym (as_block locals q row))
           (statement_follows inner h numbers is_ready declared where_it_is active calls_follow never_rises OfFileOrParam (λ k. tt) 0 before_all body isin.0 f begin s opening_state
-          (framed t image p codable compiled number b is open_calls m) (among t image p codable compiled number b is open_calls m) (blank_homes t image (scalars t image p codable compiled) codable compiled number b) (let regs = blank_regs t image (scalars t image p codable compiled) codable compiled number b in omega (arith, regs)) stands sim c) in
-          let made = body_made t image p codable compiled number b is open_calls m (body_of t (layout_of t (words t image p codable compiled) number) f body begin) (made_so body body_is) in
+          (framed t image p codable compiled holding number b is open_calls m) (among t image p codable compiled holding number b is open_calls m) (blank_homes t image (scalars t image p codable compiled holding) codable compiled number b) (let regs = blank_regs t image (scalars t image p codable compiled holding) codable compiled number b in omega (arith, regs)) stands sim c) in
+          let made = body_made t image p codable compiled holding number b is open_calls m (body_of t (layout_of t (words t image p codable compiled holding) number) f body begin) (made_so body body_is) in
           let never : ends_in_return b.body ≡ true → NeverOnward (executed where_it_is body 0 active opening_state) =
           λ ends. never_second (initialised where_it_is active 0 locals.items _) _ (λ u. body_never where_it_is active locals q row (sym (ap (λ (x : TStmt). ends_in_return x) body_is) ∙ ends) (0 + length locals.items) u) in
           let closed : NoJump (executed where_it_is body 0 active opening_state) = go_closed _ _ (begins_closed where_it_is active 0 locals.items _) (λ u. closed_row where_it_is active (within inner.may 0 (length locals.items)) (0 + length locals.items) row isin.0.2 isin.1 (0 + length locals.items) u) in
           subst (λ (x : TStmt). RunsBody caller called_one back s st (then_do (executed where_it_is x 0 active opening_state) (λ leaving after. Source.Gives (result_of b.result leaving) (left st after)))) (sym body_is)
           (came (executed where_it_is body 0 active opening_state) (never_rises body 0 opening_state) closed
-          (runs_function t image p codable compiled number b is open_calls m begin made.e made.n s (executed where_it_is body 0 active opening_state) (ends_by t image p codable compiled number b is open_calls m (executed where_it_is body 0 active opening_state) made.e made.unit never) closed
+          (runs_function t image p codable compiled holding number b is open_calls m begin made.e made.n s (executed where_it_is body 0 active opening_state) (ends_by t image p codable compiled holding number b is open_calls m (executed where_it_is body 0 active opening_state) made.e made.unit never) closed
           (subst (λ (x : Made ℕ). Follows inner (Left inner OfFileOrParam f begin s) s (executed where_it_is body 0 active opening_state) x) made.is_made runs)))
         where
           f : Frame
-          f = frame t image p codable compiled number b is open_calls m
+          f = frame t image p codable compiled holding number b is open_calls m
 
-          made_so : (body : TStmt) → b.body ≡ body → then_make (body_of t (layout_of t (words t image p codable compiled) number) f body begin) (λ n e. Makes (tt {0}) (ended (number == 0) b.body e)) ≡ Makes (tt {0}) (unit_at t image (scalars t image p codable compiled) codable compiled number b is)
+          made_so : (body : TStmt) → b.body ≡ body → then_make (body_of t (layout_of t (words t image p codable compiled holding) number) f body begin) (λ n e. Makes (tt {0}) (ended (number == 0) b.body e)) ≡ Makes (tt {0}) (unit_at t image (scalars t image p codable compiled holding) codable compiled number b is)
           made_so body body_is = made_here body body_is
       body_follows _ body_is isin = absurd isin
 
-module _ (t : Typed) (image : Image) (p : IsScalarProgram t) (codable : IsCodable t) (compiled : IsCompiled t image) (active : Active) where
+module _ (t : Typed) (image : Image) {beside : Beside} (p : IsProgramBeside beside t) (codable : IsCodable t) (compiled : IsCompiled t image) (holding : Held) (active : Active) where
   abbrev running : (number : ℕ) (i : Instance) → slice_get t.instances.items number ≡ Some i → List ℕ → ℕ → Setting
-  running number i is opens most = activation t image p codable compiled number i is opens most
+  running number i is opens most = activation t image p codable compiled holding number i is opens most
+
+  -- the parallel expressions of each function follow
+  abbrev pub AllBeside : Type 1
+  AllBeside = (number : ℕ) (i : Instance) (is : slice_get t.instances.items number ≡ Some i) (opens : List ℕ) (most : ℕ) (has : HasRegisters (running number i is opens most)) → BesideFollows (running number i is opens most) has (scope_of t i (calls t most)) active
 
   abbrev known : (number : ℕ) (i : Instance) (is : slice_get t.instances.items number ≡ Some i) (opens : List ℕ) (most index : ℕ) (c : Instance) (is_c : slice_get t.instances.items index ≡ Some c) (called : Contains (calls_within i.body) index) → Callee (running number i is opens most) index
-  known number i is opens most index c is_c called = callee_known t image p codable compiled number i is opens most index c is_c called
+  known number i is opens most index c is_c called = callee_known t image p codable compiled holding number i is opens most index c is_c called
 
   -- the calls in a function follow, where those with one turn fewer do
-  pub calls_so : (most number : ℕ) (i : Instance) (is : slice_get t.instances.items number ≡ Some i) (opens : List ℕ)
+  pub calls_so : AllBeside → (most number : ℕ) (i : Instance) (is : slice_get t.instances.items number ≡ Some i) (opens : List ℕ)
       → ((index : ℕ) (c : Instance) (is_c : slice_get t.instances.items index ≡ Some c) → 0 < index → (called : Contains (calls_within i.body) index) (m : ℕ) → most ≡ suc m → Enters (running number i is opens most) (known number i is opens most index c is_c called) m active)
       → CallsFollow (running number i is opens most) (scope_of t i (calls t most)) active
   unfolding scope_of callee_known
-  calls_so most number i is opens enters = record {
+  calls_so besides most number i is opens enters = record {
     meant = refl;
-    plain_files = λ k info found. (all_at IsPlainVariable t.vars.items k info p.variables found).0;
     value = λ elem index given h. ((may_call index h.0 h.1.0 h.1.1 h.1.2, h.1.4), ((h.0, h.1.0, ap is_some h.1.3.1.0), h.1.3));
     effect = λ index given h. (may_call index h.0 h.1.0 h.1.1 h.1.2, h.1.4);
     returns = λ elem h. h;
+    beside = λ has. besides number i is opens most has;
   }
     where
       may_call : (index : ℕ) (c : Instance) (is_c : slice_get t.instances.items index ≡ Some c) → 0 < index → Contains (calls_within i.body) index → MayCall (running number i is opens most) active index
       may_call index c is_c some called = record { callee = known number i is opens most index c is_c called; enters = λ m e. enters index c is_c some called m e }
 
-  pub enters_so : (m me : ℕ) (a : Instance) (is_me : slice_get t.instances.items me ≡ Some a) (back_to : List ℕ) (number : ℕ) (b : Instance) (is : slice_get t.instances.items number ≡ Some b) → 0 < number → (called : Contains (calls_within a.body) number)
+  pub enters_so : AllBeside → (m me : ℕ) (a : Instance) (is_me : slice_get t.instances.items me ≡ Some a) (back_to : List ℕ) (number : ℕ) (b : Instance) (is : slice_get t.instances.items number ≡ Some b) → 0 < number → (called : Contains (calls_within a.body) number)
       → Enters (running me a is_me back_to (suc m)) (known me a is_me back_to (suc m) number b is called) m active
   unfolding callee_known Enters
-  enters_so zero me a is_me back_to number b is some called arguments st s back starts stacked shared few given zero_there =
-      body_follows t image p codable compiled me a is_me back_to number b is some called zero active arguments st s back starts stacked shared few given zero_there
-      (calls_so zero number b is (back_to ++ back ∷ []) (λ index c is_c some_c called_c m e. absurd (omega (arith, e)))) b.body refl (p.each number b is).body
-  enters_so (suc m) me a is_me back_to number b is some called arguments st s back starts stacked shared few given zero_there =
-      body_follows t image p codable compiled me a is_me back_to number b is some called (suc m) active arguments st s back starts stacked shared few given zero_there
-      (calls_so (suc m) number b is (back_to ++ back ∷ []) (λ index c is_c some_c called_c k e.
-      subst (λ (n : ℕ). Enters (running number b is (back_to ++ back ∷ []) (suc m)) (known number b is (back_to ++ back ∷ []) (suc m) index c is_c called_c) n active) (fewer m k e) (enters_so m number b is (back_to ++ back ∷ []) index c is_c some_c called_c)))
+  enters_so besides zero me a is_me back_to number b is some called arguments st s back starts stacked shared few given zero_there =
+      body_follows t image p codable compiled holding me a is_me back_to number b is some called zero active arguments st s back starts stacked shared few given zero_there
+      (calls_so besides zero number b is (back_to ++ back ∷ []) (λ index c is_c some_c called_c m e. absurd (omega (arith, e)))) b.body refl (p.each number b is).body
+  enters_so besides (suc m) me a is_me back_to number b is some called arguments st s back starts stacked shared few given zero_there =
+      body_follows t image p codable compiled holding me a is_me back_to number b is some called (suc m) active arguments st s back starts stacked shared few given zero_there
+      (calls_so besides (suc m) number b is (back_to ++ back ∷ []) (λ index c is_c some_c called_c k e.
+      subst (λ (n : ℕ). Enters (running number b is (back_to ++ back ∷ []) (suc m)) (known number b is (back_to ++ back ∷ []) (suc m) index c is_c called_c) n active) (fewer m k e) (enters_so besides m number b is (back_to ++ back ∷ []) index c is_c some_c called_c)))
       b.body refl (p.each number b is).body
     where
       fewer : (m k : ℕ) → suc m ≡ suc k → m ≡ k

@@ -197,6 +197,7 @@ module _ (g : Setting) (alive : Variable → Type 0) where
     gives (T.Assign' ty place op p target q value) h = (variable_in g alive n target h.2).sends
     gives (T.Step' ty op order p target) h = tt
     gives (T.Call' ty index p arguments) h = (calls_follow.value ty.elem index (elems_of arguments) h.1).1.0
+    gives (T.Reduce' ty op p operand) h = tt
     gives _ h = absurd h
 
     -- the code of a condition is made

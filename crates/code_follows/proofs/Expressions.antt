@@ -1,5 +1,5 @@
 -- The code of every expression of the fragment gives its value, as a value and as an operand.
-use Rattle.std.proofs.Common.{◌≡◌, ◌∙◌, ℕ, ◌<◌, ◌≤◌, ◌^◌, Bool, true, false, length, Option, Some, None, refl, sym, ap, subst, if◌then◌else◌, arith, Vec, Global, inl}
+use Rattle.std.proofs.Common.{◌≡◌, ◌∙◌, ℕ, ◌<◌, ◌≤◌, ◌^◌, Bool, true, false, [], ◌∷◌, length, Option, Some, None, refl, sym, ap, subst, if◌then◌else◌, arith, Vec, Global, inl}
 use Rattle.std.specs.Prelude.{IfSome, is_none, ◌||◌, nat_le}
 use Rattle.cstar_base.specs.declared.elem.Elem.{Elem}
 use Rattle.cstar_base.specs.declared.operators.Op.{Op}
@@ -31,15 +31,21 @@ use Rattle.lower_base.specs.declared.emit.Out.{Out}
 use Rattle.lower_base.specs.declared.emit.Out.TheVariants as O
 use Rattle.lower_base.specs.Constants.{constant_register}
 use Rattle.lower_base.specs.Kinds.{bits_of, kind_of}
-use Rattle.lower_base.specs.Drafts.{Draft, Made, Makes, first_bits, then_make}
+use Rattle.lower_base.specs.Drafts.{Draft, Fails, Made, Makes, a_register, first_bits, fresh_for, from, in_field, in_register, shortened, then_make}
 use Rattle.lower_base.specs.Layouts.{Layout, field_of, register_of}
 use Rattle.lower_expr.specs.declared.operands.Own.{Own}
-use Rattle.lower_expr.specs.Kinds.{is_unchanged, list_bits, operand_bits, unary_bits}
+use Rattle.lower_expr.proofs.Unary.{done_in_register}
+use Rattle.lower_expr.specs.Kinds.{done_as, is_unchanged, list_bits, operand_bits, reduced_bits, unary_bits}
+use Rattle.lower_expr.specs.Effects.{computed_to, gone_to, put_to}
 use Rattle.lower_expr.specs.Lengths.{arm_length, arm_length_of, used_length_of}
 use Rattle.lower_expr.specs.Operands.{are_quiet, held as held_in, in_place, is_plus, is_quiet, operand_by, own_of, standing}
-use Rattle.lower_expr.specs.Steps.{is_kept, register_word}
+use Rattle.lower_expr.specs.Steps.{is_kept, register_word, word_for}
+use Rattle.lower_comm.specs.Messages.{communicated, part_field, reduced}
+use Rattle.cstar_tree.specs.declared.syntax.ReduceOp.{ReduceOp}
+use Rattle.cstar_tree.specs.declared.typed.TExpr.{out-TExpr}
+use denote.Hole.Carrier
 use Rattle.paris_code.specs.Code.{CodeState}
-use Rattle.lower_expr.specs.Values.{Code, arm_by, arm_of, cast_from, choice_by, condition_by, condition_of, logical_by, next_of, register_cast_by, scalar_choice_of, truth_of, unary_by, value_of, taken_bits}
+use Rattle.lower_expr.specs.Values.{Code, arm_by, arm_of, cast_from, choice_by, condition_by, condition_of, logical_by, lowest, message_by, message_to, next_of, register_cast_by, scalar_choice_of, truth_of, unary_by, value_of, taken_bits}
 use Rattle.quiet_operands.proofs.Unchanged as Quiet
 use Rattle.source_meaning.specs.Constants.{constant_of, is_constant, then_value}
 use Rattle.source_meaning.specs.Constants as Const
@@ -49,7 +55,7 @@ use Rattle.source_meaning.specs.State as Source
 use Rattle.source_meaning.specs.State.{Outcome, State, then_do}
 use Rattle.source_meaning.specs.Values.{Active, Scalar, Scope, Value, at, convert_to, nonzero, number, unary_of}
 use Rattle.source_meaning.proofs.ConstantLaws.{Boxed, value_means}
-use Rattle.code_follows.specs.Fragment.{AreIn, IsGiven, IsIn, IsOperand, IsWord, naming}
+use Rattle.code_follows.specs.Fragment.{AreIn, IsGiven, IsIn, IsOperand, IsWord, ScalarsAmong, naming}
 use Rattle.code_follows.proofs.Arguments.{AreDone}
 use Rattle.code_follows.proofs.Branching.{IsMadeWord, made_word}
 use Rattle.code_follows.proofs.Choosing.{Arm_does, IsMadeTo, Lands, arm_follows, arm_made, choice_is, choose_is, constant_arm, fresh_lands, scalar_choice_follows}
@@ -173,6 +179,7 @@ module _ (g : Setting) (has : HasRegisters g) (alive : Variable → Type 0) (n :
   own_is bits (T.Assign' ty place op p target q value) own st h v small is = cc
   own_is bits (T.Step' ty op order p target) own st h v small is = cc
   own_is bits (T.Call' ty index p arguments) own st h v small is = cc
+  own_is bits (T.Reduce' ty op p operand) own st h v small is = cc
   own_is bits _ own st h v small is = absurd h
 
   -- an operand where it stands, or by its code
@@ -305,6 +312,12 @@ module _ (g : Setting) (has : HasRegisters g) (alive : Variable → Type 0) (n :
   unary_value ty quiet bits U.Complement operand word its value does = unary_follows g has alive ty U.Complement (type_of operand).elem (unary_same U.Complement (type_of operand) its) word refl quiet (λ e. value_of g.typed (layout g) bits operand e) (λ e. operand_by g.typed (layout g) (unary_bits bits U.Complement operand) (value_of g.typed (layout g) (unary_bits bits U.Complement operand) operand) true operand e) (λ st. evaluated scope operand active st) bits does
   unary_value ty quiet bits U.Not operand word its value does = unary_follows g has alive ty U.Not (type_of operand).elem (unary_same U.Not (type_of operand) its) word refl quiet (λ e. value_of g.typed (layout g) bits operand e) (λ e. operand_by g.typed (layout g) (unary_bits bits U.Not operand) (value_of g.typed (layout g) (unary_bits bits U.Not operand) operand) true operand e) (λ st. evaluated scope operand active st) bits does
 
+  -- on a register it is done as itself
+  done_value : (ty : ValueType) (quiet : Bool) (bits : ℕ) (op : UnaryOp) (operand : TExpr) (part : State → Outcome Value) (code second : Code) → is_kept operand ≡ true
+      → Does g has alive ty.elem quiet part (λ d. unary_by (layout g) ty bits op code second d) → Does g has alive ty.elem quiet part (λ d. unary_by (layout g) ty bits (done_as bits op operand) code second d)
+  done_value ty quiet bits op operand part code second is does =
+      subst (λ (o : UnaryOp). Does g has alive ty.elem quiet part (λ d. unary_by (layout g) ty bits o code second d)) (sym (done_in_register bits op operand is)) does
+
   -- the register of a value is a fresh one
   fresh_converted : (ty : ValueType) (bits : ℕ) (p : Boxed) (operand : TExpr) → is_kept operand ≡ true → (d : Draft) → IsFresh d (value_of g.typed (layout g) bits operand d) → IsFresh d (value_of g.typed (layout g) bits (T.Convert' ty p operand) d)
   unfolding value_of
@@ -381,6 +394,43 @@ module _ (g : Setting) (has : HasRegisters g) (alive : Variable → Type 0) (n :
       subst (λ (made : Made Out). IsFresh d made) (sym (step_code g alive n target v ty op order p bits d))
       (fresh_stepped g has alive v.variable (variable_info w.word (plain (type_of target)) w.start) v.living (w.named, v.scalar) scope active op order (T.Step' ty op order p target) bits d)
 
+  -- the code of a fold puts its number in a fresh register
+  abbrev folded : ReduceOp → TExpr → Code
+  folded op operand d = next_of g.typed (layout g) (reduced_bits op operand) true operand d
+
+  abbrev sends_fold : TExpr → ℕ → Out → Draft → Made Out
+  sends_fold e r v d = communicated g.typed (layout g) e O.Nothing (v ∷ []) (O.Scalar r) d
+
+  fold_code : (ty : ValueType) (op : ReduceOp) (p : Boxed) (operand : TExpr) (bits : ℕ) → ty.shape ≡ None → (d : Draft) → value_of g.typed (layout g) bits (T.Reduce' ty op p operand) d ≡ computed_to g.typed (layout g) (O.Scalar d.regs) (T.Reduce' ty op p operand) (with_reg d)
+  unfolding value_of computed_to message_by message_to gone_to lowest shortened fresh_for a_register then_make communicated reduced part_field from in_field in_register out-TExpr Carrier.out
+  fold_code ty op p operand bits scalar d =
+      ap (λ (o : Option ℕ). then_make (fresh_for o 32 d) (λ dest begun. lowest bits (message_to g.typed (layout g) (T.Reduce' ty op p operand) (folded op operand) dest begun))) scalar ∙ by (folded op operand (with_reg d))
+    where
+      e : TExpr
+      e = T.Reduce' ty op p operand
+
+      by : (made : Made Out) → lowest bits (then_make made (λ v after. sends_fold e d.regs v after)) ≡ gone_to (O.Scalar d.regs) (then_make made (λ v after. sends_fold e d.regs v after))
+      by (Makes (O.Field f) after) = refl
+      by (Makes (O.Scalar r) after) = refl
+      by (Makes O.Nothing after) = refl
+      by Fails = refl
+
+  fold_fresh : (ty : ValueType) (op : ReduceOp) (p : Boxed) (operand : TExpr) (bits : ℕ) → ty.shape ≡ None → HasCode g.typed g.instance n (T.Reduce' ty op p operand) → (d : Draft) → IsFresh d (value_of g.typed (layout g) bits (T.Reduce' ty op p operand) d)
+  unfolding computed_to gone_to put_to word_for register_word constant_of is_constant is_kept GivesValue then_make IsFresh Extends
+  fold_fresh ty op p operand bits scalar c d =
+      subst (λ (made : Made Out). IsFresh d made) (sym (fold_code ty op p operand bits scalar d))
+      (by (message_to g.typed (layout g) (T.Reduce' ty op p operand) (folded op operand) (O.Scalar d.regs) (with_reg d))
+      (extends_grown g has alive _ (with_reg d) _ _ ((expressions g.typed g.instance (layout g)).put_register d.regs n (T.Reduce' ty op p operand) (with_reg d) c (tt, ap is_none scalar) (ready (with_reg d)))))
+    where
+      by : (made : Made Out) → Extends g (with_reg d) (gone_to (O.Scalar d.regs) made) → IsFresh d (gone_to (O.Scalar d.regs) made)
+      by (Makes v e) grows = let regs = grows.1.regs in (omega arith, omega (arith, regs))
+      by Fails grows = tt
+
+  fold_value : (quiet : Bool) (bits : ℕ) (ty : ValueType) (op : ReduceOp) (p : Boxed) (operand : TExpr) → ty.shape ≡ None → g.may.beside.folds (T.Reduce' ty op p operand) → ScalarsAmong alive (T.Reduce' ty op p operand) → HasCode g.typed g.instance n (T.Reduce' ty op p operand) → Agrees quiet bits (T.Reduce' ty op p operand)
+  fold_value quiet bits ty op p operand scalar folds among c d s st free here sim =
+      subst (λ (made : Made Out). Follows g (Value_of g has alive ty.elem quiet d s) s (evaluated scope (T.Reduce' ty op p operand) active st) made) (sym (fold_code ty op p operand bits scalar d))
+      ((calls_follow.beside has).folds alive files n ready (T.Reduce' ty op p operand) folds among c (with_reg d) s st (Value_of g has alive ty.elem quiet d s) d.regs (omega (arith, free)) here sim (fresh_dest g has alive ty.elem quiet d s free))
+
   fresh_value : (bits : ℕ) (e : TExpr) → (IsIn (naming g.may alive)) e → HasCode g.typed g.instance n e → (d : Draft) → IsFresh d (value_of g.typed (layout g) bits e d)
   unfolding value_of IsIn
   fresh_value bits (T.Number ty value) h c d = fresh_constant g has alive value d
@@ -393,7 +443,7 @@ module _ (g : Setting) (has : HasRegisters g) (alive : Variable → Type 0) (n :
   fresh_value bits (T.Convert' ty p operand) h c d = fresh_converted ty bits p operand (kept (naming g.may alive) operand h.1) d (fresh_value bits operand h.1 (convert_code ty p operand c) d)
   fresh_value bits (T.Casts' ty elems p operand) h c d = fresh_casts g has alive ty false elems.items (type_of operand).elem h.0 h.1 (λ e. value_of g.typed (layout g) bits operand e) d (fresh_value bits operand h.2 (casts_code ty elems p operand c) d)
   fresh_value bits (T.Unary' ty op p operand) h c d =
-      fresh_unary g has alive ty bits op (λ e. value_of g.typed (layout g) bits operand e) _ d h.0.0 (fresh_value bits operand h.1 (unary_code ty op p operand c) d) (operand_grows true (unary_bits bits op operand) operand (unary_code ty op p operand c))
+      fresh_unary g has alive ty bits (done_as bits op operand) (λ e. value_of g.typed (layout g) bits operand e) _ d h.0.0 (fresh_value bits operand h.1 (unary_code ty op p operand c) d) (operand_grows true (unary_bits bits op operand) operand (unary_code ty op p operand c))
   fresh_value bits (T.Binary' ty place op p left q right) h c d =
       fresh_binary g has alive ty bits op place _ _ left right d h.0.0 (operand_grows (is_quiet right) (operand_bits bits op left right) left (left_code ty place op p q left right c)) (operand_grows true (operand_bits bits op left right) right (right_code ty place op p q left right c))
   fresh_value bits (T.LogicalOr' ty p left q right) h c d = fresh_logical g has alive true ty.shape bits (condition_of g.typed (layout g) left) (condition_of g.typed (layout g) right) d h.0.0 (condition_grows left (or_operands ty p q left right c).one) (condition_grows right (or_operands ty p q left right c).other)
@@ -406,6 +456,7 @@ module _ (g : Setting) (has : HasRegisters g) (alive : Variable → Type 0) (n :
       fresh_assign bits ty place op p q target value (variable_in g alive n target h.2) names.0 h.3 names.1 (λ m e. fresh_value m value h.3 names.1 e) d
   fresh_value bits (T.Step' ty op order p target) h c d = fresh_step bits ty op order p target (variable_in g alive n target h.2) (step_names ty op order p target c) d
   fresh_value bits (T.Call' ty index p arguments) h c d = fresh_call g has alive n files ready scope active calls_follow bits ty index p arguments h.0 h.1 c d
+  fresh_value bits (T.Reduce' ty op p operand) h c d = fold_fresh ty op p operand bits h.0.0 c d
   fresh_value bits _ h c d = absurd h
 
   -- an operand in its place leaves its register alone
@@ -515,7 +566,8 @@ module _ (g : Setting) (has : HasRegisters g) (alive : Variable → Type 0) (n :
         let part = casts_code ty elems p operand c in
         casts_follow g has alive ty quiet elems.items (type_of operand).elem h.0 h.1 (λ d. value_of g.typed (layout g) bits operand d) (λ st. evaluated scope operand active st) (λ d. fresh_value bits operand h.2 part d) (value_follows false bits operand h.2 part)
     value_follows quiet bits (T.Unary' ty op p operand) h c =
-        unary_value ty quiet bits op operand h.0 h.2 (value_follows quiet bits operand h.1 (unary_code ty op p operand c)) (operand_value true (unary_bits bits op operand) operand h.1 (unary_code ty op p operand c) (value_follows true (unary_bits bits op operand) operand h.1 (unary_code ty op p operand c)))
+        done_value ty quiet bits op operand _ _ _ (kept (naming g.may alive) operand h.1)
+        (unary_value ty quiet bits op operand h.0 h.2 (value_follows quiet bits operand h.1 (unary_code ty op p operand c)) (operand_value true (unary_bits bits op operand) operand h.1 (unary_code ty op p operand c) (value_follows true (unary_bits bits op operand) operand h.1 (unary_code ty op p operand c))))
     value_follows quiet bits (T.Binary' ty place op p left q right) h c =
         let one_code = left_code ty place op p q left right c in
         let other_code = right_code ty place op p q left right c in
@@ -538,6 +590,7 @@ module _ (g : Setting) (has : HasRegisters g) (alive : Variable → Type 0) (n :
         assign_value quiet bits ty place op p q target value (variable_in g alive n target h.2) names.0 h.1 h.3 h.4 names.1 (λ m d. fresh_value m value h.3 names.1 d) (λ calm m. value_follows calm m value h.3 names.1)
     value_follows quiet bits (T.Step' ty op order p target) h c = step_value_follows quiet bits ty op order p target (variable_in g alive n target h.2) (step_names ty op order p target c) h.1
     value_follows quiet bits (T.Call' ty index p arguments) h c = call_value g has alive n files ready scope active calls_follow quiet bits ty index p arguments h.0 h.1 (arguments_do true (are_quiet arguments) arguments h.2 (call_code g has alive n files ready scope active calls_follow ty index p arguments c)) c
+    value_follows quiet bits (T.Reduce' ty op p operand) h c = fold_value quiet bits ty op p operand h.0.0 h.1 h.2 c
     value_follows quiet bits _ h c = absurd h
 
     -- each argument is done as one of a list

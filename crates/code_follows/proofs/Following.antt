@@ -53,8 +53,8 @@ module _ (g : Setting) where
   abbrev pub IsScalar : Variable → VarInfo → Type 0
   IsScalar x info = (variable_named g.typed g.instance x ≡ Some info) × (info.shape ≡ None)
 
-  -- The registers hold the scalar variables that are alive and the constants; turns, output and input are
-  -- those of the source.
+  -- The registers hold the scalar variables that are alive and the constants, the memory what is held of the
+  -- parallel ones; turns, output and input are those of the source.
   pub record Sim (alive : Variable → Type 0) (st : State) (s : CodeState) : Type 0 where
     pub registers : length s.registers ≡ g.image.slots
     pub scalars : (x : Variable) (info : VarInfo) → alive x → IsScalar x info → slice_index s.registers (register_of (layout g) x) ≡ held info.elem (st.scalar x)
@@ -66,6 +66,7 @@ module _ (g : Setting) where
     pub returns : s.returns ≡ g.returns
     pub few : st.turns ≤ g.most
     pub bytes : AreBytes st.input
+    pub memory : g.held.holds st s.memory
 
   -- a register of a value, one that is spared, or that of the result
   unfoldable pub IsKept : Draft → ℕ → Type 0
@@ -110,9 +111,10 @@ module _ (g : Setting) where
     pub turns : t.turns ≡ st.turns
     pub output : t.output ≡ st.output
     pub input : t.input ≡ input_of st
+    pub memory : g.held.holds st t.memory
 
   pub finishes_later : (early : Early) (st : State) (s t : CodeState) → Reaches g s t → Finishes early st t → Finishes early st s
-  finishes_later early st s t go f = record { t = f.t; ends = ends_later g s t f.t (end_of early) go f.ends; turns = f.turns; output = f.output; input = f.input }
+  finishes_later early st s t go f = record { t = f.t; ends = ends_later g s t f.t (end_of early) go f.ends; turns = f.turns; output = f.output; input = f.input; memory = f.memory }
 
   -- what code that was made does, from a state: where the source gives something, R is said of it, the state
   -- behind it, what the code answers and the draft behind it
@@ -187,6 +189,7 @@ module _ (g : Setting) where
     bytes = h.bytes;
     returns = h.returns;
     few = h.few;
+    memory = h.memory;
   }
 
   -- a register of values is one

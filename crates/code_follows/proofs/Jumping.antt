@@ -33,7 +33,7 @@ module _ (g : Setting) (alive : Variable → Type 0) where
   moved_to place s = record s { at = place }
 
   pub sim_moved : (st : State) (s : CodeState) (place : ℕ) → Sim g alive st s → Sim g alive st (moved_to place s)
-  sim_moved st s place h = record { registers = h.registers; scalars = h.scalars; small = h.small; constants = h.constants; turns = h.turns; output = h.output; input = h.input; bytes = h.bytes; returns = h.returns; few = h.few }
+  sim_moved st s place h = record { registers = h.registers; scalars = h.scalars; small = h.small; constants = h.constants; turns = h.turns; output = h.output; input = h.input; bytes = h.bytes; returns = h.returns; few = h.few; memory = h.memory }
 
   -- a jump
   pub jumps : (target : ℕ) (e : Draft) (s : CodeState) → Within g (with_instr (I.FrontJump target) e) → At g s (length e.code) → Reaches g s (moved_to (target + start g) s)
@@ -68,6 +68,7 @@ module _ (g : Setting) (alive : Variable → Type 0) where
         turns = sim.turns;
         output = sim.output;
         input = sim.input;
+        memory = sim.memory;
       }
 
   -- the state behind a turn
@@ -83,4 +84,4 @@ module _ (g : Setting) (alive : Variable → Type 0) where
       ∙ ap (λ (n : ℕ). Goes (behind_turn s n)) one_less)
 
   pub sim_spent : (st : State) (s : CodeState) (left : ℕ) → st.turns ≡ suc left → Sim g alive st s → Sim g alive (record st { turns = left }) (behind_turn s left)
-  sim_spent st s left some h = record { registers = h.registers; scalars = h.scalars; small = h.small; constants = h.constants; turns = refl; output = h.output; input = h.input; bytes = h.bytes; returns = h.returns; few = let m = h.few in omega (arith, m, some) }
+  sim_spent st s left some h = record { registers = h.registers; scalars = h.scalars; small = h.small; constants = h.constants; turns = refl; output = h.output; input = h.input; bytes = h.bytes; returns = h.returns; few = let m = h.few in omega (arith, m, some); memory = g.held.still st (record st { turns = left }) s.memory (λ k e p. refl) refl h.memory }

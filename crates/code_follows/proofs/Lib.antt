@@ -2,6 +2,7 @@ pub mod Activations
 pub mod Arguments
 pub mod Assigning
 pub mod Beginnings
+pub mod Besides
 pub mod Bodies
 pub mod Branching
 pub mod Bytes

@@ -48,7 +48,8 @@ use Rattle.code_follows.proofs.Following.{Arrives, Extends, Follows, HasRegister
 use Rattle.code_follows.proofs.Fresh.{IsClear, IsFresh, fresh_register, fresh_then, made_so}
 use Rattle.code_follows.proofs.Settings.{At, Reaches, Setting, Within, and_one, at_next, begins_here, earlier, layout, one, onto, regs_more, stay}
 use Rattle.code_follows.proofs.Stores.{IsPut, variable_dest}
-use Rattle.code_follows.proofs.Values.{Dest, Does, Grows_on, HasWord, Value_of, and_register, extends_in_register, extends_operated, extends_word, operates, register_same, rewrapped, some_word, with_reg, word_follows}
+use Rattle.code_follows.proofs.Values.{Dest, Does, Grows_on, HasWord, Value_of, and_register, extends_in_register, extends_operated, extends_word, operates, register_same, rewrapped, some_word, with_reg, word_follows, put_by, written_at}
+use Rattle.code_follows.proofs.Jumping.{sim_moved}
 use Rattle.code_follows.proofs.Numbers.{fits_held, number_same, rounded_is, takes_fits, takes_same}
 use Rattle.code_follows.proofs.Effects.{promoted_wide, working_wide}
 use Rattle.code_follows.proofs.Given.{given_set, given_word}
@@ -84,7 +85,7 @@ module _ (g : Setting) (has : HasRegisters g) (alive : Variable → Type 0) (x :
       let regs = arr.extended.1.regs in
       let last : Draft = with_instr (I.FrontMove own q) e in
       let p : IsPut g has alive x info living scalar info.elem e arr.t (Scalar w) u (O.Scalar own) last =
-      (variable_dest g has alive x info living scalar info.elem e arr.t (inl refl) (omega (arith, free, regs))).puts e 0 (I.FrontMove own q) arr.t u w (stay g arr.t) arr.at arr.sim (as_it_was e) (keeps_all g e arr.t) within refl
+      put_by g has alive (variable_dest g has alive x info living scalar info.elem e arr.t (inl refl) (omega (arith, free, regs))) e 0 (I.FrontMove own q) arr.t u w (stay g arr.t) arr.at arr.sim (as_it_was e) (keeps_all g e arr.t) within refl
       (ap (λ (y : ℕ). Goes (with_register own y arr.t)) is) few in
       record {
         extended = (arr.extended.0 + p.grown.0, extended d e last arr.extended.0 p.grown.0 arr.extended.1 p.grown.1);
@@ -174,9 +175,9 @@ module _ (g : Setting) (has : HasRegisters g) (alive : Variable → Type 0) (x :
 
   computed_dest : (at_type : Elem) (d e1 : Draft) (k : ℕ) (s t1 : CodeState) (r : ℕ) → g.begins ≤ d.regs → Extended d k e1 → Reaches g s t1 → Keeps g d s t1 → d.regs ≤ r → r < e1.regs → Dest g has alive at_type e1 t1 (λ v u out e. Computed at_type d e1 s t1 r v u e) r
   computed_dest at_type d e1 k s t1 r free ext go1 keeps1 low high = record {
-    puts = λ e n i s1 st w go here sim grows keeps within plain does few.
-        let t : CodeState = with_register r (held at_type w) s1 in
-        let regs = regs_more g i e in
+    takes = λ e f n m s1 place st w go sim grows keeps longer within there here few.
+        let t : CodeState = written_at g has alive r (held at_type w) place s1 in
+        let regs = longer.regs in
         let more = grows.regs in
         let first = ext.regs in
         let inside : r < length s1.registers = omega (arith, high, more, regs, within.regs, sim.registers) in
@@ -184,11 +185,11 @@ module _ (g : Setting) (has : HasRegisters g) (alive : Variable → Type 0) (x :
           word = w;
           given = refl;
           few = few;
-          grown = (n + 1, extended e1 e (with_instr i e) n 1 grows (and_one g i e));
+          grown = (n + m, extended e1 e f n m grows longer);
           t = t;
-          go = onto g s t1 t go1 (onto g t1 s1 t go (one g s1 t (begins_here g i e s1 within plain here ∙ does)));
-          at = at_next g i e s1 (s1.at + 1) here refl;
-          sim = register_set g alive st s1 r (held at_type w) has (omega (arith, free, low)) sim;
+          go = onto g s t1 t go1 (onto g t1 s1 t go there);
+          at = here;
+          sim = sim_moved g alive st (with_register r (held at_type w) s1) place (register_set g alive st s1 r (held at_type w) has (omega (arith, free, low)) sim);
           keeps = keeps_on g d d 0 s t1 t (as_it_was d) keeps1 (keeps_on g d d 0 t1 s1 t (as_it_was d) (keeps_less g d e1 t1 s1 first keeps) (register_kept g d s1 r (held at_type w) has free low (omega (arith, high, more, regs, within.own))));
           there = register_is g s1 r (held at_type w) inside;
           others = λ q kept differs. get_or-set_other s1.registers r q (held at_type w) 0 (λ e. differs (sym e)) ∙ keeps q kept;

@@ -22,10 +22,11 @@ module _ (g : Setting) where
     pub output : t.output ≡ s.output
     pub input : t.input ≡ s.input
     pub returns : t.returns ≡ s.returns
+    pub memory : t.memory ≡ s.memory
 
   pub constants_run : (words : List ℕ) (r : ℕ) (d : Draft) (s : CodeState) → At g s (length d.code) → Within g (constants_put words r d) → r + length words ≤ length s.registers → Constants words r s (constants_put words r d)
   unfolding constants_put begun step_of
-  constants_run [] r d s here within room = record { t = s; go = stay g s; at = here; registers = refl; below = λ q b. refl; are = λ i b. absurd (omega (arith, b)); turns = refl; output = refl; input = refl; returns = refl }
+  constants_run [] r d s here within room = record { t = s; go = stay g s; at = here; registers = refl; below = λ q b. refl; are = λ i b. absurd (omega (arith, b)); turns = refl; output = refl; input = refl; returns = refl; memory = refl }
   constants_run (w ∷ words) r d s here within room =
       let e : Draft = with_instr (I.FrontConst r w) d in
       let early : Within g e = earlier g e (constants_put words (r + 1) e) (length words) (constants_extend words (r + 1) e) within in
@@ -43,6 +44,7 @@ module _ (g : Setting) where
         output = rest.output;
         input = rest.input;
         returns = rest.returns;
+        memory = rest.memory;
       }
     where
       fits : (n : ℕ) → r + suc n ≤ length s.registers → length (with_register r w s).registers ≡ length s.registers → r + 1 + n ≤ length (with_register r w s).registers

@@ -36,7 +36,7 @@ use Rattle.code_follows.proofs.Standing.{some_same}
 use Rattle.std.proofs.lemmas.Option.{slice_get_within}
 use Rattle.code_follows.proofs.Fresh.{IsFresh, fresh_register, fresh_then}
 use Rattle.code_follows.proofs.Settings.{At, Reaches, Setting, Within, and_one, at_next, begins_here, earlier, layout, one, onto, regs_more, stay}
-use Rattle.code_follows.proofs.Values.{Dest, extends_in_register}
+use Rattle.code_follows.proofs.Values.{Dest, extends_in_register, put_by}
 
 module _ (g : Setting) (has : HasRegisters g) (alive : Variable → Type 0) where
   -- a register holds a value as a variable's
@@ -253,7 +253,7 @@ module _ (g : Setting) (has : HasRegisters g) (alive : Variable → Type 0) wher
         puts v w back within =
             let given = back.given info found in
             subst (λ (x : Value). R x w (O.Scalar r) (register_result index source r f)) (sym given.1.0)
-            (dest.puts (turn_and_call index zeroed) back.grown.0 (I.FrontMove r source) back.t w given.0 back.go back.at back.sim back.grown.1 back.keeps within refl
+            (put_by g has alive dest (turn_and_call index zeroed) back.grown.0 (I.FrontMove r source) back.t w given.0 back.go back.at back.sim back.grown.1 back.keeps within refl
             (ap (λ (x : ℕ). Goes (with_register r x back.t)) (given.1.2 ∙ takes_held elem info.elem given.0 takes given.1.1)) (takes_below elem info.elem given.0 takes given.1.1))
 
         all : Within g (register_result index source r f) → Follows g R t (called_so arguments u) (Makes (O.Scalar r) (register_result index source r f))

@@ -33,16 +33,16 @@ use Rattle.source_meaning.specs.State.{Outcome, State, is_among, then_do, zeroed
 use Rattle.source_meaning.specs.Statements.{Leaving, executed, initialised}
 use Rattle.source_meaning.specs.Values.{Active, number}
 use Rattle.code_follows.specs.Agreement.{AreBytes, CodeMeansSource, ComesTo, end_of, mark_of}
-use Rattle.code_follows.specs.Fragment.{IsBody, IsPlainVariable, IsScalarProgram, IsInStatement, OfFileOrParam, OrAmong, within}
+use Rattle.code_follows.specs.Fragment.{IsBody, IsFileVariable, Beside, IsProgramBeside, IsInStatement, OfFileOrParam, OrAmong, within}
 use Rattle.code_follows.proofs.Activations.{scalars, words}
 use Rattle.code_follows.proofs.Beginnings.{starts_grow, starts_run}
 use Rattle.code_follows.proofs.Bodies.{begun_code, begun_follows, begun_grows, block_code, block_initials, block_stands, row_follows, follows_fewer}
 use Rattle.code_follows.proofs.Callees.{CallsFollow}
 use Rattle.code_follows.proofs.Closed.{NoJump, begins_closed, closed_row, go_closed}
 use Rattle.code_follows.proofs.ConstantRegisters.{constant_at}
-use Rattle.code_follows.proofs.Declaring.{among_before, sim_fewer, sim_same}
+use Rattle.code_follows.proofs.Declaring.{among_before, sim_fewer, sim_same, zeroed_files}
 use Rattle.code_follows.proofs.Endings.{NeverOnward, body_never, never_second}
-use Rattle.code_follows.proofs.Entering.{calls_so, enters_so, before_all}
+use Rattle.code_follows.proofs.Entering.{AllBeside, calls_so, enters_so, before_all}
 use Rattle.code_follows.proofs.Executing.{Left}
 use Rattle.code_follows.proofs.Following.{held, Extends, Follows, Sim}
 use Rattle.code_follows.proofs.Functions.{BodyMade, EndsSo, RunsFunction, among, body_made, declares, ends_by, falls, frame, framed, g, has, numbered, own, ready, runs_function, scope}
@@ -51,20 +51,29 @@ use Rattle.std.proofs.lemmas.Nat.{pow_pos}
 use Rattle.source_meaning.specs.Reductions.{int_type}
 use Rattle.code_follows.proofs.Numbers.{zero_converted}
 use Rattle.code_follows.proofs.Regions.{IsOwn, base_behind, base_inside, below, local_own, own_behind, param_own}
-use Rattle.code_follows.proofs.Settings.{At, EndsIn, Reaches, Setting, Within, earlier, ends_later, ends_now, onto, start}
+use Rattle.code_follows.proofs.Settings.{At, EndsIn, Held, Reaches, Setting, Within, earlier, ends_later, ends_now, onto, start}
 use Rattle.code_follows.proofs.Standing.{start_in}
 use Rattle.code_follows.proofs.Starting.{none_cleared, Now, settled_so}
 use Rattle.code_follows.proofs.Units.{constants_grow, empty_unit, main_is, starts_homes, starts_regs, with_constants, with_starts}
 use Rattle.paris_code.specs.declared.program.Unit.{Unit as CodeUnit}
+
+-- the code comes to the end of a run, and the memory then holds what is held of its final state
+pub record Comes (holding : Held) (image : Image) (s : CodeState) (run : Run) : Type 0 where
+  pub to : ComesTo image s run
+  pub memory : holding.holds run.final to.last.memory
+
+-- what holds of every memory
+abbrev pub nothing_held : Held
+nothing_held = record { holds = λ st m. Unit {0}; still = λ st u m fields winner h. tt }
 
 pub starts_at_zero : (us : List CodeUnit) → start_in us 0 0 ≡ 0
 unfolding start_in
 starts_at_zero [] = refl
 starts_at_zero (u ∷ us) = refl
 
-module _ (t : Typed) (image : Image) (p : IsScalarProgram t) (codable : IsCodable t) (compiled : IsCompiled t image) (memory : BitMemory) (input : List ℕ) (rest : Source.Rest) (turns : ℕ) (winner : Winner) (are : AreBytes input) where
+module _ (t : Typed) (image : Image) {beside : Beside} (p : IsProgramBeside beside t) (codable : IsCodable t) (compiled : IsCompiled t image) (holding : Held) (memory : BitMemory) (input : List ℕ) (rest : Source.Rest) (turns : ℕ) (winner : Winner) (are : AreBytes input) (begins : holding.holds (start_state t input rest turns winner) memory) (besides : AllBeside t image p codable compiled holding (λ s p. true)) where
   abbrev main_setting : Setting
-  main_setting = g t image p codable compiled 0 p.main p.is_main [] turns
+  main_setting = g t image p codable compiled holding 0 p.main p.is_main [] turns
 
   abbrev alive : Variable → Type 0
   alive x = Unit {0}
@@ -82,21 +91,21 @@ module _ (t : Typed) (image : Image) (p : IsScalarProgram t) (codable : IsCodabl
   in_main = entered p.main [] active first_state
 
   abbrev constants_there : Draft
-  constants_there = with_constants t image (scalars t image p codable compiled) codable compiled p.main
+  constants_there = with_constants t image (scalars t image p codable compiled holding) codable compiled p.main
 
   abbrev begun_there : Draft
-  begun_there = with_starts t image (scalars t image p codable compiled) codable compiled p.main
+  begun_there = with_starts t image (scalars t image p codable compiled holding) codable compiled p.main
 
   starts_grown : (k : ℕ) × Extended constants_there k begun_there
-  starts_grown = starts_grow (own t image p codable compiled 0 p.main p.is_main [] turns) t.vars.items 0 main_setting constants_there
+  starts_grown = starts_grow (own t image p codable compiled holding 0 p.main p.is_main [] turns) t.vars.items 0 main_setting constants_there
 
   begins_at : start main_setting ≡ 0
   begins_at = starts_at_zero compiled.after.units.items
 
-  constant_there : (u : CodeState) → ((i : ℕ) → i < length (own t image p codable compiled 0 p.main p.is_main [] turns).constants → slice_index u.registers ((own t image p codable compiled 0 p.main p.is_main [] turns).end + i) ≡ slice_index (own t image p codable compiled 0 p.main p.is_main [] turns).constants i)
-      → (word r : ℕ) → constant_register (own t image p codable compiled 0 p.main p.is_main [] turns) word ≡ Some r → slice_index u.registers r ≡ word
+  constant_there : (u : CodeState) → ((i : ℕ) → i < length (own t image p codable compiled holding 0 p.main p.is_main [] turns).constants → slice_index u.registers ((own t image p codable compiled holding 0 p.main p.is_main [] turns).end + i) ≡ slice_index (own t image p codable compiled holding 0 p.main p.is_main [] turns).constants i)
+      → (word r : ℕ) → constant_register (own t image p codable compiled holding 0 p.main p.is_main [] turns) word ≡ Some r → slice_index u.registers r ≡ word
   constant_there u are word r is =
-      let h = constant_at (own t image p codable compiled 0 p.main p.is_main [] turns) word r is in
+      let h = constant_at (own t image p codable compiled holding 0 p.main p.is_main [] turns) word r is in
       ap (λ (q : ℕ). slice_index u.registers q) h.register ∙ are h.index h.inside ∙ h.value
 
   -- nothing is given to `main`
@@ -107,26 +116,26 @@ module _ (t : Typed) (image : Image) (p : IsScalarProgram t) (codable : IsCodabl
 
   -- a parameter of `main`, if it has any, and a variable of its blocks is 0
   own_zero : (x : Variable) (info : VarInfo) → variable_named t p.main x ≡ Some info → (u : CodeState)
-      → ((q : ℕ) → 0 + length t.vars.items ≤ q → q < (own t image p codable compiled 0 p.main p.is_main [] turns).end → slice_index u.registers q ≡ 0)
-      → IsOwn t (scalars t image p codable compiled) (words t image p codable compiled) 0 p.main (register_of (own t image p codable compiled 0 p.main p.is_main [] turns) x) → slice_index u.registers (register_of (own t image p codable compiled 0 p.main p.is_main [] turns) x) ≡ held info.elem 0
+      → ((q : ℕ) → 0 + length t.vars.items ≤ q → q < (own t image p codable compiled holding 0 p.main p.is_main [] turns).end → slice_index u.registers q ≡ 0)
+      → IsOwn t (scalars t image p codable compiled holding) (words t image p codable compiled holding) 0 p.main (register_of (own t image p codable compiled holding 0 p.main p.is_main [] turns) x) → slice_index u.registers (register_of (own t image p codable compiled holding 0 p.main p.is_main [] turns) x) ≡ held info.elem 0
   own_zero x info is u zeros mine =
-      let behind = own_behind t (scalars t image p codable compiled) (words t image p codable compiled) 0 p.main _ p.is_main mine in
-      zeros _ (omega (arith, behind)) (below t (scalars t image p codable compiled) (words t image p codable compiled) 0 p.main p.is_main x info is) ∙ sym (zero_converted int_type info.elem)
+      let behind = own_behind t (scalars t image p codable compiled holding) (words t image p codable compiled holding) 0 p.main _ p.is_main mine in
+      zeros _ (omega (arith, behind)) (below t (scalars t image p codable compiled holding) (words t image p codable compiled holding) 0 p.main p.is_main x info is) ∙ sym (zero_converted int_type info.elem)
 
   register_value : (x : Variable) (info : VarInfo) → variable_named t p.main x ≡ Some info → (u : CodeState) → ((k : ℕ) (info : VarInfo) → slice_get t.vars.items k ≡ Some info → slice_index u.registers (0 + k) ≡ held info.elem info.start)
-      → ((q : ℕ) → 0 + length t.vars.items ≤ q → q < (own t image p codable compiled 0 p.main p.is_main [] turns).end → slice_index u.registers q ≡ 0) → slice_index u.registers (register_of (own t image p codable compiled 0 p.main p.is_main [] turns) x) ≡ held info.elem (in_main.scalar x)
+      → ((q : ℕ) → 0 + length t.vars.items ≤ q → q < (own t image p codable compiled holding 0 p.main p.is_main [] turns).end → slice_index u.registers q ≡ 0) → slice_index u.registers (register_of (own t image p codable compiled holding 0 p.main p.is_main [] turns) x) ≡ held info.elem (in_main.scalar x)
   unfolding entered start_state by_owner start_of scalar_given variable_named register_of
   register_value (V.File k) info is u files zeros = ap (λ (q : ℕ). slice_index u.registers q) (front k) ∙ files k info is ∙ sym (ap (λ (o : Option VarInfo). held info.elem (elim o as (λ _. ℕ) [ None ↦ 0 | Some info ↦ info.start ])) is)
     where
       front : (k : ℕ) → k ≡ 0 + k
       front k = omega arith
   register_value (V.Param k) info is u files zeros =
-      own_zero (V.Param k) info is u zeros (param_own t (scalars t image p codable compiled) (words t image p codable compiled) 0 p.main k info p.is_main is) ∙ ap (held info.elem) (sym (none_given k))
-  register_value (V.Local k) info is u files zeros = own_zero (V.Local k) info is u zeros (local_own t (scalars t image p codable compiled) (words t image p codable compiled) 0 p.main k info p.is_main is)
+      own_zero (V.Param k) info is u zeros (param_own t (scalars t image p codable compiled holding) (words t image p codable compiled holding) 0 p.main k info p.is_main is) ∙ ap (held info.elem) (sym (none_given k))
+  register_value (V.Local k) info is u files zeros = own_zero (V.Local k) info is u zeros (local_own t (scalars t image p codable compiled holding) (words t image p codable compiled holding) 0 p.main k info p.is_main is)
 
   zero_or_started : (x : Variable) (info : VarInfo) → variable_named t p.main x ≡ Some info → in_main.scalar x < 2 ^ info.elem.bits
   unfolding entered start_state by_owner start_of scalar_given variable_named
-  zero_or_started (V.File k) info is = subst (λ (o : Option VarInfo). (elim o as (λ _. ℕ) [ None ↦ 0 | Some info ↦ info.start ]) < 2 ^ info.elem.bits) (sym is) (all_at IsPlainVariable t.vars.items k info p.variables is).1
+  zero_or_started (V.File k) info is = subst (λ (o : Option VarInfo). (elim o as (λ _. ℕ) [ None ↦ 0 | Some info ↦ info.start ]) < 2 ^ info.elem.bits) (sym is) (all_at (IsFileVariable beside) t.vars.items k info p.variables is).1
   zero_or_started (V.Param k) info is = subst (λ (n : ℕ). n < 2 ^ info.elem.bits) (sym (none_given k)) (pow_pos info.elem.bits)
   zero_or_started (V.Local k) info is = pow_pos info.elem.bits
 
@@ -138,35 +147,35 @@ module _ (t : Typed) (image : Image) (p : IsScalarProgram t) (codable : IsCodabl
     pub sim : Sim main_setting alive in_main there
 
   opened_so : Within main_setting begun_there → Opened
-  unfolding blank first_free entered start_state
+  unfolding blank first_free entered start_state start_of by_owner
   opened_so within =
-      let l = own t image p codable compiled 0 p.main p.is_main [] turns in
+      let l = own t image p codable compiled holding 0 p.main p.is_main [] turns in
       let at = begins_at in
       let many : length opened.registers ≡ image.slots = length-replicate image.slots 0 in
       let before : Within main_setting constants_there = earlier main_setting constants_there begun_there starts_grown.0 starts_grown.1 within in
-      let has_it = has t image p codable compiled 0 p.main p.is_main [] turns in
+      let has_it = has t image p codable compiled holding 0 p.main p.is_main [] turns in
       let free = has_it.free in
-      let least = (constants_grow t image (scalars t image p codable compiled) codable compiled p.main).regs in
+      let least = (constants_grow t image (scalars t image p codable compiled holding) codable compiled p.main).regs in
       let inside = before.regs in
       let room = has_it.room in
-      let base = base_behind t (scalars t image p codable compiled) (words t image p codable compiled) 0 p.main p.is_main in
-      let end = base_inside t (scalars t image p codable compiled) (words t image p codable compiled) 0 p.main p.is_main in
-      let c = constants_run main_setting l.constants l.end (empty_unit t image (scalars t image p codable compiled) codable compiled p.main) opened (omega (arith, at)) before (omega (arith, many, free, least, inside)) in
+      let base = base_behind t (scalars t image p codable compiled holding) (words t image p codable compiled holding) 0 p.main p.is_main in
+      let end = base_inside t (scalars t image p codable compiled holding) (words t image p codable compiled holding) 0 p.main p.is_main in
+      let c = constants_run main_setting l.constants l.end (empty_unit t image (scalars t image p codable compiled holding) codable compiled p.main) opened (omega (arith, at)) before (omega (arith, many, free, least, inside)) in
       let long = c.registers in
       let zeros : (q : ℕ) → q < l.end → slice_index c.t.registers q ≡ 0 = λ q low. c.below q low ∙ get_or-replicate image.slots q 0 0 (omega (arith, low, room)) in
-      let b = starts_run l main_setting t.vars.items 0 constants_there c.t p.variables c.at within (omega (arith, base, end, long, many, room)) (λ q lo hi. zeros q (omega (arith, hi, base, end))) in
+      let b = starts_run l main_setting t.vars.items 0 constants_there c.t (λ k info inside. (p.variables k info inside).1) c.at within (omega (arith, base, end, long, many, room)) (λ q lo hi. zeros q (omega (arith, hi, base, end))) in
       record {
         there = b.t;
         go = onto main_setting opened c.t b.t c.go b.go;
         at = b.at;
-        sim = sim_so b.t (b.registers ∙ long ∙ many) b.are (λ q hi low. b.above q hi ∙ zeros q low) (λ i k. b.above (l.end + i) (omega (arith, base, end)) ∙ c.are i k) (b.turns ∙ c.turns) (b.output ∙ c.output) (b.input ∙ c.input) (b.returns ∙ c.returns);
+        sim = sim_so b.t (b.registers ∙ long ∙ many) b.are (λ q hi low. b.above q hi ∙ zeros q low) (λ i k. b.above (l.end + i) (omega (arith, base, end)) ∙ c.are i k) (b.turns ∙ c.turns) (b.output ∙ c.output) (b.input ∙ c.input) (b.returns ∙ c.returns) (b.memory ∙ c.memory);
       }
     where
       sim_so : (u : CodeState) → length u.registers ≡ image.slots → ((k : ℕ) (info : VarInfo) → slice_get t.vars.items k ≡ Some info → slice_index u.registers (0 + k) ≡ held info.elem info.start)
-          → ((q : ℕ) → 0 + length t.vars.items ≤ q → q < (own t image p codable compiled 0 p.main p.is_main [] turns).end → slice_index u.registers q ≡ 0)
-          → ((i : ℕ) → i < length (own t image p codable compiled 0 p.main p.is_main [] turns).constants → slice_index u.registers ((own t image p codable compiled 0 p.main p.is_main [] turns).end + i) ≡ slice_index (own t image p codable compiled 0 p.main p.is_main [] turns).constants i)
-          → u.turns ≡ opened.turns → u.output ≡ opened.output → u.input ≡ opened.input → u.returns ≡ opened.returns → Sim main_setting alive in_main u
-      sim_so u long files zeros constants same_turns same_output same_input same_returns = record {
+          → ((q : ℕ) → 0 + length t.vars.items ≤ q → q < (own t image p codable compiled holding 0 p.main p.is_main [] turns).end → slice_index u.registers q ≡ 0)
+          → ((i : ℕ) → i < length (own t image p codable compiled holding 0 p.main p.is_main [] turns).constants → slice_index u.registers ((own t image p codable compiled holding 0 p.main p.is_main [] turns).end + i) ≡ slice_index (own t image p codable compiled holding 0 p.main p.is_main [] turns).constants i)
+          → u.turns ≡ opened.turns → u.output ≡ opened.output → u.input ≡ opened.input → u.returns ≡ opened.returns → u.memory ≡ memory → Sim main_setting alive in_main u
+      sim_so u long files zeros constants same_turns same_output same_input same_returns same_memory = record {
         registers = long;
         scalars = λ x info living scalar. register_value x info scalar.0 u files zeros;
         small = λ x info living scalar. zero_or_started x info scalar.0;
@@ -177,6 +186,7 @@ module _ (t : Typed) (image : Image) (p : IsScalarProgram t) (codable : IsCodabl
         returns = same_returns;
         few = omega arith;
         bytes = are;
+        memory = holding.still first_state in_main u.memory (λ k e p. refl) refl (subst (λ (m : BitMemory). holding.holds first_state m) (sym same_memory) begins);
       }
 
   -- ---- the end
@@ -184,21 +194,21 @@ module _ (t : Typed) (image : Image) (p : IsScalarProgram t) (codable : IsCodabl
   abbrev run_from : Outcome Leaving → Run
   run_from o = run_of (then_do o (λ leaving after. Source.Gives (result_of p.main.result leaving) (left first_state after)))
 
-  comes : (s : CodeState) (o : Outcome Leaving) → Reaches main_setting opened s → RunsFunction t image p codable compiled 0 p.main p.is_main [] turns s o → ComesTo image opened (run_from o)
-  unfolding RunsFunction then_do run_of left
+  comes : (s : CodeState) (o : Outcome Leaving) → Reaches main_setting opened s → RunsFunction t image p codable compiled holding 0 p.main p.is_main [] turns s o → Comes holding image opened (run_from o)
+  unfolding RunsFunction then_do run_of left by_owner
   comes s (Source.Gives leaving u) go r =
       let ends : EndsIn main_setting s Machine.Done r.t = ends_later main_setting s r.t r.t Machine.Done r.go (ends_now main_setting r.t r.t Machine.Done r.leaves) in
       let x = ends_later main_setting opened s r.t Machine.Done go ends in
-      record { steps = x.steps; last = r.t; ends = x.is; turns = r.sim.turns; output = r.sim.output }
+      record { to = record { steps = x.steps; last = r.t; ends = x.is; turns = r.sim.turns; output = r.sim.output }; memory = holding.still u (left first_state u) r.t.memory (λ k e p. refl) refl r.sim.memory }
   comes s (Source.Ends early u) go h =
       let x = ends_later main_setting opened s h.t (end_of early) go h.ends in
-      record { steps = x.steps; last = h.t; ends = x.is; turns = h.turns; output = h.output }
+      record { to = record { steps = x.steps; last = h.t; ends = x.is; turns = h.turns; output = h.output }; memory = h.memory }
 
   -- every call in `main` follows
-  main_calls : CallsFollow main_setting (scope t image p codable compiled 0 p.main p.is_main [] turns) active
-  main_calls = calls_so t image p codable compiled active turns 0 p.main p.is_main [] (λ index c is_c some called m e.
-      subst (λ (most : ℕ). Rattle.code_follows.proofs.Callees.Enters (g t image p codable compiled 0 p.main p.is_main [] most) (Rattle.code_follows.proofs.Activations.callee_known t image p codable compiled 0 p.main p.is_main [] most index c is_c called) m active) (sym e)
-      (enters_so t image p codable compiled active m 0 p.main p.is_main [] index c is_c some called))
+  main_calls : CallsFollow main_setting (scope t image p codable compiled holding 0 p.main p.is_main [] turns) active
+  main_calls = calls_so t image p codable compiled holding active besides turns 0 p.main p.is_main [] (λ index c is_c some called m e.
+      subst (λ (most : ℕ). Rattle.code_follows.proofs.Callees.Enters (g t image p codable compiled holding 0 p.main p.is_main [] most) (Rattle.code_follows.proofs.Activations.callee_known t image p codable compiled holding 0 p.main p.is_main [] most index c is_c called) m active) (sym e)
+      (enters_so t image p codable compiled holding active besides m 0 p.main p.is_main [] index c is_c some called))
 
   module _ {k : Count} (locals : List LocalVar) (row : Row_of-TStmt k) where
     abbrev begun_body : State
@@ -214,55 +224,61 @@ module _ (t : Typed) (image : Image) (p : IsScalarProgram t) (codable : IsCodabl
         zero_anyway true = refl
         zero_anyway false = refl
 
-  runs : (body : TStmt) → p.main.body ≡ body → IsBody main_setting.may body → ComesTo image opened (run_from (executed (scope t image p codable compiled 0 p.main p.is_main [] turns) p.main.body 0 active in_main))
+  runs : (body : TStmt) → p.main.body ≡ body → IsBody main_setting.may body → Comes holding image opened (run_from (executed (scope t image p codable compiled holding 0 p.main p.is_main [] turns) p.main.body 0 active in_main))
   unfolding IsBody IsInStatement OfFileOrParam body_of body_frame declared_in then_make executed scope_of zeroed Extends
   runs (S.Block' locals q row) is h =
-      let f = frame t image p codable compiled 0 p.main p.is_main [] turns in
+      let f = frame t image p codable compiled holding 0 p.main p.is_main [] turns in
       let wide : Variable → Type 0 = λ x. OrAmong OfFileOrParam 0 (length locals.items) x in
       let one : (k : ℕ) → wide (V.File k) = λ k. inl tt in
-      let has_it = has t image p codable compiled 0 p.main p.is_main [] turns in
-      let numbers = numbered t image p codable compiled 0 p.main p.is_main [] turns in
-      let is_ready = ready t image p codable compiled 0 p.main p.is_main [] turns in
-      let declared = declares t image p codable compiled 0 p.main p.is_main [] turns in
-      let here = scope t image p codable compiled 0 p.main p.is_main [] turns in
-      let never_rises = falls t image p codable compiled 0 p.main p.is_main [] turns active in
-      let framed_so = framed t image p codable compiled 0 p.main p.is_main [] turns in
-      let among_so = among t image p codable compiled 0 p.main p.is_main [] turns in
-      let homes = starts_homes t image (scalars t image p codable compiled) codable compiled p.main in
-      let regs = starts_regs t image (scalars t image p codable compiled) codable compiled p.main in
+      let has_it = has t image p codable compiled holding 0 p.main p.is_main [] turns in
+      let numbers = numbered t image p codable compiled holding 0 p.main p.is_main [] turns in
+      let is_ready = ready t image p codable compiled holding 0 p.main p.is_main [] turns in
+      let declared = declares t image p codable compiled holding 0 p.main p.is_main [] turns in
+      let here = scope t image p codable compiled holding 0 p.main p.is_main [] turns in
+      let never_rises = falls t image p codable compiled holding 0 p.main p.is_main [] turns active in
+      let framed_so = framed t image p codable compiled holding 0 p.main p.is_main [] turns in
+      let among_so = among t image p codable compiled holding 0 p.main p.is_main [] turns in
+      let homes = starts_homes t image (scalars t image p codable compiled holding) codable compiled p.main in
+      let regs = starts_regs t image (scalars t image p codable compiled holding) codable compiled p.main in
       let c : HasStatementCode t p.main 0 (S.Block' locals q row) = subst (λ (s : TStmt). HasStatementCode t p.main 0 s) is (codable 0 p.main p.is_main).1 in
       let own_row = block_code main_setting has_it wide one numbers is_ready declared here active main_calls never_rises 0 locals q row c in
       let initial = block_initials main_setting has_it wide one numbers is_ready declared here active main_calls never_rises 0 locals q row c in
       let settled = settled_so main_setting has_it wide one is_ready here active main_calls OfFileOrParam locals.items 0 (λ x living. inl living) (λ x own. inr own) before_all h.0.1 in
       let stand = first_part (map info_of locals.items) (row_variables row) (block_stands main_setting has_it wide one numbers is_ready declared here active main_calls never_rises 0 locals q row c) in
       let code : Made ℕ = begun_code main_setting has_it wide one numbers is_ready declared here active main_calls never_rises locals.items row f 0 begun_there in
-      let code_is : body_of t (own t image p codable compiled 0 p.main p.is_main [] turns) f p.main.body begun_there ≡ code =
-      ap (λ (b : TStmt). body_of t (own t image p codable compiled 0 p.main p.is_main [] turns) f b begun_there) is
-      ∙ ap (λ (m : Made (Unit {0})). then_make (then_make m (λ u between. then_make (all_initialised t (own t image p codable compiled 0 p.main p.is_main [] turns) locals.items 0 between) (λ v after. Makes (0 + length locals.items) after))) (λ number after. statements_of t (own t image p codable compiled 0 p.main p.is_main [] turns) row f [] number after))
+      let code_is : body_of t (own t image p codable compiled holding 0 p.main p.is_main [] turns) f p.main.body begun_there ≡ code =
+      ap (λ (b : TStmt). body_of t (own t image p codable compiled holding 0 p.main p.is_main [] turns) f b begun_there) is
+      ∙ ap (λ (m : Made (Unit {0})). then_make (then_make m (λ u between. then_make (all_initialised t (own t image p codable compiled holding 0 p.main p.is_main [] turns) locals.items 0 between) (λ v after. Makes (0 + length locals.items) after))) (λ number after. statements_of t (own t image p codable compiled holding 0 p.main p.is_main [] turns) row f [] number after))
       (none_cleared main_setting has_it wide one is_ready here active main_calls locals.items 0 begun_there h.0.0) in
-      let made : BodyMade t image p codable compiled 0 p.main p.is_main [] turns code = body_made t image p codable compiled 0 p.main p.is_main [] turns code
-      (sym (ap (λ (m : Made ℕ). then_make m (λ n e. Makes (tt {0}) (ended true p.main.body e))) code_is) ∙ main_is t image (scalars t image p codable compiled) codable compiled p.main p.is_main) in
+      let made : BodyMade t image p codable compiled holding 0 p.main p.is_main [] turns code = body_made t image p codable compiled holding 0 p.main p.is_main [] turns code
+      (sym (ap (λ (m : Made ℕ). then_make m (λ n e. Makes (tt {0}) (ended true p.main.body e))) code_is) ∙ main_is t image (scalars t image p codable compiled holding) codable compiled p.main p.is_main) in
       let whole : Outcome Leaving = executed here (S.Block' locals q row) 0 active in_main in
       let never : ends_in_return p.main.body ≡ true → NeverOnward whole =
       λ ends. never_second (initialised here active 0 locals.items _) _ (λ u. body_never here active locals q row (sym (ap (λ (x : TStmt). ends_in_return x) is) ∙ ends) (0 + length locals.items) u) in
-      let ends : EndsSo t image p codable compiled 0 p.main p.is_main [] turns whole made.e = ends_by t image p codable compiled 0 p.main p.is_main [] turns whole made.e made.unit never in
+      let ends : EndsSo t image p codable compiled holding 0 p.main p.is_main [] turns whole made.e = ends_by t image p codable compiled holding 0 p.main p.is_main [] turns whole made.e made.unit never in
       let grown : (j : ℕ) × Extended begun_there j made.e = subst (λ (m : Made ℕ). Extends main_setting begun_there m) made.is_made (begun_grows main_setting has_it wide one numbers is_ready declared here active main_calls never_rises locals.items row f 0 begun_there h.0.0 settled initial own_row framed_so among_so homes) in
       let opens = opened_so (earlier main_setting begun_there made.e grown.0 grown.1 ends.inside) in
       let now : Variable → Type 0 = λ x. Now main_setting has_it wide one is_ready here active main_calls locals.items 0 x in
       let sim : Sim main_setting now (begun_body locals.items row) opens.there =
-      sim_fewer main_setting alive now (begun_body locals.items row) opens.there (λ x info named h. tt) (sim_same main_setting alive in_main (begun_body locals.items row) opens.there (same_scalars locals.items row) refl refl refl opens.sim) in
+      sim_fewer main_setting alive now (begun_body locals.items row) opens.there (λ x info named h. tt) (sim_same main_setting alive in_main (begun_body locals.items row) opens.there (same_scalars locals.items row) (λ k e p. zeroed_files main_setting 0 (length locals.items) in_main k e p) refl refl refl refl opens.sim) in
       let closed : NoJump whole = go_closed _ _ (begins_closed here active 0 locals.items _) (λ u. closed_row here active (within main_setting.may 0 (length locals.items)) (0 + length locals.items) row h.0.2 h.1 (0 + length locals.items) u) in
-      subst (λ (b : TStmt). ComesTo image opened (run_from (executed here b 0 active in_main))) (sym is)
+      subst (λ (b : TStmt). Comes holding image opened (run_from (executed here b 0 active in_main))) (sym is)
       (comes opens.there whole opens.go
-      (runs_function t image p codable compiled 0 p.main p.is_main [] turns begun_there made.e made.n opens.there whole ends closed
+      (runs_function t image p codable compiled holding 0 p.main p.is_main [] turns begun_there made.e made.n opens.there whole ends closed
       (subst (λ (m : Made ℕ). Follows main_setting (Left main_setting OfFileOrParam f begun_there opens.there) opens.there whole m) made.is_made
       (follows_fewer main_setting wide OfFileOrParam (λ x living. inl living) f begun_there opens.there whole code
       (begun_follows main_setting has_it wide one numbers is_ready declared here active main_calls never_rises locals.items row f 0 begun_there opens.there (begun_body locals.items row) h.0.0 stand settled initial own_row framed_so among_so homes (omega (arith, regs)) opens.at sim
       (λ e there u none free at sim_there. row_follows main_setting has_it numbers is_ready declared here active main_calls never_rises wide one (0 + length locals.items) (among_before OfFileOrParam 0 (length locals.items) before_all) row h.0.2 f e there u framed_so among_so none free at sim_there own_row))))))
   runs _ is h = absurd h
 
-pub means_source : CodeMeansSource
+-- the code comes to the end of the source's meaning
+pub program_follows : (t : Typed) (image : Image) {beside : Beside} (p : IsProgramBeside beside t) (codable : IsCodable t) (compiled : IsCompiled t image) (holding : Held)
+    (memory : BitMemory) (input : List ℕ) (rest : Source.Rest) (turns : ℕ) (winner : Winner) → AreBytes input → holding.holds (start_state t input rest turns winner) memory → AllBeside t image p codable compiled holding (λ s p. true)
+    → Comes holding image (opening image memory turns (record { bytes = input; mark = mark_of rest })) (meaning t input rest turns winner)
 unfolding meaning run_body
-means_source t image p codable compiled memory input rest turns winner are =
-    subst (λ (o : Option Instance). ComesTo image (opening image memory turns (record { bytes = input; mark = mark_of rest })) (run_of (run_body t (calls t turns) o [] (λ s p. true) (start_state t input rest turns winner)))) (sym p.is_main)
-    (runs t image p codable compiled memory input rest turns winner are p.main.body refl (p.each 0 p.main p.is_main).body)
+program_follows t image p codable compiled holding memory input rest turns winner are begins besides =
+    subst (λ (o : Option Instance). Comes holding image (opening image memory turns (record { bytes = input; mark = mark_of rest })) (run_of (run_body t (calls t turns) o [] (λ s p. true) (start_state t input rest turns winner)))) (sym p.is_main)
+    (runs t image p codable compiled holding memory input rest turns winner are begins besides p.main.body refl (p.each 0 p.main p.is_main).body)
+
+pub means_source : CodeMeansSource
+means_source t image p codable compiled memory input rest turns winner are = (program_follows t image p codable compiled nothing_held memory input rest turns winner are (tt {0}) (λ number i is opens most has. record { effects = λ alive files n ready e h. absurd h; folds = λ alive files n ready e h. absurd h })).to

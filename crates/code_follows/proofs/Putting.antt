@@ -24,10 +24,11 @@ use Rattle.lower_base.specs.declared.emit.Out.TheVariants as O
 use Rattle.lower_base.specs.Drafts.{Draft, Fails, Made, Makes, in_register, step as step_of, then_make, with_instr}
 use Rattle.lower_base.specs.Kinds.{bits_of, kind_of}
 use Rattle.lower_base.specs.Layouts.{register_of}
+use Rattle.lower_base.specs.Operators.{negates}
 use Rattle.lower_expr.specs.declared.spots.Spot.{Spot}
 use Rattle.lower_expr.specs.declared.spots.Spot.TheVariants as S
 use Rattle.lower_expr.specs.Effects.{binary_to, gone_to, bits_for, computed_to, register_converted, converted_to, goes_unchanged, logical_to, moved, put_to}
-use Rattle.lower_expr.specs.Kinds.{operand_bits, unary_bits}
+use Rattle.lower_expr.specs.Kinds.{done_as, operand_bits, unary_bits}
 use Rattle.lower_expr.specs.Operands.{are_quiet, is_plus, is_quiet}
 use Rattle.lower_expr.specs.Spots.{loaded, variable_spot}
 use Rattle.lower_expr.specs.Steps.{put_value, register_word, word_for, word_put}
@@ -55,7 +56,7 @@ use Rattle.code_follows.proofs.Following.{Arrives, Extends, Follows, HasRegister
 use Rattle.code_follows.proofs.Operators.{wide_signed}
 use Rattle.code_follows.proofs.Settings.{At, Setting, and_one, layout, stay}
 use Rattle.code_follows.proofs.Stores.{IsPut, variable_dest}
-use Rattle.code_follows.proofs.Values.{Dest, Does, Value_of, conversion_is, extends_in_register, mapped_is, negated_follows, read_is, registers_follow}
+use Rattle.code_follows.proofs.Values.{Dest, Does, Value_of, conversion_is, extends_in_register, mapped_is, negated_follows, read_is, registers_follow, put_by}
 use Rattle.constant_trees.proofs.Words.{converted_below}
 use Rattle.paris_code.specs.Scalar.{rounded}
 use Rattle.code_follows.proofs.Numbers.{Fits, fits_wide, rounded_is}
@@ -97,7 +98,7 @@ module _ (g : Setting) (has : HasRegisters g) (alive : Variable → Type 0) (n :
           let there : slice_index arr.t.registers arr.holds.register ≡ held elem arr.holds.word = arr.holds.lasts u arr.t arr.sim (keeps_all g e arr.t) (λ h. refl) in
           subst (λ (w : Value). Follows g (Put elem d s) s (Source.Gives w u) (in_register out (λ r. Makes (O.Scalar own) (with_instr (I.FrontMove own r) e)))) (sym arr.holds.value)
           (subst (λ (o : Out). Follows g (Put elem d s) s (Source.Gives (Scalar arr.holds.word) u) (in_register o (λ r. Makes (O.Scalar own) (with_instr (I.FrontMove own r) e)))) (sym arr.holds.is)
-          (λ within. (dest elem d s fits free).puts e arr.extended.0 (I.FrontMove own arr.holds.register) arr.t u arr.holds.word arr.go arr.at arr.sim arr.extended.1 arr.keeps within refl
+          (λ within. put_by g has alive (dest elem d s fits free) e arr.extended.0 (I.FrontMove own arr.holds.register) arr.t u arr.holds.word arr.go arr.at arr.sim arr.extended.1 arr.keeps within refl
           (ap (λ (w : ℕ). Goes (with_register own w arr.t)) there) arr.holds.small))
 
   -- the same word, as a number of another type of 32 bits
@@ -152,7 +153,7 @@ module _ (g : Setting) (has : HasRegisters g) (alive : Variable → Type 0) (n :
           let there : slice_index arr.t.registers arr.holds.register ≡ held from w = arr.holds.lasts u arr.t arr.sim (keeps_all g e arr.t) (λ h. refl) in
           subst (λ (x : Value). Follows g (Put ty.elem d s) s (Source.Gives x u) (in_register out (λ r. Makes (O.Scalar own) (with_instr (I.FrontConvert own r ty.elem) e)))) (sym (conversion_is g has alive ty from v plain ∙ ap (λ (y : Value). Scalar (converted ty.elem from (at y 0))) arr.holds.value))
           (subst (λ (o : Out). Follows g (Put ty.elem d s) s (Source.Gives (Scalar number) u) (in_register o (λ r. Makes (O.Scalar own) (with_instr (I.FrontConvert own r ty.elem) e)))) (sym arr.holds.is)
-          (λ within. (dest ty.elem d s fits free).puts e arr.extended.0 (I.FrontConvert own arr.holds.register ty.elem) arr.t u number arr.go arr.at arr.sim arr.extended.1 arr.keeps within refl
+          (λ within. put_by g has alive (dest ty.elem d s fits free) e arr.extended.0 (I.FrontConvert own arr.holds.register ty.elem) arr.t u number arr.go arr.at arr.sim arr.extended.1 arr.keeps within refl
           (ap (λ (k : ℕ). Goes (with_register own (rounded ty.elem k) arr.t)) there ∙ ap (λ (k : ℕ). Goes (with_register own k arr.t)) (rounded_is ty.elem from w arr.holds.small)) (converted_below ty.elem from w)))
 
   -- a variable is copied from its register
@@ -164,7 +165,7 @@ module _ (g : Setting) (has : HasRegisters g) (alive : Variable → Type 0) (n :
       subst (λ (made : Made Out). Follows g (Put ty.elem d s) s (Source.Gives (read st (variable_target ty.shape y 0)) st) made)
       (sym (ap (λ (o : Option ℕ). loaded g.typed (layout g) (T.Variable ty y) (elim o as (λ _. Spot) [ None ↦ S.Register (register_of (layout g) y) | Some _ ↦ S.Whole y ]) (O.Scalar own) d) named_so.0))
       (subst (λ (w : Value). Follows g (Put ty.elem d s) s (Source.Gives w st) (Makes (O.Scalar own) (with_instr (I.FrontMove own (register_of (layout g) y)) d))) (sym (read_is g has alive st ty y named_so.0))
-      (λ within. (dest ty.elem d s fits free).puts d 0 (I.FrontMove own (register_of (layout g) y)) s st (st.scalar y) (stay g s) here sim (as_it_was d) (keeps_all g d s) within refl
+      (λ within. put_by g has alive (dest ty.elem d s fits free) d 0 (I.FrontMove own (register_of (layout g) y)) s st (st.scalar y) (stay g s) here sim (as_it_was d) (keeps_all g d s) within refl
       (ap (λ (w : ℕ). Goes (with_register own w s)) there) (sim.small y other named_so.1 (v.named, named_so.0))))
 
   binary_put : (ty : ValueType) (place : Place) (op : Op) (left right : TExpr) → IsWord ty → Kept ty.elem → (IsIn (naming g.may alive)) left → (IsIn (naming g.may alive)) right → IsWord (type_of left) → IsWord (type_of right) → HasCode g.typed g.instance n left → HasCode g.typed g.instance n right
@@ -197,7 +198,7 @@ module _ (g : Setting) (has : HasRegisters g) (alive : Variable → Type 0) (n :
 
   unary_put : (ty : ValueType) (op : UnaryOp) (p : Boxed) (inner : TExpr) → IsWord ty → Kept ty.elem → IsOperand op (type_of inner) → (IsIn (naming g.may alive)) inner → HasCode g.typed g.instance n inner → Puts (type_of inner).elem (λ st. evaluated scope inner active st) (λ d. computed_to g.typed (layout g) (O.Scalar own) inner d)
       → Puts ty.elem (λ st. then_do (evaluated scope inner active st) (λ v after. Source.Gives (mapped ty (unary_of op) v) after)) (λ d. computed_to g.typed (layout g) (O.Scalar own) (T.Unary' ty op p inner) d)
-  unfolding computed_to is_plus bits_for IsOperand
+  unfolding computed_to is_plus bits_for done_as negates IsOperand
   unary_put ty U.Plus p inner word fits a isin c puts = put_mapped ty (type_of inner).elem word a.1 (fits_wide info.elem ty.elem fits word.1) _ _ puts
   unary_put ty U.Minus p inner word fits a isin c puts = λ d s st free here sim.
       negated_follows g has alive ty U.Minus (type_of inner).elem (unary_same U.Minus (type_of inner) a) word refl d s (Put ty.elem d s) own free (dest ty.elem d s fits free) st _ (λ u. evaluated scope inner active u) (operand g has alive n files ready scope active calls_follow true (unary_bits 32 U.Minus inner) inner isin c) here sim
@@ -273,6 +274,8 @@ module _ (g : Setting) (has : HasRegisters g) (alive : Variable → Type 0) (n :
   computed_follows (T.Assign' ty place op p target q value) h c fits = copied_to ty.elem fits _ _ (operand g has alive n files ready scope active calls_follow true 32 (T.Assign' ty place op p target q value) h c)
   computed_follows (T.Step' ty op order p target) h c fits = copied_to ty.elem fits _ _ (operand g has alive n files ready scope active calls_follow true 32 (T.Step' ty op order p target) h c)
   computed_follows (T.Call' ty index p arguments) h c fits = call_put ty index p arguments fits h.1 h.2 c
+  computed_follows (T.Reduce' ty op p operand) h c fits = λ d s st free here sim.
+      (calls_follow.beside has).folds alive files n ready (T.Reduce' ty op p operand) h.1 h.2 c d s st (Put ty.elem d s) own free here sim (dest ty.elem d s fits free)
   computed_follows _ h c fits = absurd h
 
   -- a constant goes to the register at once
@@ -282,7 +285,7 @@ module _ (g : Setting) (has : HasRegisters g) (alive : Variable → Type 0) (n :
       let few : w < 2 ^ (type_of e).elem.bits = subst (λ (o : Option ℕ). IfSome o (λ v. v < 2 ^ (type_of e).elem.bits)) value (constant_below (naming g.may alive) e isin) in
       let gives : evaluated scope e active st ≡ Source.Gives (Scalar w) st = subst (λ (o : Option ℕ). Const.IsValueOf e o) value (value_means e constant) scope active st in
       subst (λ (o : Outcome Value). Follows g (Put (type_of e).elem d s) s o (Makes (O.Scalar own) (with_instr (I.FrontConst own (held (type_of e).elem w)) d))) (sym gives)
-      (λ within. (dest (type_of e).elem d s fits free).puts d 0 (I.FrontConst own (held (type_of e).elem w)) s st w (stay g s) here sim (as_it_was d) (keeps_all g d s) within refl refl few)
+      (λ within. put_by g has alive (dest (type_of e).elem d s fits free) d 0 (I.FrontConst own (held (type_of e).elem w)) s st w (stay g s) here sim (as_it_was d) (keeps_all g d s) within refl refl few)
 
   pub put_follows : (e : TExpr) → (IsIn (naming g.may alive)) e → HasCode g.typed g.instance n e → Kept (type_of e).elem → Puts (type_of e).elem (λ st. evaluated scope e active st) (λ d. put_to g.typed (layout g) (O.Scalar own) e d)
   unfolding put_to word_for word_put register_word constant_of

@@ -13,9 +13,11 @@ use Rattle.cstar_tree.specs.declared.typed.Variable.TheVariants as V
 use Rattle.cstar_tree.specs.Variables.{variables_of}
 use Rattle.code_lengths.specs.Naming.{variable_named}
 use Rattle.code_lengths.specs.Ready.{HasDeclared, IsReady, NumbersVariables}
-use Rattle.code_lengths.proofs.Declaring.{all_at}
-use Rattle.lower_base.specs.Drafts.{Draft}
-use Rattle.lower_base.specs.Layouts.{Numbering, Registers, behind, earlier_base, entered, entries_of, first_named, layout_of, nothing_numbered, numbered, param_entries, register_of, registers_of, result_register, with_instance, with_local}
+use Rattle.code_lengths.proofs.Declaring.{all_at, found}
+use Rattle.code_lengths.proofs.Readiness.{made_from}
+use Rattle.lower_base.specs.Drafts.{Draft, IsMade, Made, an_entry, from}
+use Rattle.paris_code.specs.declared.operands.Field.{Field}
+use Rattle.lower_base.specs.Layouts.{Numbering, Registers, behind, earlier_base, elements_of, entered, entries_of, field_of, first_fields, first_named, layout_of, nothing_numbered, numbered, param_entries, register_of, registers_of, result_register, with_instance, with_local}
 use Rattle.code_follows.specs.Fragment.{IsScalarVariable}
 use Rattle.code_follows.proofs.Lists.{all_first, all_rest}
 use Rattle.code_follows.proofs.Standing.{some_same}
@@ -24,11 +26,15 @@ use Rattle.code_follows.proofs.Standing.{some_same}
 abbrev pub IsScalarInstance : Instance → Type 0
 IsScalarInstance i = All IsScalarVariable i.params.items × ((info : VarInfo) → i.result ≡ Some info → info.shape ≡ None) × All IsScalarVariable (variables_of i.body)
 
--- A program whose variables are all scalars, and whose instances have names of their own.
+-- a variable of the file, of which the code at the beginning of `main` makes what it makes of a scalar one
+abbrev pub BeginsAsScalar : VarInfo → Type 0
+BeginsAsScalar info = IsScalarVariable info ⊎ (info.start ≡ 0)
+
+-- A program whose functions have scalar variables alone, and whose instances have names of their own.
 pub record HasScalarInstances (t : Typed) : Type 0 where
   pub each : (k : ℕ) (i : Instance) → slice_get t.instances.items k ≡ Some i → IsScalarInstance i
   pub names : (j k : ℕ) (a b : Instance) → slice_get t.instances.items j ≡ Some a → slice_get t.instances.items k ≡ Some b → a.name ≡ b.name → j ≡ k
-  pub variables : All IsScalarVariable t.vars.items
+  pub variables : All BeginsAsScalar t.vars.items
 
 -- how many registers an instance has: for its parameters, its result and the variables of its blocks
 unfoldable pub size_of : Instance → ℕ
@@ -63,6 +69,11 @@ scalar_homes infos zero n all = refl
 scalar_homes [] (suc k) n all = refl
 scalar_homes (info ∷ infos) (suc k) n all =
     scalar_homes infos k (with_local n info) (all_rest IsScalarVariable info infos all) ∙ ap (λ (o : Option ℕ). elim o as (λ _. ℕ) [ None ↦ n.homes | Some s ↦ n.homes + 1 ]) (all_first IsScalarVariable info infos all)
+
+fields_length : (next : ℕ) (infos : List VarInfo) → length (first_fields next infos) ≡ length infos
+unfolding first_fields
+fields_length next [] = refl
+fields_length next (info ∷ infos) = ap suc (fields_length (next + entries_of info) infos)
 
 entries_length : (next : ℕ) (infos : List VarInfo) → length (param_entries next infos) ≡ length infos
 unfolding param_entries
@@ -324,13 +335,6 @@ module _ (t : Typed) (p : HasScalarInstances t) (words : List ℕ) where
       let at = local_register number i k is in
       record { low = omega (arith, at); high = omega (arith, at, inside) }
 
-  -- no variable is parallel
-  pub named_shape : (number : ℕ) (i : Instance) → slice_get t.instances.items number ≡ Some i → (x : Variable) (info : VarInfo) → variable_named t i x ≡ Some info → IsScalarVariable info
-  unfolding variable_named
-  named_shape number i is (V.File k) info named = all_at IsScalarVariable t.vars.items k info p.variables named
-  named_shape number i is (V.Param k) info named = all_at IsScalarVariable i.params.items k info (p.each number i is).0 named
-  named_shape number i is (V.Local k) info named = all_at IsScalarVariable (variables_of i.body) k info (p.each number i is).2 named
-
   -- each variable has its register
   pub below : (number : ℕ) (i : Instance) → slice_get t.instances.items number ≡ Some i → (x : Variable) (info : VarInfo) → variable_named t i x ≡ Some info → register_of (layout_of t words number) x < (layout_of t words number).end
   unfolding variable_named
@@ -392,19 +396,39 @@ module _ (t : Typed) (p : HasScalarInstances t) (words : List ℕ) where
 
   -- ---- what the code of an instance relies on
 
-  scalar_only : (number : ℕ) (i : Instance) → slice_get t.instances.items number ≡ Some i → (x : Variable) (info : VarInfo) → variable_named t i x ≡ Some info → is_none info.shape ≡ false → ⊥
-  scalar_only number i is x info named parallel = let none : is_none info.shape ≡ true = ap is_none (named_shape number i is x info named) in cc
+  scalar_only : (info : VarInfo) → IsScalarVariable info → is_none info.shape ≡ false → ⊥
+  scalar_only info scalar parallel = let none : is_none info.shape ≡ true = ap is_none scalar in cc
+
+  -- of all variables those of the file alone may be parallel; each unit has entries for their fields
+  file_made : (number k element : ℕ) (info : VarInfo) (d : Draft) → slice_get t.vars.items k ≡ Some info → is_none info.shape ≡ false → IsMade (field_of t (layout_of t words number) (V.File k) element d)
+  unfolding field_of layout_of entered an_entry from IsMade
+  file_made number k element info d named parallel =
+      let first = found (first_fields 0 t.vars.items) k (let inside = slice_get_within t.vars.items k info named in let long = fields_length 0 t.vars.items in omega (arith, inside, long)) in
+      made_from (slice_get t.vars.items k) _ info named (made_from (slice_get (first_fields 0 t.vars.items) k) _ first.0 first.1 (by info.shape _ parallel (λ set. tt)))
+    where
+      by : (o : Option ℕ) (next : ℕ → Made Field) → is_none o ≡ false → ((set : ℕ) → IsMade (next set)) → IsMade (from o next)
+      by (Some set) next parallel made = made set
+      by None next parallel made = cc
+
+  elements_are : (number : ℕ) (i : Instance) → slice_get t.instances.items number ≡ Some i → (x : Variable) (info : VarInfo) → variable_named t i x ≡ Some info → is_none info.shape ≡ false → elements_of t (layout_of t words number) x ≡ entries_of info
+  unfolding variable_named elements_of
+  elements_are number i is (V.File k) info named parallel = ap (λ (o : Option VarInfo). elim o as (λ _. ℕ) [ None ↦ 0 | Some info ↦ entries_of info ]) named
+  elements_are number i is (V.Param k) info named parallel = absurd (scalar_only info (all_at IsScalarVariable i.params.items k info (p.each number i is).0 named) parallel)
+  elements_are number i is (V.Local k) info named parallel = absurd (scalar_only info (all_at IsScalarVariable (variables_of i.body) k info (p.each number i is).2 named) parallel)
+
+  fields_made : (number : ℕ) (i : Instance) → slice_get t.instances.items number ≡ Some i → (x : Variable) (info : VarInfo) (element : ℕ) (d : Draft) → variable_named t i x ≡ Some info → is_none info.shape ≡ false → IsMade (field_of t (layout_of t words number) x element d)
+  unfolding variable_named
+  fields_made number i is (V.File k) info element d named parallel = file_made number k element info d named parallel
+  fields_made number i is (V.Param k) info element d named parallel = absurd (scalar_only info (all_at IsScalarVariable i.params.items k info (p.each number i is).0 named) parallel)
+  fields_made number i is (V.Local k) info element d named parallel = absurd (scalar_only info (all_at IsScalarVariable (variables_of i.body) k info (p.each number i is).2 named) parallel)
 
   pub all_ready : (number : ℕ) (i : Instance) → slice_get t.instances.items number ≡ Some i → (n : ℕ) (d : Draft) → IsReady t i (layout_of t words number) n d
   all_ready number i is n d = record {
-    elements = λ v info named declared parallel. absurd (scalar_only number i is v info named parallel);
-    fields = λ v info element named declared parallel. absurd (scalar_only number i is v info named parallel);
-    result = λ info given parallel. let none : is_none info.shape ≡ true = ap is_none ((p.each number i is).1 info given) in absurd (no_shape info parallel none);
+    elements = λ x info named declared parallel. elements_are number i is x info named parallel;
+    fields = λ x info element named declared parallel inside. fields_made number i is x info element d named parallel;
+    result = λ info given parallel. absurd (scalar_only info ((p.each number i is).1 info given) parallel);
     bases = as_many_bases number;
   }
-    where
-      no_shape : (info : VarInfo) → is_none info.shape ≡ false → is_none info.shape ≡ true → ⊥
-      no_shape info parallel none = cc
 
   pub all_numbered : (number : ℕ) (i : Instance) → slice_get t.instances.items number ≡ Some i → NumbersVariables i (layout_of t words number)
   unfolding layout_of entered

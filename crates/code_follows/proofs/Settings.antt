@@ -4,6 +4,7 @@ use Rattle.std.specs.List.{slice_index_or}
 use Rattle.cstar_link.specs.Linked.{code_from, moved_by}
 use Rattle.cstar_tree.specs.declared.typed.Instance.{Instance}
 use Rattle.cstar_tree.specs.declared.typed.Typed.{Typed}
+use Rattle.cstar_tree.specs.declared.typed.Variable.TheVariants as V
 use Rattle.code_lengths.specs.Growth.{Extended}
 use Rattle.code_lengths.proofs.Drafting.{and_instr, as_it_was}
 use Rattle.field_alloc.specs.Placed.{IsPlaced}
@@ -13,11 +14,19 @@ use Rattle.paris_code.specs.declared.instr.Instr.{Instr}
 use Rattle.paris_code.specs.declared.program.Image.{Image}
 use Rattle.paris_code.specs.declared.program.Program.{Program}
 use Rattle.paris_code.specs.declared.program.Unit.{Unit as CodeUnit}
+use Rattle.paris_code.specs.declared.program.Virtual.{Virtual}
 use Rattle.paris_code.specs.Code.{CodeEnd, CodeState, Ends, Goes, Next, begun, begun_at, code, go_on, step}
+use Rattle.paris_code.specs.Memory.{BitMemory}
 use Rattle.paris_code.specs.Moving.{moved_instr}
 use Rattle.paris_code.specs.Proper.{IsUnit}
+use Rattle.source_meaning.specs.State.{State}
 use Rattle.code_follows.specs.Fragment.{May}
 use Rattle.code_follows.proofs.Standing.{stands, start_in}
+
+-- what a memory holds of the source's state; it speaks of the file's parallel variables and of the winner alone
+pub record Held : Type 1 where
+  pub holds : State → BitMemory → Type 0
+  pub still : (st u : State) (m : BitMemory) → ((k e p : ℕ) → u.parallel (V.File k) e p ≡ st.parallel (V.File k) e p) → u.winner ≡ st.winner → holds st m → holds u m
 
 pub record Setting : Type 1 where
   pub typed : Typed
@@ -33,7 +42,7 @@ pub record Setting : Type 1 where
   pub instance : Instance
   -- whether it is `main`, the registers of its own values, those that its code leaves as they are until it
   -- returns, where the calls that are open go on, and how many turns are left at most, and
-  -- which functions may be called
+  -- which functions may be called, and what the memory holds
   pub is_main : Bool
   pub begins : ℕ
   pub ends : ℕ
@@ -41,6 +50,7 @@ pub record Setting : Type 1 where
   pub returns : List ℕ
   pub most : ℕ
   pub may : May
+  pub held : Held
 
 module _ (g : Setting) where
   abbrev pub whole : List Step
@@ -56,6 +66,8 @@ module _ (g : Setting) where
   pub record Within (e : Draft) : Type 0 where
     pub more : List Step
     pub code : whole ≡ e.code ++ more
+    pub entries : List Virtual
+    pub fields : g.unit.fields.items ≡ e.fields ++ entries
     pub regs : e.regs ≤ g.image.slots
     pub own : e.regs ≤ g.ends
 
@@ -63,6 +75,8 @@ module _ (g : Setting) where
   earlier d e n x w = record {
     more = x.more ++ w.more;
     code = w.code ∙ ap (λ (c : List Step). c ++ w.more) x.code ∙ append_assoc d.code x.more w.more;
+    entries = x.entries ++ w.entries;
+    fields = w.fields ∙ ap (λ (entries : List Virtual). entries ++ w.entries) x.fields ∙ append_assoc d.fields x.entries w.entries;
     regs = omega (arith, x.regs, w.regs);
     own = omega (arith, x.regs, w.own);
   }

@@ -29,7 +29,7 @@ use Rattle.code_follows.proofs.Branching.{then_from}
 use Rattle.code_follows.proofs.Following.{Extends, Follows, HasRegisters, IsScalar, Keeps, Ran, Sim, held, keeps_on, keeps_all, then_silent}
 use Rattle.code_follows.proofs.Settings.{At, Reaches, Setting, and_one, layout, onto, stay}
 use Rattle.code_follows.proofs.Stores.{IsPut, variable_dest}
-use Rattle.code_follows.proofs.Values.{and_register, fresh_dest, register_same, some_word, with_reg, Value_of, extends_operated, operates}
+use Rattle.code_follows.proofs.Values.{and_register, fresh_dest, register_same, some_word, with_reg, Value_of, extends_operated, operates, put_by}
 use Rattle.code_follows.proofs.Numbers.{number_same, rounded_is}
 
 module _ (g : Setting) (has : HasRegisters g) (alive : Variable → Type 0) (scope : Scope) (active : Active) (x : Variable) (info : VarInfo) (living : alive x) (scalar : IsScalar g x info) where
@@ -101,7 +101,7 @@ module _ (g : Setting) (has : HasRegisters g) (alive : Variable → Type 0) (sco
             let number : ℕ = converted info.elem at_type word in
             let there : slice_index arr.t.registers r ≡ held at_type word = ap (λ (q : ℕ). slice_index arr.t.registers q) (register_same r arr.holds.register arr.holds.is) ∙ arr.holds.lasts u2 arr.t arr.sim (keeps_all g middle arr.t) (λ h. refl) in
             let p : IsPut g has alive x info living scalar info.elem d s (Scalar number) u2 (O.Scalar own) (with_instr convert middle) =
-            (variable_dest g has alive x info living scalar info.elem d s (inl refl) free).puts middle (n + arr.extended.0) convert arr.t u2 number (onto g s t arr.t go arr.go) arr.at arr.sim (extended d e middle n arr.extended.0 grown arr.extended.1)
+            put_by g has alive (variable_dest g has alive x info living scalar info.elem d s (inl refl) free) middle (n + arr.extended.0) convert arr.t u2 number (onto g s t arr.t go arr.go) arr.at arr.sim (extended d e middle n arr.extended.0 grown arr.extended.1)
             (keeps_on g d e n s t arr.t grown keeps arr.keeps) within refl
             (ap (λ (k : ℕ). Goes (with_register own (rounded info.elem k) arr.t)) there ∙ ap (λ (k : ℕ). Goes (with_register own k arr.t)) (rounded_is info.elem at_type word arr.holds.small)) (converted_below info.elem at_type word) in
             let same : converted info.elem info.elem p.word ≡ number = number_same info.elem p.word p.small ∙ sym (some_word number p.word p.value) in

@@ -13,7 +13,7 @@ use Rattle.code_lengths.specs.Ready.{Declares, HasCode, HasDeclared, HasStatemen
 use Rattle.code_lengths.specs.LowerableStatements.{IsLowerableStatement}
 use Rattle.code_lengths.specs.NamingStatements.{StandFrom, StatementNamesVariables}
 use Rattle.code_lengths.specs.ShapedStatements.{IsShapedPart, IsShapedStatement}
-use Rattle.code_lengths.proofs.Declaring.{else_variables, first_part, of_do, of_if, second_part}
+use Rattle.code_lengths.proofs.Declaring.{else_variables, first_part, of_do, of_if, of_with, second_part}
 use Rattle.code_lengths.proofs.StatementLengths.{statements}
 use Rattle.source_meaning.proofs.ConstantLaws.{Boxed}
 use Rattle.lower_base.specs.Drafts.{Draft, Fails, Made, Makes}
@@ -98,6 +98,15 @@ module _ (g : Setting) (numbers : NumbersVariables g.instance (layout g)) (decla
     lowerable = c.lowerable.0;
     names = c.names.0;
     stands = subst (λ (own : List VarInfo). StandFrom (variables_of g.instance.body) n own) (of_do p body test) c.stands;
+  }
+
+  pub with_body : (n shape : ℕ) (p : Boxed) (body : TStmt) → HasStatementCode g.typed g.instance n (S.With' shape p body) → HasStatementCode g.typed g.instance n body
+  unfolding IsShapedStatement IsLowerableStatement StatementNamesVariables
+  with_body n shape p body c = record {
+    shaped = c.shaped;
+    lowerable = c.lowerable;
+    names = c.names;
+    stands = subst (λ (own : List VarInfo). StandFrom (variables_of g.instance.body) n own) (of_with shape p body) c.stands;
   }
 
   pub expression_code : (n : ℕ) (e : TExpr) → HasStatementCode g.typed g.instance n (S.Expression e) → HasCode g.typed g.instance n e

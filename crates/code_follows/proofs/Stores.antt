@@ -12,15 +12,15 @@ use Rattle.code_lengths.specs.Naming.{variable_named}
 use Rattle.code_lengths.proofs.Drafting.{extended, as_it_was}
 use Rattle.lower_base.specs.declared.emit.Out.{Out}
 use Rattle.lower_base.specs.Constants.{first_free}
-use Rattle.lower_base.specs.Drafts.{Draft, with_instr}
+use Rattle.lower_base.specs.Drafts.{Draft}
 use Rattle.lower_base.specs.Layouts.{register_of}
-use Rattle.paris_code.specs.declared.instr.Instr.{Instr}
-use Rattle.paris_code.specs.Code.{CodeState, Goes, with_register}
+use Rattle.paris_code.specs.Code.{CodeState, with_register}
 use Rattle.source_meaning.specs.State.{State, is_same, with_scalar}
 use Rattle.source_meaning.specs.Values.{Scalar, Value}
 use Rattle.code_follows.proofs.Following.{HasRegisters, IsScalar, Keeps, Sim, held, variable_kept, keeps_on}
-use Rattle.code_follows.proofs.Settings.{At, Reaches, Setting, Within, and_one, at_next, begins_here, layout, one, onto, placed_instr}
-use Rattle.code_follows.proofs.Values.{Dest}
+use Rattle.code_follows.proofs.Settings.{At, Reaches, Setting, layout, onto}
+use Rattle.code_follows.proofs.Values.{Dest, written_at}
+use Rattle.code_follows.proofs.Jumping.{sim_moved}
 use Rattle.code_follows.proofs.ConstantRegisters.{behind_variables}
 use Rattle.code_follows.proofs.Standing.{some_same}
 use Rattle.constant_trees.proofs.Words.{converted_below}
@@ -72,6 +72,7 @@ module _ (g : Setting) (has : HasRegisters g) (x : Variable) (info : VarInfo) (s
     bytes = h.bytes;
     returns = h.returns;
     few = h.few;
+    memory = g.held.still st (with_scalar x w st) s.memory (λ k e p. refl) refl h.memory;
   }
     where
       infos : (y : Variable) (other : VarInfo) → variable_named g.typed g.instance y ≡ Some other → x ≡ y → info ≡ other
@@ -115,24 +116,21 @@ module _ (g : Setting) (has : HasRegisters g) (alive : Variable → Type 0) (x :
 
   pub variable_dest : (elem : Elem) (d : Draft) (s0 : CodeState) → Fits info.elem elem → g.begins ≤ d.regs → Dest g has alive elem d s0 (λ v st out e. IsPut elem d s0 v st out e) register
   variable_dest elem d s0 fits free = record {
-    puts = λ e n i s st w go here sim grows keeps within plain does few.
+    takes = λ e f n k s place st w go sim grows keeps more within there here few.
         let low = below_free g has x info scalar in
         let own : ℕ = converted info.elem elem w in
-        let inside : register < length s.registers = omega (arith, low, free, grows.regs, within_regs e i within, sim.registers) in
+        let inside : register < length s.registers = let taken = grows.regs in let longer = more.regs in omega (arith, low, free, taken, longer, within.regs, sim.registers) in
         let words : held elem w ≡ held info.elem own = fits_held info.elem elem w fits few in
-        let t : CodeState = with_register register (held info.elem own) s in
+        let t : CodeState = written_at g has alive register (held info.elem own) place s in
         record {
-          grown = (n + 1, extended d e (with_instr i e) n 1 grows (and_one g i e));
+          grown = (n + k, extended d e f n k grows more);
           t = t;
-          go = onto g s0 s t go (one g s t (begins_here g i e s within plain here ∙ does ∙ ap (λ (v : ℕ). Goes (with_register register v s)) words));
-          at = at_next g i e s (s.at + 1) here refl;
-          sim = sim_begun g has x info scalar alive alive (λ y living other. living) st s own (converted_below info.elem elem w) inside sim;
+          go = onto g s0 s t go (subst (λ (word : ℕ). Reaches g s (written_at g has alive register word place s)) words there);
+          at = here;
+          sim = sim_moved g alive (with_scalar x own st) (with_register register (held info.elem own) s) place (sim_begun g has x info scalar alive alive (λ y living other. living) st s own (converted_below info.elem elem w) inside sim);
           keeps = keeps_on g d d 0 s0 s t (as_it_was d) keeps (variable_kept g d s x info (held info.elem own) has scalar.0);
           word = w;
           value = refl;
           small = few;
         };
   }
-    where
-      within_regs : (e : Draft) (i : Instr) → Within g (with_instr i e) → e.regs ≤ g.image.slots
-      within_regs e i within = let r = Rattle.code_follows.proofs.Settings.regs_more g i e in omega (arith, r, within.regs)

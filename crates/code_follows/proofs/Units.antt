@@ -1,6 +1,6 @@
 -- The units of a scalar program: what the unit of each instance is, and which registers its values have.
 use Rattle.std.proofs.Common.{◌≡◌, ◌∙◌, ℕ, zero, suc, ◌+◌, ◌-◌, ◌<◌, ◌≤◌, ◌==◌, Bool, true, false, List, [], ◌∷◌, length, map, slice_get, Option, Some, None, refl, sym, ap, subst, arith, if◌then◌else◌, ◌⊎◌, inl, inr}
-use Rattle.std.proofs.lemmas.Bool.{eqb-true}
+use Rattle.std.proofs.lemmas.Bool.{eq-eqb, eqb-true}
 use Rattle.std.proofs.lemmas.List.{append-nil}
 use Rattle.std.specs.List.{All}
 use Rattle.cstar_tree.specs.declared.typed.Instance.{Instance}
@@ -28,24 +28,32 @@ use Rattle.code_follows.specs.Fragment.{IsScalarVariable, May}
 use Rattle.code_follows.proofs.Beginnings.{start_put, starts_put}
 use Rattle.code_follows.proofs.Lists.{all_first, all_rest}
 use Rattle.code_follows.proofs.Following.{HasRegisters}
-use Rattle.code_follows.proofs.Regions.{HasScalarInstances, IsScalarInstance, apart, below, in_order, result_apart, result_below, same_constants, same_end, base_behind}
-use Rattle.code_follows.proofs.Settings.{Setting, Within}
+use Rattle.code_follows.proofs.Regions.{BeginsAsScalar, HasScalarInstances, IsScalarInstance, apart, below, in_order, result_apart, result_below, same_constants, same_end, base_behind}
+use Rattle.code_follows.proofs.Settings.{Held, Setting, Within}
 use Rattle.code_follows.proofs.Standing.{some_same}
 
 -- ---- what a unit begins with
 
--- the values with which scalar variables of the file begin
-starts_are : (t : Typed) (l : Layout) (infos : List VarInfo) (n : ℕ) (d : Draft) → All IsScalarVariable infos → start_values_of t l infos n d ≡ Makes tt (starts_put l infos n d)
+-- the values with which variables of the file begin
+starts_are : (t : Typed) (l : Layout) (infos : List VarInfo) (n : ℕ) (d : Draft) → All BeginsAsScalar infos → start_values_of t l infos n d ≡ Makes tt (starts_put l infos n d)
 unfolding start_values_of start_value_of then_make start_put starts_put
 starts_are t l [] n d all = refl
 starts_are t l (info ∷ infos) n d all =
-    ap (λ (o : Option ℕ). then_make (if info.start == 0 then Makes tt d else elim o as (λ _. Made (Unit {0})) [
-      | None ↦ Makes tt (scalar_begun l info n d)
-      | Some s ↦ elements_begun t l n info.start (entries_of info) 0 d
-    ]) (λ u after. start_values_of t l infos (n + 1) after)) (all_first IsScalarVariable info infos all)
-    ∙ by (info.start == 0) ∙ starts_are t l infos (n + 1) (start_put l info n d) (all_rest IsScalarVariable info infos all)
+    first (all_first BeginsAsScalar info infos all) ∙ by (info.start == 0) ∙ starts_are t l infos (n + 1) (start_put l info n d) (all_rest BeginsAsScalar info infos all)
   where
-    by : (b : Bool) → then_make (if b then Makes (tt {0}) d else Makes (tt {0}) (scalar_begun l info n d)) (λ u after. start_values_of t l infos (n + 1) after) ≡ start_values_of t l infos (n + 1) (if b then d else scalar_begun l info n d)
+    then_rest : Made (Unit {0}) → Made (Unit {0})
+    then_rest made = then_make made (λ u after. start_values_of t l infos (n + 1) after)
+
+    begun_by : Option ℕ → Made (Unit {0})
+    begun_by shape = elim shape as (λ _. Made (Unit {0})) [ None ↦ Makes tt (scalar_begun l info n d) | Some s ↦ elements_begun t l n info.start (entries_of info) 0 d ]
+
+    first : BeginsAsScalar info → then_rest (if info.start == 0 then Makes tt d else begun_by info.shape) ≡ then_rest (if info.start == 0 then Makes tt d else Makes tt (scalar_begun l info n d))
+    first (inl scalar) = ap (λ (o : Option ℕ). then_rest (if info.start == 0 then Makes tt d else begun_by o)) scalar
+    first (inr zero_there) =
+        let yes : (info.start == 0) ≡ true = eq-eqb info.start 0 zero_there in
+        ap (λ (b : Bool). then_rest (if b then Makes tt d else begun_by info.shape)) yes ∙ ap (λ (b : Bool). then_rest (if b then Makes tt d else Makes tt (scalar_begun l info n d))) (sym yes)
+
+    by : (b : Bool) → then_rest (if b then Makes tt d else Makes tt (scalar_begun l info n d)) ≡ start_values_of t l infos (n + 1) (if b then d else scalar_begun l info n d)
     by true = refl
     by false = refl
 
@@ -113,12 +121,12 @@ unfolding opened blank
 opened_homes t l true regs i = (starts_take l t.vars.items 0 (constants_put l.constants l.end (blank i.name regs))).1 ∙ (constants_take l.constants l.end (blank i.name regs)).1
 opened_homes t l false regs i = refl
 
-begun_is : (t : Typed) (l : Layout) (is_main : Bool) (regs : ℕ) (i : Instance) → All IsScalarVariable t.vars.items → begun t l is_main (blank i.name regs) ≡ Makes tt (opened t l is_main regs i)
+begun_is : (t : Typed) (l : Layout) (is_main : Bool) (regs : ℕ) (i : Instance) → All BeginsAsScalar t.vars.items → begun t l is_main (blank i.name regs) ≡ Makes tt (opened t l is_main regs i)
 unfolding begun opened
 begun_is t l true regs i all = starts_are t l t.vars.items 0 (constants_put l.constants l.end (blank i.name regs)) all
 begun_is t l false regs i all = refl
 
-opening_is : (t : Typed) (l : Layout) (is_main : Bool) (regs : ℕ) (i : Instance) → All IsScalarVariable t.vars.items → IsScalarInstance i → opening_of t l is_main regs i ≡ Makes tt (opened t l is_main regs i)
+opening_is : (t : Typed) (l : Layout) (is_main : Bool) (regs : ℕ) (i : Instance) → All BeginsAsScalar t.vars.items → IsScalarInstance i → opening_of t l is_main regs i ≡ Makes tt (opened t l is_main regs i)
 unfolding opening_of then_make
 opening_is t l is_main regs i files plain =
     ap (λ (m : Made (Unit {0})). then_make m (λ u d. then_make (own_result_of i.result d) (λ v ready. begun t l is_main ready))) (no_own_fields i.params.items (blank i.name regs) plain.0)
@@ -129,7 +137,7 @@ opening_is t l is_main regs i files plain =
 abbrev pub body_from : Typed → Layout → Bool → Instance → Draft → Made (Unit {0})
 body_from t l is_main i start = then_make (body_of t l (body_frame is_main i) i.body start) (λ n end. Makes tt (ended is_main i.body end))
 
-unit_is : (t : Typed) (l : Layout) (is_main : Bool) (regs : ℕ) (i : Instance) → All IsScalarVariable t.vars.items → IsScalarInstance i → unit_of t l is_main regs i ≡ body_from t l is_main i (opened t l is_main regs i)
+unit_is : (t : Typed) (l : Layout) (is_main : Bool) (regs : ℕ) (i : Instance) → All BeginsAsScalar t.vars.items → IsScalarInstance i → unit_of t l is_main regs i ≡ body_from t l is_main i (opened t l is_main regs i)
 unfolding unit_of then_make
 unit_is t l is_main regs i files plain =
     ap (λ (m : Made (Unit {0})). then_make m (λ u d. then_make (own_result_of i.result d) (λ v ready. then_make (begun t l is_main ready) (λ w start. body_from t l is_main i start)))) (no_own_fields i.params.items (blank i.name regs) plain.0)
@@ -140,7 +148,7 @@ made_same : (d e : Draft) → Makes (tt {0}) d ≡ Makes (tt {0}) e → d ≡ e
 made_same d e same = ap (λ (m : Made (Unit {0})). elim m as (λ _. Draft) [ Makes x after ↦ after | Fails ↦ d ]) same
 
 -- a unit gives no register back
-unit_grows : (t : Typed) (l : Layout) (is_main : Bool) (regs : ℕ) (i : Instance) (h : HasUnit t l is_main regs i) → All IsScalarVariable t.vars.items → IsScalarInstance i → regs ≤ h.unit.regs
+unit_grows : (t : Typed) (l : Layout) (is_main : Bool) (regs : ℕ) (i : Instance) (h : HasUnit t l is_main regs i) → All BeginsAsScalar t.vars.items → IsScalarInstance i → regs ≤ h.unit.regs
 unit_grows t l is_main regs i h files plain =
     let start = made_same h.start (opened t l is_main regs i) (sym h.begins ∙ opening_is t l is_main regs i files plain) in
     let first : h.start.regs ≡ regs = ap (λ (d : Draft). d.regs) start ∙ opened_regs t l is_main regs i in
@@ -368,8 +376,8 @@ module _ (t : Typed) (image : Image) (p : HasScalarInstances t) (codable : IsCod
   abbrev pub unit_at : (number : ℕ) (i : Instance) → slice_get t.instances.items number ≡ Some i → Draft
   unit_at number i is = (own_unit number i is).unit
 
-  abbrev pub setting : (number : ℕ) (i : Instance) → slice_get t.instances.items number ≡ Some i → (ℕ → Type 0) → List ℕ → ℕ → May → Setting
-  setting number i is spared returns most may = record {
+  abbrev pub setting : (number : ℕ) (i : Instance) → slice_get t.instances.items number ≡ Some i → (ℕ → Type 0) → List ℕ → ℕ → May → Held → Setting
+  setting number i is spared returns most may holding = record {
     typed = t;
     words = the_words;
     image = image;
@@ -388,23 +396,26 @@ module _ (t : Typed) (image : Image) (p : HasScalarInstances t) (codable : IsCod
     returns = returns;
     most = most;
     may = may;
+    held = holding;
   }
 
-  pub within_all : (number : ℕ) (i : Instance) (is : slice_get t.instances.items number ≡ Some i) (spared : ℕ → Type 0) (returns : List ℕ) (most : ℕ) (may : May) → Within (setting number i is spared returns most may) (unit_at number i is)
+  pub within_all : (number : ℕ) (i : Instance) (is : slice_get t.instances.items number ≡ Some i) (spared : ℕ → Type 0) (returns : List ℕ) (most : ℕ) (may : May) (holding : Held) → Within (setting number i is spared returns most may holding) (unit_at number i is)
   unfolding draft
-  within_all number i is spared returns most may = record {
+  within_all number i is spared returns most may holding = record {
     more = [];
     code = ap (λ (d : Draft). d.code) (own_unit number i is).drafted ∙ sym (append-nil (unit_at number i is).code);
+    entries = [];
+    fields = ap (λ (d : Draft). d.fields) (own_unit number i is).drafted ∙ sym (append-nil (unit_at number i is).fields);
     regs = let last = (own_unit number i is).last in let h = ends_within number in omega (arith, last, h);
     own = let last = (own_unit number i is).last in omega (arith, last);
   }
 
   -- the registers of an instance, where those that are spared are none of its own
-  pub has_registers : (number : ℕ) (i : Instance) (is : slice_get t.instances.items number ≡ Some i) (spared : ℕ → Type 0) (returns : List ℕ) (most : ℕ) (may : May)
+  pub has_registers : (number : ℕ) (i : Instance) (is : slice_get t.instances.items number ≡ Some i) (spared : ℕ → Type 0) (returns : List ℕ) (most : ℕ) (may : May) (holding : Held)
       → ((r : ℕ) → spared r → (x : Variable) (info : VarInfo) → variable_named t i x ≡ Some info → r ≡ register_of (layout_of t the_words number) x → ⊥)
-      → ((r : ℕ) → spared r → begins number ≤ r → r < ends number → ⊥) → (spared (result_register (layout_of t the_words number)) → ⊥) → HasRegisters (setting number i is spared returns most may)
+      → ((r : ℕ) → spared r → begins number ≤ r → r < ends number → ⊥) → (spared (result_register (layout_of t the_words number)) → ⊥) → HasRegisters (setting number i is spared returns most may holding)
   unfolding first_free
-  has_registers number i is spared returns most may variables values result = record {
+  has_registers number i is spared returns most may holding variables values result = record {
     behind_files = base_behind t p the_words number i is;
     room = let free = begins_free number number in let least = begins_least number in let inside = ends_within number in omega (arith, free, least, inside);
     spared_result = result;

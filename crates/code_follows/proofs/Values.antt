@@ -1,5 +1,5 @@
 -- The code of a scalar expression gives its value.
-use Rattle.std.proofs.Common.{◌≡◌, ◌∙◌, ℕ, ◌+◌, ◌-◌, ◌<◌, ◌≤◌, ◌^◌, ◌==◌, ◌&&◌, Bool, true, false, not, [], length, slice_index, Option, Some, None, refl, sym, ap, subst, if◌then◌else◌, arith}
+use Rattle.std.proofs.Common.{◌≡◌, ◌∙◌, ℕ, ◌+◌, ◌-◌, ◌<◌, ◌≤◌, ◌^◌, ◌==◌, ◌&&◌, Bool, true, false, not, List, [], ◌∷◌, zero, suc, length, slice_index, slice_set, Option, Some, None, refl, sym, ap, subst, if◌then◌else◌, arith}
 use Rattle.cstar_base.specs.declared.elem.Elem.{Elem}
 use Rattle.cstar_base.specs.declared.faults.RunFault.TheVariants.{DivZero}
 use Rattle.cstar_base.specs.declared.operators.Op.{Op}
@@ -50,9 +50,16 @@ use Rattle.source_meaning.specs.Targets.{read, variable_target}
 use Rattle.source_meaning.specs.Values.{Active, Scalar, Scope, Value, at, convert_to, each, failing, unary_of, unless}
 use Rattle.code_follows.specs.Fragment.{IsWord}
 use Rattle.code_follows.proofs.Following.{Arrives, Extends, Follows, HasRegisters, IsScalar, Keeps, Sim, extends_then, finishes_later, arrives_fresh, held, keeps_all, keeps_on, knowing, register_is, register_kept, register_set, then_follows, keeps_less}
+use Rattle.code_follows.proofs.Jumping.{sim_moved}
 use Rattle.code_follows.proofs.Operators.{by_machine, machine_below, machine_same, minus_same, wide_signed}
-use Rattle.code_follows.proofs.Settings.{At, Reaches, Setting, Within, and_one, at_next, begins_here, earlier, ends_now, layout, one, onto, placed_instr, regs_more, stay}
+use Rattle.code_follows.proofs.Settings.{At, Reaches, Setting, Within, and_one, at_next, begins_here, earlier, ends_now, layout, one, onto, placed_instr, regs_more, start, stay}
 use Rattle.code_follows.proofs.Words.{below_bits, below_word, held_wide}
+
+-- what is written twice is what it was written last
+pub set_again : (xs : List ℕ) (r a b : ℕ) → slice_set (slice_set xs r a) r b ≡ slice_set xs r b
+set_again [] r a b = refl
+set_again (x ∷ xs) zero a b = refl
+set_again (x ∷ xs) (suc r) a b = ap (λ (rest : List ℕ). x ∷ rest) (set_again xs r a b)
 
 -- one more register
 abbrev pub with_reg : Draft → Draft
@@ -106,17 +113,49 @@ module _ (g : Setting) (has : HasRegisters g) (alive : Variable → Type 0) wher
       let regs = regs_more g i e in
       arrives_fresh g alive elem quiet d (with_instr i e) s0 h.t st r w h.grown h.go h.at h.sim h.keeps (omega (arith, free, low)) (omega (arith, high, regs)) small h.is
 
-  -- A register that the last instruction of a value writes: behind this draft and from this state on, an
-  -- instruction that puts a number of a type there has this said of it.
+  -- the state at another place, where a register has a word
+  abbrev pub written_at : ℕ → ℕ → ℕ → CodeState → CodeState
+  written_at r word place s = record s { at = place; registers = slice_set s.registers r word }
+
+  -- A register that the end of a value's code writes: behind this draft and from this state on, code that puts a
+  -- number of a type there and changes nothing else has this said of it.
   pub record Dest (elem : Elem) (d : Draft) (s0 : CodeState) (R : Value → State → Out → Draft → Type 0) (r : ℕ) : Type 0 where
-    pub puts : (e : Draft) (n : ℕ) (i : Instr) (s : CodeState) (st : State) (w : ℕ) → Reaches g s0 s → At g s (length e.code) → Sim g alive st s → Extended d n e → Keeps g d s0 s → Within g (with_instr i e) → step_of i ≡ Plain i
+    pub takes : (e f : Draft) (n k : ℕ) (s : CodeState) (place : ℕ) (st : State) (w : ℕ) → Reaches g s0 s → Sim g alive st s → Extended d n e → Keeps g d s0 s → Extended e k f → Within g f
+        → Reaches g s (written_at r (held elem w) place s) → place ≡ start g + length f.code → w < 2 ^ elem.bits → R (Scalar w) st (O.Scalar r) f
+
+  module _ {elem : Elem} {d : Draft} {s0 : CodeState} {R : Value → State → Out → Draft → Type 0} {r : ℕ} (dest : Dest elem d s0 R r) where
+    -- one instruction does it
+    pub put_by : (e : Draft) (n : ℕ) (i : Instr) (s : CodeState) (st : State) (w : ℕ) → Reaches g s0 s → At g s (length e.code) → Sim g alive st s → Extended d n e → Keeps g d s0 s → Within g (with_instr i e) → step_of i ≡ Plain i
         → begun g.image (placed_instr g i) s ≡ Goes (with_register r (held elem w) s) → w < 2 ^ elem.bits → R (Scalar w) st (O.Scalar r) (with_instr i e)
+    put_by e n i s st w go here sim grows keeps within plain does few =
+        dest.takes e (with_instr i e) n 1 s (s.at + 1) st w go sim grows keeps (and_one g i e) within (one g s (with_register r (held elem w) s) (begins_here g i e s within plain here ∙ does)) (at_next g i e s (s.at + 1) here refl) few
+
+    -- or two, where the second reads what the first put there
+    pub put_by_two : (e : Draft) (n : ℕ) (i j : Instr) (s : CodeState) (st : State) (a w : ℕ) → Reaches g s0 s → At g s (length e.code) → Sim g alive st s → Extended d n e → Keeps g d s0 s → Within g (with_instr j (with_instr i e)) → step_of i ≡ Plain i → step_of j ≡ Plain j
+        → begun g.image (placed_instr g i) s ≡ Goes (with_register r a s) → begun g.image (placed_instr g j) (with_register r a s) ≡ Goes (with_register r (held elem w) (with_register r a s)) → w < 2 ^ elem.bits
+        → R (Scalar w) st (O.Scalar r) (with_instr j (with_instr i e))
+    put_by_two e n i j s st a w go here sim grows keeps within plain_i plain_j does_i does_j few =
+        let between : Draft = with_instr i e in
+        let middle : CodeState = with_register r a s in
+        let last : CodeState = with_register r (held elem w) middle in
+        let early : Within g between = earlier g between (with_instr j between) 1 (and_one g j between) within in
+        let there : At g middle (length between.code) = at_next g i e s (s.at + 1) here refl in
+        let goes : Reaches g s last = onto g s middle last (one g s middle (begins_here g i e s early plain_i here ∙ does_i)) (one g middle last (begins_here g j between middle within plain_j there ∙ does_j)) in
+        dest.takes e (with_instr j between) n 2 s (s.at + 1 + 1) st w go sim grows keeps (extended e between (with_instr j between) 1 1 (and_one g i e) (and_one g j between)) within
+        (subst (λ (registers : List ℕ). Reaches g s (record s { at = s.at + 1 + 1; registers = registers })) (set_again s.registers r a (held elem w)) goes) (at_next g j between middle (s.at + 1 + 1) there refl) few
 
   -- a fresh one
   pub fresh_dest : (elem : Elem) (quiet : Bool) (d : Draft) (s0 : CodeState) → g.begins ≤ d.regs → Dest elem (with_reg d) s0 (λ v st out e. Arrives g alive elem quiet d s0 v st out e) d.regs
   fresh_dest elem quiet d s0 free = record {
-    puts = λ e n i s st w go here sim grows keeps within plain does few.
-        sets_register elem quiet d e (0 + n) i s0 s st d.regs w free go here sim (extended d (with_reg d) e 0 n (and_register d) grows) (keeps_less g d (with_reg d) s0 s (omega arith) keeps) within plain does (omega arith) (omega (arith, grows.regs)) few;
+    takes = λ e f n k s place st w go sim grows keeps more within there here few.
+        let t : CodeState = written_at d.regs (held elem w) place s in
+        let taken = grows.regs in
+        let longer = more.regs in
+        let inside : d.regs < length s.registers = omega (arith, taken, longer, within.regs, sim.registers) in
+        arrives_fresh g alive elem quiet d f s0 t st d.regs w (0 + (n + k), extended d (with_reg d) f 0 (n + k) (and_register d) (extended (with_reg d) e f n k grows more)) (onto g s0 s t go there) here
+        (sim_moved g alive st (with_register d.regs (held elem w) s) place (register_set g alive st s d.regs (held elem w) has (omega (arith, free)) sim))
+        (keeps_on g d d 0 s0 s t (as_it_was d) (keeps_less g d (with_reg d) s0 s (omega arith) keeps) (register_kept g d s d.regs (held elem w) has free (omega arith) (omega (arith, taken, longer, within.own))))
+        (omega (arith, free)) (omega (arith, taken, longer)) few (register_is g s d.regs (held elem w) inside);
   }
 
   -- a number goes to a fresh register
@@ -206,7 +245,7 @@ module _ (g : Setting) (has : HasRegisters g) (alive : Variable → Type 0) wher
 
   -- the next instruction changes no register
   pub sim_onward : (st : State) (s : CodeState) → Sim g alive st s → Sim g alive st (Machine.onward s)
-  sim_onward st s h = record { registers = h.registers; scalars = h.scalars; small = h.small; constants = h.constants; turns = h.turns; output = h.output; input = h.input; bytes = h.bytes; returns = h.returns; few = h.few }
+  sim_onward st s h = record { registers = h.registers; scalars = h.scalars; small = h.small; constants = h.constants; turns = h.turns; output = h.output; input = h.input; bytes = h.bytes; returns = h.returns; few = h.few; memory = h.memory }
 
   -- a scalar operation on the words of two registers
   computes : (elem : Elem) (d e : Draft) (n : ℕ) (s0 s : CodeState) (st : State) (R : Value → State → Out → Draft → Type 0) (m : Machine) (r a b x y : ℕ) → elem.bits ≡ 32 → Dest elem d s0 R r → Reaches g s0 s → At g s (length e.code) → Sim g alive st s → Extended d n e
@@ -215,13 +254,13 @@ module _ (g : Setting) (has : HasRegisters g) (alive : Variable → Type 0) wher
   computes elem d e n s0 s st R (M.Operate act) r a b x y wide dest go here sim grows keeps is_a is_b few small within =
       let w : ℕ = operated_word act x y in
       let below : w < 2 ^ 32 = machine_below x y few small (M.Operate act) in
-      dest.puts e n (I.FrontOperate act r a b) s st w go here sim grows keeps within refl
+      put_by dest e n (I.FrontOperate act r a b) s st w go here sim grows keeps within refl
       (ap (λ (p : ℕ). Goes (with_register r (operated_word act p (slice_index s.registers b)) s)) is_a ∙ ap (λ (q : ℕ). Goes (with_register r (operated_word act x q) s)) is_b ∙ ap (λ (v : ℕ). Goes (with_register r v s)) (sym (held_wide elem w wide below)))
       (below_bits elem.bits w wide below)
   computes elem d e n s0 s st R (M.Compare relation) r a b x y wide dest go here sim grows keeps is_a is_b few small within =
       let w : ℕ = compared_word relation x y in
       let below : w < 2 ^ 32 = machine_below x y few small (M.Compare relation) in
-      dest.puts e n (I.FrontCompare relation r a b) s st w go here sim grows keeps within refl
+      put_by dest e n (I.FrontCompare relation r a b) s st w go here sim grows keeps within refl
       (ap (λ (p : ℕ). Goes (with_register r (compared_word relation p (slice_index s.registers b)) s)) is_a ∙ ap (λ (q : ℕ). Goes (with_register r (compared_word relation x q) s)) is_b ∙ ap (λ (v : ℕ). Goes (with_register r v s)) (sym (held_wide elem w wide below)))
       (below_bits elem.bits w wide below)
 
@@ -267,6 +306,7 @@ module _ (g : Setting) (has : HasRegisters g) (alive : Variable → Type 0) wher
             turns = sim.turns;
             output = sim.output;
             input = sim.input;
+            memory = sim.memory;
           })
       by true false is_c is_z = λ within.
           let checks : Draft = with_instr (I.FrontCheckDivisor place b) e in
@@ -364,14 +404,14 @@ module _ (g : Setting) (has : HasRegisters g) (alive : Variable → Type 0) wher
   unfolding Follows register_negated begun step_of
   minus ty wide d e n s0 s st R r a x free dest go here sim grows keeps is few = λ within.
       let below : unary_of U.Minus x < 2 ^ 32 = unary_below U.Minus x few in
-      dest.puts e n (I.FrontNegate r a) s st (unary_of U.Minus x) go here sim grows keeps within refl
+      put_by dest e n (I.FrontNegate r a) s st (unary_of U.Minus x) go here sim grows keeps within refl
       (ap (λ (q : ℕ). Goes (with_register r (residue 32 (neg_ℤ (pos q))) s)) (is s sim (keeps_all g e s)) ∙ ap (λ (w : ℕ). Goes (with_register r w s)) (minus_same x ∙ sym (held_wide ty.elem (unary_of U.Minus x) wide below))) (below_bits ty.elem.bits (unary_of U.Minus x) wide below)
 
   complement : (ty : ValueType) → ty.elem.bits ≡ 32 → Negates U.Complement ty
   unfolding Follows register_negated begun step_of unary_of
   complement ty wide d e n s0 s st R r a x free dest go here sim grows keeps is few = λ within.
       let below : 2 ^ 32 - 1 - x < 2 ^ 32 = omega arith in
-      dest.puts e n (I.FrontLognot r a) s st (2 ^ 32 - 1 - x) go here sim grows keeps within refl
+      put_by dest e n (I.FrontLognot r a) s st (2 ^ 32 - 1 - x) go here sim grows keeps within refl
       (ap (λ (q : ℕ). Goes (with_register r (2 ^ 32 - 1 - q) s)) (is s sim (keeps_all g e s)) ∙ ap (λ (w : ℕ). Goes (with_register r w s)) (sym (held_wide ty.elem (2 ^ 32 - 1 - x) wide below))) (below_bits ty.elem.bits (2 ^ 32 - 1 - x) wide below)
 
   -- a number in a register, where it stands or in a fresh one
@@ -406,7 +446,7 @@ module _ (g : Setting) (has : HasRegisters g) (alive : Variable → Type 0) wher
       compares : (after : State) (q : ℕ) (f : Draft) → (after ≡ st) × HasWord 0 e f s st q → Follows g R s0 (Source.Gives (Scalar (unary_of U.Not x)) st) (Makes (O.Scalar r) (with_instr (I.FrontCompare C.UEq r a q) f))
       compares after q f (same, h) = λ within.
           let below : from_bool (x == 0) < 2 ^ 32 = unary_below U.Not x few in
-          dest.puts f (n + h.grown.0) (I.FrontCompare C.UEq r a q) h.t st (from_bool (x == 0)) (onto g s0 s h.t go h.go) h.at h.sim (extended d e f n h.grown.0 grows h.grown.1)
+          put_by dest f (n + h.grown.0) (I.FrontCompare C.UEq r a q) h.t st (from_bool (x == 0)) (onto g s0 s h.t go h.go) h.at h.sim (extended d e f n h.grown.0 grows h.grown.1)
           (keeps_on g d e n s0 s h.t grows keeps h.keeps) within refl
           (ap (λ (p : ℕ). Goes (with_register r (from_bool (p == slice_index h.t.registers q)) h.t)) (is h.t h.sim h.keeps) ∙ ap (λ (p : ℕ). Goes (with_register r (from_bool (x == p)) h.t)) h.is
           ∙ ap (λ (w : ℕ). Goes (with_register r w h.t)) (sym (held_wide ty.elem (from_bool (x == 0)) wide below))) (below_bits ty.elem.bits (from_bool (x == 0)) wide below)

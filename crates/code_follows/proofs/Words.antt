@@ -14,7 +14,7 @@ use Rattle.lower_expr.specs.Steps.{is_kept}
 use Rattle.source_meaning.specs.Constants.{then_value, value_of}
 use Rattle.source_meaning.specs.Reductions.{int_type}
 use Rattle.source_meaning.specs.Values.{nonzero, cast_through, cast_type}
-use Rattle.code_follows.specs.Fragment.{AreIn, IsIn, IsScalarType, IsVariable, May, naming}
+use Rattle.code_follows.specs.Fragment.{AreIn, IsIn, IsScalarType, IsVariable, May, ScalarsAmong, naming}
 use Rattle.cstar_tree.specs.declared.typed.Variable.{Variable}
 use mathlib.Core.Former.{Count}
 use Rattle.code_follows.proofs.Following.{held}
@@ -61,6 +61,7 @@ scalar_of may (T.Choice' ty p test q first r second) h = h.0.0
 scalar_of may (T.Assign' ty place op p target q value) h = h.0
 scalar_of may (T.Step' ty op order p target) h = h.0
 scalar_of may (T.Call' ty index p arguments) h = h.0
+scalar_of may (T.Reduce' ty op p operand) h = h.0.0
 scalar_of may _ h = absurd h
 
 none_is : (o : Option ℕ) → o ≡ None → is_none o ≡ true
@@ -85,6 +86,7 @@ kept may (T.Choice' ty p test q first r second) h = none_is ty.shape h.0.0
 kept may (T.Assign' ty place op p target q value) h = none_is ty.shape h.0
 kept may (T.Step' ty op order p target) h = none_is ty.shape h.0
 kept may (T.Call' ty index p arguments) h = none_is ty.shape h.0
+kept may (T.Reduce' ty op p operand) h = none_is ty.shape h.0.0
 kept may _ h = absurd h
 
 -- what a chain of casts gives is a number of its type
@@ -148,6 +150,7 @@ constant_below may (T.Choice' ty p test q first r second) h =
 constant_below may (T.Assign' ty place op p target q value) h = tt
 constant_below may (T.Step' ty op order p target) h = tt
 constant_below may (T.Call' ty index p arguments) h = tt
+constant_below may (T.Reduce' ty op p operand) h = tt
 constant_below may _ h = absurd h
 
 -- what names variables of some names variables of more
@@ -156,6 +159,19 @@ unfolding IsVariable
 target_widened may more fits (T.Variable ty x) h = (h.0, fits x h.1)
 target_widened may more fits (T.Brackets' ty p inner) h = (h.0, target_widened may more fits inner h.1)
 target_widened may more fits _ h = absurd h
+
+scalars_widened : (names more : Variable → Type 0) → ((x : Variable) → names x → more x) → (e : TExpr) → ScalarsAmong names e → ScalarsAmong more e
+unfolding ScalarsAmong
+scalars_widened names more fits (T.Variable ty x) h = λ scalar. fits x (h scalar)
+scalars_widened names more fits (T.Brackets' ty p inner) h = scalars_widened names more fits inner h
+scalars_widened names more fits (T.Convert' ty p operand) h = scalars_widened names more fits operand h
+scalars_widened names more fits (T.Promote' ty p operand) h = scalars_widened names more fits operand h
+scalars_widened names more fits (T.Unary' ty op p operand) h = scalars_widened names more fits operand h
+scalars_widened names more fits (T.Binary' ty place op p left q right) h = (scalars_widened names more fits left h.0, scalars_widened names more fits right h.1)
+scalars_widened names more fits (T.Assign' ty place op p target q value) h = (scalars_widened names more fits target h.0, scalars_widened names more fits value h.1)
+scalars_widened names more fits (T.Step' ty op order p target) h = scalars_widened names more fits target h
+scalars_widened names more fits (T.Reduce' ty op p operand) h = scalars_widened names more fits operand h
+scalars_widened names more fits _ h = tt
 
 mutual
   unfolding IsIn AreIn
@@ -178,6 +194,7 @@ mutual
   widened may more fits (T.Assign' ty place op p target q value) h = (h.0, h.1, target_widened may more fits target h.2, widened may more fits value h.3, h.4)
   widened may more fits (T.Step' ty op order p target) h = (h.0, h.1, target_widened may more fits target h.2)
   widened may more fits (T.Call' ty index p arguments) h = (h.0, h.1, all_widened may more fits arguments h.2)
+  widened may more fits (T.Reduce' ty op p operand) h = (h.0, h.1, scalars_widened may.names more fits (T.Reduce' ty op p operand) h.2)
   widened may more fits _ h = absurd h
 
   all_widened : {n : Count} (may : May) (more : Variable → Type 0) → ((x : Variable) → may.names x → more x) → (row : Row_of-TExpr n) → AreIn may row → AreIn (naming may more) row

@@ -1,7 +1,7 @@
--- The programs of which it is said so far that their code means them: scalar ones. Variables of the file and of
--- blocks, parameters and results are of any scalar type, `bool`, `char`, `short` or `int`, signed or not. The
--- operands of operators, which typing promotes, have 32 bits, and so has what is printed. Expressions name
--- variables of open blocks alone, as typing gives.
+-- The programs of which it is said so far that their code means them: scalar ones, and those with some parallel
+-- expressions beside. Variables of the file and of blocks, parameters and results are of any scalar type, `bool`,
+-- `char`, `short` or `int`, signed or not. The operands of operators, which typing promotes, have 32 bits, and so has
+-- what is printed. Expressions name variables of open blocks alone, as typing gives.
 use Rattle.std.specs.Prelude.{ℕ, List, map, slice_get, ◌≡◌, ◌<◌, ◌^◌, [], IfSome, Option, Some, None, ◌⊎◌, ◌+◌, ◌∷◌, length, true}
 use Rattle.std.specs.List.{All, AllZip, Contains}
 use Rattle.cstar_base.specs.declared.elem.Elem.{Elem}
@@ -50,12 +50,20 @@ unfoldable pub IsOperand : UnaryOp → ValueType → Type 0
 IsOperand U.Not ty = IsScalarType ty
 IsOperand _ ty = IsWord ty
 
+-- the parallel expressions that a program may have beside scalar ones, and its parallel variables
+pub record Beside : Type 1 where
+  pub effects : TExpr → Type 0  -- whose value is not used
+  pub folds : TExpr → Type 0  -- whose value is a number
+  pub variables : VarInfo → Type 0  -- of the file
+
 -- What the body of a function may do: call which functions, by their instances' numbers, with arguments of which
--- types, for a value of which type where it is used; return numbers of which types; and name which variables.
+-- types, for a value of which type where it is used; return numbers of which types; name which variables; and have
+-- which parallel expressions.
 pub record May : Type 1 where
   pub calls : Option Elem → ℕ → List Elem → Type 0
   pub returns : Elem → Type 0
   pub names : Variable → Type 0
+  pub beside : Beside
 
 -- the same with other variables to name
 abbrev pub naming : May → (Variable → Type 0) → May
@@ -79,8 +87,21 @@ IsVariable may _ = ⊥
 abbrev pub elems_of : {n : _} → Row_of-TExpr n → List Elem
 elems_of arguments = map (λ (e : TExpr). (type_of e).elem) (items-the_row-TExpr _ arguments)
 
+-- the scalar variables that a parallel expression names are among these
+unfoldable pub ScalarsAmong : (Variable → Type 0) → TExpr → Type 0
+ScalarsAmong names (T.Variable ty x) = IsScalarType ty → names x
+ScalarsAmong names (T.Brackets' ty p inner) = ScalarsAmong names inner
+ScalarsAmong names (T.Convert' ty p operand) = ScalarsAmong names operand
+ScalarsAmong names (T.Promote' ty p operand) = ScalarsAmong names operand
+ScalarsAmong names (T.Unary' ty op p operand) = ScalarsAmong names operand
+ScalarsAmong names (T.Binary' ty place op p left q right) = ScalarsAmong names left × ScalarsAmong names right
+ScalarsAmong names (T.Assign' ty place op p target q value) = ScalarsAmong names target × ScalarsAmong names value
+ScalarsAmong names (T.Step' ty op order p target) = ScalarsAmong names target
+ScalarsAmong names (T.Reduce' ty op p operand) = ScalarsAmong names operand
+ScalarsAmong names _ = Unit {0}
+
 -- An expression whose value is used: of numbers, variables, `getchar`, operators, conversions and casts to any
--- scalar types, assignments and steps of scalar variables, and calls.
+-- scalar types, assignments and steps of scalar variables, calls, and folds of parallel values.
 unfoldable mutual
   pub IsIn : May → TExpr → Type 0
   IsIn may (T.Number ty value) = IsWord ty × (value < 2 ^ 32)
@@ -100,18 +121,25 @@ unfoldable mutual
   IsIn may (T.Assign' ty place op p target q value) = IsScalarType ty × (ty ≡ type_of target) × IsVariable may target × IsIn may value × IsGiven op (type_of target) (type_of value)
   IsIn may (T.Step' ty op order p target) = IsScalarType ty × (ty ≡ type_of target) × IsVariable may target
   IsIn may (T.Call' ty index p arguments) = IsScalarType ty × may.calls (Some ty.elem) index (elems_of arguments) × AreIn may arguments
+  IsIn may (T.Reduce' ty op p operand) = IsWord ty × may.beside.folds (T.Reduce' ty op p operand) × ScalarsAmong may.names (T.Reduce' ty op p operand)
   IsIn may _ = ⊥
 
   pub AreIn : {n : _} → May → Row_of-TExpr n → Type 0
   AreIn may end_of-TExpr = Unit {0}
   AreIn may (more_of-TExpr e rest) = IsIn may e × AreIn may rest
 
--- what is evaluated without its value being used: `printf` of numbers of 32 bits too, and a call of a function
--- without a result
+-- a parallel expression that the program may have, of scalar variables that may be named
+abbrev pub IsBeside : May → TExpr → Type 0
+IsBeside may e = may.beside.effects e × ScalarsAmong may.names e
+
+-- what is evaluated without its value being used: `printf` of numbers of 32 bits too, a call of a function without a
+-- result, and a parallel assignment or step
 unfoldable pub IsEffect : May → TExpr → Type 0
 IsEffect may (T.Printf' ty pieces p arguments) = AreIn may arguments × All (λ (elem : Elem). elem.bits ≡ 32) (elems_of arguments)
 IsEffect may (T.Call' ty index p arguments) = may.calls None index (elems_of arguments) × AreIn may arguments
 IsEffect may (T.Brackets' ty p inner) = IsEffect may inner
+IsEffect may (T.Assign' ty place op p target q value) = IsIn may (T.Assign' ty place op p target q value) ⊎ IsBeside may (T.Assign' ty place op p target q value)
+IsEffect may (T.Step' ty op order p target) = IsIn may (T.Step' ty op order p target) ⊎ IsBeside may (T.Step' ty op order p target)
 IsEffect may e = IsIn may e
 
 -- a scalar variable, as it is declared
@@ -150,6 +178,7 @@ unfoldable mutual
   IsInStatement may n S.Break = Unit {0}
   IsInStatement may n S.Continue = Unit {0}
   IsInStatement may n (S.Return e) = IfSome e (λ e. IsIn may e × may.returns (type_of e).elem)
+  IsInStatement may n (S.With' shape p body) = IsInStatement may n body
   IsInStatement may n _ = ⊥
 
   pub AreInStatements : {k : _} → May → ℕ → Row_of-TStmt k → Type 0
@@ -165,6 +194,7 @@ unfoldable mutual
   pub IsClosed : TStmt → Type 0
   IsClosed (S.Block' locals p statements) = AreClosed statements
   IsClosed (S.If' test p first second) = IsClosed first × IsClosedElse second
+  IsClosed (S.With' shape p body) = IsClosed body
   IsClosed S.Break = ⊥
   IsClosed S.Continue = ⊥
   IsClosed _ = Unit {0}
@@ -188,9 +218,9 @@ OfFileOrParam (V.File k) = Unit {0}
 OfFileOrParam (V.Param k) = Unit {0}
 OfFileOrParam (V.Local k) = ⊥
 
--- a variable of the file, which begins with a number of its type
-abbrev pub IsPlainVariable : VarInfo → Type 0
-IsPlainVariable info = IsScalarVariable info × (info.start < 2 ^ info.elem.bits)
+-- a variable of the file, which begins with a number of its type; a parallel one begins with 0
+abbrev pub IsFileVariable : Beside → VarInfo → Type 0
+IsFileVariable beside info = (IsScalarVariable info ⊎ (beside.variables info × (info.start ≡ 0))) × (info.start < 2 ^ info.elem.bits)
 
 -- a function of scalars, with a result or none
 pub record IsScalarFunction (may : May) (i : Instance) : Type 0 where
@@ -209,23 +239,31 @@ IsResult result elem = (info : VarInfo) × ((result ≡ Some info) × Takes elem
 
 -- What the body of a function calls, but for `main`, may be called with arguments that its parameters take, and
 -- with such a result where its value is used. What is returned is a number of the result's type, if there is a result.
-abbrev pub may_of : Typed → Instance → May
-may_of t i = record {
+abbrev pub may_of : Beside → Typed → Instance → May
+may_of beside t i = record {
   calls = λ used index given.
       (callee : Instance) × ((slice_get t.instances.items index ≡ Some callee) × (0 < index) × Contains (calls_within i.body) index × IfSome used (λ elem. IsResult callee.result elem) × AreTaken callee.params.items given);
   returns = λ elem. (info : VarInfo) → i.result ≡ Some info → Takes info.elem elem;
   names = OfFileOrParam;
+  beside = beside;
 }
 
 -- the numbers of the instances that each instance calls
 abbrev pub called_in : Typed → List (List ℕ)
 called_in t = map (λ (i : Instance). calls_within i.body) t.instances.items
 
--- A program of functions without recursion.
-pub record IsScalarProgram (t : Typed) : Type 0 where
+-- A program of functions without recursion, with such parallel expressions and variables beside the scalar ones.
+pub record IsProgramBeside (beside : Beside) (t : Typed) : Type 0 where
   pub main : Instance
   pub is_main : slice_get t.instances.items 0 ≡ Some main
   pub no_cycle : HasNoCycle (called_in t)
-  pub each : (number : ℕ) (i : Instance) → slice_get t.instances.items number ≡ Some i → IsScalarFunction (may_of t i) i
+  pub each : (number : ℕ) (i : Instance) → slice_get t.instances.items number ≡ Some i → IsScalarFunction (may_of beside t i) i
   pub names : (j k : ℕ) (a b : Instance) → slice_get t.instances.items j ≡ Some a → slice_get t.instances.items k ≡ Some b → a.name ≡ b.name → j ≡ k
-  pub variables : All IsPlainVariable t.vars.items
+  pub variables : All (IsFileVariable beside) t.vars.items
+
+-- one of scalars alone
+abbrev pub nothing_beside : Beside
+nothing_beside = record { effects = λ e. ⊥; folds = λ e. ⊥; variables = λ info. ⊥ }
+
+abbrev pub IsScalarProgram : Typed → Type 0
+IsScalarProgram t = IsProgramBeside nothing_beside t

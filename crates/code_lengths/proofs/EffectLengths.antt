@@ -24,12 +24,13 @@ use Rattle.lower_base.specs.Operators.{assign_op_of}
 use Rattle.lower_base.specs.Kinds.{bits_of, kind_of}
 use Rattle.lower_expr.specs.declared.operands.Own.{Own}
 use Rattle.lower_expr.specs.Effects.{bits_for, moved, register_converted, goes_unchanged, cast_to, converted_to, fits_field, field_binary_to, binary_to, logical_to, gone_to, computed_to, put_to, written_register, with_settled, register_operated, field_operated, variable_operated, variable_stepped, folds, writes_itself, assigned_own, whole_of, variable_assigned, assignment_effect, stepped_own, step_effect, effect_of, length_unchanged, converted_to_length, logical_to_length, computed_length, put_length, settled_length, operated_length, own_bits, assigned_length, stepped_length, assignment_length, step_effect_length, effect_length_of}
-use Rattle.lower_expr.specs.Kinds.{operand_bits, unary_bits}
+use Rattle.lower_expr.specs.Kinds.{done_as, operand_bits, unary_bits}
 use Rattle.lower_expr.specs.Joined.{joins}
 use Rattle.lower_expr.specs.Lengths.{joined_length_of, length_of, used_length_of, test_put_length, spot_length_of, load_length, load_length_of, bare, arm_length_of, choice_length, tested_length, tested_by_length, operate_length, reduce_length, unary_length, right_length, binary_length}
 use Rattle.lower_expr.specs.Operands.{is_plus, is_quiet, own_of, in_place, operand_length}
 use Rattle.lower_expr.specs.Steps.{is_kept, has_truth, has_word, register_word, word_of, word_for, word_put, negated}
 use Rattle.lower_expr.specs.Values.{Code, value_of, next_of, tested, register_binary_of, field_binary_of, condition_by, condition_of, joined_of, arm_of, scalar_choice_of}
+use Rattle.lower_expr.proofs.Unary.{is_plus_done}
 use Rattle.code_lengths.specs.Growth.{Extended, Stands, Anything}
 use Rattle.code_lengths.specs.Lowerable.{GivesValue, IsLowerable, IsValueFor}
 use Rattle.code_lengths.specs.Lowerable as L
@@ -186,11 +187,11 @@ binary_to_grows k t i l n O.Nothing e op place left right d s c g a ga b gb lk r
 
 -- a unary operator that is no `+`
 negated_to_grows : (k : Bool) (t : Typed) (i : Instance) (l : Layout) (n : ℕ) (dest : Out) (op : UnaryOp) (operand : TExpr) (d : Draft) → Stands k dest → HasCode t i n operand → GivesValue t operand → is_kept operand ≡ k → is_plus op ≡ false →
-    GrowsOn (ready t i l n) d (used_length_of t l (unary_bits (bits_for dest) op operand) true operand + unary_length l (bits_for dest) op (is_kept operand)) (Stands k)
-    (then_make (next_of t l (unary_bits (bits_for dest) op operand) true operand d) (λ v after. negated l op dest v after))
+    GrowsOn (ready t i l n) d (used_length_of t l (unary_bits (bits_for dest) op operand) true operand + unary_length l (bits_for dest) (done_as (bits_for dest) op operand) (is_kept operand)) (Stands k)
+    (then_make (next_of t l (unary_bits (bits_for dest) op operand) true operand d) (λ v after. negated l (done_as (bits_for dest) op operand) dest v after))
 negated_to_grows k t i l n dest op operand d s c g h p =
-    sized (Stands k) d _ _ _ (ap (λ (b : Bool). used_length_of t l (unary_bits (bits_for dest) op operand) true operand + unary_length l (bits_for dest) op b) (sym h))
-    (bind (Stands k) (Stands k) d _ _ _ _ (next_at k t i l n _ true operand c g h d) (λ v after at. plainly (negated_grows l (bits_for dest) op k dest v after p (own_bits_at k dest s) at)))
+    sized (Stands k) d _ _ _ (ap (λ (b : Bool). used_length_of t l (unary_bits (bits_for dest) op operand) true operand + unary_length l (bits_for dest) (done_as (bits_for dest) op operand) b) (sym h))
+    (bind (Stands k) (Stands k) d _ _ _ _ (next_at k t i l n _ true operand c g h d) (λ v after at. plainly (negated_grows l (bits_for dest) (done_as (bits_for dest) op operand) k dest v after (is_plus_done (bits_for dest) op operand ∙ p) (own_bits_at k dest s) at)))
 
 plus_suits : (k shaped : Bool) (operand : TExpr) → IsShaped operand → shaped ≡ is_kept operand → k ≡ shaped → Suits k operand
 plus_suits true shaped operand h a f = sym a ∙ sym f
@@ -257,7 +258,7 @@ computed_grows k t i l n dest (T.Convert' ty p operand) d s h w v u g =
 computed_grows k t i l n dest (T.Unary' ty op p operand) d s h w v u g =
     let a = sides k (T.Unary' ty op p operand) u refl in
     either_grows (Stands k) (is_plus op) d _ _ _ _ (λ _. computed_grows k t i l n dest operand d s h.1 w.1 v (plus_suits k (is_none ty.shape) operand h.1 h.0 a) w.0)
-    (λ e. sized (Stands k) d _ _ _ (ap (λ (b : Bool). (if b then length_of t l (bits_for dest) operand else used_length_of t l (unary_bits (bits_for dest) op operand) true operand) + unary_length l (bits_for dest) op (is_kept operand)) (sym e))
+    (λ e. sized (Stands k) d _ _ _ (ap (λ (b : Bool). (if b then length_of t l (bits_for dest) operand else used_length_of t l (unary_bits (bits_for dest) op operand) true operand) + unary_length l (bits_for dest) (done_as (bits_for dest) op operand) (is_kept operand)) (sym e))
     (negated_to_grows k t i l n dest op operand d s (has_code h.1 w.1 v) w.0 (sym h.0 ∙ sym a) e))
 computed_grows k t i l n dest (T.Binary' ty place op p left q right) d s h w v u g =
     let a = sides k (T.Binary' ty place op p left q right) u refl in

@@ -28,12 +28,14 @@ use Rattle.lower_comm.specs.Messages.{all_in_registers, all_somewhere, communica
 use Rattle.lower_comm.specs.News.{goes_by_news}
 use Rattle.lower_expr.specs.declared.spots.Spot.{Spot}
 use Rattle.lower_expr.specs.declared.spots.Spot.TheVariants as S
+use Rattle.lower_expr.specs.Kinds.{done_as}
 use Rattle.lower_expr.specs.Lengths.{cast_length, conversion_length, length_of, truth_length_of, tested_length, tested_by_length, arm_length_of, used_length_of, is_send, spot_length_of, lengths_of, call_length, bare, load_length, load_length_of, located_length, moves_length, read_length, reduce_length, news_length, news_moves, news_checked, elements_length, index_check_length}
-use Rattle.lower_expr.specs.Operands.{are_quiet, operand_by, operand_length}
+use Rattle.lower_expr.specs.Operands.{are_quiet, is_plus, operand_by, operand_length}
 use Rattle.lower_expr.specs.Positions.{known_position}
 use Rattle.lower_expr.specs.Spots.{variable_spot}
 use Rattle.lower_expr.specs.Steps.{has_truth, is_kept, pieces_printed}
 use Rattle.lower_expr.specs.Values.{Code, Codes, Test, cast_from, condition_by, register_cast_by, value_of, truth_of, spot_of, values_of, element_spot, indexed_spot, news_to, read_by, index_read_to, index_read_by, message_to, message_by, call_to}
+use Rattle.lower_expr.proofs.Unary.{is_plus_done}
 use Rattle.code_lengths.specs.Growth.{Grows, Stands, Anything}
 use Rattle.code_lengths.specs.Lowerable.{AreLowerable, Calls, GivesValue, IsLowerable}
 use Rattle.code_lengths.specs.Lowerable as L
@@ -371,7 +373,7 @@ mutual
       as_said t (is_none ty.shape) _ d _ _ refl (binary_grows ty.shape bits op place _ left _ _ right _ d w.0.in_register w.1.in_register
       (operand_code t i l n _ _ left _ _ h.0 w.2 v.0 w.0.gives (value_grows t i l n _ left h.0 w.2 v.0)) (operand_code t i l n _ _ right _ _ h.1 w.3 v.1 w.1.gives (value_grows t i l n _ right h.1 w.3 v.1)))
   value_grows t i l n bits (T.Unary' ty op p operand) h w v d =
-      as_said t (is_kept operand) _ d _ _ (sym h.0) (unary_grows l ty bits op (is_kept operand) _ _ _ _ d h.0 (given_code t i l n operand _ _ w.0 (value_grows t i l n bits operand h.1 w.1 v))
+      as_said t (is_kept operand) _ d _ _ (sym h.0) (unary_grows (is_plus op) l ty bits (done_as bits op operand) (is_kept operand) _ _ _ _ d (is_plus_done bits op operand) h.0 (given_code t i l n operand _ _ w.0 (value_grows t i l n bits operand h.1 w.1 v))
       (operand_code t i l n _ true operand _ _ h.1 w.1 v w.0 (value_grows t i l n _ operand h.1 w.1 v)))
   value_grows t i l n bits (T.Step' ty op order p target) h w v d =
       let k = ap (λ (y : ValueType). is_none y.shape) (bare_type target h.1) in

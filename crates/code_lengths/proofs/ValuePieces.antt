@@ -585,10 +585,11 @@ unary_rest false l ty bits op k code operand n m d h e c o =
     bind (Stands k) _ between m _ _ _ (o between) (λ v after t. plainly (negated_grows l bits op k dest v after h s t))))
 
 -- the operand of `+` is the value, and that of another operator may stand where it is
-pub unary_grows : {on : Basis} (l : Layout) (ty : ValueType) (bits : ℕ) (op : UnaryOp) (k : Bool) (code operand : Code) (n m : ℕ) (d : Draft) → is_none ty.shape ≡ k → IsCode on n k code → IsCode on m k operand →
-    GrowsOn on d ((if is_plus op then n else m) + unary_length l bits op k) (Stands k) (unary_by l ty bits op code operand d)
+pub unary_grows : {on : Basis} (plus : Bool) (l : Layout) (ty : ValueType) (bits : ℕ) (op : UnaryOp) (k : Bool) (code operand : Code) (n m : ℕ) (d : Draft) → is_plus op ≡ plus → is_none ty.shape ≡ k → IsCode on n k code → IsCode on m k operand →
+    GrowsOn on d ((if plus then n else m) + unary_length l bits op k) (Stands k) (unary_by l ty bits op code operand d)
 unfolding unary_by
-unary_grows l ty bits op k code operand n m d h c o = unary_rest (is_plus op) l ty bits op k code operand n m d refl h c o
+unary_grows plus l ty bits op k code operand n m d is h c o =
+    sized _ d _ _ _ (ap (λ (b : Bool). (if b then n else m) + unary_length l bits op k) is) (unary_rest (is_plus op) l ty bits op k code operand n m d refl h c o)
 
 pub coordinate_grows : {on : Basis} (shape : Option ℕ) (bits axis : ℕ) (d : Draft) → GrowsOn on d 1 InField (coordinate_in shape bits axis d)
 unfolding coordinate_in

@@ -20,6 +20,3 @@ pub use laws::{encodings_are_sound, every_state};
 pub use message::Message;
 pub use phase::Phase;
 pub use worker::{CLAIM_SLOTS, Held, Worker, claim_count};
-
-#[cfg(test)]
-mod tests;

@@ -11,13 +11,9 @@ mod real_keep;
 mod real_shelf;
 mod real_sink;
 mod real_source;
-#[cfg(test)]
-mod real_tests;
 mod shelf;
 mod sink;
 mod source;
-#[cfg(test)]
-mod tests;
 mod traits;
 
 pub use call::Call;

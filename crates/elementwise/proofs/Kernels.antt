@@ -41,12 +41,14 @@ use Rattle.block_store.proofs.Lanes.{run_is}
 use Rattle.elementwise.specs.declared.planar.Work.{Work}
 use Rattle.elementwise.specs.declared.planar.Work.TheVariants as K
 use Rattle.elementwise.specs.declared.planar.Planar.TheVariants as L
+use Rattle.elementwise.specs.declared.planar.Kernel.{Kernel}
 use Rattle.elementwise.specs.Blocks.{block_memory, DoneInBlock}
 use Rattle.elementwise.specs.declared.relations.Relation.{Relation}
 use Rattle.elementwise.specs.Relations.{relation_number, IsRelationOf}
 use Rattle.elementwise.specs.declared.ways.Way.{Way}
-use Rattle.elementwise.specs.Planar.{gives_work, operation_of}
+use Rattle.elementwise.specs.Planar.{gives_work, kernel_number, operation_of, IsKernelOf}
 use Rattle.elementwise.specs.Ways.{by_kernel, IsWayOf}
+use Rattle.elementwise.proofs.Bits.{bit_at_itself}
 use Rattle.elementwise.proofs.Orders.{least_is, greatest_is}
 use Rattle.elementwise.proofs.Products.{product_is}
 use Rattle.elementwise.proofs.Written.{given_lanes, taken}
@@ -183,9 +185,6 @@ none_done shapes instr args k run always extents bits mask old is at ge be none 
     (taken shapes k run (destination shapes instr) always extents bits mask old is ge be takes)
     (λ i b within. refl)
 
-bit_at_itself : (b : ℕ) → b < 2 → bit_at b 0 ≡ b
-bit_at_itself b h = omega arith
-
 -- one plane that is written has become a run of numbers of one bit
 pub plane_written : (at : ℕ) (value lanes : List ℕ) (old new : List Plane) → Writes at value lanes old new → LanesWritten at 1 lanes (λ i. bit value i) old new
 plane_written at value lanes old new done = record {
@@ -200,18 +199,37 @@ plane_written at value lanes old new done = record {
   outside = λ j o. done.others j (elim o [ inl l ↦ λ e. omega arith | inr g ↦ λ e. omega arith ]);
 }
 
--- a block in which the relation stands
+-- a block in which a plane stands that is what the instruction gives
+plane_done : (shapes : List SetShape) (instr : Instr) (args : List ℕ) (k : ℕ) (numbers : ℕ → ℕ) (run : Field) (always : Bool) (extents : List ℕ) (bits : ℕ) (mask value : List ℕ) (old new : List Plane)
+    → run ≡ destination shapes instr → always ≡ writes_always instr → extents ≡ extents_at shapes run.set → bits ≡ bits_at shapes run.set
+    → LanesWritten run.offset 1 mask (λ i. bit value i) old new → TakesLanes extents k always (plane_at old bits) mask
+    → ((i : ℕ) → i < 512 → bit value i ≡ numbers i) → width_of shapes instr ≡ 1
+    → ((p : ℕ) → numbers (p % 512) % 2 ^ width_of shapes instr ≡ element shapes instr args (block_memory old) p % 2 ^ width_of shapes instr)
+    → DoneInBlock shapes instr args k old new
+plane_done shapes instr args k numbers run always extents bits mask value old new is at ge be done takes has flag same =
+    given_lanes shapes instr args k always mask (λ i. bit value i) old new at
+    (subst (λ n. LanesWritten (destination shapes instr).offset n mask (λ i. bit value i) old new) (sym flag)
+    (subst (λ (f : Field). LanesWritten f.offset 1 mask (λ i. bit value i) old new) is done))
+    (taken shapes k run (destination shapes instr) always extents bits mask old is ge be takes)
+    (λ i b within. ap (λ n. n % 2 ^ width_of shapes instr) (has i b ∙ ap numbers (let e : i ≡ (512 * k + i) % 512 = omega (arith, b) in e)) ∙ same (512 * k + i))
+
+-- by a kernel
+pub kernel_done : (shapes : List SetShape) (instr : Instr) (args : List ℕ) (k : ℕ) (kernel : Kernel) (run : Field) (always : Bool) (extents : List ℕ) (bits : ℕ) (mask value : List ℕ) (old new : List Plane)
+    → run ≡ destination shapes instr → always ≡ writes_always instr → extents ≡ extents_at shapes run.set → bits ≡ bits_at shapes run.set
+    → LanesWritten run.offset 1 mask (λ i. bit value i) old new → TakesLanes extents k always (plane_at old bits) mask
+    → ((i : ℕ) → i < 512 → bit value i ≡ kernel_number kernel old 1 i) → width_of shapes instr ≡ 1 → IsKernelOf shapes instr args kernel → DoneInBlock shapes instr args k old new
+kernel_done shapes instr args k kernel run always extents bits mask value old new is at ge be done takes has flag does =
+    plane_done shapes instr args k (kernel_number kernel old 1) run always extents bits mask value old new is at ge be done takes has flag
+    (λ p. ap (λ m. kernel_number kernel old m (p % 512) % 2 ^ width_of shapes instr) (sym flag) ∙ does.same old p)
+
+-- by a relation
 pub relation_done : (shapes : List SetShape) (instr : Instr) (args : List ℕ) (k : ℕ) (r : Relation) (run : Field) (always : Bool) (extents : List ℕ) (bits : ℕ) (mask value : List ℕ) (old new : List Plane)
     → run ≡ destination shapes instr → always ≡ writes_always instr → extents ≡ extents_at shapes run.set → bits ≡ bits_at shapes run.set
     → LanesWritten run.offset 1 mask (λ i. bit value i) old new → TakesLanes extents k always (plane_at old bits) mask
     → ((i : ℕ) → i < 512 → bit value i ≡ relation_number r old i) → IsRelationOf shapes instr args r → DoneInBlock shapes instr args k old new
 relation_done shapes instr args k r run always extents bits mask value old new is at ge be done takes has does =
-    given_lanes shapes instr args k always mask (λ i. bit value i) old new at
-    (subst (λ n. LanesWritten (destination shapes instr).offset n mask (λ i. bit value i) old new) (sym does.flag)
-    (subst (λ (f : Field). LanesWritten f.offset 1 mask (λ i. bit value i) old new) is done))
-    (taken shapes k run (destination shapes instr) always extents bits mask old is ge be takes)
-    (λ i b within. ap (λ n. n % 2 ^ width_of shapes instr)
-    (has i b ∙ ap (relation_number r old) (let e : i ≡ (512 * k + i) % 512 = omega (arith, b) in e) ∙ does.same old (512 * k + i)))
+    plane_done shapes instr args k (relation_number r old) run always extents bits mask value old new is at ge be done takes has does.flag
+    (λ p. ap (λ n. n % 2 ^ width_of shapes instr) (does.same old p))
 
 -- the relations of an instruction
 pub field_number_is : (planes : List Plane) (f : Field) (p : ℕ) → number planes f.offset f.len (p % 512) ≡ field_number (block_memory planes) f p

@@ -1,3 +1,4 @@
+pub mod Bits
 pub mod Constants
 pub mod Coordinates
 pub mod Copies

@@ -20,7 +20,7 @@ use crate::checks::first_lane;
 use crate::columns::all_lanes;
 use crate::lanes::words_given;
 use crate::moved::Moved;
-use crate::planar::{Kernel, Planar, Work, can_work_in_place, operate_in_place};
+use crate::planar::{Kernel, Planar, Work, can_work_in_place, on_bits, operate_in_place};
 use crate::ways::Way;
 use crate::writes::{Written, plan_of};
 use bit_planes::Block;
@@ -30,7 +30,9 @@ use paris_code::{Instr, Operation};
 use phase_meaning::arith::{mask, operate};
 use std::simd::prelude::*;
 
-/// Does an elementwise instruction in block `k` of its set, by the numbers of the lanes.
+/// Does an elementwise instruction in block `k` of its set, by the numbers of the lanes. Not inlined:
+/// those numbers would make the frame of each instruction on planes pages large.
+#[inline(never)]
 fn by_values(plans: &[SetPlan], block: &mut Block, instr: &Instr, args: &[u32], to: Written, k: u32)
     requires can { CanApply (map shape_of_plan plans.now) instr.now args.now }
     requires elementwise { is_elementwise instr.now ≡ true }
@@ -113,7 +115,8 @@ fn operated(op: Operation, len: u8, x: &[u32; 512], y: &[u32; 512]) -> [u32; 512
     }
 }
 
-/// The same on the numbers of the lanes.
+/// The same on the numbers of the lanes. Not inlined, as above.
+#[inline(never)]
 fn by_numbers(block: &mut Block, op: Operation, a: &Operand, b: &Operand, to: &Target)
     requires target { HasTarget to.now block.old.planes.items }
     requires a { IsWithin a.now to.now.len block.old.planes.items }
@@ -135,7 +138,10 @@ fn by_kernel(block: &mut Block, kernel: &Kernel, to: &Target)
 {
     match kernel.op {
         Work::Planes(op) => by_planes(block, op, &kernel.a, &kernel.b, to),
-        Work::Values(op) => by_numbers(block, op, &kernel.a, &kernel.b, to),
+        Work::Values(op) => {
+            let to = *to;
+            by_numbers(block, op, &kernel.a, &kernel.b, &to);
+        }
     }
 }
 
@@ -157,8 +163,8 @@ fn put_plane(block: &mut Block, at: u32, lanes: u64x8, value: u64x8)
 }
 
 /// Does an elementwise instruction in block `k` of its set: by its kernel or moved field, where no
-/// plane is read after it is written, by its relation, and else by what it gives each lane. Where it
-/// writes in no lane, nothing is to be done.
+/// plane is read after it is written, by its relation, and else by what it gives each lane. A plane
+/// alone is read and combined first, and then put. Where it writes in no lane, nothing is to be done.
 pub(crate) fn do_in_block(
     plans: &[SetPlan],
     block: &mut Block,
@@ -181,9 +187,16 @@ pub(crate) fn do_in_block(
     if first_lane(lanes) == 512 {
         return;
     }
-    let target = Target::at(to.run.offset, to.run.len, lanes);
     match way {
         Way::Kernel(kernel) => {
+            if to.run.len == 1 {
+                if let Work::Planes(op) = kernel.op {
+                    let value = on_bits(&block.planes, op, &kernel.a, &kernel.b);
+                    put_plane(block, to.run.offset, lanes, value);
+                    return;
+                }
+            }
+            let target = Target::at(to.run.offset, to.run.len, lanes);
             if can_work_in_place(kernel, &target) {
                 by_kernel(block, kernel, &target);
             } else {
@@ -191,6 +204,7 @@ pub(crate) fn do_in_block(
             }
         }
         Way::Moved(moved) => {
+            let target = Target::at(to.run.offset, to.run.len, lanes);
             if moved.can_work_in_place(&target) {
                 by_moving(block, moved, &target);
             } else {

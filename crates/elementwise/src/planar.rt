@@ -1,14 +1,17 @@
 //! What is done plane by plane: kernels on operands that are fields or constants.
 
-ghost use Rattle.std.specs.Prelude.{◌≡◌, ℕ, List, Some, IsTrue};
+ghost use Rattle.std.specs.Prelude.{◌≡◌, ℕ, ◌<◌, List, Some, IsTrue, if◌then◌else◌, min, max};
+ghost use Rattle.bit_planes.specs.Bits.{bit};
 ghost use Rattle.bit_planes.specs.declared.plane.Plane.{Plane};
 ghost use Rattle.lane_kernels.specs.Kernels.{operand_of, HasTarget, IsReadable, IsWithin, Becomes};
 ghost use Rattle.elementwise.specs.Planar.{gives, operation_of};
 
 use crate::overlap::is_readable_up;
 use bit_planes::Plane;
+use bit_planes::plane::{both, differ, either, opposite};
 use lane_kernels::{Operand, Target, in_place};
 use paris_code::Operation;
+use std::simd::prelude::*;
 
 /// An operation that a kernel does on planes.
 #[derive(Clone, Copy)]
@@ -86,12 +89,55 @@ pub(crate) fn operate_in_place(
         Planar::Negative => in_place::negate(planes, to, a),
         Planar::Add => in_place::add(planes, to, a, b),
         Planar::Subtract => in_place::subtract(planes, to, a, b),
-        Planar::Multiply => in_place::multiply(planes, to, a, b),
+        Planar::Multiply => {
+            let to = *to;
+            in_place::multiply(planes, &to, a, b);
+        }
         Planar::And => in_place::and(planes, to, a, b),
         Planar::Or => in_place::or(planes, to, a, b),
         Planar::Xor => in_place::xor(planes, to, a, b),
         Planar::Min { unsigned } => in_place::min(planes, to, a, b, unsigned),
         Planar::Max { unsigned } => in_place::max(planes, to, a, b, unsigned),
+    }
+}
+
+/// The lesser bits. Of numbers that are not unsigned, 1 is below 0.
+#[inline(always)]
+fn lesser(x: u64x8, y: u64x8, unsigned: bool) -> u64x8
+    ensures { (i : ℕ) → i < 512 → bit result i ≡ (if unsigned then min (bit x i) (bit y i) else max (bit x i) (bit y i)) }
+{
+    if unsigned { both(x, y) } else { either(x, y) }
+}
+
+/// The greater bits.
+#[inline(always)]
+fn greater(x: u64x8, y: u64x8, unsigned: bool) -> u64x8
+    ensures { (i : ℕ) → i < 512 → bit result i ≡ (if unsigned then max (bit x i) (bit y i) else min (bit x i) (bit y i)) }
+{
+    if unsigned { either(x, y) } else { both(x, y) }
+}
+
+/// What the operation gives on operands of one bit, as a plane: on bits each operation is a move or a
+/// gate.
+pub(crate) fn on_bits(planes: &[Plane], op: Planar, a: &Operand, b: &Operand) -> u64x8
+    requires a { IsWithin a.now 1 planes.now }
+    requires b { IsWithin b.now 1 planes.now }
+    ensures { (i : ℕ) → i < 512 → bit result i ≡ gives op 1 (operand_of a.now planes.now 1 i) (operand_of b.now planes.now 1 i) }
+{
+    let x = a.plane(planes, 0);
+    let y = b.plane(planes, 0);
+    match op {
+        Planar::Same => x,
+        Planar::Complement => opposite(x),
+        Planar::Negative => x,
+        Planar::Add => differ(x, y),
+        Planar::Subtract => differ(x, y),
+        Planar::Multiply => both(x, y),
+        Planar::And => both(x, y),
+        Planar::Or => either(x, y),
+        Planar::Xor => differ(x, y),
+        Planar::Min { unsigned } => lesser(x, y, unsigned),
+        Planar::Max { unsigned } => greater(x, y, unsigned),
     }
 }
 

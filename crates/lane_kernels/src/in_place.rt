@@ -318,7 +318,9 @@ fn read(rows: &mut Rows, planes: &[Plane], a: &Operand, len: u8)
     }
 }
 
-/// The products. The operands may overlap the target in any way.
+/// The products. The operands may overlap the target in any way. Not inlined: its rows of numbers
+/// would make the caller's frame larger by pages.
+#[inline(never)]
 pub fn multiply(planes: &mut [Plane], to: &Target, a: &Operand, b: &Operand)
     requires target { HasTarget to.now planes.old }
     requires a { IsWithin a.now to.now.len planes.old }

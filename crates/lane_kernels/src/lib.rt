@@ -8,8 +8,6 @@ mod counting;
 mod gates;
 pub mod in_place;
 mod target;
-#[cfg(test)]
-mod tests;
 
 pub use columns::{
     add, and, equal, less, max, min, negate, not, or, resize, select, shift_left, shift_right,

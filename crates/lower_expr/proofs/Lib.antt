@@ -3,3 +3,4 @@ pub mod Coordinates
 pub mod Elements
 pub mod Lists
 pub mod Relations
+pub mod Unary

@@ -21,7 +21,7 @@ use Rattle.lower_base.specs.Layouts.{Layout}
 use Rattle.lower_base.specs.Operators.{assign_op_of, relates}
 use Rattle.lower_expr.specs.declared.operands.Own.{Own}
 use Rattle.lower_expr.specs.Joined.{is_flag, joins}
-use Rattle.lower_expr.specs.Kinds.{operand_bits, operation_bits, reduced_bits, unary_bits, works_within}
+use Rattle.lower_expr.specs.Kinds.{done_as, operand_bits, operation_bits, reduced_bits, unary_bits, works_within}
 use Rattle.lower_expr.specs.Lengths.{joined_length_of, length_of, operate_length, right_length, test_put_length, tested_length, used_length_of}
 use Rattle.lower_expr.specs.Operands.{are_quiet, is_plus, own_of, standing}
 use Rattle.lower_expr.specs.Steps.{is_kept, has_word, word_for, word_put, put_value, operated, right_operated, negated, assigned_signed}
@@ -97,7 +97,7 @@ computed_to t l dest (T.Convert' ty p operand) d =
     else converted_to t l dest (T.Convert' ty p operand) ty.elem operand d
 computed_to t l dest (T.Unary' ty op p operand) d =
     if is_plus op then computed_to t l dest operand d
-    else then_make (next_of t l (unary_bits (bits_for dest) op operand) true operand d) (λ v after. negated l op dest v after)
+    else then_make (next_of t l (unary_bits (bits_for dest) op operand) true operand d) (λ v after. negated l (done_as (bits_for dest) op operand) dest v after)
 computed_to t l dest (T.Binary' ty place op p left q right) d = binary_to t l dest (T.Binary' ty place op p left q right) op place left right d
 computed_to t l dest (T.LogicalOr' ty p left q right) d = logical_to t l dest (T.LogicalOr' ty p left q right) true left right d
 computed_to t l dest (T.LogicalAnd' ty p left q right) d = logical_to t l dest (T.LogicalAnd' ty p left q right) false left right d

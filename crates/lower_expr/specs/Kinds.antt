@@ -11,6 +11,7 @@ use Rattle.cstar_tree.specs.declared.syntax.AssignOp.{AssignOp}
 use Rattle.cstar_tree.specs.declared.syntax.ReduceOp.{ReduceOp}
 use Rattle.cstar_tree.specs.declared.typed.TExpr.{TExpr}
 use Rattle.cstar_tree.specs.declared.typed.UnaryOp.{UnaryOp}
+use Rattle.cstar_tree.specs.declared.typed.UnaryOp.TheVariants as Un
 use Rattle.cstar_tree.specs.declared.typed.ValueType.{ValueType}
 use Rattle.cstar_tree.specs.Typed.{type_of}
 use Rattle.source_meaning.specs.Reductions.{int_type}
@@ -66,6 +67,12 @@ reads_signed op left right =
 -- how many bits of its operand a unary operator needs
 unfoldable pub unary_bits : ℕ → UnaryOp → TExpr → ℕ
 unary_bits bits op operand = if negates op then bits_of (kind_of operand) else bits
+
+-- The unary operator that is done: `!` of a parallel value that has one bit, where one bit is wanted, is
+-- done as its complement.
+unfoldable pub done_as : ℕ → UnaryOp → TExpr → UnaryOp
+done_as bits op operand =
+    if negates op && (bits == 1 && (not (is_kept operand) && bits_of (kind_of operand) == 1)) then Un.Complement else op
 
 -- Is what is wanted of a converted value that of the value itself? One that is kept in a register is
 -- converted there, unless it keeps all its bits.

@@ -24,7 +24,7 @@ use Rattle.lower_base.specs.Layouts.{Layout, elements_of}
 use Rattle.lower_comm.specs.News.{step_of, goes_by_news}
 use Rattle.lower_base.specs.Operators.{assign_op_of, reduce_op_of, relates}
 use Rattle.lower_expr.specs.Joined.{joins, flag_length}
-use Rattle.lower_expr.specs.Kinds.{assigned_bits, list_bits, operand_bits, operator_bits, reduced_bits, relation_kind, unary_bits}
+use Rattle.lower_expr.specs.Kinds.{assigned_bits, done_as, list_bits, operand_bits, operator_bits, reduced_bits, relation_kind, unary_bits}
 use Rattle.lower_expr.specs.Operands.{is_plus, is_quiet, are_quiet, operand_length}
 use Rattle.lower_expr.specs.Positions.{known_position}
 use Rattle.lower_expr.specs.Steps.{is_kept, has_truth, has_word, word_of, word_taken}
@@ -259,7 +259,7 @@ unfoldable mutual
   length_of t l bits (T.Unary' ty op p operand) =
       (if is_plus op then length_of t l bits operand
       else operand_length l (unary_bits bits op operand) (length_of t l (unary_bits bits op operand) operand) true operand)
-      + unary_length l bits op (is_kept operand)
+      + unary_length l bits (done_as bits op operand) (is_kept operand)
   length_of t l bits (T.Step' ty op order p target) = step_length t l target (spot_length_of t l target)
   length_of t l bits (T.Reduce' ty op p operand) =
       operand_length l (reduced_bits op operand) (length_of t l (reduced_bits op operand) operand) true operand + reduce_length op operand

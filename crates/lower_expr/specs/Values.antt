@@ -42,7 +42,7 @@ use Rattle.lower_expr.specs.declared.steps.Right.{Right}
 use Rattle.lower_expr.specs.declared.steps.Right.TheVariants as R
 use Rattle.lower_expr.specs.Frames.{called}
 use Rattle.lower_expr.specs.Joined.{joins, is_flag, flag_by, joined}
-use Rattle.lower_expr.specs.Kinds.{assigned_bits, list_bits, operand_bits, operator_bits, reads_signed, reduced_bits, relation_kind, result_bits, unary_bits}
+use Rattle.lower_expr.specs.Kinds.{assigned_bits, done_as, list_bits, operand_bits, operator_bits, reads_signed, reduced_bits, relation_kind, result_bits, unary_bits}
 use Rattle.lower_expr.specs.Lengths.{is_send, length_of, arm_length_of, test_put_length, tested_length}
 use Rattle.lower_expr.specs.Operands.{is_plus, is_quiet, are_quiet, all_quiet, operand_by, operand_length}
 use Rattle.lower_expr.specs.Positions.{known_position}
@@ -465,7 +465,7 @@ unfoldable mutual
       (operand_by t l (operand_bits bits op left right) (value_of t l (operand_bits bits op left right) left) (is_quiet right) left) left
       (operand_by t l (operand_bits bits op left right) (value_of t l (operand_bits bits op left right) right) true right) right d
   value_of t l bits (T.Unary' ty op p operand) d =
-      unary_by l ty bits op (value_of t l bits operand)
+      unary_by l ty bits (done_as bits op operand) (value_of t l bits operand)
       (operand_by t l (unary_bits bits op operand) (value_of t l (unary_bits bits op operand) operand) true operand) d
   value_of t l bits (T.Step' ty op order p target) d =
       step_by t l (T.Step' ty op order p target) bits op order target (spot_of t l target) d

@@ -6,7 +6,7 @@ ghost use Rattle.lower_base.specs.declared.emit.Out.TheVariants as O;
 ghost use Rattle.lower_base.specs.Drafts.{IsMade, Makes, draft, out_of, then_make};
 ghost use Rattle.lower_base.specs.Layouts.{layout};
 ghost use Rattle.lower_expr.specs.Effects.{assigned_own, assignment_effect, binary_to, bits_for, cast_to, computed_to, converted_to, effect_of, field_binary_to, field_operated, fits_field, folds, goes_unchanged, keeps_bits, logical_to, moved, put_to, register_converted, register_operated, stepped_own, variable_assigned, variable_operated, variable_stepped, whole_of, with_settled, writes_itself, written_register};
-ghost use Rattle.lower_expr.specs.Kinds.{unary_bits};
+ghost use Rattle.lower_expr.specs.Kinds.{done_as, unary_bits};
 ghost use Rattle.lower_expr.specs.Operands.{is_plus};
 ghost use Rattle.lower_expr.specs.Steps.{negated};
 ghost use Rattle.lower_expr.specs.Values.{next_of, step_operation, value_of};
@@ -15,7 +15,7 @@ use crate::assign::step_operation;
 use crate::conditions::{join_to, scalar_choice, test};
 use crate::conversions::{operand, right_operand};
 use crate::joined::{is_flag, joins};
-use crate::kinds::{operation_bits, reduced_bits, unary_bits, works_within};
+use crate::kinds::{done_as, operation_bits, reduced_bits, unary_bits, works_within};
 use crate::operands::{Own, is_plus, own_of, standing};
 use crate::parts::{Assignment, Binary, Choice, Operator};
 use crate::places::{read_indexed_to, read_to};
@@ -280,7 +280,7 @@ fn compute_to(view: &View, dest: Operand, e: &TExpr, u: &mut Unit) -> Result<(),
 }
 
 /// A unary operator other than `+`, whose result goes to a register or a field.
-#[tactic(auto, unfolding(lower_base::specs::Drafts::IsMade, lower_base::specs::Drafts::IsSomewhere, crate::specs::Steps::negated, lower_base::specs::Drafts::then_make, lower_base::specs::Drafts::in_register, lower_base::specs::Drafts::in_field))]
+#[tactic(auto, using(crate::proofs::Unary::is_plus_done), unfolding(lower_base::specs::Drafts::IsMade, lower_base::specs::Drafts::IsSomewhere, crate::specs::Steps::negated, lower_base::specs::Drafts::then_make, lower_base::specs::Drafts::in_register, lower_base::specs::Drafts::in_field))]
 fn negate_to(
     view: &View,
     dest: Operand,
@@ -289,12 +289,12 @@ fn negate_to(
     u: &mut Unit,
 ) -> Result<(), Memory>
     requires coded { is_plus op ≡ false }
-    requires made { IsMade (then_make (next_of view.now.typed.now (layout view.now.names) (unary_bits (bits_for (out_of dest)) op inner.now) true inner.now (draft u.old)) (λ v after. negated (layout view.now.names) op (out_of dest) v after)) }
-    ensures draft { OnOk result (then_make (next_of view.now.typed.now (layout view.now.names) (unary_bits (bits_for (out_of dest)) op inner.now) true inner.now (draft u.old)) (λ v after. negated (layout view.now.names) op (out_of dest) v after) ≡ Makes (out_of dest) (draft u.new)) }
+    requires made { IsMade (then_make (next_of view.now.typed.now (layout view.now.names) (unary_bits (bits_for (out_of dest)) op inner.now) true inner.now (draft u.old)) (λ v after. negated (layout view.now.names) (done_as (bits_for (out_of dest)) op inner.now) (out_of dest) v after)) }
+    ensures draft { OnOk result (then_make (next_of view.now.typed.now (layout view.now.names) (unary_bits (bits_for (out_of dest)) op inner.now) true inner.now (draft u.old)) (λ v after. negated (layout view.now.names) (done_as (bits_for (out_of dest)) op inner.now) (out_of dest) v after) ≡ Makes (out_of dest) (draft u.new)) }
 {
-    let bits = unary_bits(bits_for(dest), op, inner);
-    let v = operand(view, bits, true, inner, u)?;
-    unary(view, op, dest, v.operand(), u)
+    let bits = bits_for(dest);
+    let v = operand(view, unary_bits(bits, op, inner), true, inner, u)?;
+    unary(view, done_as(bits, op, inner), dest, v.operand(), u)
 }
 
 /// `||`, or else `&&`, the value `e`, whose result goes to a register or a field: by its operation

@@ -5,7 +5,7 @@
 ghost use Rattle.std.specs.Prelude.{◌≡◌, Some, true};
 ghost use Rattle.cstar_tree.specs.Typed.{type_of};
 ghost use Rattle.lower_base.specs.Kinds.{bits_of, kind_of};
-ghost use Rattle.lower_expr.specs.Kinds.{assigned_bits, has_number, is_modular, is_unchanged, kind_with, list_bits, longer, operand_bits, operation_bits, operator_bits, reads_signed, reduced_bits, relation_kind, result_bits, shifts_within, unary_bits, works_within};
+ghost use Rattle.lower_expr.specs.Kinds.{assigned_bits, done_as, has_number, is_modular, is_unchanged, kind_with, list_bits, longer, operand_bits, operation_bits, operator_bits, reads_signed, reduced_bits, relation_kind, result_bits, shifts_within, unary_bits, works_within};
 
 use crate::steps::{constant_word, stays_scalar};
 use cstar_base::{Elem, Op, numbers};
@@ -141,6 +141,19 @@ pub fn unary_bits(bits: u8, op: UnaryOp, operand: &TExpr) -> u8
         test_bits(operand)
     } else {
         bits
+    }
+}
+
+/// The unary operator that is done: `!` of a parallel value that has one bit, where one bit is wanted, is
+/// done as its complement.
+#[tactic(auto, unfolding(crate::specs::Kinds::done_as))]
+pub fn done_as(bits: u8, op: UnaryOp, operand: &TExpr) -> UnaryOp
+    ensures { result ≡ done_as bits op operand.now }
+{
+    if negates(op) && bits == 1 && !stays_scalar(operand) && test_bits(operand) == 1 {
+        UnaryOp::Complement
+    } else {
+        op
     }
 }
 

@@ -12,7 +12,8 @@ ghost use Rattle.lower_expr.specs.Steps.{has_truth, is_kept};
 use crate::assign::is_send;
 use crate::joined::{is_flag, joins};
 use crate::kinds::{
-    assigned_bits, list_bits, operand_bits, reduced_bits, relation_bits, test_bits, unary_bits,
+    assigned_bits, done_as, list_bits, operand_bits, reduced_bits, relation_bits, test_bits,
+    unary_bits,
 };
 use crate::operands::{are_quiet, held, in_place, is_plus, is_quiet};
 use crate::operator_lengths::{
@@ -67,7 +68,8 @@ pub fn length(view: &View, bits: u8, e: &TExpr) -> Result<u32, Memory>
             } else {
                 used_length(view, unary_bits(bits, *op, operand), true, operand)?
             };
-            plus(n, unary_length(view, bits, *op, stays_scalar(operand))?)
+            let op = done_as(bits, *op, operand);
+            plus(n, unary_length(view, bits, op, stays_scalar(operand))?)
         }
         TExpr::Reduce { op, operand, .. } => {
             let n = used_length(view, reduced_bits(*op, operand), true, operand)?;

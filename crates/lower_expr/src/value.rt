@@ -6,13 +6,13 @@ ghost use Rattle.std.specs.Prelude.{◌≡◌, [], true, IfOk, OnOk};
 ghost use Rattle.lower_base.specs.Drafts.{IsMade, Makes, draft, out_of};
 ghost use Rattle.lower_base.specs.Layouts.{layout};
 ghost use Rattle.lower_base.specs.declared.emit.Out.TheVariants as O;
-ghost use Rattle.lower_expr.specs.Kinds.{unary_bits};
+ghost use Rattle.lower_expr.specs.Kinds.{done_as, unary_bits};
 ghost use Rattle.lower_expr.specs.Values.{binary_of, call_of, field_binary_of, message_to, next_of, print_of, register_binary_of, spare_for, unary_by, value_of, values_in};
 
 use crate::conditions::{choose, logical};
 use crate::conversions::{cast, operand, right_operand, spread_to};
 use crate::frames::enter;
-use crate::kinds::{list_bits, reduced_bits, result_bits, unary_bits};
+use crate::kinds::{done_as, list_bits, reduced_bits, result_bits, unary_bits};
 use crate::leaves::{cast_all, coordinate, next_byte};
 use crate::listed::{call_is_made, print_is_made};
 use crate::operands::{are_quiet, is_plus, is_quiet};
@@ -168,7 +168,7 @@ pub fn value(view: &View, bits: u8, e: &TExpr, u: &mut Unit) -> Result<Out, Memo
 
 /// A unary operator; `+` has no code.
 #[cycle(value)]
-#[tactic(auto, unfolding(lower_base::specs::Drafts::IsMade, lower_base::specs::Drafts::IsSomewhere, crate::specs::Values::unary_by, crate::specs::Steps::negated, lower_base::specs::Drafts::then_make, lower_base::specs::Drafts::in_register, lower_base::specs::Drafts::in_field))]
+#[tactic(auto, using(crate::proofs::Unary::is_plus_done), unfolding(lower_base::specs::Drafts::IsMade, lower_base::specs::Drafts::IsSomewhere, crate::specs::Values::unary_by, crate::specs::Steps::negated, lower_base::specs::Drafts::then_make, lower_base::specs::Drafts::in_register, lower_base::specs::Drafts::in_field))]
 fn prefixed(
     view: &View,
     ty: ValueType,
@@ -177,15 +177,15 @@ fn prefixed(
     inner: &TExpr,
     u: &mut Unit,
 ) -> Result<Out, Memory>
-    requires made { IsMade (unary_by (layout view.now.names) ty bits op (value_of view.now.typed.now (layout view.now.names) bits inner.now) (next_of view.now.typed.now (layout view.now.names) (unary_bits bits op inner.now) true inner.now) (draft u.old)) }
-    ensures draft { IfOk result (λ out. unary_by (layout view.now.names) ty bits op (value_of view.now.typed.now (layout view.now.names) bits inner.now) (next_of view.now.typed.now (layout view.now.names) (unary_bits bits op inner.now) true inner.now) (draft u.old) ≡ Makes out (draft u.new)) }
+    requires made { IsMade (unary_by (layout view.now.names) ty bits (done_as bits op inner.now) (value_of view.now.typed.now (layout view.now.names) bits inner.now) (next_of view.now.typed.now (layout view.now.names) (unary_bits bits op inner.now) true inner.now) (draft u.old)) }
+    ensures draft { IfOk result (λ out. unary_by (layout view.now.names) ty bits (done_as bits op inner.now) (value_of view.now.typed.now (layout view.now.names) bits inner.now) (next_of view.now.typed.now (layout view.now.names) (unary_bits bits op inner.now) true inner.now) (draft u.old) ≡ Makes out (draft u.new)) }
 {
     if is_plus(op) {
         return value(view, bits, inner, u);
     }
     let dest = fresh(ty, bits, u)?;
     let v = operand(view, unary_bits(bits, op, inner), true, inner, u)?;
-    unary(view, op, dest, v.operand(), u)?;
+    unary(view, done_as(bits, op, inner), dest, v.operand(), u)?;
     Ok(dest.out())
 }
 

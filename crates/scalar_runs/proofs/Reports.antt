@@ -16,7 +16,7 @@ use Rattle.paris_machine.specs.declared.outcome.End.{End as RunEnd}
 use Rattle.paris_machine.specs.declared.outcome.End.TheVariants as E
 use Rattle.paris_machine.specs.Ends.{input_broke}
 use Rattle.paris_machine.specs.Runs.{IsLeft, before}
-use Rattle.point_runs.specs.Courses.{Course}
+use Rattle.point_runs.specs.Courses.{Course, Feeds, IsCourse}
 use Rattle.point_runs.specs.Starts.{new_start}
 use Rattle.source_meaning.specs.Programs.{Done, End, EndsEarly, Run, meaning}
 use Rattle.source_meaning.specs.State as Source
@@ -137,13 +137,30 @@ is_report run options image answer course same answers =
       alone = λ finals listed. report_alone options image course finals listed ∙ same.printed;
     }
 
-pub scalar_reports : ScalarReportsMeanTheirText
-scalar_reports text typed image short is none compiled sound options held left course answer are goes feeds answers whole =
+-- the input on which the image went the course, and what is reported of that where it is the run of a meaning
+pub record WentOn (image : Image) (options : Options) (held : List ℕ) (left : Option (List ℕ)) (course : Course) (answer : Answer) : Type 0 where
+  pub given : List ℕ
+  pub rest : Source.Rest
+  pub are : AreBytes given
+  pub on : RunsOn (new_start image options.winner) (input_of given rest) options.turns course
+  pub so : (run : Run) → IsRunOf run course → IsGiven held left given rest run.end × IsReportOf run options image answer (report options image course)
+
+pub went_on : (image : Image) (options : Options) (held : List ℕ) (left : Option (List ℕ)) (course : Course) (answer : Answer) → AreBytes held → IsCourse (new_start image options.winner) options.turns course → Feeds (new_start image options.winner) course (Some held) left → Answers options.turns course.end answer → IsWhole (status_of answer)
+    → WentOn image options held left course answer
+went_on image options held left course answer are goes feeds answers whole =
     let code : is_of_code course.end ≡ true = ends_code options.turns course.end answer answers whole in
     let behind = rest_of held course.taken left feeds.0 in
     let over : course.stopped.ended ≡ true → behind.0 ≡ [] = λ ended. subst (λ (o : Option (List ℕ)). IfSome o (λ rest. rest ≡ [])) behind.1 (feeds.1 refl ended) in
     let input : HadInput held left course.stopped.ended course.end course.taken = had_input held left are course.taken feeds.0 behind.0 behind.2 course.stopped.ended course.end over code in
-    let on : RunsOn (new_start image options.winner) (input_of input.given input.rest) options.turns course = record { ran = goes; given = (input.later, input.is_left, input.input); whole = code } in
-    let run : Run = meaning typed input.given input.rest options.turns options.winner in
-    let same : IsRunOf run course = scalar_runs text typed image short is none compiled sound options.winner input.given input.rest options.turns course input.are on in
-    (input.given, (input.rest, (input.so run.end same.end, is_report run options image answer course same answers)))
+    record {
+      given = input.given;
+      rest = input.rest;
+      are = input.are;
+      on = record { ran = goes; given = (input.later, input.is_left, input.input); whole = code };
+      so = λ run same. (input.so run.end same.end, is_report run options image answer course same answers);
+    }
+
+pub scalar_reports : ScalarReportsMeanTheirText
+scalar_reports text typed image short is none compiled sound options held left course answer are goes feeds answers whole =
+    let input : WentOn image options held left course answer = went_on image options held left course answer are goes feeds answers whole in
+    (input.given, (input.rest, input.so (meaning typed input.given input.rest options.turns options.winner) (scalar_runs text typed image short is none compiled sound options.winner input.given input.rest options.turns course input.are input.on)))

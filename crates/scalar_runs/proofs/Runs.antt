@@ -1,8 +1,11 @@
 -- A run of the machine comes to the end of the code, to which the meaning leads too.
-use Rattle.std.proofs.Common.{◌≡◌, ◌∙◌, ℕ, zero, suc, ◌+◌, refl, sym, ap}
+use Rattle.std.proofs.Common.{◌≡◌, ◌∙◌, ℕ, zero, suc, ◌+◌, [], refl, sym, ap, subst}
 use Rattle.paris_code.specs.declared.program.Image.{Image}
 use Rattle.paris_code.specs.Code as Machine
-use Rattle.paris_code.specs.Code.{CodeEnd, CodeState, Ends, Goes, Next, Reached, Rest, code, go_on, opening, step}
+use Rattle.paris_code.specs.Code.{CodeEnd, CodeState, Ends, Goes, Next, Reached, Rest, code, go_on, step}
+use Rattle.paris_code.specs.Memory.{SameBits}
+use Rattle.paris_code.specs.Shapes.{shapes_of}
+use Rattle.paris_machine.specs.Runs.{kept_state}
 use Rattle.paris_machine.proofs.Cut.{Goes_by, code_append}
 use Rattle.point_runs.specs.Courses.{Course}
 use Rattle.point_runs.specs.Starts.{Origin, new_start}
@@ -11,7 +14,8 @@ use Rattle.source_meaning.specs.State as Source
 use Rattle.accepted_code.proofs.EveryUnit.{scalar_means}
 use Rattle.code_follows.specs.Agreement.{ComesTo, end_of_run, mark_of}
 use Rattle.turn_laws.proofs.Courses.{left_by, run_on}
-use Rattle.turn_laws.proofs.Turning.{EndsAt, ends_at, told}
+use Rattle.turn_laws.proofs.Turning.{EndsAt, RunsTo, ends_at, told}
+use Rattle.turn_laws.specs.Turns.{RunsOn}
 use Rattle.scalar_runs.specs.Laws.{IsRunOf, ScalarRunsMeanTheirText, told_end}
 
 module _ (image : Image) where
@@ -44,21 +48,36 @@ state_in : CodeState → Next → CodeState
 state_in d (Ends e t) = t
 state_in d (Goes t) = t
 
-is_run : (image : Image) (s : CodeState) (run : Run) (course : Course) (later : Rest) → ComesTo image s run → (n : ℕ) (mid : CodeState) → Goes_by image n s mid → EndsAt image mid course.end (left_by course later) → IsRunOf run course
-unfolding end_in state_in
-is_run image s run course later comes n mid goes at =
-    let same : Ends at.last at.state ≡ Ends (end_of_run run.end) comes.last = ends_once image (n + 1) comes.steps s at.last (end_of_run run.end) at.state comes.last (ends_behind image n s mid at.state at.last goes at.ends) comes.ends in
-    let state : at.state ≡ comes.last = ap (λ (x : Next). state_in s x) same in
-    record {
-      end = at.is ∙ ap told (ap (λ (x : Next). end_in Machine.Done x) same) ∙ told_same run.end;
-      left = ap (λ (x : CodeState). x.turns) at.same.rest ∙ ap (λ (x : CodeState). x.turns) state ∙ comes.turns;
-      printed = ap (λ (x : CodeState). x.output) at.same.rest ∙ ap (λ (x : CodeState). x.output) state ∙ comes.output;
-    }
+-- A run of the machine to an end of its code, where from its beginning the code comes to the end of a run of the source
+module _ (from : Origin) (given : Rest) (turns : ℕ) (course : Course) (on : RunsOn from given turns course) (run : Run) (comes : ComesTo from.image (kept_state from.kept turns on.ran.begun given []) run) where
+  ran : RunsTo from.image (kept_state from.kept turns on.ran.begun given []) course.end course.steps (left_by course on.given.0)
+  ran = run_on from given turns course on
+
+  at : EndsAt from.image ran.2.0 course.end (left_by course on.given.0)
+  at = ends_at from.image ran.2.0 (left_by course on.given.0) course.end on.whole ran.2.2
+
+  ends_so : Ends at.last at.state ≡ Ends (end_of_run run.end) comes.last
+  ends_so =
+      ends_once from.image (ran.0 + 1) comes.steps (kept_state from.kept turns on.ran.begun given []) at.last (end_of_run run.end) at.state comes.last
+      (ends_behind from.image ran.0 (kept_state from.kept turns on.ran.begun given []) ran.2.0 at.state at.last ran.2.1 at.ends) comes.ends
+
+  state : at.state ≡ comes.last
+  unfolding state_in
+  state = ap (λ (x : Next). state_in (kept_state from.kept turns on.ran.begun given []) x) ends_so
+
+  -- the run is that of the source
+  pub is_run : IsRunOf run course
+  unfolding end_in
+  is_run = record {
+    end = at.is ∙ ap told (ap (λ (x : Next). end_in Machine.Done x) ends_so) ∙ told_same run.end;
+    left = ap (λ (x : CodeState). x.turns) at.same.rest ∙ ap (λ (x : CodeState). x.turns) state ∙ comes.turns;
+    printed = ap (λ (x : CodeState). x.output) at.same.rest ∙ ap (λ (x : CodeState). x.output) state ∙ comes.output;
+  }
+
+  -- and it leaves the bits that the code leaves
+  pub same_bits : SameBits (shapes_of from.image) course.memory comes.last.memory
+  same_bits = subst (λ (x : CodeState). SameBits (shapes_of from.image) course.memory x.memory) state at.same.bits
 
 pub scalar_runs : ScalarRunsMeanTheirText
 scalar_runs text typed image short is none compiled sound winner input rest turns course are on =
-    let from : Origin = new_start image winner in
-    let given : Rest = record { bytes = input; mark = mark_of rest } in
-    let ran = run_on from given turns course on in
-    is_run image (opening image on.ran.begun turns given) (meaning typed input rest turns winner) course on.given.0 (scalar_means text typed image short is none compiled sound on.ran.begun input rest turns winner are)
-    ran.0 ran.2.0 ran.2.1 (ends_at image ran.2.0 (left_by course on.given.0) course.end on.whole ran.2.2)
+    is_run (new_start image winner) (record { bytes = input; mark = mark_of rest }) turns course on (meaning typed input rest turns winner) (scalar_means text typed image short is none compiled sound on.ran.begun input rest turns winner are)

@@ -21,7 +21,7 @@ use Rattle.cstar_tree.specs.ProgramTypes.{TypesFile, TypesInstance, TypesParamet
 use Rattle.cstar_tree.specs.ProgramTypes as Y
 use Rattle.cstar_tree.specs.Scopes.{Here, written_type}
 use Rattle.cstar_tree.specs.TypedParts.{calls_within}
-use Rattle.code_follows.specs.Fragment.{AreTaken, IsResult, Takes, may_of}
+use Rattle.code_follows.specs.Fragment.{AreTaken, IsResult, Takes, may_of, nothing_beside}
 use Rattle.code_lengths.proofs.Declaring.{all_at}
 use Rattle.program_laws.proofs.Bodies.{blocks_call}
 use Rattle.call_graph.proofs.WalkLemmas.{leads_on}
@@ -83,7 +83,7 @@ module _ (tree : Tree) (typed : Typed) (file : TypesFile tree typed) where
   not_first number r zero callee at at_callee no_way = elim (no_way (main_leads tree number r callee at_callee at)) [ ]
   not_first number r (suc index) callee at at_callee no_way = omega arith
 
-  pub calls_allowed : (number : ℕ) (r : Reached) (i : Instance) → slice_get (instances_of tree) number ≡ Some r → AllowsCalls (program_of tree) shapes r.function (Contains (calls_within i.body)) (may_of typed i).calls
+  pub calls_allowed : (number : ℕ) (r : Reached) (i : Instance) → slice_get (instances_of tree) number ≡ Some r → AllowsCalls (program_of tree) shapes r.function (Contains (calls_within i.body)) (may_of nothing_beside typed i).calls
   calls_allowed number r i at f index placed types ty has_value used is_function no_way called at_index parameters_are gives is_used =
       let callee = at_reached file.instances index (record { function = f; current = None }) at_index in
       let is = callee.2 in

@@ -1,6 +1,6 @@
 -- A file without shapes: its names stand for no shape and for no variable but scalar ones, and so it is at the
 -- bodies of its functions, each of which is reached under no shape.
-use Rattle.std.proofs.Common.{◌≡◌, ◌<◌, ◌^◌, ℕ, Bool, true, false, if◌then◌else◌, is_some, IfSome, IsSome, List, [], ◌∷◌, ◌++◌, slice_get, Option, Some, None, refl, sym, ap, ◌∙◌, subst}
+use Rattle.std.proofs.Common.{◌≡◌, ◌<◌, ◌^◌, ℕ, Bool, true, false, if◌then◌else◌, inl, is_some, IfSome, IsSome, List, [], ◌∷◌, ◌++◌, slice_get, Option, Some, None, refl, sym, ap, ◌∙◌, subst}
 use Rattle.std.specs.List.{All}
 use Rattle.std.proofs.lemmas.List.Elements.{All-append, All-cons, All-head, All-nil, All-tail, All-weaker}
 use Rattle.std.proofs.lemmas.Nat.{pow_pos}
@@ -33,7 +33,7 @@ use Rattle.cstar_tree.specs.ProgramTypes.{Starts, TypesFile, TypesInstance, Type
 use Rattle.cstar_tree.specs.ProgramTypes as Y
 use Rattle.cstar_tree.specs.Scopes.{Binding, Here, VariableType, a_function, a_shape, a_variable, find, meaning, written_type}
 use Rattle.cstar_tree.specs.StatementTypes.{variable_info}
-use Rattle.code_follows.specs.Fragment.{IsPlainVariable, IsScalarVariable}
+use Rattle.code_follows.specs.Fragment.{IsFileVariable, IsScalarVariable, nothing_beside}
 use Rattle.code_lengths.proofs.Declaring.{all_at}
 use Rattle.constant_trees.proofs.Bringing.{converted_fits}
 use Rattle.shape_types.specs.Plain.{IsPlainItem, IsPlainTree}
@@ -51,6 +51,10 @@ use Rattle.scalar_texts.proofs.ScalarPlaces.{behind_name, declared_plain, writte
 pub record IsScalarPlaced (placed : Placed) : Type 0 where
   pub names : AllMean MeansScalar placed.known
   pub plain : (here : Here) → InBlock (λ h e. IsPlain e) here placed.function.body
+
+-- a variable of a file of scalars
+abbrev pub IsPlainVariable : VarInfo → Type 0
+IsPlainVariable info = IsFileVariable nothing_beside info
 
 pub record HasScalars (list : List Placed) (vars : List VarInfo) : Type 0 where
   pub placed : All IsScalarPlaced list
@@ -95,7 +99,7 @@ module _ (functions : List Binding) where
       let plain = declared_plain (file_place functions known) ty d.length is allowed scalar in
       let means = subst (λ (found : Option VariableType). IfSome found IsPlainType) (sym is) plain in
       let others = variables_scalar more (named MeansScalar functions known _ d.name.word (a_variable (V.File known.variables) (declared_type (file_place functions known) (Some ty) d.length)) (is_some (find known.names d.name.word)) before means refl) scalar in
-      (others.0, All-cons IsPlainVariable (variable_info d.name.word variable start) rest (plain.0, starts_few starts) others.1)
+      (others.0, All-cons IsPlainVariable (variable_info d.name.word variable start) rest (inl plain.0, starts_few starts) others.1)
 
   function_scalar : (known : Known) (f : Function) → Knows known → Knows (behind_function known f)
   unfolding behind_function

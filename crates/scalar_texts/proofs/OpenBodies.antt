@@ -10,7 +10,7 @@ use Rattle.cstar_tree.specs.declared.typed.TStmt as S
 use Rattle.cstar_tree.specs.declared.typed.Variable.{Variable}
 use Rattle.cstar_tree.specs.declared.typed.Variable.TheVariants as V
 use mathlib.Core.Former.{Count}
-use Rattle.code_follows.specs.Fragment.{AreIn, AreInStatements, AreInitials, IsBody, IsEffect, IsIn, IsInElse, IsInStatement, IsTested, IsVariable, May, OrAmong, naming, within}
+use Rattle.code_follows.specs.Fragment.{AreIn, AreInStatements, AreInitials, IsBody, IsEffect, IsIn, IsInElse, IsInStatement, IsTested, IsVariable, May, OrAmong, ScalarsAmong, naming, within}
 use Rattle.code_lengths.specs.NamingStatements.{behind}
 use Rattle.open_names.specs.Opens.{AllNameOpen, ElseNamesOpen, InitialsNameOpen, IsAmong, IsOpen, NamesOpen, Open, StatementNamesOpen, StatementsNameOpen, opened}
 use Rattle.source_meaning.specs.State.{is_among}
@@ -31,6 +31,19 @@ module _ (may : May) (names : Variable → Type 0) (blocks : Open) (fits : Fits 
   variable_open (T.Variable ty x) h n = (h.0, fits x n)
   variable_open (T.Brackets' ty p inner) h n = (h.0, variable_open inner h.1 n)
   variable_open _ h n = absurd h
+
+  scalars_open : (e : TExpr) → NamesOpen blocks e → ScalarsAmong names e
+  unfolding ScalarsAmong NamesOpen
+  scalars_open (T.Variable ty x) n = λ scalar. fits x n
+  scalars_open (T.Brackets' ty p inner) n = scalars_open inner n
+  scalars_open (T.Convert' ty p operand) n = scalars_open operand n
+  scalars_open (T.Promote' ty p operand) n = scalars_open operand n
+  scalars_open (T.Unary' ty op p operand) n = scalars_open operand n
+  scalars_open (T.Binary' ty place op p left q right) n = (scalars_open left n.0, scalars_open right n.1)
+  scalars_open (T.Assign' ty place op p target q value) n = (scalars_open target n.0, scalars_open value n.1)
+  scalars_open (T.Step' ty op order p target) n = scalars_open target n
+  scalars_open (T.Reduce' ty op p operand) n = scalars_open operand n
+  scalars_open _ n = tt
 
   mutual
     unfolding IsIn AreIn NamesOpen AllNameOpen
@@ -53,6 +66,7 @@ module _ (may : May) (names : Variable → Type 0) (blocks : Open) (fits : Fits 
     expression_open (T.Assign' ty place op p target q value) h n = (h.0, h.1, variable_open target h.2 n.0, expression_open value h.3 n.1, h.4)
     expression_open (T.Step' ty op order p target) h n = (h.0, h.1, variable_open target h.2 n)
     expression_open (T.Call' ty index p arguments) h n = (h.0, h.1, all_open arguments h.2 n)
+    expression_open (T.Reduce' ty op p operand) h n = (h.0, h.1, scalars_open (T.Reduce' ty op p operand) n)
     expression_open _ h n = absurd h
 
     all_open : {k : Count} (row : Row_of-TExpr k) → AreIn may row → AllNameOpen blocks row → AreIn (naming may names) row
@@ -64,6 +78,10 @@ module _ (may : May) (names : Variable → Type 0) (blocks : Open) (fits : Fits 
   effect_open (T.Printf' ty pieces p arguments) h n = (all_open arguments h.0 n, h.1)
   effect_open (T.Call' ty index p arguments) h n = (h.0, all_open arguments h.1 n)
   effect_open (T.Brackets' ty p inner) h n = effect_open inner h n
+  effect_open (T.Assign' ty place op p target q value) (inl h) n = inl (expression_open (T.Assign' ty place op p target q value) h n)
+  effect_open (T.Assign' ty place op p target q value) (inr h) n = inr (h.0, scalars_open (T.Assign' ty place op p target q value) n)
+  effect_open (T.Step' ty op order p target) (inl h) n = inl (expression_open (T.Step' ty op order p target) h n)
+  effect_open (T.Step' ty op order p target) (inr h) n = inr (h.0, scalars_open (T.Step' ty op order p target) n)
   effect_open e h n = expression_open e h n
 
   tested_open : (e : Option TExpr) → IsTested may e → IfSome e (NamesOpen blocks) → IsTested (naming may names) e
@@ -131,6 +149,7 @@ mutual
   statement_open may names blocks fits n (S.For' first test step p body) h m =
       let effect = effect_open may names blocks fits in
       (if_both first effect h.0 m.0, tested_open may names blocks fits test h.1 m.1, if_both step effect h.2 m.2, statement_open may names blocks fits n body h.3 m.3)
+  statement_open may names blocks fits n (S.With' shape p body) h m = statement_open may names blocks fits n body h m
   statement_open may names blocks fits n S.Break h m = tt
   statement_open may names blocks fits n S.Continue h m = tt
   statement_open may names blocks fits n (S.Return e) h m = if_both e (λ e is known. (expression_open may names blocks fits e is.0 known, is.1)) h m

@@ -9,7 +9,7 @@ use Rattle.cstar_tree.specs.declared.typed.VarInfo.{VarInfo}
 use Rattle.cstar_tree.specs.Variables.{variables_of}
 use Rattle.code_follows.specs.Fragment.{AreInStatements, IsInElse, IsInStatement, IsScalarVariable, May, within}
 use Rattle.code_lengths.specs.NamingStatements.{behind}
-use Rattle.code_lengths.proofs.Declaring.{else_variables, info_of, of_block, of_break, of_continue, of_do, of_empty, of_expression, of_for, of_if, of_return, of_while, row_variables}
+use Rattle.code_lengths.proofs.Declaring.{else_variables, info_of, of_block, of_break, of_continue, of_do, of_empty, of_expression, of_for, of_if, of_return, of_while, of_with, row_variables}
 
 abbrev AreScalar : List VarInfo → Type 0
 AreScalar infos = All IsScalarVariable infos
@@ -32,7 +32,7 @@ mutual
   variables_scalar may n S.Break h = as_parts of_break (All-nil IsScalarVariable)
   variables_scalar may n S.Continue h = as_parts of_continue (All-nil IsScalarVariable)
   variables_scalar may n (S.Return e) h = as_parts (of_return e) (All-nil IsScalarVariable)
-  variables_scalar may n (S.With' shape p body) h = absurd h
+  variables_scalar may n (S.With' shape p body) h = as_parts (of_with shape p body) (variables_scalar may n body h)
   variables_scalar may n (S.Everywhere' shape p body) h = absurd h
   variables_scalar may n (S.Where' shape test p first second) h = absurd h
 

@@ -12,7 +12,7 @@ use Rattle.cstar_tree.specs.Headers.{Reached, body_place}
 use Rattle.cstar_tree.specs.Instances.{instances_of, main_of, program_of}
 use Rattle.cstar_tree.specs.ProgramTypes.{TypesFile}
 use Rattle.cstar_tree.specs.TypedParts.{calls_within}
-use Rattle.code_follows.specs.Fragment.{IsScalarFunction, IsScalarProgram, OfFileOrParam, may_of, naming}
+use Rattle.code_follows.specs.Fragment.{IsScalarFunction, IsScalarProgram, OfFileOrParam, may_of, naming, nothing_beside}
 use Rattle.code_lengths.proofs.Declaring.{all_at, found}
 use Rattle.open_names.proofs.OpenFiles.{file_names}
 use Rattle.open_names.specs.Laws.{HasOpenBody}
@@ -59,7 +59,7 @@ module _ (tree : Tree) (typed : Typed) (named : NamesShapes tree) (plain : IsPla
       let reached : x.0 ≡ y.0 = ap₂ (λ (f : ℕ) (current : Option ℕ). record { function = f; current = current }) function (under_none j x.0 x.1 ∙ sym (under_none k y.0 y.1)) in
       met_once shapes (file_functions tree) (main_of tree) j k x.0 y.0 x.1 y.1 reached
 
-  function_scalar : (number : ℕ) (i : Instance) → slice_get typed.instances.items number ≡ Some i → IsScalarFunction (may_of typed i) i
+  function_scalar : (number : ℕ) (i : Instance) → slice_get typed.instances.items number ≡ Some i → IsScalarFunction (may_of nothing_beside typed i) i
   function_scalar number i at_number =
       let at = at_typed file.instances number i at_number in
       let r = at.0 in
@@ -67,7 +67,7 @@ module _ (tree : Tree) (typed : Typed) (named : NamesShapes tree) (plain : IsPla
       let placed = all_at IsScalarPlaced (file_functions tree) r.function is.placed placed_scalar is.is_function in
       let fit = all_at IsFit (file_functions tree) r.function is.placed (placed_fit file.items (functions_mean MeansParallel function_is_parallel [] 0 tree.items.items) named) is.is_function in
       let own = instance_scalar is placed.names (under_none number r at.1) in
-      let may = naming (may_of typed i) (λ (x : Variable). Unit {0}) in
+      let may = naming (may_of nothing_beside typed i) (λ (x : Variable). Unit {0}) in
       let here = body_place shapes is.placed r in
       let body = body_is (program_of tree) shapes r.function (Contains (calls_within i.body)) may (λ x. tt) (calls_allowed tree typed file number r i at.1)
       own.parameters.place is.block is.body (placed.plain here) fit.casts (λ k called. called) (returned is.result) own.parameters.loop in

@@ -1,8 +1,9 @@
 -- The words that a narrow type has.
 use Rattle.std.proofs.Common.{◌≡◌, ℕ, zero, suc, ◌<◌, ◌≤◌, ◌-◌, ◌^◌, ◌%◌, eqb, Bool, true, false, ◌&&◌, cond, ℤ, pos, negsuc, ◌≤ℤ◌, refl, sym, ◌∙◌, ap, subst, inl, inr, lit<, arith}
+use Rattle.std.specs.Int.{from_bool}
 use Rattle.std.specs.Prelude.{nat_lt, nat_le, if◌then◌else◌, ◌==◌}
 use Rattle.std.proofs.lemmas.Int.{ints}
-use Rattle.std.proofs.lemmas.Nat.{pow_pos}
+use Rattle.std.proofs.lemmas.Nat.{mod_below, pow_pos}
 use Rattle.std.proofs.lemmas.Bool.{cases_eq, eq-eqb, ne_eqb}
 use Rattle.std.proofs.lemmas.Bool.Decides.{nat_tests}
 use Rattle.std.proofs.Math.Nat.{mod-eq_of_lt, pow-le-pow_right}
@@ -10,7 +11,9 @@ use Rattle.cstar_base.specs.declared.elem.Elem.{Elem}
 use Rattle.cstar_base.specs.Kinds.{is_kind}
 use Rattle.cstar_base.specs.Numbers.{converted, residue, number_of, truth_of, least_of, greatest_of}
 use Rattle.cstar_base.proofs.NumberLaws.{kind_bits, number_in_lower, number_in_upper, number_unsigned, number_at_least, number_at_most, residue_below, residue_is, residue_of_number, residue_of_pos, two_halves}
+use Rattle.cstar_tree.specs.declared.typed.UnaryOp.TheVariants as Un
 use Rattle.source_meaning.specs.Reductions.{int_type}
+use Rattle.source_meaning.specs.Values.{unary_of}
 use Rattle.lower_base.specs.Kinds.{has_all}
 use Rattle.lower_expr.specs.Kinds.{has_number}
 use Rattle.phase_meaning.proofs.Widths.{residue_cut}
@@ -87,6 +90,18 @@ zero_test kind n word h agrees = elim (cases_eq word 0) [
   | inl e ↦ eq-eqb n 0 (agrees ∙ ap (λ x. x % 2 ^ kind.bits) e ∙ mod-eq_of_lt (pow_pos kind.bits)) ∙ sym (eq-eqb word 0 e)
   | inr some ↦ ne_eqb n 0 (λ e. some (sym (is_word kind n word h agrees) ∙ ap (converted int_type kind) e ∙ converted_zero kind)) ∙ sym (ne_eqb word 0 some)
 ]
+
+-- the complement of one bit is whether that is 0
+flipped : (n : ℕ) → n < 2 ^ 1 → 2 ^ 1 - 1 - n ≡ from_bool (eqb n 0) % 2 ^ 1
+flipped zero h = refl
+flipped (suc zero) h = refl
+flipped (suc (suc n)) h = absurd (omega (arith, h))
+
+pub negation : (kind : Elem) (n word : ℕ) → kind.bits ≡ 1 → has_number kind word ≡ true → Agrees 1 n word → Agrees 1 (2 ^ 1 - 1 - n) (unary_of Un.Not word)
+unfolding unary_of
+negation kind n word bit h agrees =
+    flipped n (subst (λ (k : ℕ). k < 2 ^ 1) (sym agrees) (mod_below word (2 ^ 1) (pow_pos 1)))
+    ∙ ap (λ (b : Bool). from_bool b % 2 ^ 1) (zero_test kind n word h (subst (λ (b : ℕ). Agrees b n word) (sym bit) agrees))
 
 -- a number in the range of a type is that of its residue
 in_range : (bits : ℕ) (signed : Bool) (z : ℤ) → 0 < bits → least_of bits signed ≤ℤ z → z ≤ℤ greatest_of bits signed → number_of bits signed (residue bits z) ≡ z

@@ -67,6 +67,11 @@ NarrowNumbersAreWords =
 abbrev pub ZeroTestsAgree : Type 0
 ZeroTestsAgree = (kind : Elem) (n word : ℕ) → has_number kind word ≡ true → Agrees kind.bits n word → (n == 0) ≡ (word == 0)
 
+-- so of a type of one bit the complement agrees with what `!` gives of the word
+abbrev pub NegationsAgree : Type 0
+NegationsAgree =
+    (kind : Elem) (n word : ℕ) → kind.bits ≡ 1 → has_number kind word ≡ true → Agrees 1 n word → Agrees 1 (2 ^ 1 - 1 - n) (unary_of Un.Not word)
+
 -- extended as the type is read, or cut, it agrees with the word at any number of bits
 abbrev pub ExtendedNumbersAgree : Type 0
 ExtendedNumbersAgree =

@@ -3,7 +3,7 @@
 //! words.
 #![tactic(auto)]
 
-ghost use Rattle.short_values.specs.Short.{FewerBitsAgree, ModularOperatorsAgree, LeftShiftsAgree, NegativesAgree, ComplementsAgree, NarrowComparisonsAreWide, NarrowNumbersAreWords, ZeroTestsAgree, ExtendedNumbersAgree, ShortFoldsAgree, WiderTypesHaveWords};
+ghost use Rattle.short_values.specs.Short.{FewerBitsAgree, ModularOperatorsAgree, LeftShiftsAgree, NegativesAgree, ComplementsAgree, NarrowComparisonsAreWide, NarrowNumbersAreWords, ZeroTestsAgree, NegationsAgree, ExtendedNumbersAgree, ShortFoldsAgree, WiderTypesHaveWords};
 
 /// The lowest bits of a field that agrees with a word agree with it.
 pub fn fewer_bits_agree()
@@ -23,6 +23,11 @@ pub fn narrow_numbers_are_words()
 /// It is 0 where the word is.
 pub fn zero_tests_agree()
     ensures { ZeroTestsAgree }
+{}
+
+/// The complement of one bit that agrees with a truth value agrees with what `!` gives of it.
+pub fn negations_agree()
+    ensures { NegationsAgree }
 {}
 
 /// Extended as the type is read, it agrees with the word at any number of bits.

@@ -107,7 +107,7 @@ fn in_turn<T, F: Fn(usize, &mut T)>(f: &F, base: usize, s: &mut [T])
 pub fn map_indices<
     R: Threads + Sync,
     X: Send + Drop,
-    A: Allocator + Clone + Send,
+    A: Allocator + Send,
     F: Fn(usize) -> X + Sync,
 >(rt: &R, alloc: A, n: usize, f: &F) -> Result<Vec<X, A>, AllocError>
     requires { (i : ℕ) → i < n → F.pre f.now i }
@@ -122,12 +122,13 @@ pub fn map_indices<
 
 /// The same of so many indices from one on.
 #[cycle(calls)]
-fn calls_from<
-    R: Threads + Sync,
-    X: Send + Drop,
-    A: Allocator + Clone + Send,
-    F: Fn(usize) -> X + Sync,
->(rt: &R, alloc: A, from: usize, count: usize, f: &F) -> Result<Vec<X, A>, AllocError>
+fn calls_from<R: Threads + Sync, X: Send + Drop, A: Allocator + Send, F: Fn(usize) -> X + Sync>(
+    rt: &R,
+    alloc: A,
+    from: usize,
+    count: usize,
+    f: &F,
+) -> Result<Vec<X, A>, AllocError>
     requires count { 0 < count }
     requires room { from + count < 2 ^ 64 }
     requires accepts { (i : ℕ) → from ≤ i → i < from + count → F.pre f.now i }

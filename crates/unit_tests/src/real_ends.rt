@@ -1,6 +1,6 @@
 ghost use Rattle.std.specs.Prelude.{◌≤◌};
 
-use super::*;
+use cstar_io::{Failed, RealShelf, RealSink, RealSource, Shelf, ShelfErr, Sink, Source, SureSink};
 use std::fs::File;
 use std::io::{ErrorKind, Read, Write};
 use std::test::Fail;

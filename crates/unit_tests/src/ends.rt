@@ -3,8 +3,11 @@ ghost use Rattle.cstar_io.specs.Faults.{CanRise};
 ghost use Rattle.cstar_io.specs.Output.{Takes, TakesPrefix, TakesNothing};
 ghost use Rattle.cstar_io.specs.declared.call.Call.{Call};
 
-use super::*;
 use cstar_base::Word;
+use cstar_io::{
+    Failed, Gate, MemShelf, MemSink, MemSource, Open, Shelf, ShelfErr, Sink, Source, SureSink,
+    SureSource, put_line,
+};
 use std::alloc::{AllocError, Global};
 use std::test::Fail;
 

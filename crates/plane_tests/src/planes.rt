@@ -1,4 +1,4 @@
-use crate::{Block, Lanes, Rows};
+use bit_planes::{Block, Lanes, Rows};
 use std::test::Fail;
 
 /// 0, 1, 2 and so on.

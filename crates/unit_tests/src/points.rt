@@ -1,4 +1,4 @@
-use super::*;
+use checkpoint::{Bits, LoadFault, Point, load, save};
 use cstar_base::{Numbers, Winner, Word};
 use std::alloc::Global;
 use std::test::Fail;

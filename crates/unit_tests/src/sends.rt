@@ -1,4 +1,4 @@
-use crate::{Add, Combine, Event, Message, MinOf, Phase};
+use combine_core::{Add, Combine, Event, Message, MinOf, Phase};
 use std::test::Fail;
 
 // Three messages to two cells, of which the second is not the first in line.

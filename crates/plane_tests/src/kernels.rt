@@ -1,10 +1,10 @@
 ghost use Rattle.std.specs.Prelude.{◌≡◌, ◌≤◌};
 
-use crate::{
-    Operand, Target, add, count, in_place, less, max, resize, shift_left, shift_right, write,
-};
 use bit_planes::plane::repeated;
 use bit_planes::{Block, Lanes};
+use lane_kernels::{
+    Operand, Target, add, count, in_place, less, max, resize, shift_left, shift_right, write,
+};
 use std::simd::prelude::*;
 use std::test::Fail;
 

@@ -1,0 +1,287 @@
+-- Assignments to parallel variables and steps of them follow.
+use Rattle.std.proofs.Common.{◌≡◌, ◌∙◌, ℕ, ◌+◌, ◌<◌, ◌^◌, ◌==◌, ◌&&◌, ◌||◌, Bool, true, false, not, List, length, slice_index, Option, Some, None, refl, sym, ap, subst, arith, inl, inr, if◌then◌else◌}
+use Rattle.std.specs.Prelude.{IfSome, is_none}
+use Rattle.cstar_base.specs.declared.elem.Elem.{Elem}
+use Rattle.cstar_base.specs.declared.operators.Op.{Op}
+use Rattle.cstar_base.specs.declared.operators.Op.TheVariants as P
+use Rattle.cstar_base.specs.declared.operators.Place.{Place}
+use Rattle.cstar_base.specs.Operators.{divides, outcome}
+use Rattle.cstar_tree.specs.declared.syntax.AssignOp.{AssignOp}
+use Rattle.cstar_tree.specs.declared.syntax.AssignOp.TheVariants as A
+use Rattle.cstar_tree.specs.declared.syntax.StepOp.{StepOp}
+use Rattle.cstar_tree.specs.declared.syntax.StepOp.TheVariants as Sp
+use Rattle.cstar_tree.specs.declared.typed.StepOrder.{StepOrder}
+use Rattle.cstar_tree.specs.declared.typed.TExpr.{TExpr}
+use Rattle.cstar_tree.specs.declared.typed.TExpr as T
+use Rattle.cstar_tree.specs.declared.typed.ValueType.{ValueType}
+use Rattle.cstar_tree.specs.declared.typed.VarInfo.{VarInfo}
+use Rattle.cstar_tree.specs.declared.typed.Variable.{Variable}
+use Rattle.cstar_tree.specs.declared.typed.Variable.TheVariants as V
+use Rattle.cstar_tree.specs.Typed.{type_of}
+use Rattle.code_lengths.specs.Growth.{Extended}
+use Rattle.code_lengths.specs.Lowerable.{IsLowerable}
+use Rattle.code_lengths.specs.Naming.{NamesVariables}
+use Rattle.code_lengths.specs.Ready.{IsReady}
+use Rattle.code_lengths.specs.Shaped.{IsShaped}
+use Rattle.code_lengths.proofs.Drafting.{extended}
+use Rattle.lower_base.specs.declared.emit.Out.{Out}
+use Rattle.lower_base.specs.declared.emit.Out.TheVariants as O
+use Rattle.lower_base.specs.Drafts.{Draft, Fails, Made, Makes, an_entry, first_bits, then_make, with_instr}
+use Rattle.lower_base.specs.Kinds.{bits_of, is_bitwise, kind_of}
+use Rattle.lower_base.specs.Operators.{assign_op_of, operation_of, relates}
+use Rattle.lower_expr.specs.declared.operands.Own.{Own}
+use Rattle.lower_expr.specs.Effects.{assignment_effect, assigned_own, effect_of, folds, put_to, step_effect, stepped_own, variable_assigned, variable_operated, variable_stepped, whole_of, writes_itself}
+use Rattle.lower_expr.specs.Kinds.{operation_bits, works_within}
+use Rattle.lower_expr.specs.Operands.{own_of, standing}
+use Rattle.lower_expr.specs.Steps.{assigned_signed}
+use Rattle.lower_expr.specs.Values.{step_operation, value_of}
+use Rattle.paris_code.specs.declared.instr.Instr.{Instr}
+use Rattle.paris_code.specs.declared.instr.Instr.TheVariants as I
+use Rattle.paris_code.specs.declared.operands.Field.{Field}
+use Rattle.paris_code.specs.declared.operands.Konst.TheVariants as K
+use Rattle.paris_code.specs.declared.program.Owner.TheVariants as W
+use Rattle.paris_code.specs.Code.{CodeState}
+use Rattle.paris_code.specs.Memory.{processors}
+use Rattle.paris_code.specs.Proper.{IsEntry}
+use Rattle.source_meaning.specs.Expressions.{evaluated}
+use Rattle.source_meaning.specs.Reductions.{promoted, updated}
+use Rattle.source_meaning.specs.State.{Gives, Outcome, State, with_positions}
+use Rattle.source_meaning.specs.Targets.{step_op}
+use Rattle.source_meaning.specs.Values.{Active, Parallel, Scope, Value}
+use Rattle.source_meaning.proofs.ConstantLaws.{Boxed}
+use Rattle.code_follows.proofs.Following.{Follows, HasRegisters, Ran, Sim}
+use Rattle.code_follows.proofs.Settings.{At, Setting, Within, and_one, layout, onto}
+use Rattle.fields_follow.specs.Fragment.{HasOperation, IsOperand, IsOperation, IsTarget, IsUpdate}
+use Rattle.fields_follow.specs.Fields.{IsElement, file_number}
+use Rattle.fields_follow.proofs.Forms.{HasItsCode, field_is}
+use Rattle.fields_follow.proofs.Instructions.{HasNumbers, Puts, SameExtents, extents, puts_operate_constant, shapes, word_in}
+use Rattle.fields_follow.proofs.Meaning.{promoted_means, pure_means, value_in}
+use Rattle.fields_follow.proofs.Passing.{After, Passes, after_same, in_file_has, made_after, passes_all}
+use Rattle.fields_follow.proofs.Places.{HoldsTheFields, IsFileField, PlacesFields}
+use Rattle.fields_follow.proofs.Updates.{IsFileTarget, assign_means, file_target, promoted_wide, step_means, updated_is}
+use Rattle.fields_follow.proofs.Values.{and_entry, next_field, taken, with_entry}
+use Rattle.fields_follow.proofs.Writing.{few, file_written}
+use Rattle.fields_follow.proofs.Effects.{IsEntryFor, in_place_last, put_last}
+use Rattle.fields_follow.proofs.Expressions.{operand_type}
+use Rattle.code_follows.specs.Fragment.{ScalarsAmong}
+
+module _ (g : Setting) (has : HasRegisters g) (alive : Variable → Type 0) (n : ℕ) (ready : (d : Draft) → IsReady g.typed g.instance (layout g) n d) (places : PlacesFields g) (fields : HoldsTheFields g) where
+  -- what is said of code where it is made follows the source's part that gives a value
+  follows_after : (d : Draft) (s : CodeState) (v : Value) (u : State) (made : Made Out) → After g (λ out e. Ran g alive d s u e) made → Follows g (λ v u out e. Ran g alive d s u e) s (Gives v u) made
+  unfolding After Follows
+  follows_after d s v u (Makes out e) h = h
+  follows_after d s v u Fails h = tt
+
+  -- The last instruction writes the variable: with the entry for it before, the code has run, and the state has what the
+  -- source stores.
+  module _ (set k : ℕ) (info : VarInfo) (is : IsElement g.typed k info set 0) (word : info.elem.bits ≡ 32) (passes : ℕ → Bool) (passing : (p : ℕ) → p < processors (shapes g) set → passes p ≡ true) (d : Draft) (s : CodeState) (st : State) where
+    abbrev entered : Draft
+    entered = with_entry set info.elem.bits (W.File (file_number g.typed k 0)) d
+
+    abbrev variable : Field
+    variable = next_field set 32 d
+
+    entry_for : IsEntryFor g has alive n ready places fields k variable entered
+    entry_for e m longer within =
+        subst (λ (len : ℕ). IsEntry g.unit (length d.fields) (record { set = set; len = len; owner = W.File (file_number g.typed k 0) })) word
+        (taken g set info.elem.bits (W.File (file_number g.typed k 0)) d e m within longer)
+
+    was_small : Sim g alive st s → (p : ℕ) → p < processors (shapes g) set → st.parallel (V.File k) 0 p < 2 ^ 32
+    was_small sim p below = subst (λ (b : ℕ). st.parallel (V.File k) 0 p < 2 ^ b) word ((fields.opens st s.memory sim.memory).small k 0 set p info is below)
+
+    ran : (v w : ℕ → ℕ) → ((p : ℕ) → p < processors (shapes g) set → v p < 2 ^ 32 → w p ≡ v p) → (e2 : Draft) (i : Instr) → Within g (with_instr i e2) → (p : Passes g alive (length entered.fields) entered e2 s st (Unit {0})) → Puts g set i variable p.t v
+        → Ran g alive d s (with_positions (V.File k) 0 passes w st) (with_instr i e2)
+    ran v w same e2 i within p puts =
+        let x : Extended entered (p.grown.0 + 1) (with_instr i e2) = extended entered e2 (with_instr i e2) p.grown.0 1 p.grown.1 (and_one g i e2) in
+        let h = file_written g places fields alive set i variable e2 p.t st v within p.at p.sim refl refl puts k 0 info passes w is word (entry_for (with_instr i e2) (p.grown.0 + 1) x within) passing
+        (λ q below. same q below (few g places fields alive set i variable e2 p.t st v within p.at p.sim refl refl puts q below)) in
+        record {
+          grown = (0 + (p.grown.0 + 1), extended d entered (with_instr i e2) 0 (p.grown.0 + 1) (and_entry set info.elem.bits (W.File (file_number g.typed k 0)) d) x);
+          t = h.t;
+          go = onto g s p.t h.t p.go h.go;
+          at = h.at;
+          sim = h.sim;
+          keeps = λ r kept. ap (λ (registers : List ℕ). slice_index registers r) (h.registers ∙ p.registers);
+        }
+
+    -- the variable with all its bits is that entry
+    variable_is : (target : TExpr) (next : Out → Draft → Made Out) → (type_of target).elem.bits ≡ 32
+        → then_make (whole_of g.typed (layout g) target (record { shape = Some set; variable = V.File k }) d) next ≡ next (O.Field variable) entered
+    unfolding standing then_make an_entry first_bits
+    variable_is target next wide =
+        ap (λ (bits : ℕ). then_make (standing g.typed (layout g) bits (record { shape = Some set; variable = V.File k }) d) next) wide
+        ∙ ap (λ (m : Made Field). then_make (then_make m (λ f after. Makes (O.Field (first_bits 32 f)) after)) next) (field_is g k 0 set info d is)
+
+  -- what an assignment without an operator stores
+  plainly : (op : AssignOp) (to from : Elem) (old w : ℕ) → assign_op_of op ≡ None → updated op to from old w ≡ w
+  unfolding assign_op_of updated
+  plainly A.Set to from old w e = refl
+  plainly A.Add to from old w e = cc
+  plainly A.Sub to from old w e = cc
+  plainly A.Mul to from old w e = cc
+  plainly A.Div to from old w e = cc
+  plainly A.Rem to from old w e = cc
+  plainly A.Mod to from old w e = cc
+  plainly A.And to from old w e = cc
+  plainly A.Or to from old w e = cc
+  plainly A.Xor to from old w e = cc
+  plainly A.Shl to from old w e = cc
+  plainly A.Shr to from old w e = cc
+  plainly A.Min to from old w e = cc
+  plainly A.Max to from old w e = cc
+
+  fits_well : (op : Op) (elem : Elem) (value : TExpr) → elem.bits ≡ 32 → works_within elem op value ≡ true
+  unfolding works_within operation_bits
+  fits_well op elem value wide = ap (λ (bits : ℕ). if bits == 1 then is_bitwise op && bits_of (kind_of value) == 1 else operation_bits bits op value == bits) wide ∙ by _
+    where
+      by : (c : Bool) → ((if c then 32 else 32) == 32) ≡ true
+      by true = refl
+      by false = refl
+
+  own_is : (set k : ℕ) (op : AssignOp) (target value : TExpr) → own_of 1 target ≡ Some (record { shape = Some set; variable = V.File k }) → (type_of target).elem.bits ≡ 32 → assigned_own op target value ≡ Some (record { shape = Some set; variable = V.File k })
+  unfolding writes_itself folds
+  own_is set k op target value own wide =
+      ap (λ (o : Option Own). elim o as (λ _. Option Own) [ Some own ↦ if writes_itself own op (type_of target).elem value then Some own else None | None ↦ None ]) own ∙ by (assign_op_of op)
+    where
+      mine : Own
+      mine = record { shape = Some set; variable = V.File k }
+
+      by : (o : Option Op) → (if elim o as (λ _. Bool) [ None ↦ true | Some x ↦ works_within (type_of target).elem x value ] then Some mine else None) ≡ Some mine
+      by None = refl
+      by (Some x) = ap (λ (b : Bool). if b then Some mine else None) (fits_well x (type_of target).elem value wide)
+
+  module _ (scope : Scope) (active : Active) (everywhere : (set p : ℕ) → p < processors (shapes g) set → active set p ≡ true) (same_extents : SameExtents g scope) where
+    operand_means : (set : ℕ) (e : TExpr) (st : State) → set < length (shapes g) → IsOperand set e → evaluated scope e active st ≡ Gives (Parallel (λ q. value_in (extents g set) st e q)) st
+    operand_means set e st exists is = by is ∙ ap (λ (xs : List ℕ). Gives (Parallel (λ q. value_in xs st e q)) st) (same_extents set exists)
+      where
+        by : IsOperand set e → evaluated scope e active st ≡ Gives (Parallel (λ q. value_in (scope.extents set) st e q)) st
+        by (inl h) = pure_means scope active set e st h
+        by (inr h) = promoted_means scope active set e st h
+
+    assigns : (ty : ValueType) (place : Place) (op : AssignOp) (p q : Boxed) (target value : TExpr) (set : ℕ) → ty ≡ type_of target → IsTarget set target → HasOperation op → IsOperand set value → NamesVariables g.typed g.instance n target → HasItsCode g.typed g.instance alive n value
+        → (d : Draft) (s : CodeState) (st : State) → At g s (length d.code) → Sim g alive st s
+        → Follows g (λ v u out f. Ran g alive d s u f) s (evaluated scope (T.Assign' ty place op p target q value) active st) (effect_of g.typed (layout g) (T.Assign' ty place op p target q value) d)
+    unfolding effect_of assignment_effect variable_operated
+    assigns ty place op p q target value set same is_target operates is_operand names c d s st here sim =
+        subst (λ (o : Outcome Value). Follows g (λ v u out f. Ran g alive d s u f) s o (effect_of g.typed (layout g) (T.Assign' ty place op p target q value) d))
+        (sym (assign_means scope active set ty place op p q target value h.k (λ x. value_in (extents g set) st value x) st (ap (λ (y : ValueType). y.shape) same ∙ h.type.0) operates (h.means scope active st) (operand_means set value st (places.exists h.k 0 set h.info h.is) is_operand)))
+        (follows_after d s (Parallel w) u (effect_of g.typed (layout g) (T.Assign' ty place op p target q value) d)
+        (after_same g (λ out e. Ran g alive d s u e)
+        (ap (λ (o : Option Own). elim o as (λ _. Made Out) [ Some own ↦ then_make (whole_of g.typed (layout g) target own d) (λ dest after. variable_assigned g.typed (layout g) op place target value dest after) | None ↦ value_of g.typed (layout g) ty.elem.bits (T.Assign' ty place op p target q value) d ]) (own_is set h.k op target value h.own h.type.1)
+        ∙ variable_is set h.k h.info h.is h.wide (active set) (everywhere set) d s st target (λ dest after. variable_assigned g.typed (layout g) op place target value dest after) h.type.1)
+        (by (assign_op_of op) refl operates)))
+      where
+        h : IsFileTarget g.typed set target
+        h = file_target g.typed g.instance n set target is_target names
+
+        w : ℕ → ℕ
+        w = λ x. updated op ty.elem (type_of value).elem (st.parallel (V.File h.k) 0 x) (value_in (extents g set) st value x)
+
+        u : State
+        u = with_positions (V.File h.k) 0 (active set) w st
+
+        d1 : Draft
+        d1 = with_entry set h.info.elem.bits (W.File (file_number g.typed h.k 0)) d
+
+        f : Field
+        f = next_field set 32 d
+
+        by : (o : Option Op) → assign_op_of op ≡ o → IfSome o IsOperation
+            → After g (λ out e. Ran g alive d s u e) (elim (assign_op_of op) as (λ _. Made Out) [ None ↦ put_to g.typed (layout g) (O.Field f) value d1 | Some x ↦ variable_operated g.typed (layout g) x place target value (O.Field f) d1 ])
+        by None is known =
+            after_same g (λ out e. Ran g alive d s u e) (ap (λ (o : Option Op). elim o as (λ _. Made Out) [ None ↦ put_to g.typed (layout g) (O.Field f) value d1 | Some x ↦ variable_operated g.typed (layout g) x place target value (O.Field f) d1 ]) is)
+            (put_last g has alive n ready places fields set (length d.fields) value is_operand c d1 s st here sim (λ out e. Ran g alive d s u e)
+            (λ e2 i within passes puts. ran set h.k h.info h.is h.wide (active set) (everywhere set) d s st (λ x. value_in (extents g set) st value x) w (λ x below small. plainly op ty.elem (type_of value).elem (st.parallel (V.File h.k) 0 x) (value_in (extents g set) st value x) is) e2 i within passes puts))
+        by (Some x) is known =
+            let signed : Bool = assigned_signed x (type_of target).elem (type_of value).elem in
+            after_same g (λ out e. Ran g alive d s u e) (ap (λ (o : Option Op). elim o as (λ _. Made Out) [ None ↦ put_to g.typed (layout g) (O.Field f) value d1 | Some x ↦ variable_operated g.typed (layout g) x place target value (O.Field f) d1 ]) is)
+            (in_place_last g has alive n ready places fields set (length d.fields) h.k h.info x signed place value d1 s st h.is h.wide (entry_for set h.k h.info h.is h.wide (active set) (everywhere set) d s st) known is_operand c here sim (λ out e. Ran g alive d s u e)
+            (λ e2 i within passes puts. ran set h.k h.info h.is h.wide (active set) (everywhere set) d s st (λ y. outcome x 32 (not signed) (st.parallel (V.File h.k) 0 y) (value_in (extents g set) st value y)) w
+            (λ y below small. ap (λ (t : ValueType). updated op t.elem (type_of value).elem (st.parallel (V.File h.k) 0 y) (value_in (extents g set) st value y)) same
+            ∙ updated_is op x (type_of target).elem (type_of value).elem (st.parallel (V.File h.k) 0 y) (value_in (extents g set) st value y) is h.type.1 (operand_type set value is_operand).1 (was_small set h.k h.info h.is h.wide (active set) (everywhere set) d s st sim y below) small) e2 i within passes puts))
+
+    -- one more, or one less
+    abbrev stepping : StepOp → Op
+    stepping Sp.Increment = P.Add
+    stepping Sp.Decrement = P.Sub
+
+    step_known : (op : StepOp) → IsOperation (stepping op)
+    unfolding relates divides
+    step_known Sp.Increment = (refl, refl)
+    step_known Sp.Decrement = (refl, refl)
+
+    step_assigns : (op : StepOp) → assign_op_of (step_op op) ≡ Some (stepping op)
+    unfolding assign_op_of
+    step_assigns Sp.Increment = refl
+    step_assigns Sp.Decrement = refl
+
+    step_operates : (op : StepOp) (signed : Bool) → step_operation op ≡ operation_of (stepping op) signed
+    unfolding step_operation operation_of
+    step_operates Sp.Increment signed = refl
+    step_operates Sp.Decrement signed = refl
+
+    stepped_is : (set k : ℕ) (target : TExpr) → own_of 1 target ≡ Some (record { shape = Some set; variable = V.File k }) → (type_of target).elem.bits ≡ 32 → stepped_own target ≡ Some (record { shape = Some set; variable = V.File k })
+    stepped_is set k target own wide =
+        ap (λ (o : Option Own). elim o as (λ _. Option Own) [ Some own ↦ if is_none own.shape || not ((type_of target).elem.bits == 1) then Some own else None | None ↦ None ]) own
+        ∙ ap (λ (bits : ℕ). if not (bits == 1) then Some mine else None) wide
+      where
+        mine : Own
+        mine = record { shape = Some set; variable = V.File k }
+
+    steps : (ty : ValueType) (op : StepOp) (order : StepOrder) (p : Boxed) (target : TExpr) (set : ℕ) → ty ≡ type_of target → IsTarget set target → NamesVariables g.typed g.instance n target
+        → (d : Draft) (s : CodeState) (st : State) → At g s (length d.code) → Sim g alive st s
+        → Follows g (λ v u out f. Ran g alive d s u f) s (evaluated scope (T.Step' ty op order p target) active st) (effect_of g.typed (layout g) (T.Step' ty op order p target) d)
+    unfolding effect_of step_effect variable_stepped word_in
+    steps ty op order p target set same is_target names d s st here sim =
+        subst (λ (o : Outcome Value). Follows g (λ v u out f. Ran g alive d s u f) s o (effect_of g.typed (layout g) (T.Step' ty op order p target) d)) (sym means.1)
+        (follows_after d s means.0 u (effect_of g.typed (layout g) (T.Step' ty op order p target) d)
+        (after_same g (λ out e. Ran g alive d s u e)
+        (ap (λ (o : Option Own). elim o as (λ _. Made Out) [ Some own ↦ then_make (whole_of g.typed (layout g) target own d) (λ dest after. variable_stepped (layout g) (type_of target).elem op dest after) | None ↦ value_of g.typed (layout g) ty.elem.bits (T.Step' ty op order p target) d ]) (stepped_is set h.k target h.own h.type.1)
+        ∙ variable_is set h.k h.info h.is h.wide (active set) (everywhere set) d s st target (λ dest after. variable_stepped (layout g) (type_of target).elem op dest after) h.type.1
+        ∙ ap (λ act. Makes (O.Field f) (with_instr (I.OperateConstant act f f (K.Imm 1)) d1)) (step_operates op signed))
+        (made_after g (λ out e. Ran g alive d s u e) (O.Field f) (with_instr i d1) (λ within.
+        let file : IsFileField g h.k 0 f = entry_for set h.k h.info h.is h.wide (active set) (everywhere set) d s st (with_instr i d1) 1 (and_one g i d1) within in
+        let numbers : HasNumbers g set f s (λ q. st.parallel (V.File h.k) 0 q) =
+        in_file_has g alive places fields set f st (λ q. st.parallel (V.File h.k) 0 q) s (record { k = h.k; info = h.info; is = h.is; word = h.wide; file = file; of_set = refl; wide = refl; same = λ q below. refl }) sim in
+        ran set h.k h.info h.is h.wide (active set) (everywhere set) d s st (λ x. outcome (stepping op) 32 (not signed) (st.parallel (V.File h.k) 0 x) 1) w
+        (λ x below small. ap (λ (t : ValueType). updated (step_op op) t.elem (promoted t.elem) (st.parallel (V.File h.k) 0 x) 1) same
+        ∙ updated_is (step_op op) (stepping op) (type_of target).elem (promoted (type_of target).elem) (st.parallel (V.File h.k) 0 x) 1 (step_assigns op) h.type.1 (ap (λ (e : Elem). e.bits) (promoted_wide (type_of target).elem h.type.1) ∙ h.type.1)
+        (was_small set h.k h.info h.is h.wide (active set) (everywhere set) d s st sim x below) small)
+        d1 i within (passes_all g alive (length d1.fields) d1 s st (Unit {0}) here sim)
+        (puts_operate_constant g set (stepping op) signed f f (K.Imm 1) s (λ q. st.parallel (V.File h.k) 0 q) (step_known op) refl numbers (omega arith))))))
+      where
+        h : IsFileTarget g.typed set target
+        h = file_target g.typed g.instance n set target is_target names
+
+        w : ℕ → ℕ
+        w = λ x. updated (step_op op) ty.elem (promoted ty.elem) (st.parallel (V.File h.k) 0 x) 1
+
+        u : State
+        u = with_positions (V.File h.k) 0 (active set) w st
+
+        d1 : Draft
+        d1 = with_entry set h.info.elem.bits (W.File (file_number g.typed h.k 0)) d
+
+        f : Field
+        f = next_field set 32 d
+
+        signed : Bool
+        signed = assigned_signed (stepping op) (type_of target).elem (promoted (type_of target).elem)
+
+        i : Instr
+        i = I.OperateConstant (operation_of (stepping op) signed) f f (K.Imm 1)
+
+        means : (v : Value) × (evaluated scope (T.Step' ty op order p target) active st ≡ Gives v u)
+        means = step_means scope active set ty op order p target h.k st (ap (λ (y : ValueType). y.shape) same ∙ h.type.0) (h.means scope active st)
+
+    -- an update runs, and leaves what it leaves in the source
+    pub updates_follow : (e : TExpr) → IsUpdate e → HasItsCode g.typed g.instance alive n e → (d : Draft) (s : CodeState) (st : State) → At g s (length d.code) → Sim g alive st s
+        → Follows g (λ v u out f. Ran g alive d s u f) s (evaluated scope e active st) (effect_of g.typed (layout g) e d)
+    unfolding IsUpdate NamesVariables IsShaped IsLowerable ScalarsAmong
+    updates_follow (T.Assign' ty place op p target q value) is c =
+        assigns ty place op p q target value set_of is.1.0 is.1.1 is.1.2 is.1.3 c.code.names.0 (record { code = record { shaped = c.code.shaped.3; lowerable = c.code.lowerable.3; names = c.code.names.1 }; among = c.among.1 })
+      where
+        set_of : ℕ
+        set_of = is.0
+    updates_follow (T.Step' ty op order p target) is c = steps ty op order p target is.0 is.1.0 is.1.1 c.code.names
+    updates_follow _ is c = absurd is

@@ -1,0 +1,95 @@
+-- The example is a parallel program.
+use Rattle.std.proofs.Common.{◌≡◌, ◌∙◌, ℕ, zero, suc, List, [], ◌∷◌, ◌++◌, map, slice_get, Some, inl, inr, Global, refl, sym, ap, subst, arith}
+use Rattle.std.proofs.lemmas.List.Elements.{All-cons, All-nil}
+use Rattle.std.proofs.lemmas.Option.{none-some}
+use Rattle.std.specs.List.{All}
+use denote.Hole.Carrier
+use Rattle.cstar_base.specs.Numbers.{residue}
+use Rattle.cstar_base.specs.Operators.{divides}
+use Rattle.cstar_base.specs.declared.elem.Elem.{Elem}
+use Rattle.cstar_tree.specs.declared.typed.Instance.{Instance}
+use Rattle.cstar_tree.specs.declared.typed.LocalVar.{LocalVar}
+use Rattle.cstar_tree.specs.declared.typed.TExpr as T
+use Rattle.cstar_tree.specs.declared.typed.TExpr.TheFolds.{fold-roll-TExpr, fold_out-TExpr}
+use Rattle.cstar_tree.specs.declared.typed.TExpr.TheVariants.{rolls-Printf}
+use Rattle.cstar_tree.specs.declared.typed.TStmt as S
+use Rattle.cstar_tree.specs.declared.typed.TStmt.TheFolds.{fold-roll-TStmt, fold_out-TStmt}
+use Rattle.cstar_tree.specs.declared.typed.TStmt.TheVariants.{rolls-Block}
+use Rattle.cstar_tree.specs.Headers.{Leads}
+use Rattle.cstar_tree.specs.ProgramTypes.{plain_info}
+use Rattle.cstar_tree.specs.TypedParts.{call_step, calls_in, calls_within, concat, optional, statement_call_step}
+use Rattle.cstar_tree.specs.Variables.{variables_of}
+use Rattle.code_lengths.proofs.Declaring.{of_block, of_expression, of_with, row_variables}
+use Rattle.lower_base.specs.Operators.{assign_op_of, relates}
+use Rattle.source_meaning.specs.Constants.{constant_of, is_constant, value_of}
+use Rattle.source_meaning.specs.Examples.{number, numbers}
+use Rattle.code_follows.specs.Fragment.{AreClosed, AreIn, AreInitials, AreInStatements, IsBody, IsClosed, IsEffect, IsFileVariable, IsGiven, IsIn, IsInStatement, IsScalarFunction, IsScalarLocal, IsScalarVariable, IsVariable, OfFileOrParam, ScalarsAmong, called_in, may_of}
+use Rattle.code_follows.proofs.Standing.{some_same}
+use Rattle.fields_follow.specs.Example.{ExampleIsParallel, example, main}
+use Rattle.fields_follow.specs.Fragment.{IsFold, IsPromoted, IsPure, IsTarget, IsUpdate, fields_beside}
+
+-- the calls of what has a list in a row
+abbrev PrintsInRow : T.TExpr → Type 0
+PrintsInRow (T.Printf' ty pieces p row) = calls_in (T.Printf' ty pieces p row) ≡ concat (map calls_in (T.items-the_row-TExpr _ row))
+PrintsInRow _ = Unit {0}
+
+prints_in_row : (ty : _) (pieces : _) (p : _) (row : _) → PrintsInRow (T.Printf' ty pieces p row)
+unfolding T.out-TExpr Carrier.out
+prints_in_row ty pieces p row =
+    subst PrintsInRow (sym (rolls-Printf ty pieces _) ∙ T.roll-out-TExpr (T.Printf' ty pieces p row))
+    (ap calls_in (sym (rolls-Printf ty pieces _)) ∙ fold-roll-TExpr (List ℕ) call_step _ ∙ ap (λ (es : List T.TExpr). concat (map calls_in es)) (sym (T.items_hidden-the_row-TExpr-0 _)))
+
+abbrev BlockInRow : S.TStmt → Type 0
+BlockInRow (S.Block' locals p row) = calls_within (S.Block' locals p row) ≡ concat (map calls_in (concat (map (λ (l : LocalVar). optional l.initial) locals.items))) ++ concat (map calls_within (S.items-the_row-TStmt _ row))
+BlockInRow _ = Unit {0}
+
+block_in_row : (locals : _) (p : _) (row : _) → BlockInRow (S.Block' locals p row)
+unfolding S.out-TStmt Carrier.out
+block_in_row locals p row =
+    subst BlockInRow (sym (rolls-Block locals _) ∙ S.roll-out-TStmt (S.Block' locals p row))
+    (ap calls_within (sym (rolls-Block locals _)) ∙ fold-roll-TStmt (List ℕ) statement_call_step _ ∙ ap (λ (ss : List S.TStmt). concat (map calls_in (concat (map (λ (l : LocalVar). optional l.initial) locals.items))) ++ concat (map calls_within ss)) (sym (S.items_hidden-the_row-TStmt-0 _)))
+
+main_is : (heap : Global) → IsScalarFunction (may_of fields_beside (example heap) (main heap)) (main heap)
+unfolding IsBody IsInStatement IsEffect IsGiven IsIn IsVariable AreIn AreInitials AreInStatements AreClosed IsClosed OfFileOrParam ScalarsAmong IsFold IsPromoted IsPure IsTarget IsUpdate assign_op_of constant_of relates divides is_constant residue value_of row_variables
+main_is heap =
+    let no_variables : variables_of (main heap).body ≡ [] = simp (of_block, of_with, of_expression) in
+    record {
+      params = All-nil IsScalarVariable;
+      result = λ info is. subst IsScalarVariable (some_same _ info is) refl;
+      body = (
+        (
+          All-nil IsScalarLocal,
+          tt,
+          (
+            (All-nil IsScalarLocal, tt, (inr ((0, (refl, (refl, refl), tt, inl (refl, refl))), ((λ is. inl (inl tt)), tt)), (inr ((0, (refl, (refl, refl), (refl, refl), inr ((refl, refl), ((refl, refl), inl (1, refl, omega arith))))), ((λ is. inl (inl tt)), tt)), (inl (refl, refl, (refl, inl (inl tt)), ((refl, refl), ((refl, refl), (0, (refl, refl))), (λ is. inl (inl tt))), inl refl), tt)))),
+            ((((refl, inl tt), tt), All-cons (λ (elem : Elem). elem.bits ≡ 32) number.elem [] refl (All-nil _)), tt),
+          ),
+        ),
+        ((tt, (tt, (tt, tt))), (tt, tt)),
+      );
+      locals = subst (All IsScalarVariable) (sym no_variables) (All-nil IsScalarVariable);
+    }
+
+module _ (heap : Global) where
+  only : (k : ℕ) (i : Instance) → slice_get (main heap ∷ []) k ≡ Some i → (k ≡ 0) × (main heap ≡ i)
+  only zero i is = (refl, some_same (main heap) i is)
+  only (suc k) i is = cc
+
+  no_cycle : (f g i : ℕ) (called : List ℕ) → slice_get (called_in (example heap)) f ≡ Some called → slice_get called i ≡ Some g → Leads (called_in (example heap)) g f → ⊥
+  unfolding concat S.out-TStmt T.out-TExpr Carrier.out
+  no_cycle zero g i called at is back =
+      let no_calls : calls_within (main heap).body ≡ [] = simp (block_in_row, prints_in_row, fold_out-TExpr (List ℕ) call_step, fold_out-TStmt (List ℕ) statement_call_step) in
+      none-some g (ap (λ (numbers : List ℕ). slice_get numbers i) (sym no_calls ∙ some_same _ called at) ∙ is)
+  no_cycle (suc f) g i called at is back = cc
+
+pub is_parallel : ExampleIsParallel
+is_parallel heap = record {
+  main = main heap;
+  is_main = refl;
+  no_cycle = no_cycle heap;
+  each = λ k i is. subst (λ (x : Instance). IsScalarFunction (may_of fields_beside (example heap) x) x) (only heap k i is).1 (main_is heap);
+  names = λ j k a b is also same. (only heap j a is).0 ∙ sym (only heap k b also).0;
+  variables =
+      let P = IsFileVariable fields_beside in
+      All-cons P (plain_info (112 ∷ []) numbers) (plain_info (115 ∷ []) number ∷ []) (inr ((0, (refl, refl, refl)), refl), omega arith) (All-cons P (plain_info (115 ∷ []) number) [] (inl refl, omega arith) (All-nil P));
+}

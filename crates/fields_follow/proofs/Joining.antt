@@ -1,0 +1,41 @@
+-- Where the fields of a unit of a translated program stand, in the words in which the code of its expressions asks it.
+use Rattle.std.proofs.Common.{◌≡◌, ◌∙◌, ℕ, List, ◌∷◌, Some, refl, sym, ap, subst, arith}
+use Rattle.std.specs.List.{Contains}
+use Rattle.std.specs.Option.{option_map}
+use Rattle.std.proofs.lemmas.Option.{slice_get-map}
+use Rattle.lower_base.specs.Drafts.{Plain, step as step_of}
+use Rattle.paris_code.specs.declared.instr.Instr.{Instr}
+use Rattle.paris_code.specs.declared.operands.Field.{Field}
+use Rattle.paris_code.specs.declared.program.Owner.TheVariants as W
+use Rattle.paris_code.specs.Proper.{IsEntry}
+use Rattle.paris_code.specs.Spans.{StandsAt, fields_of}
+use Rattle.code_follows.proofs.Settings.{Setting}
+use Rattle.fields_follow.specs.Fields.{file_number}
+use Rattle.fields_follow.proofs.FileFields as Files
+use Rattle.fields_follow.proofs.FileFields.{IsTranslated, apart_back, few_positions, file_exists}
+use Rattle.fields_follow.proofs.Placing as Placing
+use Rattle.fields_follow.proofs.Placing.{IsThere, at_bits, file_moved, own_and_file, written_apart}
+use Rattle.fields_follow.proofs.Places.{IsOwnField, PlacesFields}
+
+module _ (g : Setting) (made : IsTranslated g.typed g.words g.before g.after g.image) where
+  stands_there : (at : ℕ) (i : Instr) → StandsAt g.unit at i → step_of i ≡ Plain i → IsThere g made i at
+  stands_there at i stands plain = slice_get-map step_of g.unit.code.items at ∙ ap (option_map step_of) stands ∙ ap Some plain
+
+  first_of : (fields others : List Field) (f : Field) → fields ≡ f ∷ others → Contains fields f
+  first_of fields others f is = subst (λ (xs : List Field). Contains xs f) (sym is) (0, omega arith, refl)
+
+  own_field : (f : Field) → IsOwnField g f → Placing.IsOwnField g made f
+  own_field f own = record { whole = f.len; own = own; fits = omega arith }
+
+  pub places_fields : PlacesFields g
+  places_fields = record {
+    ends = λ at i f others stands plain simple names. Placing.ends g made i at f (stands_there at i stands plain) simple (first_of (fields_of i) others f names);
+    exists = λ k element set info is. file_exists g.typed g.words g.before g.after g.image made k info set element is;
+    file = λ k element info f is word own.
+        file_moved g made f k info element (record { element = is; entry = subst (λ (len : ℕ). IsEntry g.unit f.offset (record { set = f.set; len = len; owner = W.File (file_number g.typed k element) })) (sym word) own; is = sym word });
+    files_apart = λ k element set j other t info of one two differ. Files.files_apart g.typed g.words g.before g.after g.image made k info set element j of t other one two differ;
+    own_file = λ k element set info f is own. own_and_file g made f k info set element (own_field f own) is;
+    owns_apart = λ f h first at last later differ own other exists named again low high here behind more.
+        apart_back (at_bits g made h) (at_bits g made f) (written_apart g made at first last later f h (own_field f own) (own_field h other) differ exists named again low high here behind more);
+    few = λ set. few_positions g.typed g.words g.before g.after g.image made set;
+  }

@@ -1,0 +1,169 @@
+-- What pure parallel expressions mean: a number at each position, with the state as it was.
+use Rattle.std.proofs.Common.{◌≡◌, ◌∙◌, ℕ, zero, suc, Bool, true, false, not, ◌&&◌, ◌==◌, List, Option, Some, None, refl, sym, ap, subst, inl, inr, if◌then◌else◌, ◌⊎◌, ◌<◌, ◌^◌}
+use Rattle.std.specs.Prelude.{is_none}
+use Rattle.cstar_base.specs.declared.faults.RunFault.TheVariants.{DivZero}
+use Rattle.cstar_base.specs.declared.operators.Op.{Op}
+use Rattle.cstar_base.specs.declared.operators.Place.{Place}
+use Rattle.cstar_base.specs.Operators.{divides, outcome}
+use Rattle.cstar_base.specs.Orders.{least_below, or_else}
+use Rattle.cstar_tree.specs.declared.typed.TExpr.{TExpr}
+use Rattle.cstar_tree.specs.declared.typed.TExpr as T
+use Rattle.cstar_tree.specs.declared.typed.ValueType.{ValueType}
+use Rattle.cstar_tree.specs.declared.typed.Variable.TheVariants as V
+use Rattle.cstar_tree.specs.Typed.{type_of}
+use Rattle.source_meaning.specs.Constants as Const
+use Rattle.source_meaning.specs.Constants.{constant_of, is_constant}
+use Rattle.source_meaning.specs.Expressions.{evaluated, mapped, operated}
+use Rattle.source_meaning.specs.State.{Gives, Outcome, State, then_do}
+use Rattle.source_meaning.specs.Targets.{read, variable_target}
+use Rattle.source_meaning.specs.Values.{Active, Parallel, Scalar, Scope, Value, at, convert_to, each, failing, own_coordinate, positions, unary_of, unless}
+use Rattle.source_meaning.proofs.ConstantLaws.{value_means}
+use Rattle.vp_sets.specs.Positions.{coordinate}
+use Rattle.fields_follow.specs.Fragment.{IsEverywhere, IsPromoted, IsPure, IsScalarName}
+use Rattle.cstar_base.specs.declared.elem.Elem.{Elem}
+use Rattle.cstar_base.specs.Numbers.{converted}
+use Rattle.code_follows.proofs.Words.{held_converted, held_wide}
+
+-- a number of 32 bits is one of another such type
+pub wide_same : (to from : Elem) (w : ℕ) → to.bits ≡ 32 → from.bits ≡ 32 → w < 2 ^ 32 → converted to from w ≡ w
+wide_same to from w wide also few = held_converted to from w wide ∙ held_wide from w also few
+
+-- the number of a scalar that is promoted
+unfoldable pub variable_in : State → TExpr → ℕ
+variable_in st (T.Variable ty x) = st.scalar x
+variable_in st (T.Brackets' ty p inner) = variable_in st inner
+variable_in st (T.Convert' ty p operand) = converted ty.elem (type_of operand).elem (variable_in st operand)
+variable_in st _ = 0
+
+unfoldable pub scalar_in : State → TExpr → ℕ
+scalar_in st e = elim (constant_of e) [ Some word ↦ word | None ↦ variable_in st e ]
+
+-- the number at a position of a shape with these extents
+unfoldable pub value_in : List ℕ → State → TExpr → ℕ → ℕ
+value_in extents st (T.Variable ty x) q = st.parallel x 0 q
+value_in extents st (T.Brackets' ty p inner) q = value_in extents st inner q
+value_in extents st (T.Promote' ty p operand) q = scalar_in st operand
+value_in extents st (T.Unary' ty op p operand) q = unary_of op (value_in extents st operand q)
+value_in extents st (T.Binary' ty place op p left r right) q = outcome op 32 (not (type_of left).elem.signed) (value_in extents st left q) (value_in extents st right q)
+value_in extents st (T.Convert' ty p operand) q = converted ty.elem (type_of operand).elem (value_in extents st operand q)
+value_in extents st (T.Pcoord ty axis) q = coordinate extents q axis
+value_in extents st _ q = 0
+
+-- a type of a shape, by its parts
+pub as_shaped : (ty : ValueType) (set : ℕ) → ty.shape ≡ Some set → ty ≡ record { elem = ty.elem; shape = Some set }
+as_shaped ty set is i = record { elem = ty.elem; shape = is i }
+
+as_scalar : (ty : ValueType) → ty.shape ≡ None → ty ≡ record { elem = ty.elem; shape = None }
+as_scalar ty is i = record { elem = ty.elem; shape = is i }
+
+-- nothing fails where nothing is tested
+pub none_fails : (active : ℕ → Bool) (n : ℕ) → least_below (λ p. active p && false) n ≡ None
+unfolding least_below
+none_fails active zero = refl
+none_fails active (suc n) = ap (λ (o : Option ℕ). or_else o (if active n && false then Some n else None)) (none_fails active n) ∙ by (active n) n
+  where
+    by : (b : Bool) (n : ℕ) → or_else None (if b && false then Some n else None) ≡ None
+    by true n = refl
+    by false n = refl
+
+pub and_false : (a b : Bool) → b ≡ false → (a && b) ≡ false
+and_false true b e = e
+and_false false b e = refl
+
+pub no_constant : (e : TExpr) → is_constant e ≡ false → constant_of e ≡ None
+unfolding constant_of
+no_constant e is = ap (λ (b : Bool). if b then Const.value_of e else None) is
+
+-- the operands of an operator, each by itself
+abbrev pub AreOperands : ℕ → TExpr → TExpr → Type 0
+AreOperands set left right = (IsPure set left × (IsPure set right ⊎ IsPromoted set right)) ⊎ (IsPromoted set left × IsPure set right)
+
+pub left_of : (set : ℕ) (left right : TExpr) → AreOperands set left right → IsPure set left ⊎ IsPromoted set left
+left_of set left right (inl h) = inl h.0
+left_of set left right (inr h) = inr h.0
+
+pub right_of : (set : ℕ) (left right : TExpr) → AreOperands set left right → IsPure set right ⊎ IsPromoted set right
+right_of set left right (inl h) = h.1
+right_of set left right (inr h) = inl h.1
+
+pub either : {A B C : Type 0} → (A → C) → (B → C) → A ⊎ B → C
+either f g (inl x) = f x
+either f g (inr y) = g y
+
+module _ (scope : Scope) (active : Active) where
+  operated_is : (ty : ValueType) (set : ℕ) (place : Place) (op : Op) (unsigned : Bool) (v w : Value) (st : State) → ty.shape ≡ Some set → divides op ≡ false
+      → operated scope active ty place op unsigned v w st ≡ Gives (Parallel (λ p. outcome op 32 unsigned (at v p) (at w p))) st
+  unfolding operated failing unless each
+  operated_is ty set place op unsigned v w st shaped no_check =
+      ap (λ (y : ValueType). operated scope active y place op unsigned v w st) (as_shaped ty set shaped)
+      ∙ ap (λ (b : Bool). unless (failing scope active (Some set) (λ p. b && at w p == 0)) DivZero place st (Gives (Parallel (λ p. outcome op 32 unsigned (at v p) (at w p))) st)) no_check
+      ∙ ap (λ (o : Option ℕ). unless (elim o [ None ↦ None | Some p ↦ Some (Some p) ]) DivZero place st (Gives (Parallel (λ p. outcome op 32 unsigned (at v p) (at w p))) st)) (none_fails (active set) (positions scope set))
+
+  mapped_is : (ty : ValueType) (set : ℕ) (f : ℕ → ℕ) (v : Value) → ty.shape ≡ Some set → mapped ty f v ≡ Parallel (λ p. f (at v p))
+  unfolding mapped each
+  mapped_is ty set f v shaped = ap (λ (y : ValueType). mapped y f v) (as_shaped ty set shaped)
+
+  read_is : (ty : ValueType) (set k : ℕ) (st : State) → ty.shape ≡ Some set → read st (variable_target ty.shape (V.File k) 0) ≡ Parallel (λ p. st.parallel (V.File k) 0 p)
+  unfolding read variable_target
+  read_is ty set k st shaped = ap (λ (o : Option ℕ). read st (variable_target o (V.File k) 0)) shaped
+
+  name_means : (e : TExpr) (st : State) → IsScalarName e → (type_of e).shape ≡ None → evaluated scope e active st ≡ Gives (Scalar (variable_in st e)) st
+  unfolding IsScalarName evaluated variable_in read variable_target then_do convert_to each at
+  name_means (T.Variable ty x) st is none = ap (λ (o : Option ℕ). Gives (read st (variable_target o x 0)) st) none
+  name_means (T.Brackets' ty p inner) st is none = name_means inner st is.1 (ap (λ (y : ValueType). y.shape) (sym is.0) ∙ none)
+  name_means (T.Convert' ty p operand) st is none =
+      ap (λ (o : Outcome Value). then_do o (λ v after. Gives (convert_to ty (type_of operand).elem v) after)) (name_means operand st is.1 is.0.0)
+      ∙ ap (λ (y : ValueType). Gives (convert_to y (type_of operand).elem (Scalar (variable_in st operand))) st) (as_scalar ty none)
+  name_means _ st is none = absurd is
+
+  constant_means : (e : TExpr) (word : ℕ) (st : State) → constant_of e ≡ Some word → evaluated scope e active st ≡ Gives (Scalar word) st
+  unfolding constant_of
+  constant_means e word st is = by (is_constant e) (Const.value_of e) refl refl is
+    where
+      by : (c : Bool) (o : Option ℕ) → is_constant e ≡ c → Const.value_of e ≡ o → (if c then o else None) ≡ Some word → evaluated scope e active st ≡ Gives (Scalar word) st
+      by true o is_c is_o h = subst (λ (o : Option ℕ). Const.IsValueOf e o) (is_o ∙ h) (value_means e is_c) scope active st
+      by false o is_c is_o h = cc
+
+  not_constant : (e : TExpr) → IsScalarName e → is_constant e ≡ false
+  unfolding IsScalarName is_constant
+  not_constant (T.Variable ty x) is = refl
+  not_constant (T.Brackets' ty p inner) is = and_false (is_none ty.shape && ty.elem.bits == (type_of inner).elem.bits) (is_constant inner) (not_constant inner is.1)
+  not_constant (T.Convert' ty p operand) is = and_false (is_none ty.shape) (is_constant operand) (not_constant operand is.1)
+  not_constant _ is = absurd is
+
+  pub everywhere_means : (e : TExpr) (st : State) → IsEverywhere e → evaluated scope e active st ≡ Gives (Scalar (scalar_in st e)) st
+  unfolding scalar_in
+  everywhere_means e st (word, inl constant) =
+      constant_means e constant.0 st constant.1 ∙ ap (λ (o : Option ℕ). Gives (Scalar (elim o [ Some word ↦ word | None ↦ variable_in st e ])) st) (sym constant.1)
+  everywhere_means e st (word, inr variable) =
+      name_means e st variable word.0 ∙ ap (λ (o : Option ℕ). Gives (Scalar (elim o [ Some word ↦ word | None ↦ variable_in st e ])) st) (sym (no_constant e (not_constant e variable)))
+
+  pub promoted_means : (set : ℕ) (e : TExpr) (st : State) → IsPromoted set e → evaluated scope e active st ≡ Gives (Parallel (λ q. value_in (scope.extents set) st e q)) st
+  unfolding IsPromoted evaluated value_in then_do at
+  promoted_means set (T.Promote' ty p operand) st is =
+      ap (λ (o : Outcome Value). then_do o (λ v after. Gives (mapped ty (λ w. w) v) after)) (everywhere_means operand st is.1)
+      ∙ ap (λ (v : Value). Gives v st) (mapped_is ty set (λ w. w) (Scalar (scalar_in st operand)) is.0.0)
+  promoted_means set (T.Brackets' ty p inner) st is = promoted_means set inner st is.1
+  promoted_means set _ st is = absurd is
+
+  pub pure_means : (set : ℕ) (e : TExpr) (st : State) → IsPure set e → evaluated scope e active st ≡ Gives (Parallel (λ q. value_in (scope.extents set) st e q)) st
+  unfolding IsPure evaluated value_in then_do at convert_to each own_coordinate
+  pure_means set (T.Variable ty (V.File k)) st is = ap (λ (v : Value). Gives v st) (read_is ty set k st is.0)
+  pure_means set (T.Brackets' ty p inner) st is = pure_means set inner st is.1
+  pure_means set (T.Unary' ty op p operand) st is =
+      ap (λ (o : Outcome Value). then_do o (λ v after. Gives (mapped ty (unary_of op) v) after)) (pure_means set operand st is.2)
+      ∙ ap (λ (v : Value). Gives v st) (mapped_is ty set (unary_of op) (Parallel (λ q. value_in (scope.extents set) st operand q)) is.0.0)
+  pure_means set (T.Binary' ty place op p left q right) st is =
+      both (λ q. value_in (scope.extents set) st left q) (λ q. value_in (scope.extents set) st right q) (either (λ h. pure_means set left st h) (λ h. promoted_means set left st h) (left_of set left right is.2)) (either (λ h. pure_means set right st h) (λ h. promoted_means set right st h) (right_of set left right is.2))
+    where
+      both : (v w : ℕ → ℕ) → evaluated scope left active st ≡ Gives (Parallel v) st → evaluated scope right active st ≡ Gives (Parallel w) st
+          → then_do (evaluated scope left active st) (λ x between. then_do (evaluated scope right active between) (λ y after. operated scope active ty place op (not (type_of left).elem.signed) x y after)) ≡ Gives (Parallel (λ q. outcome op 32 (not (type_of left).elem.signed) (v q) (w q))) st
+      both v w one other =
+          ap (λ (o : Outcome Value). then_do o (λ x between. then_do (evaluated scope right active between) (λ y after. operated scope active ty place op (not (type_of left).elem.signed) x y after))) one
+          ∙ ap (λ (o : Outcome Value). then_do o (λ y after. operated scope active ty place op (not (type_of left).elem.signed) (Parallel v) y after)) other
+          ∙ operated_is ty set place op (not (type_of left).elem.signed) (Parallel v) (Parallel w) st is.0.0 is.1.1
+  pure_means set (T.Convert' ty p operand) st is =
+      ap (λ (o : Outcome Value). then_do o (λ v after. Gives (convert_to ty (type_of operand).elem v) after)) (pure_means set operand st is.1)
+      ∙ ap (λ (y : ValueType). Gives (convert_to y (type_of operand).elem (Parallel (λ q. value_in (scope.extents set) st operand q))) st) (as_shaped ty set is.0.0)
+  pure_means set (T.Pcoord ty axis) st is = ap (λ (o : Option ℕ). Gives (own_coordinate scope o axis) st) is.0
+  pure_means set _ st is = absurd is

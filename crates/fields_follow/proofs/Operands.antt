@@ -1,0 +1,281 @@
+-- The operands of a parallel operator: the left one in a field, the right one in a field or as a word, and the
+-- instruction that operates on them.
+use Rattle.std.proofs.Common.{◌≡◌, ◌∙◌, ℕ, ◌<◌, ◌≤◌, ◌^◌, ◌==◌, ◌&&◌, Bool, true, false, not, [], ◌∷◌, length, Option, Some, None, refl, sym, ap, subst, arith, ◌⊎◌, inl, inr, if◌then◌else◌}
+use Rattle.cstar_base.specs.declared.operators.Op.{Op}
+use Rattle.cstar_base.specs.declared.operators.Place.{Place}
+use Rattle.cstar_base.specs.Operators.{divides, outcome}
+use Rattle.cstar_tree.specs.declared.typed.TExpr.{TExpr}
+use Rattle.cstar_tree.specs.declared.typed.Variable.{Variable}
+use Rattle.code_lengths.specs.Ready.{IsReady}
+use Rattle.code_lengths.proofs.Drafting.{as_it_was}
+use Rattle.lower_base.specs.declared.emit.Out.{Out}
+use Rattle.lower_base.specs.declared.emit.Out.TheVariants as O
+use Rattle.lower_base.specs.declared.operators.Machine.{Machine}
+use Rattle.lower_base.specs.declared.operators.Machine.TheVariants as M
+use Rattle.lower_base.specs.Drafts.{Draft, Made, Makes, from, step as step_of, then_make, with_instr}
+use Rattle.lower_base.specs.Layouts.{register_of}
+use Rattle.lower_base.specs.Operators.{operation_of}
+use Rattle.lower_expr.specs.declared.operands.Own.{Own}
+use Rattle.lower_expr.specs.declared.steps.Right.{Right}
+use Rattle.lower_expr.specs.declared.steps.Right.TheVariants as R
+use Rattle.lower_expr.specs.Operands.{in_place, is_quiet, operand_by, own_of, standing}
+use Rattle.lower_expr.specs.Steps.{fields_operated, in_a_field, on_fields, on_word, right_operated, takes_word, with_field_check, word_of, word_taken}
+use Rattle.lower_expr.specs.Values.{Code, fields_by, right_by, right_given, spread_into}
+use Rattle.paris_code.specs.declared.instr.Instr.{Instr}
+use Rattle.paris_code.specs.declared.instr.Instr.TheVariants as I
+use Rattle.paris_code.specs.declared.operands.Field.{Field}
+use Rattle.paris_code.specs.declared.operands.Konst.{Konst}
+use Rattle.paris_code.specs.declared.operands.Konst.TheVariants as K
+use Rattle.paris_code.specs.declared.program.Owner.TheVariants as W
+use Rattle.paris_code.specs.Code.{CodeState}
+use Rattle.paris_code.specs.Spans.{StandsAt}
+use Rattle.source_meaning.specs.Constants.{then_value}
+use Rattle.source_meaning.specs.State.{State}
+use Rattle.code_follows.proofs.Following.{Extends, HasRegisters, Sim, extends_then}
+use Rattle.code_follows.proofs.Settings.{At, Setting, Within, and_one, layout}
+use Rattle.code_follows.proofs.Words.{held_wide}
+use Rattle.fields_follow.specs.Fragment.{IsOperation, IsPromoted, IsPure}
+use Rattle.fields_follow.proofs.Forms.{HasItsCode, HasItsWord, StandsInRegister, promoted_not_held, promoted_stands, pure_word}
+use Rattle.fields_follow.proofs.Instructions.{Puts, extents, operation_is, puts_constant, puts_operate, puts_operate_constant, word_in}
+use Rattle.fields_follow.proofs.Meaning.{AreOperands, left_of, right_of, value_in}
+use Rattle.fields_follow.proofs.Passing.{After, Behind, GivesField, Passes, after_same, code_longer, fields_longer, gives_less, gives_numbers, made_after, names_second, names_third, passes_all, passes_on, puts_own, still_numbers, then_after}
+use Rattle.fields_follow.proofs.Places.{HoldsTheFields, PlacesFields, stands_here}
+use Rattle.fields_follow.proofs.Quiet.{promoted_quiet, pure_quiet}
+use Rattle.fields_follow.proofs.Values.{Gives, Valued, code_of, next_field, one_more, operand_after, operand_of, taken, with_entry}
+
+-- the instruction that operates on a field and what the right operand is
+abbrev pub operating : Op → Bool → Field → Field → Right → Instr
+operating op signed dest left (R.Field b) = I.Operate (operation_of op signed) dest left b
+operating op signed dest left (R.Word k) = I.OperateConstant (operation_of op signed) dest left k
+
+module _ (g : Setting) where
+  in_field_extends : (v : Out) (dest : Field) (d : Draft) → Extends g d (in_a_field v dest d)
+  unfolding Extends in_a_field
+  in_field_extends (O.Field f) dest d = (0, as_it_was d)
+  in_field_extends (O.Scalar r) dest d = (1, and_one g (I.MoveConstant dest (K.Reg r)) d)
+  in_field_extends O.Nothing dest d = tt
+
+  pub right_extends : (code : Code) (op : Op) (e : TExpr) → ((d : Draft) → Extends g d (code d)) → (d : Draft) → Extends g d (right_by code op e d)
+  unfolding right_by Extends from
+  right_extends code op e grows d = by (word_taken op e)
+    where
+      given : (o : Option Right) (after : Draft) → Extends g after (from o (λ right. Makes right after))
+      given (Some right) after = (0, as_it_was after)
+      given None after = tt
+
+      by : (o : Option ℕ) → Extends g d (elim o as (λ _. Made Right) [ Some word ↦ Makes (R.Word (K.Imm word)) d | None ↦ then_make (code d) (λ v after. from (right_given v) (λ right. Makes right after)) ])
+      by (Some word) = (0, as_it_was d)
+      by None = extends_then g d (code d) (λ v after. from (right_given v) (λ right. Makes right after)) (grows d) (λ v after. given (right_given v) after)
+
+  -- there is no check, and no field is spread
+  pub operated_is : (op : Op) (signed : Bool) (place : Place) (dest left spare : Field) (right : Right) (e : Draft) → IsOperation op → right_operated op signed place dest left right spare e ≡ Makes (O.Field dest) (with_instr (operating op signed dest left right) e)
+  unfolding right_operated fields_operated with_field_check on_fields on_word takes_word
+  operated_is op signed place dest left spare (R.Field b) e is =
+      ap (λ (m : Machine). on_fields m dest left b (if divides op then with_instr (I.CheckDivisor place b) e else e)) (operation_is op signed is.0)
+      ∙ ap (λ (c : Bool). Makes (O.Field dest) (with_instr (I.Operate (operation_of op signed) dest left b) (if c then with_instr (I.CheckDivisor place b) e else e))) is.1
+  operated_is op signed place dest left spare (R.Word (K.Imm word)) e is = ap (λ (m : Machine). on_word m op place dest left (K.Imm word) spare e) (operation_is op signed is.0)
+  operated_is op signed place dest left spare (R.Word (K.Reg r)) e is =
+      ap (λ (m : Machine). on_word m op place dest left (K.Reg r) spare e) (operation_is op signed is.0)
+      ∙ by (divides op) is.1
+    where
+      by : (c : Bool) → c ≡ false → (if not c then Makes (O.Field dest) (with_instr (I.OperateConstant (operation_of op signed) dest left (K.Reg r)) e) else on_fields (M.Operate (operation_of op signed)) dest left spare (with_field_check op place spare (with_instr (I.MoveConstant spare (K.Reg r)) e)))
+          ≡ Makes (O.Field dest) (with_instr (I.OperateConstant (operation_of op signed) dest left (K.Reg r)) e)
+      by false e = refl
+      by true e = cc
+
+  pub operated_extends : (op : Op) (signed : Bool) (place : Place) (dest left spare : Field) (right : Right) (e : Draft) → IsOperation op → Extends g e (right_operated op signed place dest left right spare e)
+  unfolding Extends
+  operated_extends op signed place dest left spare right e is = subst (λ (m : Made Out). Extends g e m) (sym (operated_is op signed place dest left spare right e is)) (1, and_one g (operating op signed dest left right) e)
+
+  module _ (has : HasRegisters g) (alive : Variable → Type 0) (n : ℕ) (ready : (d : Draft) → IsReady g.typed g.instance (layout g) n d) (places : PlacesFields g) (fields : HoldsTheFields g) where
+    abbrev operand : Bool → TExpr → Code
+    operand quiet e = operand_of g has alive n ready places fields quiet e
+
+    abbrev Follows : ℕ → TExpr → Type 0
+    Follows set e = Valued g has alive n ready places fields set e (λ d. code_of g has alive n ready places fields e d)
+
+    -- a promoted variable is used where it stands
+    pub register_is : (set : ℕ) (e : TExpr) → IsPromoted set e → (h : StandsInRegister g.typed g.instance alive e) → (d : Draft) → operand true e d ≡ Makes (O.Scalar (register_of (layout g) h.x)) d
+    unfolding operand_by in_place standing
+    register_is set e is h d =
+        ap (λ (o : Option ℕ). elim o as (λ _. Made Out) [ Some r ↦ Makes (O.Scalar r) d | None ↦ elim (own_of 32 e) as (λ _. Made Out) [ Some own ↦ standing g.typed (layout g) 32 own d | None ↦ code_of g has alive n ready places fields e d ] ]) (promoted_not_held set (layout g) e is)
+        ∙ ap (λ (o : Option Own). elim o as (λ _. Made Out) [ Some own ↦ standing g.typed (layout g) 32 own d | None ↦ code_of g has alive n ready places fields e d ]) h.own
+
+    -- and its register has its number
+    pub register_has : (e : TExpr) (h : StandsInRegister g.typed g.instance alive e) (st : State) (s : CodeState) → Sim g alive st s → (word_in g (K.Reg (register_of (layout g) h.x)) s ≡ st.scalar h.x) × (st.scalar h.x < 2 ^ 32)
+    unfolding word_in
+    register_has e h st s sim =
+        let few : st.scalar h.x < 2 ^ 32 = subst (λ (b : ℕ). st.scalar h.x < 2 ^ b) h.wide (sim.small h.x h.info h.lives (h.known, h.scalar)) in
+        (sim.scalars h.x h.info h.lives (h.known, h.scalar) ∙ held_wide h.info.elem (st.scalar h.x) h.wide few, few)
+
+    -- a word at every position of a fresh entry
+    word_spread : (set : ℕ) (d : Draft) (k : Konst) (v : ℕ → ℕ) (s : CodeState) (st : State) → At g s (length d.code) → Sim g alive st s → word_in g k s < 2 ^ 32 → ((q : ℕ) → v q ≡ word_in g k s) → Within g (with_instr (I.MoveConstant (next_field set 32 d) k) (with_entry set 32 W.Own d))
+        → GivesField g alive (length d.fields) (with_entry set 32 W.Own d) s set st v (next_field set 32 d) (with_instr (I.MoveConstant (next_field set 32 d) k) (with_entry set 32 W.Own d))
+    word_spread set d k v s st here sim few same within =
+        let d1 : Draft = with_entry set 32 W.Own d in
+        let i : Instr = I.MoveConstant (next_field set 32 d) k in
+        let same_all : (λ (q : ℕ). word_in g k s) ≡ v = λ j q. sym (same q) j in
+        subst (λ (w : ℕ → ℕ). GivesField g alive (length d.fields) d1 s set st w (next_field set 32 d) (with_instr i d1)) same_all
+        (puts_own g alive places fields (length d.fields) set i (next_field set 32 d) d1 s st (λ q. word_in g k s) (omega arith) (let one = one_more set 32 W.Own d in omega (arith, one)) (taken g set 32 W.Own d (with_instr i d1) 1 within (and_one g i d1)) refl refl within here sim (puts_constant g set (next_field set 32 d) k s refl few))
+
+    -- the left operand stands in a field, in the fresh one if it is promoted
+    pub left_after : (set : ℕ) (e : TExpr) (quiet : Bool) → (IsPromoted set e → quiet ≡ true) → IsPure set e ⊎ IsPromoted set e → HasItsCode g.typed g.instance alive n e → (IsPure set e → Follows set e) → (d : Draft) (s : CodeState) (st : State) → At g s (length d.code) → Sim g alive st s
+        → ((after : Draft) → Extends g after (operand quiet e after))
+        → After g (GivesField g alive (length d.fields) (with_entry set 32 W.Own d) s set st (λ q. value_in (extents g set) st e q)) (spread_into (operand quiet e) e (next_field set 32 d) (with_entry set 32 W.Own d))
+    unfolding spread_into in_a_field then_make word_in
+    left_after set e quiet calm (inl pure) c whole d s st here sim grows =
+        after_same g (GivesField g alive (length d.fields) d1 s set st v) (ap (λ (o : Option ℕ). elim o as (λ _. Made Field) [ Some word ↦ Makes dest (with_instr (I.MoveConstant dest (K.Imm word)) d1) | None ↦ then_make (operand quiet e d1) (λ x after. in_a_field x dest after) ]) (pure_word set e pure))
+        (then_after g (Gives g has alive n ready places fields (length d1.fields) d1 s set st v) (GivesField g alive (length d.fields) d1 s set st v) (operand quiet e d1) (λ x after. in_a_field x dest after)
+        (operand_after g has alive n ready places fields set e quiet pure c.code.names (whole pure) d1 s st here sim) (λ x after. in_field_extends x dest after)
+        (λ x after (f, (is, gives)). after_same g (GivesField g alive (length d.fields) d1 s set st v) (ap (λ (o : Out). in_a_field o dest after) is) (made_after g (GivesField g alive (length d.fields) d1 s set st v) f after (λ within.
+        gives_less g alive (length d.fields) (length d1.fields) d1 after s set st v f (let one = one_more set 32 W.Own d in omega (arith, one)) gives))))
+      where
+        d1 : Draft
+        d1 = with_entry set 32 W.Own d
+
+        dest : Field
+        dest = next_field set 32 d
+
+        v : ℕ → ℕ
+        v = λ q. value_in (extents g set) st e q
+    left_after set e quiet calm (inr promoted) c whole d s st here sim grows = by (promoted_stands g.typed g.instance alive n set e promoted c.code.names c.among)
+      where
+        d1 : Draft
+        d1 = with_entry set 32 W.Own d
+
+        dest : Field
+        dest = next_field set 32 d
+
+        v : ℕ → ℕ
+        v = λ q. value_in (extents g set) st e q
+
+        by : HasItsWord e ⊎ StandsInRegister g.typed g.instance alive e → After g (GivesField g alive (length d.fields) d1 s set st v) (spread_into (operand quiet e) e dest d1)
+        by (inl h) = after_same g (GivesField g alive (length d.fields) d1 s set st v) (ap (λ (o : Option ℕ). elim o as (λ _. Made Field) [ Some word ↦ Makes dest (with_instr (I.MoveConstant dest (K.Imm word)) d1) | None ↦ then_make (operand quiet e d1) (λ x after. in_a_field x dest after) ]) h.is)
+            (made_after g (GivesField g alive (length d.fields) d1 s set st v) dest (with_instr (I.MoveConstant dest (K.Imm h.word)) d1) (λ within. word_spread set d (K.Imm h.word) v s st here sim h.small (λ q. h.value (extents g set) st q) within))
+        by (inr h) =
+            let r : ℕ = register_of (layout g) h.x in
+            let holds = register_has e h st s sim in
+            after_same g (GivesField g alive (length d.fields) d1 s set st v)
+            (ap (λ (o : Option ℕ). elim o as (λ _. Made Field) [ Some word ↦ Makes dest (with_instr (I.MoveConstant dest (K.Imm word)) d1) | None ↦ then_make (operand quiet e d1) (λ x after. in_a_field x dest after) ]) h.no_word
+            ∙ ap (λ (b : Bool). then_make (operand b e d1) (λ x after. in_a_field x dest after)) (calm promoted)
+            ∙ ap (λ (m : Made Out). then_make m (λ x after. in_a_field x dest after)) (register_is set e promoted h d1))
+            (made_after g (GivesField g alive (length d.fields) d1 s set st v) dest (with_instr (I.MoveConstant dest (K.Reg r)) d1) (λ within.
+            word_spread set d (K.Reg r) v s st here sim (subst (λ (w : ℕ). w < 2 ^ 32) (sym holds.0) holds.1) (λ q. h.value (extents g set) st q holds.1 ∙ sym holds.0) within))
+
+    -- the right operand stands in a field, or is a word that is the same at every position
+    pub record GivesWord (bound : ℕ) (d : Draft) (s : CodeState) (st : State) (v : ℕ → ℕ) (k : Konst) (e : Draft) : Type 0 where
+      pub passes : Passes g alive bound d e s st (Unit {0})
+      pub small : word_in g k passes.t < 2 ^ 32
+      pub same : (q : ℕ) → v q ≡ word_in g k passes.t
+
+    abbrev pub GivesRight : ℕ → Draft → CodeState → ℕ → State → (ℕ → ℕ) → Right → Draft → Type 0
+    GivesRight bound d s set st v right e =
+        ((b : Field) × ((right ≡ R.Field b) × GivesField g alive bound d s set st v b e)) ⊎ ((k : Konst) × ((right ≡ R.Word k) × GivesWord bound d s st v k e))
+
+    pub right_after : (set : ℕ) (op : Op) (e : TExpr) → divides op ≡ false → IsPure set e ⊎ IsPromoted set e → HasItsCode g.typed g.instance alive n e → (IsPure set e → Follows set e) → (d : Draft) (s : CodeState) (st : State) → At g s (length d.code) → Sim g alive st s
+        → After g (GivesRight (length d.fields) d s set st (λ q. value_in (extents g set) st e q)) (right_by (operand true e) op e d)
+    unfolding right_by word_taken then_make right_given from word_in Extends
+    right_after set op e no_check (inl pure) c whole d s st here sim =
+        after_same g (GivesRight (length d.fields) d s set st v) (ap (λ (o : Option ℕ). elim (then_value o (λ w. if divides op && w == 0 then None else Some w)) as (λ _. Made Right) [ Some word ↦ Makes (R.Word (K.Imm word)) d | None ↦ then_make (operand true e d) (λ x after. from (right_given x) (λ right. Makes right after)) ]) (pure_word set e pure))
+        (then_after g (Gives g has alive n ready places fields (length d.fields) d s set st v) (GivesRight (length d.fields) d s set st v) (operand true e d) (λ x after. from (right_given x) (λ right. Makes right after))
+        (operand_after g has alive n ready places fields set e true pure c.code.names (whole pure) d s st here sim) (λ x after. given (right_given x) after)
+        (λ x after (f, (is, gives)). after_same g (GivesRight (length d.fields) d s set st v) (ap (λ (o : Out). from (right_given o) (λ right. Makes right after)) is) (made_after g (GivesRight (length d.fields) d s set st v) (R.Field f) after (λ within. inl (f, (refl, gives))))))
+      where
+        v : ℕ → ℕ
+        v = λ q. value_in (extents g set) st e q
+
+        given : (o : Option Right) (after : Draft) → Extends g after (from o (λ right. Makes right after))
+        given (Some right) after = (0, as_it_was after)
+        given None after = tt
+    right_after set op e no_check (inr promoted) c whole d s st here sim = by (promoted_stands g.typed g.instance alive n set e promoted c.code.names c.among)
+      where
+        v : ℕ → ℕ
+        v = λ q. value_in (extents g set) st e q
+
+        taken_so : (c : Bool) (w : ℕ) → c ≡ false → (if c && w == 0 then None else Some w) ≡ Some w
+        taken_so false w e = refl
+        taken_so true w e = cc
+
+        by : HasItsWord e ⊎ StandsInRegister g.typed g.instance alive e → After g (GivesRight (length d.fields) d s set st v) (right_by (operand true e) op e d)
+        by (inl h) =
+            after_same g (GivesRight (length d.fields) d s set st v)
+            (ap (λ (o : Option ℕ). elim (then_value o (λ w. if divides op && w == 0 then None else Some w)) as (λ _. Made Right) [ Some word ↦ Makes (R.Word (K.Imm word)) d | None ↦ then_make (operand true e d) (λ x after. from (right_given x) (λ right. Makes right after)) ]) h.is
+            ∙ ap (λ (o : Option ℕ). elim o as (λ _. Made Right) [ Some word ↦ Makes (R.Word (K.Imm word)) d | None ↦ then_make (operand true e d) (λ x after. from (right_given x) (λ right. Makes right after)) ]) (taken_so (divides op) h.word no_check))
+            (made_after g (GivesRight (length d.fields) d s set st v) (R.Word (K.Imm h.word)) d (λ within. inr (K.Imm h.word, (refl, record { passes = passes_all g alive (length d.fields) d s st (Unit {0}) here sim; small = h.small; same = λ q. h.value (extents g set) st q }))))
+        by (inr h) =
+            let r : ℕ = register_of (layout g) h.x in
+            let holds = register_has e h st s sim in
+            after_same g (GivesRight (length d.fields) d s set st v)
+            (ap (λ (o : Option ℕ). elim (then_value o (λ w. if divides op && w == 0 then None else Some w)) as (λ _. Made Right) [ Some word ↦ Makes (R.Word (K.Imm word)) d | None ↦ then_make (operand true e d) (λ x after. from (right_given x) (λ right. Makes right after)) ]) h.no_word
+            ∙ ap (λ (m : Made Out). then_make m (λ x after. from (right_given x) (λ right. Makes right after))) (register_is set e promoted h d))
+            (made_after g (GivesRight (length d.fields) d s set st v) (R.Word (K.Reg r)) d (λ within.
+            inr (K.Reg r, (refl, record { passes = passes_all g alive (length d.fields) d s st (Unit {0}) here sim; small = subst (λ (w : ℕ). w < 2 ^ 32) (sym holds.0) holds.1; same = λ q. h.value (extents g set) st q holds.1 ∙ sym holds.0 }))))
+
+    -- The instruction that operates on both: it puts the operator's numbers wherever it stands, and what stood
+    -- before both is as it was.
+    pub operated_after : (bound set : ℕ) (op : Op) (signed : Bool) (place : Place) (dest spare a : Field) (v w : ℕ → ℕ) (d e1 e2 : Draft) (s : CodeState) (st : State) → IsOperation op → dest.len ≡ 32 → bound ≤ length e1.fields
+        → (left : GivesField g alive bound d s set st v a e1) (right : Right) → GivesRight (length e1.fields) e1 left.passes.t set st w right e2 → (Q : Out → Draft → Type 0)
+        → ((i : Instr) → Within g (with_instr i e2) → (p : Passes g alive bound d e2 s st (Unit {0})) → Puts g set i dest p.t (λ q. outcome op 32 (not signed) (v q) (w q)) → Q (O.Field dest) (with_instr i e2))
+        → After g Q (right_operated op signed place dest a right spare e2)
+    unfolding step_of passes_on
+    operated_after bound set op signed place dest spare a v w d e1 e2 s st is wide less left right given Q last =
+        after_same g Q (operated_is op signed place dest a spare right e2 is) (made_after g Q (O.Field dest) (with_instr (operating op signed dest a right) e2) (λ within. by right given within))
+      where
+        by : (right : Right) → GivesRight (length e1.fields) e1 left.passes.t set st w right e2 → Within g (with_instr (operating op signed dest a right) e2) → Q (O.Field dest) (with_instr (operating op signed dest a right) e2)
+        by right (inl (b, (same, gives))) within =
+            subst (λ (x : Right). Within g (with_instr (operating op signed dest a x) e2) → Q (O.Field dest) (with_instr (operating op signed dest a x) e2)) (sym same) (λ within.
+            let i : Instr = I.Operate (operation_of op signed) dest a b in
+            let there : StandsAt g.unit (length e2.code) i = stands_here g i e2 within refl in
+            let longer = code_longer e1 e2 gives.passes.grown.0 gives.passes.grown.1 in
+            let behind_a : Behind g a e2 = (length e2.code, (names_second g i dest a (b ∷ []) (length e2.code) there refl, omega arith)) in
+            let early_a : Behind g a e1 = (length e2.code, (behind_a.1.0, longer)) in
+            let behind_b : Behind g b e2 = (length e2.code, (names_third g i dest a b [] (length e2.code) there refl, omega arith)) in
+            last i within (passes_on g alive bound (length e1.fields) d e1 e2 s st (Behind g a e1) (Behind g b e2) (Unit {0}) less left.passes gives.passes (λ u. early_a) (λ u. behind_b))
+            (puts_operate g set op signed dest a b gives.passes.t v w is wide
+            (still_numbers g alive places fields bound (length e1.fields) d s set st v a e1 e2 (Behind g b e2) left gives.passes behind_b (omega arith) behind_a)
+            (gives_numbers g alive places fields (length e1.fields) e1 left.passes.t set st w b e2 gives))) within
+        by right (inr (k, (same, gives))) within =
+            subst (λ (x : Right). Within g (with_instr (operating op signed dest a x) e2) → Q (O.Field dest) (with_instr (operating op signed dest a x) e2)) (sym same) (λ within.
+            let i : Instr = I.OperateConstant (operation_of op signed) dest a k in
+            let there : StandsAt g.unit (length e2.code) i = stands_here g i e2 within refl in
+            let longer = code_longer e1 e2 gives.passes.grown.0 gives.passes.grown.1 in
+            let behind_a : Behind g a e2 = (length e2.code, (names_second g i dest a [] (length e2.code) there refl, omega arith)) in
+            let early_a : Behind g a e1 = (length e2.code, (behind_a.1.0, longer)) in
+            let same_all : (λ (q : ℕ). outcome op 32 (not signed) (v q) (word_in g k gives.passes.t)) ≡ (λ q. outcome op 32 (not signed) (v q) (w q)) = λ j q. outcome op 32 (not signed) (v q) (sym (gives.same q) j) in
+            last i within (passes_on g alive bound (length e1.fields) d e1 e2 s st (Behind g a e1) (Unit {0}) (Unit {0}) less left.passes gives.passes (λ u. early_a) (λ u. tt))
+            (subst (λ (x : ℕ → ℕ). Puts g set i dest gives.passes.t x) same_all
+            (puts_operate_constant g set op signed dest a k gives.passes.t v is wide
+            (still_numbers g alive places fields bound (length e1.fields) d s set st v a e1 e2 (Unit {0}) left gives.passes tt (omega arith) behind_a) gives.small))) within
+
+    -- an operator on two operands, from the entry that is taken for a promoted left one
+    pub fields_after : (set : ℕ) (op : Op) (signed : Bool) (place : Place) (dest : Field) (left right : TExpr) (d : Draft) (s : CodeState) (st : State) → IsOperation op → dest.len ≡ 32 → AreOperands set left right
+        → HasItsCode g.typed g.instance alive n left → HasItsCode g.typed g.instance alive n right → (IsPure set left → Follows set left) → (IsPure set right → Follows set right)
+        → ((quiet : Bool) (after : Draft) → Extends g after (operand quiet left after)) → ((quiet : Bool) (after : Draft) → Extends g after (operand quiet right after))
+        → At g s (length d.code) → Sim g alive st s → (Q : Out → Draft → Type 0)
+        → ((e2 : Draft) (i : Instr) → Within g (with_instr i e2) → (p : Passes g alive (length d.fields) (with_entry set 32 W.Own d) e2 s st (Unit {0})) → Puts g set i dest p.t (λ q. outcome op 32 (not signed) (value_in (extents g set) st left q) (value_in (extents g set) st right q)) → Q (O.Field dest) (with_instr i e2))
+        → After g Q (fields_by op signed place dest (next_field set 32 d) (operand (is_quiet right) left) left (operand true right) right (with_entry set 32 W.Own d))
+    unfolding fields_by
+    fields_after set op signed place dest left right d s st is wide operands c_left c_right whole_left whole_right left_grows right_grows here sim Q last =
+        then_after g (GivesField g alive (length d.fields) d1 s set st (λ q. value_in (extents g set) st left q)) Q (spread_into (operand (is_quiet right) left) left spare d1) (λ a between. then_make (right_by (operand true right) op right between) (λ b after. right_operated op signed place dest a b spare after))
+        (left_after set left (is_quiet right) (calm operands) (left_of set left right operands) c_left whole_left d s st here sim (left_grows (is_quiet right)))
+        (λ a between. extends_then g between (right_by (operand true right) op right between) (λ b after. right_operated op signed place dest a b spare after) (right_extends (operand true right) op right (right_grows true) between) (λ b after. operated_extends op signed place dest a spare b after is))
+        (λ a e1 one. then_after g (GivesRight (length e1.fields) e1 one.passes.t set st (λ q. value_in (extents g set) st right q)) Q (right_by (operand true right) op right e1) (λ b after. right_operated op signed place dest a b spare after)
+        (right_after set op right is.1 (right_of set left right operands) c_right whole_right e1 one.passes.t st one.passes.at one.passes.sim)
+        (λ b after. operated_extends op signed place dest a spare b after is)
+        (λ b e2 two.
+        operated_after (length d.fields) set op signed place dest spare a (λ q. value_in (extents g set) st left q) (λ q. value_in (extents g set) st right q) d1 e1 e2 s st is wide
+        (let more = fields_longer d1 e1 one.passes.grown.0 one.passes.grown.1 in let first = one_more set 32 W.Own d in omega (arith, more, first)) one b two Q (λ i within p puts. last e2 i within p puts)))
+      where
+        d1 : Draft
+        d1 = with_entry set 32 W.Own d
+
+        spare : Field
+        spare = next_field set 32 d
+
+        calm : AreOperands set left right → IsPromoted set left → is_quiet right ≡ true
+        calm (inl h) promoted = by_right h.1
+          where
+            by_right : IsPure set right ⊎ IsPromoted set right → is_quiet right ≡ true
+            by_right (inl p) = pure_quiet set right p
+            by_right (inr p) = promoted_quiet set right p
+        calm (inr h) promoted = pure_quiet set right h.1

@@ -1,0 +1,251 @@
+-- Code of a parallel expression as it grows: what it leaves of what stood before it, and where its value stands.
+use Rattle.std.proofs.Common.{◌≡◌, ◌∙◌, ℕ, ◌+◌, ◌<◌, ◌≤◌, List, ◌∷◌, ◌++◌, Any, length, refl, sym, ap, subst, arith, ◌^◌, ◌⊎◌, inl, inr, length-append}
+use Rattle.cstar_tree.specs.declared.typed.VarInfo.{VarInfo}
+use Rattle.cstar_tree.specs.declared.typed.Variable.{Variable}
+use Rattle.cstar_tree.specs.declared.typed.Variable.TheVariants as V
+use Rattle.code_lengths.specs.Growth.{Extended}
+use Rattle.code_lengths.proofs.Drafting.{as_it_was, extended}
+use Rattle.lower_base.specs.Drafts.{Draft, Fails, Made, Makes, then_make, with_instr}
+use Rattle.paris_code.specs.declared.instr.Instr.{Instr}
+use Rattle.paris_code.specs.declared.operands.Field.{Field}
+use Rattle.paris_code.specs.Code.{CodeState}
+use Rattle.paris_code.specs.Memory.{field_number, processors}
+use Rattle.paris_code.specs.Spans.{IsNamedAt, StandsAt, entry_of, fields_of}
+use Rattle.source_meaning.specs.State.{State}
+use Rattle.code_follows.proofs.Following.{Extends, Sim}
+use Rattle.code_follows.proofs.Settings.{At, Reaches, Setting, Within, and_one, code_more, earlier, onto, stay}
+use Rattle.fields_follow.specs.Fields.{IsElement}
+use Rattle.fields_follow.proofs.Instructions.{HasNumbers, Puts, has_alike, number_in, shapes}
+use Rattle.fields_follow.proofs.Places.{HoldsTheFields, IsFileField, IsOwnField, PlacesFields, stands_here}
+use Rattle.fields_follow.proofs.Writing.{named, own_written}
+
+longer : {A : Type 0} (xs ys zs : List A) → ys ≡ xs ++ zs → length xs ≤ length ys
+longer xs ys zs e = let l : length ys ≡ length xs + length zs = ap length e ∙ length-append xs zs in omega (arith, l)
+
+pub code_longer : (d e : Draft) (n : ℕ) → Extended d n e → length d.code ≤ length e.code
+code_longer d e n x = longer d.code e.code x.more x.code
+
+pub fields_longer : (d e : Draft) (n : ℕ) → Extended d n e → length d.fields ≤ length e.fields
+fields_longer d e n x = longer d.fields e.fields x.entries x.fields
+
+module _ (g : Setting) where
+  -- where code is made that is within the unit, this is said of it
+  unfoldable pub After : {A : Type 0} → (A → Draft → Type 0) → Made A → Type 0
+  After R (Makes x e) = Within g e → R x e
+  After R Fails = Unit {0}
+
+  pub then_after : {A B : Type 0} (R : A → Draft → Type 0) (Q : B → Draft → Type 0) (made : Made A) (next : A → Draft → Made B) → After R made → ((x : A) (e : Draft) → Extends g e (next x e)) → ((x : A) (e : Draft) → R x e → After Q (next x e)) → After Q (then_make made next)
+  unfolding After Extends then_make
+  then_after R Q (Makes x e) next h grows f = by (next x e) (grows x e) (λ r. f x e r)
+    where
+      by : (made : Made _) → Extends g e made → (R x e → After Q made) → After Q made
+      by (Makes y f) longer then = λ w. then (h (earlier g e f longer.0 longer.1 w)) w
+      by Fails longer then = tt
+  then_after R Q Fails next h grows f = tt
+
+  pub after_same : {A : Type 0} (R : A → Draft → Type 0) {made alike : Made A} → made ≡ alike → After R alike → After R made
+  after_same R same h = subst (λ (m : Made _). After R m) (sym same) h
+
+  pub made_after : {A : Type 0} (R : A → Draft → Type 0) (x : A) (e : Draft) → (Within g e → R x e) → After R (Makes x e)
+  unfolding After
+  made_after R x e h = h
+
+  pub after_weaker : {A : Type 0} (R Q : A → Draft → Type 0) (made : Made A) → ((x : A) (e : Draft) → R x e → Q x e) → After R made → After Q made
+  unfolding After
+  after_weaker R Q (Makes x e) f h = λ w. f x e (h w)
+  after_weaker R Q Fails f h = tt
+
+  -- an instruction that stands at a place names its fields there
+  pub names_second : (i : Instr) (first f : Field) (others : List Field) (at : ℕ) → StandsAt g.unit at i → fields_of i ≡ first ∷ f ∷ others → IsNamedAt g.unit f.offset at
+  names_second i first f others at there names = (i, there, subst (λ (xs : List Field). Any (λ (h : Field). entry_of h ≡ f.offset) xs) (sym names) (1, f, omega arith, refl, refl))
+
+  pub names_third : (i : Instr) (first second f : Field) (others : List Field) (at : ℕ) → StandsAt g.unit at i → fields_of i ≡ first ∷ second ∷ f ∷ others → IsNamedAt g.unit f.offset at
+  names_third i first second f others at there names = (i, there, subst (λ (xs : List Field). Any (λ (h : Field). entry_of h ≡ f.offset) xs) (sym names) (2, f, omega arith, refl, refl))
+
+  -- a field is named behind a draft
+  abbrev pub Behind : Field → Draft → Type 0
+  Behind f e = (later : ℕ) × (IsNamedAt g.unit f.offset later × (length e.code ≤ later))
+
+  module _ (alive : Variable → Type 0) where
+    -- The code from one draft to another leaves the registers, the state and, if its answer is used, what stands in
+    -- own entries below a number that are named before it and behind it.
+    pub record Passes (bound : ℕ) (d e : Draft) (s : CodeState) (st : State) (used : Type 0) : Type 0 where
+      pub grown : (n : ℕ) × Extended d n e
+      pub t : CodeState
+      pub go : Reaches g s t
+      pub at : At g t (length e.code)
+      pub registers : t.registers ≡ s.registers
+      pub sim : Sim g alive st t
+      pub stays : used → (h : Field) (first last p : ℕ) → h.offset < bound → IsOwnField g h → IsNamedAt g.unit h.offset first → first < length d.code → IsNamedAt g.unit h.offset last → length e.code ≤ last → number_in g h t p ≡ number_in g h s p
+
+    abbrev pub passes_all : (bound : ℕ) (d : Draft) (s : CodeState) (st : State) (used : Type 0) → At g s (length d.code) → Sim g alive st s → Passes bound d d s st used
+    passes_all bound d s st used here sim = record {
+      grown = (0, as_it_was d);
+      t = s;
+      go = stay g s;
+      at = here;
+      registers = refl;
+      sim = sim;
+      stays = λ wanted h first last p below own before low after high. refl;
+    }
+
+    -- one piece, and another behind it
+    unfoldable pub passes_on : (bound other : ℕ) (d e f : Draft) (s : CodeState) (st : State) (one two both : Type 0) → bound ≤ other → (a : Passes bound d e s st one) → Passes other e f a.t st two → (both → one) → (both → two) → Passes bound d f s st both
+    passes_on bound other d e f s st one two both more a b use_one use_two = record {
+      grown = (a.grown.0 + b.grown.0, extended d e f a.grown.0 b.grown.0 a.grown.1 b.grown.1);
+      t = b.t;
+      go = onto g s a.t b.t a.go b.go;
+      at = b.at;
+      registers = b.registers ∙ a.registers;
+      sim = b.sim;
+      stays = λ wanted h first last p below own before low after high.
+          b.stays (use_two wanted) h first last p (omega (arith, below, more)) own before (let l = code_longer d e a.grown.0 a.grown.1 in omega (arith, low, l)) after high
+          ∙ a.stays (use_one wanted) h first last p below own before low after (let l = code_longer e f b.grown.0 b.grown.1 in omega (arith, high, l));
+    }
+
+    -- entries and registers that are taken before it are no part of the code
+    unfoldable pub passes_from : (bound : ℕ) (d e f : Draft) (s : CodeState) (st : State) (used : Type 0) → Extended d 0 e → Passes bound e f s st used → Passes bound d f s st used
+    passes_from bound d e f s st used taken a = record {
+      grown = (0 + a.grown.0, extended d e f 0 a.grown.0 taken a.grown.1);
+      t = a.t;
+      go = a.go;
+      at = a.at;
+      registers = a.registers;
+      sim = a.sim;
+      stays = λ wanted h first last p below own before low after high. a.stays wanted h first last p below own before (let l = code_longer d e 0 taken in omega (arith, low, l)) after high;
+    }
+
+    -- a value of numbers stands in an own entry that is new and named by now, or in the field of a variable
+    pub record InOwn (bound : ℕ) (e : Draft) (set : ℕ) (f : Field) (t : CodeState) (v : ℕ → ℕ) : Type 0 where
+      pub own : IsOwnField g f
+      pub newer : bound ≤ f.offset
+      pub older : f.offset < length e.fields
+      pub somewhere : ℕ
+      pub named : IsNamedAt g.unit f.offset somewhere
+      pub before : somewhere < length e.code
+      pub has : HasNumbers g set f t v
+
+    pub record InFile (set : ℕ) (f : Field) (st : State) (v : ℕ → ℕ) : Type 0 where
+      pub k : ℕ
+      pub info : VarInfo
+      pub is : IsElement g.typed k info set 0
+      pub word : info.elem.bits ≡ 32
+      pub file : IsFileField g k 0 f
+      pub of_set : f.set ≡ set
+      pub wide : f.len ≡ 32
+      pub same : (p : ℕ) → p < processors (shapes g) set → v p ≡ st.parallel (V.File k) 0 p
+
+    abbrev pub Stands : ℕ → Draft → ℕ → Field → CodeState → State → (ℕ → ℕ) → Type 0
+    Stands bound e set f t st v = InOwn bound e set f t v ⊎ InFile set f st v
+
+    -- the field is given by code that passes, and it has the numbers
+    pub record GivesField (bound : ℕ) (d : Draft) (s : CodeState) (set : ℕ) (st : State) (v : ℕ → ℕ) (f : Field) (e : Draft) : Type 0 where
+      pub passes : Passes bound d e s st (Behind f e)
+      pub stands : Stands bound e set f passes.t st v
+
+    -- an entry that is taken before it is no part of the code
+    pub gives_from : (bound : ℕ) (d e f : Draft) (s : CodeState) (set : ℕ) (st : State) (v : ℕ → ℕ) (h : Field) → Extended d 0 e → GivesField bound e s set st v h f → GivesField bound d s set st v h f
+    unfolding passes_from
+    gives_from bound d e f s set st v h taken gives = record { passes = passes_from bound d e f s st (Behind h f) taken gives.passes; stands = gives.stands }
+
+    stands_less : (bound other : ℕ) (e : Draft) (set : ℕ) (f : Field) (t : CodeState) (st : State) (v : ℕ → ℕ) → bound ≤ other → Stands other e set f t st v → Stands bound e set f t st v
+    stands_less bound other e set f t st v less (inl h) = inl (record { own = h.own; newer = omega (arith, less, h.newer); older = h.older; somewhere = h.somewhere; named = h.named; before = h.before; has = h.has })
+    stands_less bound other e set f t st v less (inr h) = inr h
+
+    -- behind code that passes
+    pub gives_on : (bound other : ℕ) (d e f : Draft) (s : CodeState) (set : ℕ) (st : State) (v : ℕ → ℕ) (h : Field) (one : Type 0) → bound ≤ other → (a : Passes bound d e s st one) → (Behind h f → one) → GivesField other e a.t set st v h f → GivesField bound d s set st v h f
+    unfolding passes_on
+    gives_on bound other d e f s set st v h one less a wanted gives = record {
+      passes = passes_on bound other d e f s st one (Behind h f) (Behind h f) less a gives.passes wanted (λ behind. behind);
+      stands = stands_less bound other f set h gives.passes.t st v less gives.stands;
+    }
+
+    -- entries below fewer stay too
+    pub gives_less : (bound other : ℕ) (d e : Draft) (s : CodeState) (set : ℕ) (st : State) (v : ℕ → ℕ) (h : Field) → bound ≤ other → GivesField other d s set st v h e → GivesField bound d s set st v h e
+    gives_less bound other d e s set st v h less gives = record {
+      passes = record {
+        grown = gives.passes.grown;
+        t = gives.passes.t;
+        go = gives.passes.go;
+        at = gives.passes.at;
+        registers = gives.passes.registers;
+        sim = gives.passes.sim;
+        stays = λ wanted h first last p below. gives.passes.stays wanted h first last p (omega (arith, below, less));
+      };
+      stands = stands_less bound other e set h gives.passes.t st v less gives.stands;
+    }
+
+    module _ (places : PlacesFields g) (fields : HoldsTheFields g) where
+      pub in_file_has : (set : ℕ) (f : Field) (st : State) (v : ℕ → ℕ) (t : CodeState) → InFile set f st v → Sim g alive st t → HasNumbers g set f t v
+      in_file_has set f st v t h sim = record {
+        of_set = h.of_set;
+        exists = places.exists h.k 0 set h.info h.is;
+        len = h.wide;
+        are = λ p below.
+            ap (λ (x : Field). field_number t.memory x p) (places.file h.k 0 h.info f (subst (λ (n : ℕ). IsElement g.typed h.k h.info n 0) (sym h.of_set) h.is) (h.word ∙ sym h.wide) h.file)
+            ∙ (fields.opens st t.memory sim.memory).numbers h.k 0 set p h.info h.is below ∙ sym (h.same p below);
+        small = λ p below. subst (λ (n : ℕ). n < 2 ^ 32) (sym (h.same p below)) (subst (λ (n : ℕ). st.parallel (V.File h.k) 0 p < 2 ^ n) h.word ((fields.opens st t.memory sim.memory).small h.k 0 set p h.info h.is below));
+      }
+
+      -- so the numbers are there at once
+      pub gives_numbers : (bound : ℕ) (d : Draft) (s : CodeState) (set : ℕ) (st : State) (v : ℕ → ℕ) (f : Field) (e : Draft) → (h : GivesField bound d s set st v f e) → HasNumbers g set f h.passes.t v
+      gives_numbers bound d s set st v f e h = by h.stands
+        where
+          by : Stands bound e set f h.passes.t st v → HasNumbers g set f h.passes.t v
+          by (inl own) = own.has
+          by (inr file) = in_file_has set f st v h.passes.t file h.passes.sim
+
+      -- numbers that are the same where they are words are there too
+      pub gives_alike : (bound : ℕ) (d : Draft) (s : CodeState) (set : ℕ) (st : State) (v w : ℕ → ℕ) (f : Field) (e : Draft) → ((p : ℕ) → v p < 2 ^ 32 → w p ≡ v p) → GivesField bound d s set st v f e → GivesField bound d s set st w f e
+      gives_alike bound d s set st v w f e alike h = record { passes = h.passes; stands = by h.stands }
+        where
+          has : HasNumbers g set f h.passes.t v
+          has = gives_numbers bound d s set st v f e h
+
+          by : Stands bound e set f h.passes.t st v → Stands bound e set f h.passes.t st w
+          by (inl own) = inl (record { own = own.own; newer = own.newer; older = own.older; somewhere = own.somewhere; named = own.named; before = own.before; has = has_alike g set f h.passes.t v w alike own.has })
+          by (inr file) = inr (record { k = file.k; info = file.info; is = file.is; word = file.word; file = file.file; of_set = file.of_set; wide = file.wide; same = λ p below. alike p (has.small p below) ∙ file.same p below })
+
+      -- and behind code that passes, where an instruction names the field then
+      pub still_numbers : (bound other : ℕ) (d : Draft) (s : CodeState) (set : ℕ) (st : State) (v : ℕ → ℕ) (f : Field) (e e2 : Draft) (used : Type 0) → (h : GivesField bound d s set st v f e) → (b : Passes other e e2 h.passes.t st used) → used → length e.fields ≤ other → Behind f e2
+          → HasNumbers g set f b.t v
+      still_numbers bound other d s set st v f e e2 used h b wanted more behind = by h.stands
+        where
+          by : Stands bound e set f h.passes.t st v → HasNumbers g set f b.t v
+          by (inl own) = record {
+            of_set = own.has.of_set;
+            exists = own.has.exists;
+            len = own.has.len;
+            are = λ p below. b.stays wanted f own.somewhere behind.0 p (let l = own.older in omega (arith, l, more)) own.own own.named own.before behind.1.0 behind.1.1 ∙ own.has.are p below;
+            small = own.has.small;
+          }
+          by (inr file) = in_file_has set f st v b.t file b.sim
+
+      -- an instruction by which an own entry takes numbers
+      pub puts_own : (bound : ℕ) (set : ℕ) (i : Instr) (d : Field) (e : Draft) (s : CodeState) (st : State) (v : ℕ → ℕ) → bound ≤ d.offset → d.offset < length e.fields → IsOwnField g d → d.set ≡ set → d.len ≡ 32
+          → Within g (with_instr i e) → At g s (length e.code) → Sim g alive st s → Puts g set i d s v → GivesField bound e s set st v d (with_instr i e)
+      puts_own bound set i d e s st v newer older own of_set wide within here sim puts =
+          let w = own_written g places fields alive set i d e s st v within here sim of_set wide puts own in
+          let x : Extended e 1 (with_instr i e) = and_one g i e in
+          let long : length (with_instr i e).code ≡ length e.code + 1 = code_more g i e in
+          record {
+            passes = record {
+              grown = (1, x);
+              t = w.t;
+              go = w.go;
+              at = w.at;
+              registers = w.registers;
+              sim = w.sim;
+              stays = λ wanted h first last p below is_own before low after high.
+                  w.stays h first last wanted.0 p (λ same. omega (arith, same, below, newer)) is_own before after (omega (arith, low)) (omega (arith, high, long)) wanted.1.0 (let l = wanted.1.1 in omega (arith, l, long));
+            };
+            stands = inl (record {
+              own = own;
+              newer = newer;
+              older = let l = fields_longer e (with_instr i e) 1 x in omega (arith, older, l);
+              somewhere = length e.code;
+              named = named g places fields alive i d puts.others (length e.code) (stands_here g i e within puts.plain) puts.names;
+              before = omega (arith, long);
+              has = w.has;
+            });
+          }

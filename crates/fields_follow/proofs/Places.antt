@@ -1,0 +1,68 @@
+-- Where the fields of a unit stand in the image, as the code of its expressions relies on it.
+use Rattle.std.proofs.Common.{◌≡◌, ◌∙◌, ℕ, ◌+◌, ◌<◌, ◌≤◌, ◌^◌, List, [], ◌∷◌, ◌++◌, length, slice_get, Some, refl, ap, append_assoc}
+use Rattle.cstar_tree.specs.declared.typed.VarInfo.{VarInfo}
+use Rattle.lower_base.specs.Drafts.{Draft, Plain, Step, step as step_of, with_instr, with_step}
+use Rattle.paris_code.specs.declared.instr.Instr.{Instr}
+use Rattle.paris_code.specs.declared.operands.Field.{Field}
+use Rattle.paris_code.specs.declared.program.Owner.TheVariants as W
+use Rattle.paris_code.specs.declared.program.Virtual.{Virtual}
+use Rattle.paris_code.specs.Memory.{BitMemory, processors}
+use Rattle.paris_code.specs.Proper.{IsEntry, IsOwn}
+use Rattle.paris_code.specs.Shapes.{bits_at}
+use Rattle.paris_code.specs.Spans.{IsNamedAt, StandsAt, fields_of}
+use Rattle.source_meaning.specs.State.{State}
+use Rattle.code_follows.proofs.Settings.{Setting, Within}
+use Rattle.code_follows.proofs.Standing.{stands}
+use Rattle.fields_follow.proofs.Fields.{HoldsFields}
+use Rattle.fields_follow.specs.Fields.{IsElement, file_field, file_number}
+use Rattle.fields_follow.proofs.FileFields.{Apart}
+use Rattle.fields_follow.proofs.Instructions.{place, shapes}
+use Rattle.fields_follow.proofs.Named.{NamesFields}
+
+module _ (g : Setting) where
+  -- the field of an element of a variable of the file
+  abbrev pub of_file : ℕ → ℕ → Field
+  of_file k element = file_field g.typed g.image k element
+
+  -- the field is an own entry, and it is the entry for an element of the file
+  abbrev pub IsOwnField : Field → Type 0
+  IsOwnField f = IsOwn g.unit f.offset f.set f.len
+
+  abbrev pub IsFileField : ℕ → ℕ → Field → Type 0
+  IsFileField k element f = IsEntry g.unit f.offset (record { set = f.set; len = f.len; owner = W.File (file_number g.typed k element) })
+
+  -- What is known of the unit's fields in the image: those that instructions name end below the flags; the
+  -- entry of an element is at its field, which is apart from those of other elements and from own entries; two
+  -- own entries are apart where each is named at an instruction, or before it, and behind it; and the shapes have
+  -- few positions.
+  pub record PlacesFields : Type 0 where
+    pub ends : (at : ℕ) (i : Instr) (f : Field) (others : List Field) → StandsAt g.unit at i → step_of i ≡ Plain i → NamesFields i → fields_of i ≡ f ∷ others → (f.set < length (shapes g)) × ((place g f).offset + f.len ≤ bits_at (shapes g) f.set)
+    pub exists : (k element set : ℕ) (info : VarInfo) → IsElement g.typed k info set element → set < length (shapes g)
+    pub file : (k element : ℕ) (info : VarInfo) (f : Field) → IsElement g.typed k info f.set element → info.elem.bits ≡ f.len → IsFileField k element f → place g f ≡ of_file k element
+    pub files_apart : (k element set j other t : ℕ) (info of : VarInfo) → IsElement g.typed k info set element → IsElement g.typed j of t other → (k ≡ j → element ≡ other → ⊥) → Apart (of_file k element) (of_file j other)
+    pub own_file : (k element set : ℕ) (info : VarInfo) (f : Field) → IsElement g.typed k info set element → IsOwnField f → Apart (place g f) (of_file k element)
+    pub owns_apart : (f h : Field) (first at last later : ℕ) → (f.offset ≡ h.offset → ⊥) → IsOwnField f → IsOwnField h → h.set < length (shapes g) → IsNamedAt g.unit f.offset first → IsNamedAt g.unit f.offset last → first ≤ at → at < last
+        → IsNamedAt g.unit h.offset at → IsNamedAt g.unit h.offset later → at < later → Apart (place g f) (place g h)
+    pub few : (set : ℕ) → processors (shapes g) set ≤ 2 ^ 20
+
+  -- what the memory holds of the source's state is the numbers of the fields
+  pub record HoldsTheFields : Type 0 where
+    pub opens : (st : State) (m : BitMemory) → g.held.holds st m → HoldsFields g.typed g.image st m
+    pub closes : (st : State) (m : BitMemory) → HoldsFields g.typed g.image st m → g.held.holds st m
+
+  pub seam : {A : Type 0} (xs : List A) (y : A) (ys : List A) → slice_get (xs ++ y ∷ ys) (length xs) ≡ Some y
+  seam [] y ys = refl
+  seam (x ∷ xs) y ys = seam xs y ys
+
+  -- the instruction that the draft gets next stands in the unit
+  pub stands_here : (i : Instr) (d : Draft) → Within g (with_instr i d) → step_of i ≡ Plain i → StandsAt g.unit (length d.code) i
+  unfolding with_instr with_step
+  stands_here i d w plain =
+      (stands g.image g.before g.after g.placed g.number g.unit g.linked g.is_unit (length d.code) i
+      (ap (λ (c : List Step). slice_get c (length d.code)) (w.code ∙ append_assoc d.code (step_of i ∷ []) w.more) ∙ seam d.code (step_of i) w.more ∙ ap Some plain)).0
+
+  -- an entry that a draft has is the unit's
+  pub entry_is : (earlier later : List Virtual) (v : Virtual) (e : Draft) → Within g e → e.fields ≡ (earlier ++ v ∷ []) ++ later → IsEntry g.unit (length earlier) v
+  entry_is earlier later v e w is =
+      ap (λ (xs : List Virtual). slice_get xs (length earlier)) (w.fields ∙ ap (λ (xs : List Virtual). xs ++ w.entries) is ∙ append_assoc (earlier ++ v ∷ []) later w.entries ∙ append_assoc earlier (v ∷ []) (later ++ w.entries))
+      ∙ seam earlier v (later ++ w.entries)

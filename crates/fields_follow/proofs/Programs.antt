@@ -1,0 +1,129 @@
+-- The run of a program with parallel variables: what its memory holds from the first instruction to the end.
+use Rattle.std.proofs.Common.{◌≡◌, ◌∙◌, ℕ, ◌<◌, ◌^◌, ◌⊎◌, inl, inr, true, List, slice_get, Option, Some, None, refl, sym, ap, subst}
+use Rattle.std.proofs.lemmas.Nat.{pow_pos}
+use Rattle.cstar_base.specs.declared.operators.Winner.{Winner}
+use Rattle.cstar_compile.specs.Compiled.{IsCompiled}
+use Rattle.cstar_tree.specs.declared.typed.Instance.{Instance}
+use Rattle.cstar_tree.specs.declared.typed.Typed.{Typed}
+use Rattle.cstar_tree.specs.declared.typed.VarInfo.{VarInfo}
+use Rattle.cstar_tree.specs.declared.typed.Variable.{Variable}
+use Rattle.cstar_tree.specs.declared.typed.Variable.TheVariants as V
+use Rattle.code_lengths.specs.Ready.{IsCodable, IsReady}
+use Rattle.code_lengths.proofs.Declaring.{all_at}
+use Rattle.lower_base.specs.Drafts.{Draft}
+use Rattle.paris_code.specs.declared.program.Image.{Image}
+use Rattle.paris_code.specs.Code.{opening}
+use Rattle.paris_code.specs.Memory.{BitMemory}
+use Rattle.paris_code.specs.Shapes.{shapes_of}
+use Rattle.paris_code.specs.Sound.{IsSound}
+use Rattle.source_meaning.specs.Programs.{calls, meaning, scope_of, start_of, start_state}
+use Rattle.source_meaning.specs.State as Source
+use Rattle.source_meaning.specs.State.{State}
+use Rattle.source_meaning.specs.Values.{Active, Scope}
+use Rattle.code_follows.specs.Agreement.{AreBytes, mark_of}
+use Rattle.code_follows.specs.Fragment.{IsFileVariable}
+use Rattle.code_follows.proofs.Activations.{activation}
+use Rattle.code_follows.proofs.Besides.{BesideFollows}
+use Rattle.code_follows.proofs.Entering.{AllBeside}
+use Rattle.code_follows.proofs.Following.{HasRegisters}
+use Rattle.code_follows.proofs.Programs.{Comes, program_follows}
+use Rattle.code_follows.proofs.Settings.{Held, Setting, layout}
+use Rattle.fields_follow.specs.Fragment.{IsParallelProgram, fields_beside}
+use Rattle.fields_follow.specs.Laws.{ComesToAll, HasTheNumbers, IsNew, ParallelCodeMeansSource}
+use Rattle.fields_follow.proofs.Assigning.{updates_follow}
+use Rattle.fields_follow.proofs.Expressions.{pure_after}
+use Rattle.fields_follow.proofs.Fields.{HoldsFields}
+use Rattle.fields_follow.proofs.FileFields.{IsTranslated, extents_are, file_exists, fresh_active, fresh_file, processors_of, translated}
+use Rattle.fields_follow.proofs.Instructions.{SameExtents}
+use Rattle.fields_follow.proofs.Joining.{places_fields}
+use Rattle.fields_follow.proofs.Places.{HoldsTheFields, PlacesFields}
+use Rattle.fields_follow.proofs.Reductions.{OperandsStand, folds_follow}
+use Rattle.fields_follow.proofs.Values.{operand_after}
+
+-- everything is active
+abbrev pub everywhere : Active
+everywhere = λ set p. true
+
+-- the memory keeps the numbers of the file's parallel variables through every scalar part of the program
+abbrev pub fields_held : Typed → Image → Held
+fields_held t image = record {
+  holds = HoldsFields t image;
+  still = λ st u m same winner h. record {
+    numbers = λ k e set p info is below. h.numbers k e set p info is below ∙ sym (same k e p);
+    small = λ k e set p info is below. subst (λ (n : ℕ). n < 2 ^ info.elem.bits) (sym (same k e p)) (h.small k e set p info is below);
+    active = h.active;
+    winner = h.winner ∙ sym winner;
+  };
+}
+
+-- the code of a pure parallel expression leaves its numbers in a field
+operands_follow : (g : Setting) (has : HasRegisters g) (scope : Scope) (places : PlacesFields g) (fields : HoldsTheFields g) (alive : Variable → Type 0) → (n : ℕ) → ((d : Draft) → IsReady g.typed g.instance (layout g) n d)
+    → OperandsStand g has scope everywhere (λ set p. refl) places fields alive n
+operands_follow g has scope places fields alive n ready set e is c d s st here sim =
+    operand_after g has alive n ready places fields set e true is c.code.names (pure_after g has alive n ready places fields set e is c) d s st here sim
+
+module _ (t : Typed) (image : Image) (p : IsParallelProgram t) (codable : IsCodable t) (compiled : IsCompiled t image) (sound : IsSound image) where
+  made : IsTranslated t compiled.lowered.words compiled.before compiled.after image
+  made = translated t image compiled sound
+
+  module _ (number : ℕ) (i : Instance) (is : slice_get t.instances.items number ≡ Some i) (opens : List ℕ) (most : ℕ) where
+    abbrev g : Setting
+    g = activation t image p codable compiled (fields_held t image) number i is opens most
+
+    abbrev scope : Scope
+    scope = scope_of t i (calls t most)
+
+    places : PlacesFields g
+    places = places_fields g made
+
+    fields : HoldsTheFields g
+    fields = record { opens = λ st m h. h; closes = λ st m h. h }
+
+    same_extents : SameExtents g scope
+    unfolding scope_of
+    same_extents set exists = sym (extents_are t compiled.lowered.words compiled.before compiled.after image made set exists)
+
+    -- every update and every fold of a function follows
+    besides : (has : HasRegisters g) → BesideFollows g has scope everywhere
+    besides has = record {
+      effects = λ alive files n ready e h among c d s st free here sim. updates_follow g has alive n ready places fields scope everywhere (λ set q below. refl) same_extents e h (record { code = c; among = among }) d s st here sim;
+      folds = λ alive files n ready e h among c d s st R r free here sim dest.
+          folds_follow g has scope everywhere (λ set q. refl) places fields alive n (operands_follow g has scope places fields alive n ready) same_extents e h (record { code = c; among = among }) d s st R r free here sim dest;
+    }
+
+  all_beside : AllBeside t image p codable compiled (fields_held t image) everywhere
+  all_beside number i is opens most has = besides number i is opens most has
+
+  -- a parallel variable of the file begins with 0
+  begins_at_zero : (k : ℕ) (info : VarInfo) (set : ℕ) → slice_get t.vars.items k ≡ Some info → info.shape ≡ Some set → start_of t (V.File k) ≡ 0
+  unfolding start_of
+  begins_at_zero k info set known parallel = ap (λ (o : Option VarInfo). elim o as (λ _. ℕ) [ None ↦ 0 | Some i ↦ i.start ]) known ∙ by (all_at (IsFileVariable fields_beside) t.vars.items k info p.variables known).0
+    where
+      by : (info.shape ≡ None) ⊎ (fields_beside.variables info × (info.start ≡ 0)) → info.start ≡ 0
+      by (inl none) = let differ : None ≡ Some set = sym none ∙ parallel in cc
+      by (inr zero) = zero.1
+
+  -- a new memory holds the state in which the run begins
+  holds_at_first : (input : List ℕ) (rest : Source.Rest) (turns : ℕ) (winner : Winner) (m : BitMemory) → IsNew image winner m → HoldsFields t image (start_state t input rest turns winner) m
+  unfolding start_state
+  holds_at_first input rest turns winner m new = record {
+    numbers = λ k e set q info is below. fresh_file t compiled.lowered.words compiled.before compiled.after image made m k info set e q new.bits is below ∙ sym (begins_at_zero k info set is.known is.parallel);
+    small = λ k e set q info is below. subst (λ (n : ℕ). n < 2 ^ info.elem.bits) (sym (begins_at_zero k info set is.known is.parallel)) (pow_pos info.elem.bits);
+    active = λ set q exists below. fresh_active (shapes_of image) m set q new.bits exists below;
+    winner = new.winner;
+  }
+
+  -- what it holds of the state at the end, at the positions of the source
+  numbers_at_last : (st : State) (m : BitMemory) → HoldsFields t image st m → HasTheNumbers t image st m
+  numbers_at_last st m h k e set q info is below =
+      h.numbers k e set q info is (subst (λ (n : ℕ). q < n) (sym (processors_of t compiled.lowered.words compiled.before compiled.after image made set (file_exists t compiled.lowered.words compiled.before compiled.after image made k info set e is))) below)
+
+  comes_to_all : (memory : BitMemory) (input : List ℕ) (rest : Source.Rest) (turns : ℕ) (winner : Winner) → AreBytes input → IsNew image winner memory
+      → ComesToAll t image (opening image memory turns (record { bytes = input; mark = mark_of rest })) (meaning t input rest turns winner)
+  comes_to_all memory input rest turns winner are new =
+      let c : Comes (fields_held t image) image (opening image memory turns (record { bytes = input; mark = mark_of rest })) (meaning t input rest turns winner) =
+      program_follows t image p codable compiled (fields_held t image) memory input rest turns winner are (holds_at_first input rest turns winner memory new) all_beside in
+      record { to = c.to; numbers = numbers_at_last (meaning t input rest turns winner).final c.to.last.memory c.memory }
+
+pub means_source : ParallelCodeMeansSource
+means_source t image p codable compiled sound memory input rest turns winner are new = comes_to_all t image p codable compiled sound memory input rest turns winner are new

@@ -1,0 +1,176 @@
+-- What assignments to parallel variables and steps of them mean: the variable takes numbers where it is active.
+use Rattle.std.proofs.Common.{◌≡◌, ◌∙◌, ℕ, ◌<◌, ◌^◌, Bool, true, false, not, ◌&&◌, ◌||◌, Option, Some, None, refl, sym, ap, subst, arith, if◌then◌else◌}
+use Rattle.std.specs.Prelude.{is_none, nat_le, nat_lt}
+use Rattle.std.proofs.lemmas.Bool.Decides.{nat_tests}
+use Rattle.cstar_base.specs.declared.elem.Elem.{Elem}
+use Rattle.cstar_base.specs.declared.faults.RunFault.TheVariants.{DivZero}
+use Rattle.cstar_base.specs.declared.operators.Op.{Op}
+use Rattle.cstar_base.specs.declared.operators.Op.TheVariants as P
+use Rattle.cstar_base.specs.declared.operators.Place.{Place}
+use Rattle.cstar_base.specs.Numbers.{converted}
+use Rattle.cstar_base.specs.Operators.{divides, outcome}
+use Rattle.cstar_base.specs.Orders.{least_below}
+use Rattle.cstar_tree.specs.declared.syntax.AssignOp.{AssignOp}
+use Rattle.cstar_tree.specs.declared.syntax.AssignOp.TheVariants as A
+use Rattle.cstar_tree.specs.declared.syntax.StepOp.{StepOp}
+use Rattle.cstar_tree.specs.declared.typed.Instance.{Instance}
+use Rattle.cstar_tree.specs.declared.typed.StepOrder.{StepOrder}
+use Rattle.cstar_tree.specs.declared.typed.TExpr.{TExpr}
+use Rattle.cstar_tree.specs.declared.typed.TExpr as T
+use Rattle.cstar_tree.specs.declared.typed.Typed.{Typed}
+use Rattle.cstar_tree.specs.declared.typed.ValueType.{ValueType}
+use Rattle.cstar_tree.specs.declared.typed.VarInfo.{VarInfo}
+use Rattle.cstar_tree.specs.declared.typed.Variable.TheVariants as V
+use Rattle.cstar_tree.specs.StatementTypes.{variable_info}
+use Rattle.cstar_tree.specs.Typed.{type_of}
+use Rattle.code_lengths.specs.Naming.{NamesVariables, plain}
+use Rattle.lower_base.specs.Operators.{assign_op_of, is_signed}
+use Rattle.lower_expr.specs.declared.operands.Own.{Own}
+use Rattle.lower_expr.specs.Operands.{own_of}
+use Rattle.lower_expr.specs.Steps.{assigned_signed}
+use Rattle.source_meaning.specs.Expressions.{evaluated, located}
+use Rattle.source_meaning.specs.Reductions.{divides_by_zero, int_type, promoted, step_of, updated, working_type}
+use Rattle.source_meaning.specs.State.{Gives, Outcome, State, then_do, with_positions}
+use Rattle.source_meaning.specs.Targets.{OfElement, Target, assign_to, assigned, new_value, read, step_op, step_value, stepped, stored, variable_target}
+use Rattle.source_meaning.specs.Values.{Active, Parallel, Scope, Value, at, each, failing, positions, unless}
+use Rattle.source_meaning.proofs.ConstantLaws.{Boxed}
+use Rattle.code_follows.proofs.Operators.{wide_signed}
+use Rattle.fields_follow.specs.Fragment.{HasOperation, IsTarget, IsWide}
+use Rattle.fields_follow.specs.Fields.{IsElement}
+use Rattle.fields_follow.proofs.Forms.{element_is}
+use Rattle.fields_follow.proofs.Meaning.{as_shaped, none_fails, wide_same}
+
+working_so : (o : Op) (to at_type : Elem) (signed : Bool) (old w : ℕ) → to.bits ≡ 32 → at_type.bits ≡ 32 → signed ≡ at_type.signed → old < 2 ^ 32 → outcome o 32 (not signed) old w < 2 ^ 32
+    → converted to at_type (outcome o 32 (not at_type.signed) (converted at_type to old) w) ≡ outcome o 32 (not signed) old w
+working_so o to at_type signed old w wide also same few small =
+    ap (λ (n : ℕ). converted to at_type (outcome o 32 (not at_type.signed) n w)) (wide_same at_type to old also wide few)
+    ∙ ap (λ (b : Bool). converted to at_type (outcome o 32 (not b) old w)) (sym same) ∙ wide_same to at_type (outcome o 32 (not signed) old w) wide also small
+
+pub promoted_wide : (elem : Elem) → elem.bits ≡ 32 → promoted elem ≡ elem
+unfolding promoted
+promoted_wide elem wide = by (nat_lt elem.bits 32) (let h : nat_lt elem.bits 32 ≡ false = grind (arith, nat_tests, wide) in h)
+  where
+    by : (b : Bool) → b ≡ false → (if b then int_type else elem) ≡ elem
+    by false e = refl
+    by true e = cc
+
+-- What an assignment with an operator stores is what the operator gives, which reads its operands as the machine does.
+pub updated_is : (op : AssignOp) (o : Op) (to from : Elem) (old w : ℕ) → assign_op_of op ≡ Some o → to.bits ≡ 32 → from.bits ≡ 32 → old < 2 ^ 32 → outcome o 32 (not (assigned_signed o to from)) old w < 2 ^ 32
+    → updated op to from old w ≡ outcome o 32 (not (assigned_signed o to from)) old w
+unfolding updated working_type assign_op_of assigned_signed step_of
+updated_is op o to from old w is wide also few small = by op o is small
+  where
+    like_value : (o : Op) → outcome o 32 (not (is_signed from)) old w < 2 ^ 32 → converted to from (outcome o 32 (not from.signed) (converted from to old) w) ≡ outcome o 32 (not (is_signed from)) old w
+    like_value o below = working_so o to from (is_signed from) old w wide also (wide_signed from also) few below
+
+    like_target : (o : Op) → outcome o 32 (not (is_signed to)) old w < 2 ^ 32 → converted to (promoted to) (outcome o 32 (not (promoted to).signed) (converted (promoted to) to old) w) ≡ outcome o 32 (not (is_signed to)) old w
+    like_target o below =
+        ap (λ (e : Elem). converted to e (outcome o 32 (not e.signed) (converted e to old) w)) (promoted_wide to wide) ∙ working_so o to to (is_signed to) old w wide wide (wide_signed to wide) few below
+
+    inner : (a b : Op) → Some a ≡ Some b → a ≡ b
+    inner a b e = ap (λ (x : Option Op). elim x [ None ↦ a | Some y ↦ y ]) e
+
+    along : (op : AssignOp) (a o : Op) → Some a ≡ Some o → (outcome a 32 (not (assigned_signed a to from)) old w < 2 ^ 32 → updated op to from old w ≡ outcome a 32 (not (assigned_signed a to from)) old w)
+        → outcome o 32 (not (assigned_signed o to from)) old w < 2 ^ 32 → updated op to from old w ≡ outcome o 32 (not (assigned_signed o to from)) old w
+    along op a o e f = subst (λ (x : Op). outcome x 32 (not (assigned_signed x to from)) old w < 2 ^ 32 → updated op to from old w ≡ outcome x 32 (not (assigned_signed x to from)) old w) (inner a o e) f
+
+    by : (op : AssignOp) (o : Op) → assign_op_of op ≡ Some o → outcome o 32 (not (assigned_signed o to from)) old w < 2 ^ 32 → updated op to from old w ≡ outcome o 32 (not (assigned_signed o to from)) old w
+    by A.Set o e = cc
+    by A.Add o e = along A.Add P.Add o e (like_value P.Add)
+    by A.Sub o e = along A.Sub P.Sub o e (like_value P.Sub)
+    by A.Mul o e = along A.Mul P.Mul o e (like_value P.Mul)
+    by A.Div o e = along A.Div P.Div o e (like_value P.Div)
+    by A.Rem o e = along A.Rem P.Rem o e (like_value P.Rem)
+    by A.Mod o e = along A.Mod P.Mod o e (like_value P.Mod)
+    by A.And o e = along A.And P.And o e (like_value P.And)
+    by A.Or o e = along A.Or P.Or o e (like_value P.Or)
+    by A.Xor o e = along A.Xor P.Xor o e (like_value P.Xor)
+    by A.Shl o e = along A.Shl P.Shl o e (like_target P.Shl)
+    by A.Shr o e = along A.Shr P.Shr o e (like_target P.Shr)
+    by A.Min o e = along A.Min P.Min o e (like_value P.Min)
+    by A.Max o e = along A.Max P.Max o e (like_value P.Max)
+
+no_zero : (op : AssignOp) (w : ℕ) → HasOperation op → divides_by_zero op w ≡ false
+unfolding divides_by_zero assign_op_of divides
+no_zero A.Set w is = refl
+no_zero A.Add w is = refl
+no_zero A.Sub w is = refl
+no_zero A.Mul w is = refl
+no_zero A.Div w is = absurd (let h = is.1 in cc)
+no_zero A.Rem w is = absurd (let h = is.1 in cc)
+no_zero A.Mod w is = absurd (let h = is.1 in cc)
+no_zero A.And w is = refl
+no_zero A.Or w is = refl
+no_zero A.Xor w is = refl
+no_zero A.Shl w is = refl
+no_zero A.Shr w is = refl
+no_zero A.Min w is = refl
+no_zero A.Max w is = refl
+
+-- a target is the variable of a number
+pub record IsFileTarget (t : Typed) (set : ℕ) (target : TExpr) : Type 0 where
+  pub k : ℕ
+  pub info : VarInfo
+  pub own : own_of 1 target ≡ Some (record { shape = Some set; variable = V.File k })
+  pub is : IsElement t k info set 0
+  pub wide : info.elem.bits ≡ 32
+  pub type : IsWide set (type_of target)
+  pub means : (scope : Scope) (active : Active) (st : State) → located scope target active st ≡ Gives (OfElement (V.File k) 0 set) st
+
+pub file_target : (t : Typed) (i : Instance) (n set : ℕ) (target : TExpr) → IsTarget set target → NamesVariables t i n target → IsFileTarget t set target
+unfolding IsTarget own_of NamesVariables located variable_target
+file_target t i n set (T.Variable ty (V.File k)) is v = record {
+  k = k;
+  info = variable_info v.word (plain ty) v.start;
+  own = by (is_none ty.shape) (nat_le 1 ty.elem.bits) (let wide = is.1 in grind (arith, nat_tests, wide)) ∙ ap (λ (o : Option ℕ). Some (record { shape = o; variable = V.File k })) is.0;
+  is = element_is t i n k set ty is v;
+  wide = is.1;
+  type = is;
+  means = λ scope active st. ap (λ (o : Option ℕ). Gives (variable_target o (V.File k) 0) st) is.0;
+}
+  where
+    own : Own
+    own = record { shape = ty.shape; variable = V.File k }
+
+    by : (a b : Bool) → b ≡ true → (if a || b then Some own else None) ≡ Some own
+    by true b e = refl
+    by false true e = refl
+    by false false e = cc
+file_target t i n set (T.Brackets' ty p inner) is v =
+    let h = file_target t i n set inner is.1 v in
+    record { k = h.k; info = h.info; own = h.own; is = h.is; wide = h.wide; type = subst (λ (y : ValueType). IsWide set y) (sym is.0) h.type; means = h.means }
+file_target t i n set _ is v = absurd is
+
+module _ (scope : Scope) (active : Active) where
+  -- what an assignment stores
+  assigned_is : (set k : ℕ) (place : Place) (op : AssignOp) (to from : ValueType) (v : ℕ → ℕ) (st : State) → to.shape ≡ Some set → HasOperation op
+      → assigned scope active place op to from (OfElement (V.File k) 0 set) (Parallel v) st
+      ≡ Gives (Parallel (λ p. updated op to.elem from.elem (st.parallel (V.File k) 0 p) (v p))) (with_positions (V.File k) 0 (active set) (λ p. updated op to.elem from.elem (st.parallel (V.File k) 0 p) (v p)) st)
+  unfolding assigned assign_to new_value read stored failing unless each at
+  assigned_is set k place op to from v st shaped is =
+      ap (λ (y : ValueType). assigned scope active place op y from (OfElement (V.File k) 0 set) (Parallel v) st) (as_shaped to set shaped)
+      ∙ ap (λ (f : ℕ → Bool). unless (elim (least_below (λ p. active set p && f p) (positions scope set)) [ None ↦ None | Some p ↦ Some (Some p) ]) DivZero place st stores) (λ j p. no_zero op (v p) is j)
+      ∙ ap (λ (o : Option ℕ). unless (elim o [ None ↦ None | Some p ↦ Some (Some p) ]) DivZero place st stores) (none_fails (active set) (positions scope set))
+    where
+      stores : Outcome Value
+      stores = Gives (Parallel (λ p. updated op to.elem from.elem (st.parallel (V.File k) 0 p) (v p))) (with_positions (V.File k) 0 (active set) (λ p. updated op to.elem from.elem (st.parallel (V.File k) 0 p) (v p)) st)
+
+  pub assign_means : (set : ℕ) (ty : ValueType) (place : Place) (op : AssignOp) (p q : Boxed) (target value : TExpr) (k : ℕ) (v : ℕ → ℕ) (st : State) → ty.shape ≡ Some set → HasOperation op
+      → located scope target active st ≡ Gives (OfElement (V.File k) 0 set) st → evaluated scope value active st ≡ Gives (Parallel v) st
+      → evaluated scope (T.Assign' ty place op p target q value) active st
+      ≡ Gives (Parallel (λ x. updated op ty.elem (type_of value).elem (st.parallel (V.File k) 0 x) (v x))) (with_positions (V.File k) 0 (active set) (λ x. updated op ty.elem (type_of value).elem (st.parallel (V.File k) 0 x) (v x)) st)
+  unfolding evaluated then_do
+  assign_means set ty place op p q target value k v st shaped is there gives =
+      ap (λ (o : Outcome Target). then_do o (λ place_of between. then_do (evaluated scope value active between) (λ x after. assigned scope active place op ty (type_of value) place_of x after))) there
+      ∙ ap (λ (o : Outcome Value). then_do o (λ x after. assigned scope active place op ty (type_of value) (OfElement (V.File k) 0 set) x after)) gives
+      ∙ assigned_is set k place op ty (type_of value) v st shaped is
+
+  -- and a step
+  pub step_means : (set : ℕ) (ty : ValueType) (op : StepOp) (order : StepOrder) (p : Boxed) (target : TExpr) (k : ℕ) (st : State) → ty.shape ≡ Some set → located scope target active st ≡ Gives (OfElement (V.File k) 0 set) st
+      → (v : Value) × (evaluated scope (T.Step' ty op order p target) active st ≡ Gives v (with_positions (V.File k) 0 (active set) (λ x. updated (step_op op) ty.elem (promoted ty.elem) (st.parallel (V.File k) 0 x) 1) st))
+  unfolding evaluated then_do stepped assign_to new_value read stored each at
+  step_means set ty op order p target k st shaped there = (
+    step_value order (Parallel (λ x. st.parallel (V.File k) 0 x)) (Parallel (λ x. updated (step_op op) ty.elem (promoted ty.elem) (st.parallel (V.File k) 0 x) 1)),
+    ap (λ (o : Outcome Target). then_do o (λ place_of after. stepped scope active op order ty place_of after)) there
+        ∙ ap (λ (y : ValueType). stepped scope active op order y (OfElement (V.File k) 0 set) st) (as_shaped ty set shaped),
+  )

@@ -1,0 +1,182 @@
+-- What an instruction on fields leaves: its destination has the numbers, and all else is as it was.
+use Rattle.std.proofs.Common.{◌≡◌, ◌≢◌, ◌∙◌, ℕ, ◌+◌, ◌%◌, ◌<◌, ◌≤◌, ◌^◌, ◌⊎◌, inl, inr, Bool, true, ◌&&◌, ◌==◌, Any, List, ◌∷◌, length, slice_get, refl, sym, ap, subst, arith, if◌then◌else◌}
+use Rattle.std.proofs.lemmas.Bool.{cases_eq}
+use Rattle.std.proofs.lemmas.Bool.Decides.{nat_tests}
+use Rattle.cstar_tree.specs.declared.typed.VarInfo.{VarInfo}
+use Rattle.cstar_tree.specs.declared.typed.Variable.{Variable}
+use Rattle.cstar_tree.specs.declared.typed.Variable.TheVariants as V
+use Rattle.lower_base.specs.Drafts.{Draft, with_instr}
+use Rattle.paris_code.specs.declared.instr.Instr.{Instr}
+use Rattle.paris_code.specs.declared.operands.Field.{Field}
+use Rattle.paris_code.specs.Code.{CodeState}
+use Rattle.paris_code.specs.Memory.{BitMemory, field_number, is_active, processors}
+use Rattle.paris_code.specs.Shapes.{bits_at}
+use Rattle.paris_code.specs.Spans.{IsNamedAt, StandsAt, entry_of, fields_of}
+use Rattle.paris_code.specs.Writes.{Write, written}
+use Rattle.source_meaning.specs.State.{State, is_same, with_positions}
+use Rattle.code_follows.specs.Agreement.{AreBytes, mark_of}
+use Rattle.code_follows.proofs.Following.{Sim, held}
+use Rattle.code_follows.proofs.Standing.{some_same}
+use Rattle.code_follows.proofs.Settings.{At, Reaches, Setting, Within, at_next, begins_here, one}
+use Rattle.fields_follow.proofs.Bits.{active_apart, field_apart, field_written}
+use Rattle.fields_follow.proofs.Fields.{HoldsFields}
+use Rattle.fields_follow.specs.Fields.{IsElement}
+use Rattle.fields_follow.proofs.FileFields.{Apart, apart_back}
+use Rattle.fields_follow.proofs.Instructions.{HasNumbers, Puts, number_in, place, shapes, wrote}
+use Rattle.fields_follow.proofs.Places.{HoldsTheFields, IsFileField, IsOwnField, PlacesFields, of_file, stands_here}
+
+module _ (g : Setting) (places : PlacesFields g) (fields : HoldsTheFields g) (alive : Variable → Type 0) where
+  abbrev Opened : State → BitMemory → Type 0
+  Opened st m = HoldsFields g.typed g.image st m
+
+  -- the same memory for a state, whatever the parallel variables are in it
+  with_memory : (st u : State) (s : CodeState) (w : Write) → u.scalar ≡ st.scalar → u.turns ≡ st.turns → u.output ≡ st.output → u.input ≡ st.input → u.rest ≡ st.rest → Opened u (written w s.memory) → Sim g alive st s → Sim g alive u (wrote g w s)
+  with_memory st u s w scalar turns output input rest opened h = record {
+    registers = h.registers;
+    scalars = λ x info known is. h.scalars x info known is ∙ ap (λ (f : Variable → ℕ). held info.elem (f x)) (sym scalar);
+    small = λ x info known is. subst (λ (f : Variable → ℕ). f x < 2 ^ info.elem.bits) (sym scalar) (h.small x info known is);
+    constants = h.constants;
+    turns = h.turns ∙ sym turns;
+    output = h.output ∙ sym output;
+    input = h.input ∙ (λ j. record { bytes = sym input j; mark = mark_of (sym rest j) });
+    returns = h.returns;
+    few = subst (λ (n : ℕ). n ≤ g.most) (sym turns) h.few;
+    bytes = subst (λ (b : List ℕ). AreBytes b) (sym input) h.bytes;
+    memory = fields.closes u (written w s.memory) opened;
+  }
+
+  -- an instruction names its destination
+  pub named : (i : Instr) (d : Field) (others : List Field) (at : ℕ) → StandsAt g.unit at i → fields_of i ≡ d ∷ others → IsNamedAt g.unit d.offset at
+  named i d others at there names = (i, there, subst (λ (xs : List Field). Any (λ (f : Field). entry_of f ≡ d.offset) xs) (sym names) (0, d, omega arith, refl, refl))
+
+  -- Behind an instruction that stands next: the destination has the numbers, and what stands in own entries
+  -- that are named before and behind it stays, where the destination is named behind it too.
+  pub record Written (set : ℕ) (d : Field) (e : Draft) (i : Instr) (s : CodeState) (u : State) (v : ℕ → ℕ) : Type 0 where
+    pub t : CodeState
+    pub go : Reaches g s t
+    pub at : At g t (length (with_instr i e).code)
+    pub registers : t.registers ≡ s.registers
+    pub sim : Sim g alive u t
+    pub has : HasNumbers g set d t v
+    pub stays : (h : Field) (first last later p : ℕ) → (h.offset ≡ d.offset → ⊥) → IsOwnField g h → IsNamedAt g.unit h.offset first → IsNamedAt g.unit h.offset last → first ≤ length e.code → length e.code < last
+        → IsNamedAt g.unit d.offset later → length e.code < later → number_in g h t p ≡ number_in g h s p
+
+  module _ (set : ℕ) (i : Instr) (d : Field) (e : Draft) (s : CodeState) (st : State) (v : ℕ → ℕ) (within : Within g (with_instr i e)) (here : At g s (length e.code)) (sim : Sim g alive st s) (of_set : d.set ≡ set) (wide : d.len ≡ 32) (puts : Puts g set i d s v) where
+    there : StandsAt g.unit (length e.code) i
+    there = stands_here g i e within puts.plain
+
+    was : Opened st s.memory
+    was = fields.opens st s.memory sim.memory
+
+    d_ends : (d.set < length (shapes g)) × ((place g d).offset + d.len ≤ bits_at (shapes g) d.set)
+    d_ends = places.ends (length e.code) i d puts.others there puts.plain puts.simple puts.names
+
+    set_exists : set < length (shapes g)
+    set_exists = subst (λ (q : ℕ). q < length (shapes g)) of_set d_ends.0
+
+    active_still : (q p : ℕ) → q < length (shapes g) → p < processors (shapes g) q → is_active (shapes g) (written puts.write s.memory) q p ≡ true
+    active_still q p within_sets below =
+        active_apart (shapes g) puts.write s.memory q p (subst (λ (f : Field). f.offset + f.len ≤ bits_at (shapes g) f.set) (sym puts.run) d_ends.1)
+        ∙ was.active q p within_sets below
+
+    value_is : (p : ℕ) → p < processors (shapes g) set → field_number (written puts.write s.memory) (place g d) p ≡ v p
+    value_is p below =
+        ap (λ (f : Field). field_number (written puts.write s.memory) f p) (sym puts.run)
+        ∙ field_written puts.write s.memory p (puts.writes p ∙ ap (λ (q : ℕ). is_active (shapes g) s.memory q p) of_set ∙ was.active set p set_exists below)
+        ∙ ap (λ (f : Field). puts.write.value p % 2 ^ f.len) puts.run ∙ puts.value p below
+
+    pub few : (p : ℕ) → p < processors (shapes g) set → v p < 2 ^ 32
+    few p below = subst (λ (n : ℕ). n < 2 ^ 32) (ap (λ (n : ℕ). puts.write.value p % 2 ^ n) (sym wide) ∙ puts.value p below) (small (puts.write.value p))
+      where
+        small : (n : ℕ) → n % 2 ^ 32 < 2 ^ 32
+        small n = omega arith
+
+    numbers : HasNumbers g set d (wrote g puts.write s) v
+    numbers = record { of_set = of_set; exists = set_exists; len = wide; are = value_is; small = few }
+
+    elsewhere : (f : Field) (p : ℕ) → Apart (place g d) f → field_number (written puts.write s.memory) f p ≡ field_number s.memory f p
+    elsewhere f p apart = field_apart puts.write s.memory f p (subst (λ (h : Field). Apart h f) (sym puts.run) apart)
+
+    go : Reaches g s (wrote g puts.write s)
+    go = one g s (wrote g puts.write s) (begins_here g i e s within puts.plain here ∙ puts.goes)
+
+    winner_still : (written puts.write s.memory).winner ≡ st.winner
+    unfolding written
+    winner_still = was.winner
+
+    -- an own entry takes the numbers
+    pub own_written : IsOwnField g d → Written set d e i s st v
+    own_written own = record {
+      t = wrote g puts.write s;
+      go = go;
+      at = at_next g i e s (s.at + 1) here refl;
+      registers = refl;
+      sim = with_memory st st s puts.write refl refl refl refl refl (record {
+        numbers = λ k element q p info is below. elsewhere (of_file g k element) p (places.own_file k element q info d is own) ∙ was.numbers k element q p info is below;
+        small = was.small;
+        active = active_still;
+        winner = winner_still;
+      }) sim;
+      has = numbers;
+      stays = λ h first last later p other is_own before after low high again behind.
+          elsewhere (place g h) p (apart_back (place g h) (place g d) (places.owns_apart h d first (length e.code) last later other is_own own d_ends.0 before after low high (named i d puts.others (length e.code) there puts.names) again behind));
+    }
+
+    -- a variable of the file takes the numbers, or others that are the same at the positions that there are
+    pub file_written : (k element : ℕ) (info : VarInfo) (passes : ℕ → Bool) (w : ℕ → ℕ) → IsElement g.typed k info set element → info.elem.bits ≡ 32 → IsFileField g k element d → ((p : ℕ) → p < processors (shapes g) set → passes p ≡ true) → ((p : ℕ) → p < processors (shapes g) set → w p ≡ v p) → Written set d e i s (with_positions (V.File k) element passes w st) v
+    unfolding with_positions is_same
+    file_written k element info passes w is word own passing same_numbers = record {
+      t = wrote g puts.write s;
+      go = go;
+      at = at_next g i e s (s.at + 1) here refl;
+      registers = refl;
+      sim = with_memory st (with_positions (V.File k) element passes w st) s puts.write refl refl refl refl refl (record {
+        numbers = λ j other q p of which below. by_element j other q p of which below (cases_eq k j) (cases_eq other element);
+        small = λ j other q p of which below. small_still j other q p of which below (cases_eq k j) (cases_eq other element);
+        active = active_still;
+        winner = winner_still;
+      }) sim;
+      has = numbers;
+      stays = λ h first last later p other is_own before after low high again behind. elsewhere (place g h) p (subst (λ (f : Field). Apart f (place g h)) (sym at_file) (apart_back (place g h) (of_file g k element) (places.own_file k element set info h is is_own)));
+    }
+      where
+        at_file : place g d ≡ of_file g k element
+        at_file = places.file k element info d (subst (λ (n : ℕ). IsElement g.typed k info n element) (sym of_set) is) (word ∙ sym wide) own
+
+        -- the variable behind it, at one of its positions and elsewhere
+        here_is : (j other p : ℕ) (old : ℕ) → k ≡ j → other ≡ element → passes p ≡ true → (if (k == j) && (other == element) && passes p then w p else old) ≡ w p
+        here_is j other p old same equal passed = grind (arith, nat_tests, same, equal, passed)
+
+        there_is : (j other p : ℕ) (old : ℕ) → ((k ≢ j) ⊎ (other ≢ element)) → (if (k == j) && (other == element) && passes p then w p else old) ≡ old
+        there_is j other p old (inl differ) = grind (arith, nat_tests, differ)
+        there_is j other p old (inr differ) = grind (arith, nat_tests, differ)
+
+        same_set : (j other q : ℕ) (of : VarInfo) → IsElement g.typed j of q other → k ≡ j → (q ≡ set) × (of.elem.bits ≡ 32)
+        same_set j other q of which same =
+            let infos : of ≡ info = some_same of info (sym which.known ∙ ap (λ (n : ℕ). slice_get g.typed.vars.items n) (sym same) ∙ is.known) in (
+              some_same q set (sym which.parallel ∙ ap (λ (i : VarInfo). i.shape) infos ∙ is.parallel),
+              ap (λ (i : VarInfo). i.elem.bits) infos ∙ word,
+            )
+
+        moved_on : (j other q p : ℕ) (of : VarInfo) → IsElement g.typed j of q other → p < processors (shapes g) q → ((k ≢ j) ⊎ (other ≢ element)) → (k ≡ j → element ≡ other → ⊥)
+            → field_number (written puts.write s.memory) (of_file g j other) p ≡ (with_positions (V.File k) element passes w st).parallel (V.File j) other p
+        moved_on j other q p of which below differ apart =
+            elsewhere (of_file g j other) p (subst (λ (f : Field). Apart f (of_file g j other)) (sym at_file) (places.files_apart k element set j other q info of is which apart))
+            ∙ was.numbers j other q p of which below ∙ sym (there_is j other p (st.parallel (V.File j) other p) differ)
+
+        by_element : (j other q p : ℕ) (of : VarInfo) → IsElement g.typed j of q other → p < processors (shapes g) q → (k ≡ j) ⊎ (k ≢ j) → (other ≡ element) ⊎ (other ≢ element)
+            → field_number (written puts.write s.memory) (of_file g j other) p ≡ (with_positions (V.File k) element passes w st).parallel (V.File j) other p
+        by_element j other q p of which below (inl same) (inl equal) =
+            let inside : p < processors (shapes g) set = subst (λ (n : ℕ). p < processors (shapes g) n) (same_set j other q of which same).0 below in
+            ap (λ (f : Field). field_number (written puts.write s.memory) f p) (ap (λ (n : ℕ). of_file g n other) (sym same) ∙ ap (λ (n : ℕ). of_file g k n) equal ∙ sym at_file)
+            ∙ value_is p inside ∙ sym (same_numbers p inside) ∙ sym (here_is j other p (st.parallel (V.File j) other p) same equal (passing p inside))
+        by_element j other q p of which below (inr differ) any = moved_on j other q p of which below (inl differ) (λ same equal. differ same)
+        by_element j other q p of which below (inl same) (inr differ) = moved_on j other q p of which below (inr differ) (λ same equal. differ (sym equal))
+
+        small_still : (j other q p : ℕ) (of : VarInfo) → IsElement g.typed j of q other → p < processors (shapes g) q → (k ≡ j) ⊎ (k ≢ j) → (other ≡ element) ⊎ (other ≢ element) → (with_positions (V.File k) element passes w st).parallel (V.File j) other p < 2 ^ of.elem.bits
+        small_still j other q p of which below (inl same) (inl equal) =
+            let both = same_set j other q of which same in
+            let inside : p < processors (shapes g) set = subst (λ (n : ℕ). p < processors (shapes g) n) both.0 below in
+            subst (λ (n : ℕ). n < 2 ^ of.elem.bits) (sym (here_is j other p (st.parallel (V.File j) other p) same equal (passing p inside))) (subst (λ (n : ℕ). w p < 2 ^ n) (sym both.1) (subst (λ (n : ℕ). n < 2 ^ 32) (sym (same_numbers p inside)) (few p inside)))
+        small_still j other q p of which below (inr differ) any = subst (λ (n : ℕ). n < 2 ^ of.elem.bits) (sym (there_is j other p (st.parallel (V.File j) other p) (inl differ))) (was.small j other q p of which below)
+        small_still j other q p of which below (inl same) (inr differ) = subst (λ (n : ℕ). n < 2 ^ of.elem.bits) (sym (there_is j other p (st.parallel (V.File j) other p) (inr differ))) (was.small j other q p of which below)

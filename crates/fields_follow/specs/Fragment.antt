@@ -1,0 +1,94 @@
+-- The programs with parallel variables of which it is said so far that their code means them. Their parallel
+-- expressions are pure ones of 32 bits, of variables of the file, own coordinates and promoted scalars, which change
+-- nothing and never fail; they are assigned to such variables, and folded into numbers. Everything is active.
+use Rattle.std.specs.Prelude.{ℕ, ◌≡◌, ◌<◌, ◌^◌, ◌⊎◌, false, IfSome, Some, None}
+use Rattle.cstar_base.specs.declared.operators.Op.{Op}
+use Rattle.cstar_base.specs.Operators.{divides}
+use Rattle.cstar_tree.specs.declared.syntax.AssignOp.{AssignOp}
+use Rattle.cstar_tree.specs.declared.typed.TExpr.{TExpr}
+use Rattle.cstar_tree.specs.declared.typed.TExpr as T
+use Rattle.cstar_tree.specs.declared.typed.Typed.{Typed}
+use Rattle.cstar_tree.specs.declared.typed.ValueType.{ValueType}
+use Rattle.cstar_tree.specs.declared.typed.VarInfo.{VarInfo}
+use Rattle.cstar_tree.specs.declared.typed.Variable.TheVariants as V
+use Rattle.cstar_tree.specs.Typed.{type_of}
+use Rattle.lower_base.specs.Operators.{assign_op_of, negates, relates}
+use Rattle.source_meaning.specs.Constants.{constant_of}
+use Rattle.code_follows.specs.Fragment.{Beside, IsProgramBeside, IsWord}
+
+-- a type of 32 bits of a shape
+abbrev pub IsWide : ℕ → ValueType → Type 0
+IsWide set ty = (ty.shape ≡ Some set) × (ty.elem.bits ≡ 32)
+
+-- the operator is no relation and no division: it gives a word of any two
+abbrev pub IsOperation : Op → Type 0
+IsOperation op = (relates op ≡ false) × (divides op ≡ false)
+
+-- a constant
+abbrev pub IsConstant : TExpr → Type 0
+IsConstant e = (word : ℕ) × (constant_of e ≡ Some word) × (word < 2 ^ 32)
+
+-- a scalar variable, maybe converted to another type of 32 bits
+unfoldable pub IsScalarName : TExpr → Type 0
+IsScalarName (T.Variable ty x) = Unit {0}
+IsScalarName (T.Brackets' ty p inner) = (ty ≡ type_of inner) × IsScalarName inner
+IsScalarName (T.Convert' ty p operand) = IsWord (type_of operand) × IsScalarName operand
+IsScalarName _ = ⊥
+
+-- a scalar of 32 bits: a constant, or a variable
+abbrev pub IsEverywhere : TExpr → Type 0
+IsEverywhere e = IsWord (type_of e) × (IsConstant e ⊎ IsScalarName e)
+
+-- such a scalar, promoted to a shape
+unfoldable pub IsPromoted : ℕ → TExpr → Type 0
+IsPromoted set (T.Promote' ty p operand) = IsWide set ty × IsEverywhere operand
+IsPromoted set (T.Brackets' ty p inner) = (ty ≡ type_of inner) × IsPromoted set inner
+IsPromoted set _ = ⊥
+
+-- a parallel expression that is not promoted; of an operator's two operands one may be
+unfoldable pub IsPure : ℕ → TExpr → Type 0
+IsPure set (T.Variable ty (V.File k)) = IsWide set ty
+IsPure set (T.Brackets' ty p inner) = (ty ≡ type_of inner) × IsPure set inner
+IsPure set (T.Unary' ty op p operand) = IsWide set ty × (negates op ≡ false) × IsPure set operand
+IsPure set (T.Binary' ty place op p left q right) =
+    IsWide set ty × IsOperation op × ((IsPure set left × (IsPure set right ⊎ IsPromoted set right)) ⊎ (IsPromoted set left × IsPure set right))
+IsPure set (T.Convert' ty p operand) = IsWide set ty × IsPure set operand
+IsPure set (T.Pcoord ty axis) = IsWide set ty
+IsPure set _ = ⊥
+
+-- an operand, promoted or not
+abbrev pub IsOperand : ℕ → TExpr → Type 0
+IsOperand set e = IsPure set e ⊎ IsPromoted set e
+
+-- what is assigned to: a variable of the file
+unfoldable pub IsTarget : ℕ → TExpr → Type 0
+IsTarget set (T.Variable ty (V.File k)) = IsWide set ty
+IsTarget set (T.Brackets' ty p inner) = (ty ≡ type_of inner) × IsTarget set inner
+IsTarget set _ = ⊥
+
+-- the operator of an assignment, if it has one
+abbrev pub HasOperation : AssignOp → Type 0
+HasOperation op = IfSome (assign_op_of op) IsOperation
+
+-- an assignment to a parallel variable, or a step of one
+unfoldable pub IsUpdate : TExpr → Type 0
+IsUpdate (T.Assign' ty place op p target q value) = (set : ℕ) × ((ty ≡ type_of target) × IsTarget set target × HasOperation op × IsOperand set value)
+IsUpdate (T.Step' ty op order p target) = (set : ℕ) × ((ty ≡ type_of target) × IsTarget set target)
+IsUpdate _ = ⊥
+
+-- the numbers of a value at all positions are folded into one
+unfoldable pub IsFold : TExpr → Type 0
+IsFold (T.Reduce' ty op p operand) = IsWord ty × ((set : ℕ) × IsPure set operand)
+IsFold _ = ⊥
+
+-- a parallel variable of 32 bits, which is no array
+abbrev pub IsParallelVariable : VarInfo → Type 0
+IsParallelVariable info = (set : ℕ) × ((info.shape ≡ Some set) × (info.array ≡ None) × (info.elem.bits ≡ 32))
+
+-- A program of functions on scalars, without recursion, and of parallel variables of the file: such updates are
+-- statements, also within `with`, and such folds stand within scalar expressions.
+abbrev pub fields_beside : Beside
+fields_beside = record { effects = IsUpdate; folds = IsFold; variables = IsParallelVariable }
+
+abbrev pub IsParallelProgram : Typed → Type 0
+IsParallelProgram t = IsProgramBeside fields_beside t

@@ -1,0 +1,4 @@
+pub mod Example
+pub mod Fields
+pub mod Fragment
+pub mod Laws

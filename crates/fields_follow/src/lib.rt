@@ -1,0 +1,22 @@
+//! The code of a compiled program with parallel variables means its source. Readers find the law here by name.
+#![tactic(auto)]
+
+ghost use Rattle.fields_follow.specs.Example.{ExampleIsParallel};
+ghost use Rattle.fields_follow.specs.Laws.{ParallelCodeMeansSource};
+
+/// The code that the compiler makes of a program of functions without recursion on scalars, with parallel variables
+/// of the file, comes from a new memory to the end of the source's meaning, with its turns, its output and the final
+/// numbers of these variables at each of their positions, on every input of bytes. The variables have 32 bits and are
+/// no arrays, and all positions are active. They are assigned, also with an operator, and stepped, in statements that
+/// may stand within `with`; and parallel values are folded into numbers by unary reductions. Parallel expressions are
+/// of such variables, of own coordinates, of constants and of scalar variables, signed or not, with the operators
+/// `+ - * & | ^ ~ << >> <? >?`.
+pub fn parallel_code_means_source()
+    ensures { ParallelCodeMeansSource }
+{}
+
+/// Such a program is this one, which gives a parallel variable its own coordinates, adds 1 to them, and prints their
+/// sum: so the law speaks of some.
+pub fn example_is_parallel()
+    ensures { ExampleIsParallel }
+{}
