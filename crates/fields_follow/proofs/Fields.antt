@@ -1,5 +1,5 @@
 -- What a memory holds of a state: in the fields of the file the numbers of its parallel variables.
-use Rattle.std.proofs.Common.{◌≡◌, ℕ, ◌<◌, ◌^◌, length, true}
+use Rattle.std.proofs.Common.{◌≡◌, ℕ, ◌<◌, ◌^◌, length}
 use Rattle.cstar_tree.specs.declared.typed.Typed.{Typed}
 use Rattle.cstar_tree.specs.declared.typed.VarInfo.{VarInfo}
 use Rattle.cstar_tree.specs.declared.typed.Variable.TheVariants as V
@@ -7,12 +7,13 @@ use Rattle.paris_code.specs.declared.program.Image.{Image}
 use Rattle.paris_code.specs.Memory.{BitMemory, field_number, is_active, processors}
 use Rattle.paris_code.specs.Shapes.{shapes_of}
 use Rattle.source_meaning.specs.State.{State}
+use Rattle.source_meaning.specs.Values.{Active}
 use Rattle.fields_follow.specs.Fields.{IsElement, file_field}
 
--- At every position the fields have the numbers of the variables, which are numbers of their types, and it is
--- active.
-pub record HoldsFields (t : Typed) (image : Image) (st : State) (m : BitMemory) : Type 0 where
+-- At every position the fields have the numbers of the variables, which are numbers of their types; these positions
+-- are active.
+pub record HoldsFields (t : Typed) (image : Image) (active : Active) (st : State) (m : BitMemory) : Type 0 where
   pub numbers : (k element set p : ℕ) (info : VarInfo) → IsElement t k info set element → p < processors (shapes_of image) set → field_number m (file_field t image k element) p ≡ st.parallel (V.File k) element p
   pub small : (k element set p : ℕ) (info : VarInfo) → IsElement t k info set element → p < processors (shapes_of image) set → st.parallel (V.File k) element p < 2 ^ info.elem.bits
-  pub active : (set p : ℕ) → set < length (shapes_of image) → p < processors (shapes_of image) set → is_active (shapes_of image) m set p ≡ true
+  pub flags : (set p : ℕ) → set < length (shapes_of image) → p < processors (shapes_of image) set → is_active (shapes_of image) m set p ≡ active set p
   pub winner : m.winner ≡ st.winner

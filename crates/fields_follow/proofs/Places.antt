@@ -1,5 +1,5 @@
 -- Where the fields of a unit stand in the image, as the code of its expressions relies on it.
-use Rattle.std.proofs.Common.{◌≡◌, ◌∙◌, ℕ, ◌+◌, ◌<◌, ◌≤◌, ◌^◌, List, [], ◌∷◌, ◌++◌, length, slice_get, Some, refl, ap, append_assoc}
+use Rattle.std.proofs.Common.{◌≡◌, ◌∙◌, ℕ, ◌+◌, ◌<◌, ◌≤◌, ◌^◌, List, [], ◌∷◌, ◌++◌, length, slice_get, Some, true, refl, ap, append_assoc}
 use Rattle.cstar_tree.specs.declared.typed.VarInfo.{VarInfo}
 use Rattle.lower_base.specs.Drafts.{Draft, Plain, Step, step as step_of, with_instr, with_step}
 use Rattle.paris_code.specs.declared.instr.Instr.{Instr}
@@ -11,6 +11,7 @@ use Rattle.paris_code.specs.Proper.{IsEntry, IsOwn}
 use Rattle.paris_code.specs.Shapes.{bits_at}
 use Rattle.paris_code.specs.Spans.{IsNamedAt, StandsAt, fields_of}
 use Rattle.source_meaning.specs.State.{State}
+use Rattle.source_meaning.specs.Values.{Active}
 use Rattle.code_follows.proofs.Settings.{Setting, Within}
 use Rattle.code_follows.proofs.Standing.{stands}
 use Rattle.fields_follow.proofs.Fields.{HoldsFields}
@@ -45,10 +46,12 @@ module _ (g : Setting) where
         → IsNamedAt g.unit h.offset at → IsNamedAt g.unit h.offset later → at < later → Apart (place g f) (place g h)
     pub few : (set : ℕ) → processors (shapes g) set ≤ 2 ^ 20
 
-  -- what the memory holds of the source's state is the numbers of the fields
+  -- what the memory holds of the source's state is the numbers of the fields, where these positions are active
   pub record HoldsTheFields : Type 0 where
-    pub opens : (st : State) (m : BitMemory) → g.held.holds st m → HoldsFields g.typed g.image st m
-    pub closes : (st : State) (m : BitMemory) → HoldsFields g.typed g.image st m → g.held.holds st m
+    pub active : Active
+    pub all : (set p : ℕ) → active set p ≡ true
+    pub opens : (st : State) (m : BitMemory) → g.held.holds st m → HoldsFields g.typed g.image active st m
+    pub closes : (st : State) (m : BitMemory) → HoldsFields g.typed g.image active st m → g.held.holds st m
 
   pub seam : {A : Type 0} (xs : List A) (y : A) (ys : List A) → slice_get (xs ++ y ∷ ys) (length xs) ≡ Some y
   seam [] y ys = refl

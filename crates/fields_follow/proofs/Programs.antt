@@ -44,14 +44,15 @@ use Rattle.fields_follow.proofs.Values.{operand_after}
 abbrev pub everywhere : Active
 everywhere = λ set p. true
 
--- the memory keeps the numbers of the file's parallel variables through every scalar part of the program
-abbrev pub fields_held : Typed → Image → Held
-fields_held t image = record {
-  holds = HoldsFields t image;
+-- the memory keeps the numbers of the file's parallel variables, and which positions are active, through every scalar
+-- part of the program
+abbrev pub fields_held : Typed → Image → Active → Held
+fields_held t image active = record {
+  holds = HoldsFields t image active;
   still = λ st u m same winner h. record {
     numbers = λ k e set p info is below. h.numbers k e set p info is below ∙ sym (same k e p);
     small = λ k e set p info is below. subst (λ (n : ℕ). n < 2 ^ info.elem.bits) (sym (same k e p)) (h.small k e set p info is below);
-    active = h.active;
+    flags = h.flags;
     winner = h.winner ∙ sym winner;
   };
 }
@@ -68,7 +69,7 @@ module _ (t : Typed) (image : Image) (p : IsParallelProgram t) (codable : IsCoda
 
   module _ (number : ℕ) (i : Instance) (is : slice_get t.instances.items number ≡ Some i) (opens : List ℕ) (most : ℕ) where
     abbrev g : Setting
-    g = activation t image p codable compiled (fields_held t image) number i is opens most
+    g = activation t image p codable compiled (fields_held t image everywhere) number i is opens most
 
     abbrev scope : Scope
     scope = scope_of t i (calls t most)
@@ -77,7 +78,7 @@ module _ (t : Typed) (image : Image) (p : IsParallelProgram t) (codable : IsCoda
     places = places_fields g made
 
     fields : HoldsTheFields g
-    fields = record { opens = λ st m h. h; closes = λ st m h. h }
+    fields = record { active = everywhere; all = λ set p. refl; opens = λ st m h. h; closes = λ st m h. h }
 
     same_extents : SameExtents g scope
     unfolding scope_of
@@ -91,7 +92,7 @@ module _ (t : Typed) (image : Image) (p : IsParallelProgram t) (codable : IsCoda
           folds_follow g has scope everywhere (λ set q. refl) places fields alive n (operands_follow g has scope places fields alive n ready) same_extents e h (record { code = c; among = among }) d s st R r free here sim dest;
     }
 
-  all_beside : AllBeside t image p codable compiled (fields_held t image) everywhere
+  all_beside : AllBeside t image p codable compiled (fields_held t image everywhere) everywhere
   all_beside number i is opens most has = besides number i is opens most has
 
   -- a parallel variable of the file begins with 0
@@ -104,25 +105,25 @@ module _ (t : Typed) (image : Image) (p : IsParallelProgram t) (codable : IsCoda
       by (inr zero) = zero.1
 
   -- a new memory holds the state in which the run begins
-  holds_at_first : (input : List ℕ) (rest : Source.Rest) (turns : ℕ) (winner : Winner) (m : BitMemory) → IsNew image winner m → HoldsFields t image (start_state t input rest turns winner) m
+  holds_at_first : (input : List ℕ) (rest : Source.Rest) (turns : ℕ) (winner : Winner) (m : BitMemory) → IsNew image winner m → HoldsFields t image everywhere (start_state t input rest turns winner) m
   unfolding start_state
   holds_at_first input rest turns winner m new = record {
     numbers = λ k e set q info is below. fresh_file t compiled.lowered.words compiled.before compiled.after image made m k info set e q new.bits is below ∙ sym (begins_at_zero k info set is.known is.parallel);
     small = λ k e set q info is below. subst (λ (n : ℕ). n < 2 ^ info.elem.bits) (sym (begins_at_zero k info set is.known is.parallel)) (pow_pos info.elem.bits);
-    active = λ set q exists below. fresh_active (shapes_of image) m set q new.bits exists below;
+    flags = λ set q exists below. fresh_active (shapes_of image) m set q new.bits exists below;
     winner = new.winner;
   }
 
   -- what it holds of the state at the end, at the positions of the source
-  numbers_at_last : (st : State) (m : BitMemory) → HoldsFields t image st m → HasTheNumbers t image st m
+  numbers_at_last : (st : State) (m : BitMemory) → HoldsFields t image everywhere st m → HasTheNumbers t image st m
   numbers_at_last st m h k e set q info is below =
       h.numbers k e set q info is (subst (λ (n : ℕ). q < n) (sym (processors_of t compiled.lowered.words compiled.before compiled.after image made set (file_exists t compiled.lowered.words compiled.before compiled.after image made k info set e is))) below)
 
   comes_to_all : (memory : BitMemory) (input : List ℕ) (rest : Source.Rest) (turns : ℕ) (winner : Winner) → AreBytes input → IsNew image winner memory
       → ComesToAll t image (opening image memory turns (record { bytes = input; mark = mark_of rest })) (meaning t input rest turns winner)
   comes_to_all memory input rest turns winner are new =
-      let c : Comes (fields_held t image) image (opening image memory turns (record { bytes = input; mark = mark_of rest })) (meaning t input rest turns winner) =
-      program_follows t image p codable compiled (fields_held t image) memory input rest turns winner are (holds_at_first input rest turns winner memory new) all_beside in
+      let c : Comes (fields_held t image everywhere) image (opening image memory turns (record { bytes = input; mark = mark_of rest })) (meaning t input rest turns winner) =
+      program_follows t image p codable compiled (fields_held t image everywhere) memory input rest turns winner are (holds_at_first input rest turns winner memory new) all_beside in
       record { to = c.to; numbers = numbers_at_last (meaning t input rest turns winner).final c.to.last.memory c.memory }
 
 pub means_source : ParallelCodeMeansSource

@@ -148,7 +148,7 @@ module _ (g : Setting) (has : HasRegisters g) (scope : Scope) (active : Active) 
       -- the fold of the field's numbers
       module _ (v : Value) (u : State) (out : Out) (e : Draft) (h : HasField set d s v u out e) where
         everywhere : (q : ℕ) → q < processors (shapes g) h.field.set → is_active (shapes g) h.t.memory h.field.set q ≡ active set q
-        everywhere q below = (fields.opens u h.t.memory h.sim.memory).active h.field.set q (subst (λ (k : ℕ). k < length (shapes g)) (sym h.numbers.of_set) h.numbers.exists) below ∙ sym (full set q)
+        everywhere q below = (fields.opens u h.t.memory h.sim.memory).flags h.field.set q (subst (λ (k : ℕ). k < length (shapes g)) (sym h.numbers.of_set) h.numbers.exists) below ∙ fields.all h.field.set q ∙ sym (full set q)
 
         whole_is : (global_fold (shapes g) h.t.memory (folding op signed) (place g h.field) ≡ whole v) × (whole v < 2 ^ 32)
         whole_is =

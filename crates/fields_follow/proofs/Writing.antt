@@ -27,7 +27,7 @@ use Rattle.fields_follow.proofs.Places.{HoldsTheFields, IsFileField, IsOwnField,
 
 module _ (g : Setting) (places : PlacesFields g) (fields : HoldsTheFields g) (alive : Variable → Type 0) where
   abbrev Opened : State → BitMemory → Type 0
-  Opened st m = HoldsFields g.typed g.image st m
+  Opened st m = HoldsFields g.typed g.image fields.active st m
 
   -- the same memory for a state, whatever the parallel variables are in it
   with_memory : (st u : State) (s : CodeState) (w : Write) → u.scalar ≡ st.scalar → u.turns ≡ st.turns → u.output ≡ st.output → u.input ≡ st.input → u.rest ≡ st.rest → Opened u (written w s.memory) → Sim g alive st s → Sim g alive u (wrote g w s)
@@ -74,15 +74,15 @@ module _ (g : Setting) (places : PlacesFields g) (fields : HoldsTheFields g) (al
     set_exists : set < length (shapes g)
     set_exists = subst (λ (q : ℕ). q < length (shapes g)) of_set d_ends.0
 
-    active_still : (q p : ℕ) → q < length (shapes g) → p < processors (shapes g) q → is_active (shapes g) (written puts.write s.memory) q p ≡ true
+    active_still : (q p : ℕ) → q < length (shapes g) → p < processors (shapes g) q → is_active (shapes g) (written puts.write s.memory) q p ≡ fields.active q p
     active_still q p within_sets below =
         active_apart (shapes g) puts.write s.memory q p (subst (λ (f : Field). f.offset + f.len ≤ bits_at (shapes g) f.set) (sym puts.run) d_ends.1)
-        ∙ was.active q p within_sets below
+        ∙ was.flags q p within_sets below
 
     value_is : (p : ℕ) → p < processors (shapes g) set → field_number (written puts.write s.memory) (place g d) p ≡ v p
     value_is p below =
         ap (λ (f : Field). field_number (written puts.write s.memory) f p) (sym puts.run)
-        ∙ field_written puts.write s.memory p (puts.writes p ∙ ap (λ (q : ℕ). is_active (shapes g) s.memory q p) of_set ∙ was.active set p set_exists below)
+        ∙ field_written puts.write s.memory p (puts.writes p ∙ ap (λ (q : ℕ). is_active (shapes g) s.memory q p) of_set ∙ was.flags set p set_exists below ∙ fields.all set p)
         ∙ ap (λ (f : Field). puts.write.value p % 2 ^ f.len) puts.run ∙ puts.value p below
 
     pub few : (p : ℕ) → p < processors (shapes g) set → v p < 2 ^ 32
@@ -114,7 +114,7 @@ module _ (g : Setting) (places : PlacesFields g) (fields : HoldsTheFields g) (al
       sim = with_memory st st s puts.write refl refl refl refl refl (record {
         numbers = λ k element q p info is below. elsewhere (of_file g k element) p (places.own_file k element q info d is own) ∙ was.numbers k element q p info is below;
         small = was.small;
-        active = active_still;
+        flags = active_still;
         winner = winner_still;
       }) sim;
       has = numbers;
@@ -133,7 +133,7 @@ module _ (g : Setting) (places : PlacesFields g) (fields : HoldsTheFields g) (al
       sim = with_memory st (with_positions (V.File k) element passes w st) s puts.write refl refl refl refl refl (record {
         numbers = λ j other q p of which below. by_element j other q p of which below (cases_eq k j) (cases_eq other element);
         small = λ j other q p of which below. small_still j other q p of which below (cases_eq k j) (cases_eq other element);
-        active = active_still;
+        flags = active_still;
         winner = winner_still;
       }) sim;
       has = numbers;

@@ -1,20 +1,23 @@
 -- The programs with parallel variables of which it is said so far that their code means them. Their parallel
 -- expressions are pure ones of 32 bits, of variables of the file, own coordinates and promoted scalars, which change
 -- nothing and never fail; they are assigned to such variables, and folded into numbers. Everything is active.
-use Rattle.std.specs.Prelude.{ℕ, ◌≡◌, ◌<◌, ◌^◌, ◌⊎◌, false, IfSome, Some, None}
+use Rattle.std.specs.Prelude.{ℕ, ◌≡◌, ◌<◌, ◌^◌, ◌⊎◌, [], false, IfSome, Some, None}
 use Rattle.cstar_base.specs.declared.operators.Op.{Op}
 use Rattle.cstar_base.specs.Operators.{divides}
 use Rattle.cstar_tree.specs.declared.syntax.AssignOp.{AssignOp}
 use Rattle.cstar_tree.specs.declared.typed.TExpr.{TExpr}
 use Rattle.cstar_tree.specs.declared.typed.TExpr as T
+use Rattle.cstar_tree.specs.declared.typed.TStmt.{TStmt, Row_of-TStmt, end_of-TStmt, more_of-TStmt, Held-TStmt-If-2, None', Some'}
+use Rattle.cstar_tree.specs.declared.typed.TStmt as S
 use Rattle.cstar_tree.specs.declared.typed.Typed.{Typed}
 use Rattle.cstar_tree.specs.declared.typed.ValueType.{ValueType}
 use Rattle.cstar_tree.specs.declared.typed.VarInfo.{VarInfo}
+use Rattle.cstar_tree.specs.declared.typed.Variable.{Variable}
 use Rattle.cstar_tree.specs.declared.typed.Variable.TheVariants as V
 use Rattle.cstar_tree.specs.Typed.{type_of}
 use Rattle.lower_base.specs.Operators.{assign_op_of, negates, relates}
 use Rattle.source_meaning.specs.Constants.{constant_of}
-use Rattle.code_follows.specs.Fragment.{Beside, IsProgramBeside, IsWord}
+use Rattle.code_follows.specs.Fragment.{Beside, IsProgramBeside, IsWord, ScalarsAmong}
 
 -- a type of 32 bits of a shape
 abbrev pub IsWide : ℕ → ValueType → Type 0
@@ -80,6 +83,33 @@ IsUpdate _ = ⊥
 unfoldable pub IsFold : TExpr → Type 0
 IsFold (T.Reduce' ty op p operand) = IsWord ty × ((set : ℕ) × IsPure set operand)
 IsFold _ = ⊥
+
+-- A condition of `where`: a relation of two operands, or a value that is not zero.
+unfoldable pub IsCondition : ℕ → TExpr → Type 0
+IsCondition set (T.Brackets' ty p inner) = IsCondition set inner
+IsCondition set (T.Binary' ty place op p left q right) =
+    IsWide set ty × (divides op ≡ false) × ((IsPure set left × (IsPure set right ⊎ IsPromoted set right)) ⊎ (IsPromoted set left × IsPure set right))
+IsCondition set e = IsPure set e
+
+-- A statement of such updates, in which `where` and `everywhere` say which positions are active. The scalar variables
+-- that it names are among these.
+unfoldable mutual
+  pub IsSelective : (Variable → Type 0) → TStmt → Type 0
+  IsSelective names (S.Block' locals p statements) = (locals.items ≡ []) × AreSelective names statements
+  IsSelective names (S.Expression e) = IsUpdate e × ScalarsAmong names e
+  IsSelective names S.Empty = Unit {0}
+  IsSelective names (S.With' shape p body) = IsSelective names body
+  IsSelective names (S.Everywhere' shape p body) = IsSelective names body
+  IsSelective names (S.Where' shape test p first second) = IsCondition shape test × ScalarsAmong names test × IsSelective names first × IsSelectiveElse names second
+  IsSelective names _ = ⊥
+
+  pub AreSelective : {k : _} → (Variable → Type 0) → Row_of-TStmt k → Type 0
+  AreSelective names end_of-TStmt = Unit {0}
+  AreSelective names (more_of-TStmt s rest) = IsSelective names s × AreSelective names rest
+
+  pub IsSelectiveElse : (Variable → Type 0) → Held-TStmt-If-2 → Type 0
+  IsSelectiveElse names None' = Unit {0}
+  IsSelectiveElse names (Some' p s) = IsSelective names s
 
 -- a parallel variable of 32 bits, which is no array
 abbrev pub IsParallelVariable : VarInfo → Type 0
