@@ -1,5 +1,5 @@
 -- What a memory holds of a state: in the fields of the file the numbers of its parallel variables.
-use Rattle.std.proofs.Common.{◌≡◌, ℕ, ◌<◌, ◌^◌, length}
+use Rattle.std.proofs.Common.{◌≡◌, ◌∙◌, ℕ, ◌<◌, ◌^◌, length, subst, sym}
 use Rattle.cstar_tree.specs.declared.typed.Typed.{Typed}
 use Rattle.cstar_tree.specs.declared.typed.VarInfo.{VarInfo}
 use Rattle.cstar_tree.specs.declared.typed.Variable.TheVariants as V
@@ -8,6 +8,7 @@ use Rattle.paris_code.specs.Memory.{BitMemory, field_number, is_active, processo
 use Rattle.paris_code.specs.Shapes.{shapes_of}
 use Rattle.source_meaning.specs.State.{State}
 use Rattle.source_meaning.specs.Values.{Active}
+use Rattle.code_follows.proofs.Settings.{Held}
 use Rattle.fields_follow.specs.Fields.{IsElement, file_field}
 
 -- At every position the fields have the numbers of the variables, which are numbers of their types; these positions
@@ -17,3 +18,16 @@ pub record HoldsFields (t : Typed) (image : Image) (active : Active) (st : State
   pub small : (k element set p : ℕ) (info : VarInfo) → IsElement t k info set element → p < processors (shapes_of image) set → st.parallel (V.File k) element p < 2 ^ info.elem.bits
   pub flags : (set p : ℕ) → set < length (shapes_of image) → p < processors (shapes_of image) set → is_active (shapes_of image) m set p ≡ active set p
   pub winner : m.winner ≡ st.winner
+
+-- the memory keeps the numbers of the file's parallel variables, and which positions are active, through every scalar
+-- part of the program
+abbrev pub fields_held : Typed → Image → Active → Held
+fields_held t image active = record {
+  holds = HoldsFields t image active;
+  still = λ st u m same winner h. record {
+    numbers = λ k e set p info is below. h.numbers k e set p info is below ∙ sym (same k e p);
+    small = λ k e set p info is below. subst (λ (n : ℕ). n < 2 ^ info.elem.bits) (sym (same k e p)) (h.small k e set p info is below);
+    flags = h.flags;
+    winner = h.winner ∙ sym winner;
+  };
+}

@@ -1,14 +1,17 @@
 pub mod Assigning
 pub mod Bits
+pub mod Contexts
 pub mod Effects
 pub mod Example
 pub mod Expressions
 pub mod Fields
 pub mod FileFields
+pub mod Flags
 pub mod Folds
 pub mod Forms
 pub mod Instructions
 pub mod Joining
+pub mod Leaving
 pub mod Meaning
 pub mod Named
 pub mod Operands
@@ -19,6 +22,7 @@ pub mod Programs
 pub mod Quiet
 pub mod Reducing
 pub mod Reductions
+pub mod Testing
 pub mod Updates
 pub mod Values
 pub mod Writing

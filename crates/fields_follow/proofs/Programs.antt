@@ -27,12 +27,12 @@ use Rattle.code_follows.proofs.Besides.{BesideFollows}
 use Rattle.code_follows.proofs.Entering.{AllBeside}
 use Rattle.code_follows.proofs.Following.{HasRegisters}
 use Rattle.code_follows.proofs.Programs.{Comes, program_follows}
-use Rattle.code_follows.proofs.Settings.{Held, Setting, layout}
+use Rattle.code_follows.proofs.Settings.{Setting, layout}
 use Rattle.fields_follow.specs.Fragment.{IsParallelProgram, fields_beside}
 use Rattle.fields_follow.specs.Laws.{ComesToAll, HasTheNumbers, IsNew, ParallelCodeMeansSource}
 use Rattle.fields_follow.proofs.Assigning.{updates_follow}
 use Rattle.fields_follow.proofs.Expressions.{pure_after}
-use Rattle.fields_follow.proofs.Fields.{HoldsFields}
+use Rattle.fields_follow.proofs.Fields.{HoldsFields, fields_held}
 use Rattle.fields_follow.proofs.FileFields.{IsTranslated, extents_are, file_exists, fresh_active, fresh_file, processors_of, translated}
 use Rattle.fields_follow.proofs.Instructions.{SameExtents}
 use Rattle.fields_follow.proofs.Joining.{places_fields}
@@ -43,19 +43,6 @@ use Rattle.fields_follow.proofs.Values.{operand_after}
 -- everything is active
 abbrev pub everywhere : Active
 everywhere = λ set p. true
-
--- the memory keeps the numbers of the file's parallel variables, and which positions are active, through every scalar
--- part of the program
-abbrev pub fields_held : Typed → Image → Active → Held
-fields_held t image active = record {
-  holds = HoldsFields t image active;
-  still = λ st u m same winner h. record {
-    numbers = λ k e set p info is below. h.numbers k e set p info is below ∙ sym (same k e p);
-    small = λ k e set p info is below. subst (λ (n : ℕ). n < 2 ^ info.elem.bits) (sym (same k e p)) (h.small k e set p info is below);
-    flags = h.flags;
-    winner = h.winner ∙ sym winner;
-  };
-}
 
 -- the code of a pure parallel expression leaves its numbers in a field
 operands_follow : (g : Setting) (has : HasRegisters g) (scope : Scope) (places : PlacesFields g) (fields : HoldsTheFields g) (alive : Variable → Type 0) → (n : ℕ) → ((d : Draft) → IsReady g.typed g.instance (layout g) n d)

@@ -1,0 +1,1 @@
+-- A statement in which contexts say which positions are active follows.

@@ -1,0 +1,1 @@
+-- What the instructions on contexts and test flags do.

@@ -1,0 +1,82 @@
+-- What code of parallel statements leaves, and the same unit where other positions are active.
+use Rattle.std.proofs.Common.{◌≡◌, ℕ, ◌+◌, ◌<◌, ◌≤◌, length, true}
+use Rattle.cstar_tree.specs.declared.typed.TExpr.{TExpr}
+use Rattle.cstar_tree.specs.declared.typed.Variable.{Variable}
+use Rattle.code_lengths.specs.Growth.{Extended}
+use Rattle.lower_base.specs.Drafts.{Draft}
+use Rattle.lower_expr.specs.Effects.{effect_of}
+use Rattle.paris_code.specs.declared.operands.Field.{Field}
+use Rattle.paris_code.specs.Code.{CodeState}
+use Rattle.paris_code.specs.Memory.{is_tested, processors}
+use Rattle.paris_code.specs.Shapes.{bits_at}
+use Rattle.paris_code.specs.Spans.{IsNamedAt}
+use Rattle.source_meaning.specs.Expressions.{evaluated}
+use Rattle.source_meaning.specs.State.{Gives, State}
+use Rattle.source_meaning.specs.Values.{Active, Parallel, Scope, Value, nonzero}
+use Rattle.code_follows.proofs.Following.{HasRegisters, Sim}
+use Rattle.code_follows.proofs.Settings.{At, Reaches, Setting, Within, layout}
+use Rattle.fields_follow.proofs.Fields.{fields_held}
+use Rattle.fields_follow.proofs.Instructions.{number_in, place, shapes}
+use Rattle.fields_follow.proofs.Passing.{After, Passes}
+use Rattle.fields_follow.proofs.Places.{HoldsTheFields, IsOwnField, PlacesFields}
+
+module _ (g : Setting) where
+  -- the field ends below the flags of its set
+  abbrev pub EndsBelow : Field → Type 0
+  EndsBelow h = (place g h).offset + h.len ≤ bits_at (shapes g) h.set
+
+  module _ (alive : Variable → Type 0) where
+    -- The code from one draft to another leaves a state, the registers, and what stands in own entries that are named
+    -- before it and behind it.
+    pub record Leaves (d e : Draft) (s : CodeState) (u : State) : Type 0 where
+      pub grown : (n : ℕ) × Extended d n e
+      pub t : CodeState
+      pub go : Reaches g s t
+      pub at : At g t (length e.code)
+      pub registers : t.registers ≡ s.registers
+      pub sim : Sim g alive u t
+      pub stays : (h : Field) (first last p : ℕ) → h.offset < length d.fields → IsOwnField g h → EndsBelow h → IsNamedAt g.unit h.offset first → first < length d.code → IsNamedAt g.unit h.offset last → length e.code ≤ last → number_in g h t p ≡ number_in g h s p
+
+    module _ (fields : HoldsTheFields g) where
+      -- an update gives something in the source, and its code leaves the state behind it
+      abbrev pub UpdateLeaves : Scope → TExpr → Draft → CodeState → State → Type 0
+      UpdateLeaves scope e d s st =
+          (v : Value) × ((u : State) × ((evaluated scope e fields.active st ≡ Gives v u) × After g (λ out f. Leaves d f s u) (effect_of g.typed (layout g) e d)))
+
+      -- the code of a condition leaves in the test flags where these numbers are not zero
+      pub record Tests (bound : ℕ) (d : Draft) (s : CodeState) (set : ℕ) (st : State) (v : ℕ → ℕ) (e : Draft) : Type 0 where
+        pub passes : Passes g alive bound d e s st (Unit {0})
+        pub flags : (p : ℕ) → p < processors (shapes g) set → fields.active set p ≡ true → is_tested (shapes g) passes.t.memory set p ≡ nonzero (v p)
+
+  -- the same unit where these positions are active
+  abbrev pub under : Active → Setting
+  under a = record g { held = fields_held g.typed g.image a }
+
+  pub places_under : (a : Active) → PlacesFields g → PlacesFields (under a)
+  places_under a p = record { ends = p.ends; exists = p.exists; file = p.file; files_apart = p.files_apart; own_file = p.own_file; owns_apart = p.owns_apart; few = p.few }
+
+  pub within_under : {d : Draft} (a : Active) → Within g d → Within (under a) d
+  within_under a w = record { more = w.more; code = w.code; entries = w.entries; fields = w.fields; regs = w.regs; own = w.own }
+
+  pub within_again : {d : Draft} (a : Active) → Within (under a) d → Within g d
+  within_again a w = record { more = w.more; code = w.code; entries = w.entries; fields = w.fields; regs = w.regs; own = w.own }
+
+  pub reaches_under : {s t : CodeState} (a : Active) → Reaches g s t → Reaches (under a) s t
+  reaches_under a r = record { by = r.by }
+
+  pub reaches_again : {s t : CodeState} (a : Active) → Reaches (under a) s t → Reaches g s t
+  reaches_again a r = record { by = r.by }
+
+  pub registers_under : (a : Active) → HasRegisters g → HasRegisters (under a)
+  registers_under a h = record {
+    below = h.below;
+    free = h.free;
+    behind_files = h.behind_files;
+    room = h.room;
+    result = h.result;
+    result_apart = h.result_apart;
+    spared_variable = h.spared_variable;
+    spared_result = h.spared_result;
+    spared_own = h.spared_own;
+    apart = h.apart;
+  }

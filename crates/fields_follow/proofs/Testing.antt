@@ -1,0 +1,1 @@
+-- The code of a condition leaves the test flags.
