@@ -35,7 +35,7 @@ use Rattle.code_follows.proofs.Declaring.{AreBefore, among_before, clears, decla
 use Rattle.code_follows.specs.Fragment.{AreInStatements, IsEffect, IsScalarLocal, IsInElse, IsInStatement, IsTested, OrAmong, naming}
 use Rattle.code_follows.proofs.Assigning.{effect_follows}
 use Rattle.code_follows.proofs.Choices.{Agrees, if_alone, if_else}
-use Rattle.code_follows.proofs.Executing.{IsGiven, Jumped, Left, RanOn, follows_from, go_on}
+use Rattle.code_follows.proofs.Executing.{IsGiven, Jumped, Left, RanOn, follows_from, go_on, no_break, no_continue, no_return}
 use Rattle.code_follows.proofs.ForLoops.{do_agrees, for_agrees, while_agrees}
 use Rattle.code_follows.proofs.Callees.{CallsFollow}
 use Rattle.code_follows.proofs.Following.{Extends, Follows, follows_other, HasRegisters, Ran, Sim, delayed, extends_made, keeps_all, nothing_said}
@@ -93,6 +93,19 @@ module _ (g : Setting) (has : HasRegisters g) (alive : Variable → Type 0) (fil
       grown_on : (d e : Draft) (k : ℕ) (m : Made ℕ) → Extended d k e → Extends g e m → Extends g d m
       grown_on d e k (Makes x h) a b = (k + b.0, extended d e h k b.0 a b.1)
       grown_on d e k Fails a b = tt
+
+  -- a statement under contexts, which goes on
+  under_contexts : (s : TStmt) → g.may.beside.statements alive s → (n : ℕ) → Agrees g has alive files numbers ready declares scope active calls_follow n s
+  unfolding Left
+  under_contexts s may n f d s0 st framed among none free at sim c =
+      follows_other g (RanOn g alive d s0) (Left g alive f d s0) s0 (executed scope s n active st) (statement_of g.typed (layout g) s f [] n d)
+      ((calls_follow.beside has).statements alive files n (ready n) s may c f d s0 st none free at sim) left_on
+    where
+      left_on : (leaving : Leaving) (u : State) (m : ℕ) (e : Draft) → RanOn g alive d s0 leaving u m e → Left g alive f d s0 leaving u m e
+      left_on Onward u m e ran = ran.1
+      left_on Broke u m e ran = absurd (no_break ran.0)
+      left_on Continued u m e ran = absurd (no_continue ran.0)
+      left_on (Returned v) u m e ran = absurd (no_return v ran.0)
 
   -- nothing is done
   stays_here : (f : Frame) (n : ℕ) (d : Draft) (s0 : CodeState) (st : State) → At g s0 (length d.code) → Sim g alive st s0 → Follows g (Left g alive f d s0) s0 (Source.Gives Onward st) (Makes n d)
@@ -254,7 +267,10 @@ module _ (g : Setting) (has : HasRegisters g) (numbers : NumbersVariables g.inst
     statement_follows alive files n before S.Break h f d s0 st framed among none free at sim c = breaks g has alive files numbers ready declares scope active calls_follow falls f f.saved.in_loop n d s0 st at sim
     statement_follows alive files n before S.Continue h f d s0 st framed among none free at sim c = continues g has alive files numbers ready declares scope active calls_follow falls f f.saved.in_loop n d s0 st at sim
     statement_follows alive files n before (S.Return e) h f d s0 st framed among none free at sim c = return_follows g has alive files ready scope active calls_follow e h f n d s0 st framed free at sim (returned_code g numbers declares e n c)
-    statement_follows alive files n before _ h f d s0 st framed among none free at sim c = absurd h
+    statement_follows alive files n before (S.Everywhere' shape p body) h f d s0 st framed among none free at sim c =
+        under_contexts g has alive files numbers ready declares scope active calls_follow falls (S.Everywhere' shape p body) h n f d s0 st framed among none free at sim c
+    statement_follows alive files n before (S.Where' shape test p first second) h f d s0 st framed among none free at sim c =
+        under_contexts g has alive files numbers ready declares scope active calls_follow falls (S.Where' shape test p first second) h n f d s0 st framed among none free at sim c
 
     pub row_follows : {k : Count} (alive : Variable → Type 0) (files : (k : ℕ) → alive (V.File k)) (n : ℕ) → AreBefore alive n → (row : Row_of-TStmt k) → AreInStatements (naming g.may alive) n row
         → (f : Frame) (d : Draft) (s0 : CodeState) (st : State) → StandsIn g f → StandsAmong f [] → d.homes ≡ [] → g.begins ≤ d.regs → At g s0 (length d.code) → Sim g alive st s0

@@ -99,7 +99,7 @@ module _ (g : Setting) where
   TakesThese active index given = (m : MayCall active index) × AreTaken m.callee.callee.params.items given
 
   -- Calls follow the source: a call means what the source says of so many turns, and what is called is known. The
-  -- result takes what is returned. And so do the parallel expressions beside scalar ones.
+  -- result takes what is returned. And so do the parallel expressions and the statements under contexts.
   pub record CallsFollow (scope : Scope) (active : Active) : Type 1 where
     pub meant : scope.call ≡ calls g.typed g.most
     pub value : (elem : Elem) (index : ℕ) (given : List Elem) → g.may.calls (Some elem) index given → (h : TakesThese active index given) × (HasResult g.typed index × IsResult h.0.callee.callee.result elem)

@@ -5,6 +5,7 @@ use Rattle.cstar_tree.specs.declared.typed.LocalVar.{LocalVar}
 use Rattle.cstar_tree.specs.declared.typed.TExpr.{TExpr}
 use Rattle.cstar_tree.specs.declared.typed.TStmt.{TStmt, Row_of-TStmt, end_of-TStmt, more_of-TStmt, Held-TStmt-If-2, None', Some'}
 use Rattle.cstar_tree.specs.declared.typed.TStmt as S
+use Rattle.source_meaning.specs.Narrowing.{where_nonzero, where_zero, widened}
 use Rattle.source_meaning.specs.State as Source
 use Rattle.source_meaning.specs.State.{Outcome, State, then_do}
 use Rattle.source_meaning.specs.Statements.{Broke, Continued, Leaving, Onward, Returned, all_executed, declared, done, else_executed, executed, initialised, initialised_one, rounds, then_go, then_round}
@@ -13,8 +14,7 @@ use Rattle.source_meaning.specs.Expressions.{evaluated}
 use Rattle.source_meaning.specs.Targets.{Target, variable_target}
 use Rattle.cstar_tree.specs.declared.typed.Variable.TheVariants as V
 use Rattle.source_meaning.specs.Values.{Active, Scope}
-use Rattle.code_follows.specs.Fragment.{AreClosed, AreInStatements, IsClosed, IsClosedElse, IsInElse, IsInStatement, May, within}
-use Rattle.code_lengths.specs.NamingStatements.{behind}
+use Rattle.code_follows.specs.Fragment.{AreClosed, IsClosed, IsClosedElse}
 
 -- no jump out of a loop
 unfoldable pub NoJump : Outcome Leaving → Type 0
@@ -56,11 +56,11 @@ rounds_closed (suc fuel) test body step st closed = do_closed (test st) _ (λ b 
     by true u again = round_closed (spend_turn u body) _ again
     by false u again = tt
 
-module _ (scope : Scope) (active : Active) where
-  either : (b : Bool) (one other : Outcome Leaving) → NoJump one → NoJump other → NoJump (elim b as (λ _. Outcome Leaving) [ true ↦ one | false ↦ other ])
-  either true one other h k = h
-  either false one other h k = k
+either : (b : Bool) (one other : Outcome Leaving) → NoJump one → NoJump other → NoJump (elim b as (λ _. Outcome Leaving) [ true ↦ one | false ↦ other ])
+either true one other h k = h
+either false one other h k = k
 
+module _ (scope : Scope) (active : Active) where
   pub begins_closed : (n : ℕ) (locals : List LocalVar) (st : State) → NoJump (initialised scope active n locals st)
   unfolding initialised initialised_one NoJump
   begins_closed n [] st = tt
@@ -75,28 +75,32 @@ module _ (scope : Scope) (active : Active) where
   done_closed None st = tt
   done_closed (Some e) st = do_closed (evaluated scope e active st) _ (λ v u. tt)
 
+-- whatever is active
+module _ (scope : Scope) where
   mutual
-    unfolding IsInStatement IsInElse AreInStatements IsClosed IsClosedElse AreClosed executed all_executed else_executed NoJump done
+    unfolding IsClosed IsClosedElse AreClosed executed all_executed else_executed NoJump done
 
-    pub closed : (may : May) (m : ℕ) (s : TStmt) → IsInStatement may m s → IsClosed s → (n : ℕ) (st : State) → NoJump (executed scope s n active st)
-    closed may m (S.Block' locals p statements) h k n st = go_closed _ _ (begins_closed n locals.items (zeroed n (length locals.items) st)) (λ u. closed_row (within may m (length locals.items)) (m + length locals.items) statements h.2 k (n + length locals.items) u)
-    closed may m (S.Expression e) h k n st = do_closed _ _ (λ v u. tt)
-    closed may m S.Empty h k n st = tt
-    closed may m (S.If' test p first second) h k n st = do_closed _ _ (λ b u. either b _ _ (closed may m first h.1 k.0 n u) (closed_else may (behind m first) second h.2 k.1 (n + declared first) u))
-    closed may m (S.While' test p body) h k n st = rounds_closed st.turns _ _ _ st (λ s. tt)
-    closed may m (S.Do' p body test) h k n st = round_closed _ _ (λ s. rounds_closed s.turns _ _ _ s (λ u. tt))
-    closed may m (S.For' first test step p body) h k n st = go_closed _ _ (done_closed first st) (λ s. rounds_closed s.turns _ _ _ s (λ u. done_closed step u))
-    closed may m (S.With' shape p body) h k n st = closed may m body h k n st
-    closed may m (S.Return None) h k n st = tt
-    closed may m (S.Return (Some e)) h k n st = do_closed _ _ (λ v u. tt)
-    closed may m S.Break h k n st = absurd k
-    closed may m S.Continue h k n st = absurd k
-    closed may m _ h k n st = absurd h
+    pub closed : (s : TStmt) → IsClosed s → (n : ℕ) (active : Active) (st : State) → NoJump (executed scope s n active st)
+    closed (S.Block' locals p statements) k n active st = go_closed _ _ (begins_closed scope active n locals.items (zeroed n (length locals.items) st)) (λ u. closed_row statements k (n + length locals.items) active u)
+    closed (S.Expression e) k n active st = do_closed _ _ (λ v u. tt)
+    closed S.Empty k n active st = tt
+    closed (S.If' test p first second) k n active st = do_closed _ _ (λ b u. either b _ _ (closed first k.0 n active u) (closed_else second k.1 (n + declared first) active u))
+    closed (S.While' test p body) k n active st = rounds_closed st.turns _ _ _ st (λ s. tt)
+    closed (S.Do' p body test) k n active st = round_closed _ _ (λ s. rounds_closed s.turns _ _ _ s (λ u. tt))
+    closed (S.For' first test step p body) k n active st = go_closed _ _ (done_closed scope active first st) (λ s. rounds_closed s.turns _ _ _ s (λ u. done_closed scope active step u))
+    closed (S.With' shape p body) k n active st = closed body k n active st
+    closed (S.Everywhere' shape p body) k n active st = closed body k n (widened shape active) st
+    closed (S.Where' shape test p first second) k n active st =
+        do_closed _ _ (λ v u. go_closed _ _ (closed first k.0 n (where_nonzero shape v active) u) (λ w. closed_else second k.1 (n + declared first) (where_zero shape v active) w))
+    closed (S.Return None) k n active st = tt
+    closed (S.Return (Some e)) k n active st = do_closed _ _ (λ v u. tt)
+    closed S.Break k n active st = absurd k
+    closed S.Continue k n active st = absurd k
 
-    pub closed_row : {k : Count} (may : May) (m : ℕ) (row : Row_of-TStmt k) → AreInStatements may m row → AreClosed row → (n : ℕ) (st : State) → NoJump (all_executed scope row n active st)
-    closed_row may m end_of-TStmt h k n st = tt
-    closed_row may m (more_of-TStmt s rest) h k n st = go_closed _ _ (closed may m s h.0 k.0 n st) (λ u. closed_row may (behind m s) rest h.1 k.1 (n + declared s) u)
+    pub closed_row : {k : Count} (row : Row_of-TStmt k) → AreClosed row → (n : ℕ) (active : Active) (st : State) → NoJump (all_executed scope row n active st)
+    closed_row end_of-TStmt k n active st = tt
+    closed_row (more_of-TStmt s rest) k n active st = go_closed _ _ (closed s k.0 n active st) (λ u. closed_row rest k.1 (n + declared s) active u)
 
-    closed_else : (may : May) (m : ℕ) (held : Held-TStmt-If-2) → IsInElse may m held → IsClosedElse held → (n : ℕ) (st : State) → NoJump (else_executed scope held n active st)
-    closed_else may m None' h k n st = tt
-    closed_else may m (Some' p s) h k n st = closed may m s h k n st
+    closed_else : (held : Held-TStmt-If-2) → IsClosedElse held → (n : ℕ) (active : Active) (st : State) → NoJump (else_executed scope held n active st)
+    closed_else None' k n active st = tt
+    closed_else (Some' p s) k n active st = closed s k n active st

@@ -31,7 +31,7 @@ use Rattle.source_meaning.specs.State as Source
 use Rattle.source_meaning.specs.State.{Outcome, State, is_among, then_do}
 use Rattle.source_meaning.specs.Statements.{Broke, Continued, Leaving, Onward, Returned, executed, initialised}
 use Rattle.source_meaning.specs.Values.{Active, Value, each}
-use Rattle.code_follows.specs.Fragment.{IsBody, Beside, IsProgramBeside, OfFileOrParam, IsInStatement, within}
+use Rattle.code_follows.specs.Fragment.{IsBody, Beside, IsProgramBeside, OfFileOrParam, IsInStatement}
 use Rattle.lower_stmt.specs.declared.statement.Frame.{Frame}
 use Rattle.code_follows.proofs.Activations.{activation, callee_known, scalars, words}
 use Rattle.code_follows.proofs.Besides.{BesideFollows}
@@ -265,7 +265,7 @@ module _ (t : Typed) (image : Image) {beside : Beside} (p : IsProgramBeside besi
           let made = body_made t image p codable compiled holding number b is open_calls m (body_of t (layout_of t (words t image p codable compiled holding) number) f body begin) (made_so body body_is) in
           let never : ends_in_return b.body ≡ true → NeverOnward (executed where_it_is body 0 active opening_state) =
           λ ends. never_second (initialised where_it_is active 0 locals.items _) _ (λ u. body_never where_it_is active locals q row (sym (ap (λ (x : TStmt). ends_in_return x) body_is) ∙ ends) (0 + length locals.items) u) in
-          let closed : NoJump (executed where_it_is body 0 active opening_state) = go_closed _ _ (begins_closed where_it_is active 0 locals.items _) (λ u. closed_row where_it_is active (within inner.may 0 (length locals.items)) (0 + length locals.items) row isin.0.2 isin.1 (0 + length locals.items) u) in
+          let closed : NoJump (executed where_it_is body 0 active opening_state) = go_closed _ _ (begins_closed where_it_is active 0 locals.items _) (λ u. closed_row where_it_is row isin.1 (0 + length locals.items) active u) in
           subst (λ (x : TStmt). RunsBody caller called_one back s st (then_do (executed where_it_is x 0 active opening_state) (λ leaving after. Source.Gives (result_of b.result leaving) (left st after)))) (sym body_is)
           (came (executed where_it_is body 0 active opening_state) (never_rises body 0 opening_state) closed
           (runs_function t image p codable compiled holding number b is open_calls m begin made.e made.n s (executed where_it_is body 0 active opening_state) (ends_by t image p codable compiled holding number b is open_calls m (executed where_it_is body 0 active opening_state) made.e made.unit never) closed
@@ -282,7 +282,7 @@ module _ (t : Typed) (image : Image) {beside : Beside} (p : IsProgramBeside besi
   abbrev running : (number : ℕ) (i : Instance) → slice_get t.instances.items number ≡ Some i → List ℕ → ℕ → Setting
   running number i is opens most = activation t image p codable compiled holding number i is opens most
 
-  -- the parallel expressions of each function follow
+  -- the parallel expressions and the statements under contexts of each function follow
   abbrev pub AllBeside : Type 1
   AllBeside = (number : ℕ) (i : Instance) (is : slice_get t.instances.items number ≡ Some i) (opens : List ℕ) (most : ℕ) (has : HasRegisters (running number i is opens most)) → BesideFollows (running number i is opens most) has (scope_of t i (calls t most)) active
 

@@ -33,7 +33,7 @@ use Rattle.source_meaning.specs.State.{Outcome, State, is_among, then_do, zeroed
 use Rattle.source_meaning.specs.Statements.{Leaving, executed, initialised}
 use Rattle.source_meaning.specs.Values.{Active, number}
 use Rattle.code_follows.specs.Agreement.{AreBytes, CodeMeansSource, ComesTo, end_of, mark_of}
-use Rattle.code_follows.specs.Fragment.{IsBody, IsFileVariable, Beside, IsProgramBeside, IsInStatement, OfFileOrParam, OrAmong, within}
+use Rattle.code_follows.specs.Fragment.{IsBody, IsFileVariable, Beside, IsProgramBeside, IsInStatement, OfFileOrParam, OrAmong}
 use Rattle.code_follows.proofs.Activations.{scalars, words}
 use Rattle.code_follows.proofs.Beginnings.{starts_grow, starts_run}
 use Rattle.code_follows.proofs.Bodies.{begun_code, begun_follows, begun_grows, block_code, block_initials, block_stands, row_follows, follows_fewer}
@@ -261,7 +261,7 @@ module _ (t : Typed) (image : Image) {beside : Beside} (p : IsProgramBeside besi
       let now : Variable → Type 0 = λ x. Now main_setting has_it wide one is_ready here active main_calls locals.items 0 x in
       let sim : Sim main_setting now (begun_body locals.items row) opens.there =
       sim_fewer main_setting alive now (begun_body locals.items row) opens.there (λ x info named h. tt) (sim_same main_setting alive in_main (begun_body locals.items row) opens.there (same_scalars locals.items row) (λ k e p. zeroed_files main_setting 0 (length locals.items) in_main k e p) refl refl refl refl opens.sim) in
-      let closed : NoJump whole = go_closed _ _ (begins_closed here active 0 locals.items _) (λ u. closed_row here active (within main_setting.may 0 (length locals.items)) (0 + length locals.items) row h.0.2 h.1 (0 + length locals.items) u) in
+      let closed : NoJump whole = go_closed _ _ (begins_closed here active 0 locals.items _) (λ u. closed_row here row h.1 (0 + length locals.items) active u) in
       subst (λ (b : TStmt). Comes holding image opened (run_from (executed here b 0 active in_main))) (sym is)
       (comes opens.there whole opens.go
       (runs_function t image p codable compiled holding 0 p.main p.is_main [] turns begun_there made.e made.n opens.there whole ends closed
@@ -281,4 +281,4 @@ program_follows t image p codable compiled holding memory input rest turns winne
     (runs t image p codable compiled holding memory input rest turns winner are begins besides p.main.body refl (p.each 0 p.main p.is_main).body)
 
 pub means_source : CodeMeansSource
-means_source t image p codable compiled memory input rest turns winner are = (program_follows t image p codable compiled nothing_held memory input rest turns winner are (tt {0}) (λ number i is opens most has. record { effects = λ alive files n ready e h. absurd h; folds = λ alive files n ready e h. absurd h })).to
+means_source t image p codable compiled memory input rest turns winner are = (program_follows t image p codable compiled nothing_held memory input rest turns winner are (tt {0}) (λ number i is opens most has. record { effects = λ alive files n ready e h. absurd h; folds = λ alive files n ready e h. absurd h; statements = λ alive files n ready s h. absurd h })).to

@@ -1,7 +1,7 @@
 -- The programs of which it is said so far that their code means them: scalar ones, and those with some parallel
--- expressions beside. Variables of the file and of blocks, parameters and results are of any scalar type, `bool`,
--- `char`, `short` or `int`, signed or not. The operands of operators, which typing promotes, have 32 bits, and so has
--- what is printed. Expressions name variables of open blocks alone, as typing gives.
+-- expressions and statements under contexts beside. Variables of the file and of blocks, parameters and results are of
+-- any scalar type, `bool`, `char`, `short` or `int`, signed or not. The operands of operators, which typing promotes,
+-- have 32 bits, and so has what is printed. Expressions name variables of open blocks alone, as typing gives.
 use Rattle.std.specs.Prelude.{ℕ, List, map, slice_get, ◌≡◌, ◌<◌, ◌^◌, [], IfSome, Option, Some, None, ◌⊎◌, ◌+◌, ◌∷◌, length, true}
 use Rattle.std.specs.List.{All, AllZip, Contains}
 use Rattle.cstar_base.specs.declared.elem.Elem.{Elem}
@@ -50,15 +50,17 @@ unfoldable pub IsOperand : UnaryOp → ValueType → Type 0
 IsOperand U.Not ty = IsScalarType ty
 IsOperand _ ty = IsWord ty
 
--- the parallel expressions that a program may have beside scalar ones, and its parallel variables
+-- the parallel expressions and the statements under contexts that a program may have beside scalar ones, and its
+-- parallel variables
 pub record Beside : Type 1 where
   pub effects : TExpr → Type 0  -- whose value is not used
   pub folds : TExpr → Type 0  -- whose value is a number
+  pub statements : (Variable → Type 0) → TStmt → Type 0  -- those under contexts, that name these scalar variables
   pub variables : VarInfo → Type 0  -- of the file
 
 -- What the body of a function may do: call which functions, by their instances' numbers, with arguments of which
 -- types, for a value of which type where it is used; return numbers of which types; name which variables; and have
--- which parallel expressions.
+-- which parallel expressions and statements under contexts.
 pub record May : Type 1 where
   pub calls : Option Elem → ℕ → List Elem → Type 0
   pub returns : Elem → Type 0
@@ -179,7 +181,8 @@ unfoldable mutual
   IsInStatement may n S.Continue = Unit {0}
   IsInStatement may n (S.Return e) = IfSome e (λ e. IsIn may e × may.returns (type_of e).elem)
   IsInStatement may n (S.With' shape p body) = IsInStatement may n body
-  IsInStatement may n _ = ⊥
+  IsInStatement may n (S.Everywhere' shape p body) = may.beside.statements may.names (S.Everywhere' shape p body)
+  IsInStatement may n (S.Where' shape test p first second) = may.beside.statements may.names (S.Where' shape test p first second)
 
   pub AreInStatements : {k : _} → May → ℕ → Row_of-TStmt k → Type 0
   AreInStatements may n end_of-TStmt = Unit {0}
@@ -195,6 +198,8 @@ unfoldable mutual
   IsClosed (S.Block' locals p statements) = AreClosed statements
   IsClosed (S.If' test p first second) = IsClosed first × IsClosedElse second
   IsClosed (S.With' shape p body) = IsClosed body
+  IsClosed (S.Everywhere' shape p body) = IsClosed body
+  IsClosed (S.Where' shape test p first second) = IsClosed first × IsClosedElse second
   IsClosed S.Break = ⊥
   IsClosed S.Continue = ⊥
   IsClosed _ = Unit {0}
@@ -252,7 +257,8 @@ may_of beside t i = record {
 abbrev pub called_in : Typed → List (List ℕ)
 called_in t = map (λ (i : Instance). calls_within i.body) t.instances.items
 
--- A program of functions without recursion, with such parallel expressions and variables beside the scalar ones.
+-- A program of functions without recursion, with such parallel expressions, statements and variables beside the
+-- scalar ones.
 pub record IsProgramBeside (beside : Beside) (t : Typed) : Type 0 where
   pub main : Instance
   pub is_main : slice_get t.instances.items 0 ≡ Some main
@@ -263,7 +269,7 @@ pub record IsProgramBeside (beside : Beside) (t : Typed) : Type 0 where
 
 -- one of scalars alone
 abbrev pub nothing_beside : Beside
-nothing_beside = record { effects = λ e. ⊥; folds = λ e. ⊥; variables = λ info. ⊥ }
+nothing_beside = record { effects = λ e. ⊥; folds = λ e. ⊥; statements = λ names s. ⊥; variables = λ info. ⊥ }
 
 abbrev pub IsScalarProgram : Typed → Type 0
 IsScalarProgram t = IsProgramBeside nothing_beside t
