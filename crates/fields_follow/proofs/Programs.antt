@@ -77,6 +77,7 @@ module _ (t : Typed) (image : Image) (p : IsParallelProgram t) (codable : IsCoda
       effects = λ alive files n ready e h among c d s st free here sim. updates_follow g has alive n ready places fields scope everywhere (λ set q below. refl) same_extents e h (record { code = c; among = among }) d s st here sim;
       folds = λ alive files n ready e h among c d s st R r free here sim dest.
           folds_follow g has scope everywhere (λ set q. refl) places fields alive n (operands_follow g has scope places fields alive n ready) same_extents e h (record { code = c; among = among }) d s st R r free here sim dest;
+      statements = λ alive files n ready s h. absurd h;
     }
 
   all_beside : AllBeside t image p codable compiled (fields_held t image everywhere) everywhere
