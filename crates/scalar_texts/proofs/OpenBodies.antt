@@ -1,5 +1,5 @@
 -- What is of the fragment, whatever variables it may name there, and names open variables alone is of the fragment
--- with any names that open variables are among.
+-- with any names that open variables are among, where no statement is under a context.
 use Rattle.std.proofs.Common.{◌≡◌, ℕ, ◌+◌, Bool, true, false, IfSome, List, [], ◌∷◌, length, Option, Some, None, inl, inr, refl, arith}
 use Rattle.std.proofs.lemmas.Bool.Decides.{nat_tests}
 use Rattle.cstar_tree.specs.declared.typed.LocalVar.{LocalVar}
@@ -14,6 +14,7 @@ use Rattle.code_follows.specs.Fragment.{AreIn, AreInStatements, AreInitials, IsB
 use Rattle.code_lengths.specs.NamingStatements.{behind}
 use Rattle.open_names.specs.Opens.{AllNameOpen, ElseNamesOpen, InitialsNameOpen, IsAmong, IsOpen, NamesOpen, Open, StatementNamesOpen, StatementsNameOpen, opened}
 use Rattle.source_meaning.specs.State.{is_among}
+use Rattle.scalar_texts.proofs.ScalarVariables.{HasNoContexts}
 
 -- the open variables are among these
 abbrev Fits : Open → (Variable → Type 0) → Type 0
@@ -132,39 +133,40 @@ initials_open may names blocks n before number fits is (local ∷ locals) h m =
 mutual
   unfolding IsInStatement AreInStatements IsInElse StatementNamesOpen StatementsNameOpen ElseNamesOpen
 
-  statement_open : (may : May) (names : Variable → Type 0) (blocks : Open) → Fits blocks names → (n : ℕ) (s : TStmt) → IsInStatement may n s → StatementNamesOpen blocks n s → IsInStatement (naming may names) n s
-  statement_open may names blocks fits n (S.Block' locals p statements) h m =
+  statement_open : (may : May) → HasNoContexts may → (names : Variable → Type 0) (blocks : Open) → Fits blocks names → (n : ℕ) (s : TStmt) → IsInStatement may n s → StatementNamesOpen blocks n s → IsInStatement (naming may names) n s
+  statement_open may alone names blocks fits n (S.Block' locals p statements) h m =
       let many : ℕ = length locals.items in
       let none : Fits (opened blocks n 0) names = λ x is. fits x (none_yet blocks n x is) in (
         h.0,
         initials_open may names blocks n 0 n none (omega arith) locals.items h.1 m.0,
-        statements_open (within may n many) (OrAmong names n many) (opened blocks n many) (more_fit names blocks n 0 many many n none (omega arith) (omega arith)) (n + many) statements h.2 m.1,
+        statements_open (within may n many) alone (OrAmong names n many) (opened blocks n many) (more_fit names blocks n 0 many many n none (omega arith) (omega arith)) (n + many) statements h.2 m.1,
       )
-  statement_open may names blocks fits n (S.Expression e) h m = effect_open may names blocks fits e h m
-  statement_open may names blocks fits n S.Empty h m = tt
-  statement_open may names blocks fits n (S.If' test p first second) h m =
-      (expression_open may names blocks fits test h.0 m.0, statement_open may names blocks fits n first h.1 m.1, else_open may names blocks fits (behind n first) second h.2 m.2)
-  statement_open may names blocks fits n (S.While' test p body) h m = (expression_open may names blocks fits test h.0 m.0, statement_open may names blocks fits n body h.1 m.1)
-  statement_open may names blocks fits n (S.Do' p body test) h m = (statement_open may names blocks fits n body h.0 m.0, expression_open may names blocks fits test h.1 m.1)
-  statement_open may names blocks fits n (S.For' first test step p body) h m =
+  statement_open may alone names blocks fits n (S.Expression e) h m = effect_open may names blocks fits e h m
+  statement_open may alone names blocks fits n S.Empty h m = tt
+  statement_open may alone names blocks fits n (S.If' test p first second) h m =
+      (expression_open may names blocks fits test h.0 m.0, statement_open may alone names blocks fits n first h.1 m.1, else_open may alone names blocks fits (behind n first) second h.2 m.2)
+  statement_open may alone names blocks fits n (S.While' test p body) h m = (expression_open may names blocks fits test h.0 m.0, statement_open may alone names blocks fits n body h.1 m.1)
+  statement_open may alone names blocks fits n (S.Do' p body test) h m = (statement_open may alone names blocks fits n body h.0 m.0, expression_open may names blocks fits test h.1 m.1)
+  statement_open may alone names blocks fits n (S.For' first test step p body) h m =
       let effect = effect_open may names blocks fits in
-      (if_both first effect h.0 m.0, tested_open may names blocks fits test h.1 m.1, if_both step effect h.2 m.2, statement_open may names blocks fits n body h.3 m.3)
-  statement_open may names blocks fits n (S.With' shape p body) h m = statement_open may names blocks fits n body h m
-  statement_open may names blocks fits n S.Break h m = tt
-  statement_open may names blocks fits n S.Continue h m = tt
-  statement_open may names blocks fits n (S.Return e) h m = if_both e (λ e is known. (expression_open may names blocks fits e is.0 known, is.1)) h m
-  statement_open may names blocks fits n _ h m = absurd h
+      (if_both first effect h.0 m.0, tested_open may names blocks fits test h.1 m.1, if_both step effect h.2 m.2, statement_open may alone names blocks fits n body h.3 m.3)
+  statement_open may alone names blocks fits n (S.With' shape p body) h m = statement_open may alone names blocks fits n body h m
+  statement_open may alone names blocks fits n S.Break h m = tt
+  statement_open may alone names blocks fits n S.Continue h m = tt
+  statement_open may alone names blocks fits n (S.Return e) h m = if_both e (λ e is known. (expression_open may names blocks fits e is.0 known, is.1)) h m
+  statement_open may alone names blocks fits n (S.Everywhere' shape p body) h m = absurd (alone may.names (S.Everywhere' shape p body) h)
+  statement_open may alone names blocks fits n (S.Where' shape test p first second) h m = absurd (alone may.names (S.Where' shape test p first second) h)
 
-  statements_open : {k : Count} (may : May) (names : Variable → Type 0) (blocks : Open) → Fits blocks names → (n : ℕ) (row : Row_of-TStmt k) → AreInStatements may n row → StatementsNameOpen blocks n row → AreInStatements (naming may names) n row
-  statements_open may names blocks fits n end_of-TStmt h m = tt
-  statements_open may names blocks fits n (more_of-TStmt s rest) h m = (statement_open may names blocks fits n s h.0 m.0, statements_open may names blocks fits (behind n s) rest h.1 m.1)
+  statements_open : {k : Count} (may : May) → HasNoContexts may → (names : Variable → Type 0) (blocks : Open) → Fits blocks names → (n : ℕ) (row : Row_of-TStmt k) → AreInStatements may n row → StatementsNameOpen blocks n row → AreInStatements (naming may names) n row
+  statements_open may alone names blocks fits n end_of-TStmt h m = tt
+  statements_open may alone names blocks fits n (more_of-TStmt s rest) h m = (statement_open may alone names blocks fits n s h.0 m.0, statements_open may alone names blocks fits (behind n s) rest h.1 m.1)
 
-  else_open : (may : May) (names : Variable → Type 0) (blocks : Open) → Fits blocks names → (n : ℕ) (second : Held-TStmt-If-2) → IsInElse may n second → ElseNamesOpen blocks n second → IsInElse (naming may names) n second
-  else_open may names blocks fits n None' h m = tt
-  else_open may names blocks fits n (Some' p s) h m = statement_open may names blocks fits n s h m
+  else_open : (may : May) → HasNoContexts may → (names : Variable → Type 0) (blocks : Open) → Fits blocks names → (n : ℕ) (second : Held-TStmt-If-2) → IsInElse may n second → ElseNamesOpen blocks n second → IsInElse (naming may names) n second
+  else_open may alone names blocks fits n None' h m = tt
+  else_open may alone names blocks fits n (Some' p s) h m = statement_open may alone names blocks fits n s h m
 
 -- the body of a function, in whose place no block is open
-pub body_open : (may : May) (names : Variable → Type 0) → ((x : Variable) → IsOpen [] x → names x) → (body : TStmt) → IsBody may body → StatementNamesOpen [] 0 body → IsBody (naming may names) body
+pub body_open : (may : May) → HasNoContexts may → (names : Variable → Type 0) → ((x : Variable) → IsOpen [] x → names x) → (body : TStmt) → IsBody may body → StatementNamesOpen [] 0 body → IsBody (naming may names) body
 unfolding IsBody
-body_open may names fits (S.Block' locals p statements) h m = (statement_open may names [] fits 0 (S.Block' locals p statements) h.0 m, h.1)
-body_open may names fits _ h m = absurd h
+body_open may alone names fits (S.Block' locals p statements) h m = (statement_open may alone names [] fits 0 (S.Block' locals p statements) h.0 m, h.1)
+body_open may alone names fits _ h m = absurd h

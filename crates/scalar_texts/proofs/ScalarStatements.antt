@@ -39,7 +39,7 @@ use Rattle.scalar_texts.proofs.ScalarConversions.{IsScalarValue, fitted}
 use Rattle.scalar_texts.proofs.ScalarDeclarations.{IsAllowing, IsCalledIf, Plainly, called_if, declarations_are, initial_calls, inside}
 use Rattle.scalar_texts.proofs.ScalarExpressions.{expression_is}
 use Rattle.scalar_texts.proofs.ScalarPlaces.{at_hand_scalar, goes_on, in_block, no_shape}
-use Rattle.scalar_texts.proofs.ScalarVariables.{variables_scalar}
+use Rattle.scalar_texts.proofs.ScalarVariables.{HasNoContexts, variables_scalar}
 
 -- ---- statements of the fragment in a row
 
@@ -88,11 +88,11 @@ module _ (may : May) (n : ℕ) (loop : Bool) (locals : Vec LocalVar Global) (sta
       let row = typed_statements (S.Block locals statements) in
       row_closed (within may n (length locals.items)) loop row.0 row.1 (in_a_row parts) none
 
-block_body : (may : May) (locals : Vec LocalVar Global) (statements : Vec TStmt Global) → AreParts may 0 false locals.items statements.items → IsBody may (S.Block locals statements) × All IsScalarVariable (variables_of (S.Block locals statements))
+block_body : (may : May) → HasNoContexts may → (locals : Vec LocalVar Global) (statements : Vec TStmt Global) → AreParts may 0 false locals.items statements.items → IsBody may (S.Block locals statements) × All IsScalarVariable (variables_of (S.Block locals statements))
 unfolding IsBody IsClosed
-block_body may locals statements parts =
+block_body may alone locals statements parts =
     let is = block_in may 0 false locals statements parts in
-    ((is, block_closed may 0 false locals statements parts refl), variables_scalar may 0 (S.Block locals statements) is)
+    ((is, block_closed may 0 false locals statements parts refl), variables_scalar may alone 0 (S.Block locals statements) is)
 
 module _ (program : Program) (shapes : List (List ℕ)) (around : ℕ) (Called : ℕ → Type 0) (returns : Returns) where
   abbrev Allowing : May → Type 0
@@ -206,7 +206,7 @@ module _ (program : Program) (shapes : List (List ℕ)) (around : ℕ) (Called :
               (statements_are inner (inside program shapes around Called returns m (length locals) a) declared.place n.1 w.1 d typed),
         )
 
-module _ (program : Program) (shapes : List (List ℕ)) (around : ℕ) (Called : ℕ → Type 0) (may : May) (every : (x : Variable) → may.names x) (allows : AllowsCalls program shapes around Called may.calls) where
+module _ (program : Program) (shapes : List (List ℕ)) (around : ℕ) (Called : ℕ → Type 0) (may : May) (alone : HasNoContexts may) (every : (x : Variable) → may.names x) (allows : AllowsCalls program shapes around Called may.calls) where
   -- the body of a function, in the scope of its parameters
   pub body_is : {returns : Returns} {here : Here} {block : Block} {locals : List LocalVar} {statements : List TStmt} {body : TStmt} → IsScalarPlace shapes around here → TypesBlock program returns here block locals statements → Z.IsBody locals statements body →
       InBlock Plainly here block → BlockNamesShapes block → ((k : ℕ) → Contains (calls_within body) k → Called k) → ((ty : ValueType) → returns ≡ a_value ty → may.returns ty.elem) → here.loop ≡ false → IsBody may body × All IsScalarVariable (variables_of body)
@@ -215,4 +215,4 @@ module _ (program : Program) (shapes : List (List ℕ)) (around : ℕ) (Called :
       let own = subst (λ (ts : List TStmt). TypesBlock program returns here block ls.items ts) (sym same_statements) (subst (λ (locals : List LocalVar). TypesBlock program returns here block locals statements) (sym same_locals) typed) in
       let allowing : IsAllowing program shapes around Called returns may = record { every = every; calls = allows; returned = returned } in
       let parts = parts_are program shapes around Called returns may 0 allowing s n w calls.0 calls.1 own in
-      block_body may ls ss (subst (λ (loop : Bool). AreParts may 0 loop ls.items ss.items) no_loop parts)
+      block_body may alone ls ss (subst (λ (loop : Bool). AreParts may 0 loop ls.items ss.items) no_loop parts)
