@@ -56,7 +56,7 @@ use Rattle.code_follows.proofs.Callees.{CallsFollow, MayCall, TakesThese}
 use Rattle.code_follows.proofs.Passing.{call_follows, call_runs}
 use Rattle.code_follows.proofs.Following.{Arrives, Extends, Follows, HasRegisters, IsScalar, Ran, Sim, follows_other, follows_same, keeps_all, keeps_less, then_follows, then_gives, then_silent}
 use Rattle.code_follows.proofs.Putting.{Put, put_follows}
-use Rattle.code_follows.proofs.Settings.{At, Setting, layout, stay}
+use Rattle.code_follows.proofs.Settings.{At, Begun, Setting, layout, stay}
 use Rattle.code_follows.proofs.Standing.{some_same}
 use Rattle.code_follows.proofs.Targets.{TargetIs, assign_means, step_means, target_type, variable_in}
 use Rattle.code_follows.proofs.Values.{fresh_dest, with_reg, Value_of, HasWord, extends_in_register, word_follows}
@@ -74,7 +74,7 @@ module _ (g : Setting) (has : HasRegisters g) (alive : Variable → Type 0) (n :
 
   -- what a part does, whatever it gives
   abbrev Does_so : (State → Outcome Value) → (Draft → Made Out) → Type 0
-  Does_so part code = (d : Draft) (s : CodeState) (st : State) → g.begins ≤ d.regs → At g s (length d.code) → Sim g alive st s → Follows g (λ v u out e. Ran g alive d s u e) s (part st) (code d)
+  Does_so part code = (d : Draft) (s : CodeState) (st : State) → Begun g d → At g s (length d.code) → Sim g alive st s → Follows g (λ v u out e. Ran g alive d s u e) s (part st) (code d)
 
   -- without an operator the value is put in the variable
   set_follows : (place : Place) (ty : ValueType) (value : TExpr) → ty.shape ≡ None → Takes info.elem (type_of value).elem → (IsIn (naming g.may alive)) value → HasCode g.typed g.instance n value
@@ -101,7 +101,7 @@ module _ (g : Setting) (has : HasRegisters g) (alive : Variable → Type 0) (n :
     abbrev behind_value : ℕ → Draft → Made Out
     behind_value b between = settled g has alive scope active x info living scalar at_type at_wide place o signed b between
 
-    with_value : (d : Draft) (s : CodeState) (v : Value) (u : State) (out : Out) (e : Draft) → g.begins ≤ d.regs → Arrives g alive (type_of value).elem true d s v u out e
+    with_value : (d : Draft) (s : CodeState) (v : Value) (u : State) (out : Out) (e : Draft) → Begun g d → Arrives g alive (type_of value).elem true d s v u out e
         → Follows g (λ v u out e. Ran g alive d s u e) s (assigned scope active place op (scalar_type info.elem) (type_of value) (OfScalar x) v u) (in_register out (λ b. behind_value b e))
     unfolding in_register
     with_value d s v u out e free arr =
@@ -139,7 +139,7 @@ module _ (g : Setting) (has : HasRegisters g) (alive : Variable → Type 0) (n :
         by Sp.Increment is_signed = refl
         by Sp.Decrement is_signed = refl
 
-    with_one : (order : StepOrder) (d : Draft) (s : CodeState) (st : State) (q : ℕ) (e : Draft) → g.begins ≤ d.regs → HasWord g has alive 1 d e s st q
+    with_one : (order : StepOrder) (d : Draft) (s : CodeState) (st : State) (q : ℕ) (e : Draft) → Begun g d → HasWord g has alive 1 d e s st q
         → Follows g (λ v u out e. Ran g alive d s u e) s (stepped scope active op order (scalar_type info.elem) (OfScalar x) st) (behind_one q e)
     with_one order d s st q e free h =
         subst (λ (made : Made Out). Follows g (λ v u out e. Ran g alive d s u e) s (stepped scope active op order (scalar_type info.elem) (OfScalar x) st) made) (sym (stepped_so q e))
@@ -160,7 +160,7 @@ module _ (g : Setting) (has : HasRegisters g) (alive : Variable → Type 0) (n :
 
 module _ (g : Setting) (has : HasRegisters g) (alive : Variable → Type 0) (n : ℕ) (files : (k : ℕ) → alive (V.File k)) (ready : (d : Draft) → IsReady g.typed g.instance (layout g) n d) (scope : Scope) (active : Active) (calls_follow : CallsFollow g scope active) where
   abbrev pub Runs : (State → Outcome Value) → (Draft → Made Out) → Type 0
-  Runs part code = (d : Draft) (s : CodeState) (st : State) → g.begins ≤ d.regs → At g s (length d.code) → Sim g alive st s → Follows g (λ v u out e. Ran g alive d s u e) s (part st) (code d)
+  Runs part code = (d : Draft) (s : CodeState) (st : State) → Begun g d → At g s (length d.code) → Sim g alive st s → Follows g (λ v u out e. Ran g alive d s u e) s (part st) (code d)
 
   -- the target, where it is written so
   abbrev chosen : Variable → Bool → Option Own

@@ -19,7 +19,7 @@ use Rattle.source_meaning.specs.State.{State}
 use Rattle.source_meaning.specs.Statements.{Onward, executed}
 use Rattle.source_meaning.specs.Values.{Active, Scope, Value}
 use Rattle.code_follows.proofs.Following.{Follows, HasRegisters, Ran, Sim}
-use Rattle.code_follows.proofs.Settings.{At, Setting, layout}
+use Rattle.code_follows.proofs.Settings.{At, Begun, Setting, layout}
 use Rattle.code_follows.proofs.Values.{Dest}
 use Rattle.code_follows.specs.Fragment.{ScalarsAmong}
 
@@ -30,13 +30,13 @@ module _ (g : Setting) (has : HasRegisters g) (scope : Scope) (active : Active) 
   pub record BesideFollows : Type 1 where
     pub effects : (alive : Variable → Type 0) → ((k : ℕ) → alive (V.File k)) → (n : ℕ) → ((d : Draft) → IsReady g.typed g.instance (layout g) n d)
         → (e : TExpr) → g.may.beside.effects e → ScalarsAmong alive e → HasCode g.typed g.instance n e
-        → (d : Draft) (s : CodeState) (st : State) → g.begins ≤ d.regs → At g s (length d.code) → Sim g alive st s
+        → (d : Draft) (s : CodeState) (st : State) → Begun g d → At g s (length d.code) → Sim g alive st s
         → Follows g (λ v u out f. Ran g alive d s u f) s (evaluated scope e active st) (effect_of g.typed (layout g) e d)
     pub folds : (alive : Variable → Type 0) → ((k : ℕ) → alive (V.File k)) → (n : ℕ) → ((d : Draft) → IsReady g.typed g.instance (layout g) n d)
         → (e : TExpr) → g.may.beside.folds e → ScalarsAmong alive e → HasCode g.typed g.instance n e
-        → (d : Draft) (s : CodeState) (st : State) (R : Value → State → Out → Draft → Type 0) (r : ℕ) → g.begins ≤ d.regs → At g s (length d.code) → Sim g alive st s
+        → (d : Draft) (s : CodeState) (st : State) (R : Value → State → Out → Draft → Type 0) (r : ℕ) → Begun g d → At g s (length d.code) → Sim g alive st s
         → Dest g has alive (type_of e).elem d s R r → Follows g R s (evaluated scope e active st) (computed_to g.typed (layout g) (O.Scalar r) e d)
     pub statements : (alive : Variable → Type 0) → ((k : ℕ) → alive (V.File k)) → (n : ℕ) → ((d : Draft) → IsReady g.typed g.instance (layout g) n d)
         → (s : TStmt) → g.may.beside.statements alive s → HasStatementCode g.typed g.instance n s
-        → (f : Frame) (d : Draft) (t : CodeState) (st : State) → d.homes ≡ [] → g.begins ≤ d.regs → At g t (length d.code) → Sim g alive st t
+        → (f : Frame) (d : Draft) (t : CodeState) (st : State) → d.homes ≡ [] → Begun g d → At g t (length d.code) → Sim g alive st t
         → Follows g (λ leaving u m e. (leaving ≡ Onward) × Ran g alive d t u e) t (executed scope s n active st) (statement_of g.typed (layout g) s f [] n d)

@@ -41,7 +41,7 @@ use Rattle.code_follows.proofs.Callees.{CallsFollow}
 use Rattle.code_follows.proofs.Following.{Extends, Follows, follows_other, HasRegisters, Ran, Sim, delayed, extends_made, keeps_all, nothing_said}
 use Rattle.code_follows.proofs.Jumping.{nothing_restored, jumps, moved_to, sim_moved}
 use Rattle.code_follows.proofs.Returning.{return_follows}
-use Rattle.code_follows.proofs.Settings.{At, Setting, Within, layout, start, stay}
+use Rattle.code_follows.proofs.Settings.{At, Begun, Setting, Within, begun_later, layout, start, stay}
 use Rattle.code_follows.proofs.Starting.{AreCoded, AreSettled, Now, coded, settled_so, go_after, initials_follow, initials_grow}
 use Rattle.code_follows.proofs.Statements.{StandsIn, expression_code, returned_code, statement_made, with_body}
 
@@ -112,7 +112,7 @@ module _ (g : Setting) (has : HasRegisters g) (alive : Variable → Type 0) (fil
   unfolding Follows Left
   stays_here f n d s0 st at sim = λ within. record { grown = (0, as_it_was d); t = s0; go = stay g s0; at = at; sim = sim; keeps = keeps_all g d s0 }
 
-  expression_follows : (e : TExpr) → (IsEffect (naming g.may alive)) e → (f : Frame) (n : ℕ) (d : Draft) (s0 : CodeState) (st : State) → g.begins ≤ d.regs → At g s0 (length d.code) → Sim g alive st s0 → HasStatementCode g.typed g.instance n (S.Expression e)
+  expression_follows : (e : TExpr) → (IsEffect (naming g.may alive)) e → (f : Frame) (n : ℕ) (d : Draft) (s0 : CodeState) (st : State) → Begun g d → At g s0 (length d.code) → Sim g alive st s0 → HasStatementCode g.typed g.instance n (S.Expression e)
       → Follows g (Left g alive f d s0) s0 (done scope active (Some e) st) (then_make (part_of g.typed (layout g) (Some e) d) (λ u after. Makes n after))
   unfolding done part_of
   expression_follows e h f n d s0 st free at sim c =
@@ -156,8 +156,8 @@ module _ (g : Setting) (has : HasRegisters g) (alive : Variable → Type 0) (fil
           extends_made g d e grows.0 (statements_of g.typed (layout g) row f [] (n + length locals) e) grows.1 (row_grows row f (n + length locals) e framed among (grows.1.homes ∙ none) code)
 
   pub begun_follows : {k : Count} (locals : List LocalVar) (row : Row_of-TStmt k) (f : Frame) (n : ℕ) (d : Draft) (s0 : CodeState) (st : State) → All IsScalarLocal locals → StandFrom (variables_of g.instance.body) n (map info_of locals) → AreSettled g has alive files ready scope active calls_follow n locals → AreCoded g has alive files ready scope active calls_follow n locals → RowCode (n + length locals) row
-      → StandsIn g f → StandsAmong f [] → d.homes ≡ [] → g.begins ≤ d.regs → At g s0 (length d.code) → Sim g (λ z. Now g has alive files ready scope active calls_follow locals n z) st s0
-      → ((e : Draft) (t : CodeState) (u : State) → e.homes ≡ [] → g.begins ≤ e.regs → At g t (length e.code) → Sim g alive u t → Follows g (Left g alive f e t) t (all_executed scope row (n + length locals) active u) (statements_of g.typed (layout g) row f [] (n + length locals) e))
+      → StandsIn g f → StandsAmong f [] → d.homes ≡ [] → Begun g d → At g s0 (length d.code) → Sim g (λ z. Now g has alive files ready scope active calls_follow locals n z) st s0
+      → ((e : Draft) (t : CodeState) (u : State) → e.homes ≡ [] → Begun g e → At g t (length e.code) → Sim g alive u t → Follows g (Left g alive f e t) t (all_executed scope row (n + length locals) active u) (statements_of g.typed (layout g) row f [] (n + length locals) e))
       → Follows g (Left g alive f d s0) s0 (then_go (initialised scope active n locals st) (all_executed scope row (n + length locals) active)) (begun_code locals row f n d)
   unfolding then_make Extends
   begun_follows locals row f n d s0 st isin stand settled initial code framed among none free at sim next = by (all_initialised g.typed (layout g) locals n d) refl
@@ -171,15 +171,14 @@ module _ (g : Setting) (has : HasRegisters g) (alive : Variable → Type 0) (fil
           let grows : (j : ℕ) × Extended d j e = subst (λ (m : Made (Unit {0})). Extends g d m) is (initials_grow g has alive files ready scope active calls_follow locals n d isin settled initial) in
           let homes : e.homes ≡ [] = grows.1.homes ∙ none in
           let made : Made ℕ = statements_of g.typed (layout g) row f [] (n + length locals) e in
-          let more = grows.1.regs in
           go_after g has alive files ready scope active calls_follow d s0 (Left g alive f d s0) (initialised scope active n locals st) (all_executed scope row (n + length locals) active) u e made
           (subst (λ (m : Made (Unit {0})). Follows g (RanOn g alive d s0) s0 (initialised scope active n locals st) m) is (initials_follow g has alive files ready scope active calls_follow locals n d s0 st isin stand settled initial free at sim)) (row_grows row f (n + length locals) e framed among homes code)
-          (λ v one. follows_from g alive f d e grows.0 s0 one.t (all_executed scope row (n + length locals) active v) made grows.1 one.go one.keeps (next e one.t v homes (omega (arith, free, more)) one.at one.sim))
+          (λ v one. follows_from g alive f d e grows.0 s0 one.t (all_executed scope row (n + length locals) active v) made grows.1 one.go one.keeps (next e one.t v homes (begun_later g d e grows.0 grows.1 free) one.at one.sim))
 
   -- a block: its variables, and then its statements
   pub block_follows : {k : Count} (before : Variable → Type 0) (locals : List LocalVar) (row : Row_of-TStmt k) (f : Frame) (n : ℕ) (d : Draft) (s0 : CodeState) (st : State) → All IsScalarLocal locals → StandFrom (variables_of g.instance.body) n (map info_of locals) → AreSettled g has alive files ready scope active calls_follow n locals → AreCoded g has alive files ready scope active calls_follow n locals → RowCode (n + length locals) row
-      → StandsIn g f → StandsAmong f [] → d.homes ≡ [] → g.begins ≤ d.regs → At g s0 (length d.code) → Sim g before st s0 → ((x : Variable) → alive x → OrAmong before n (length locals) x)
-      → ((e : Draft) (t : CodeState) (u : State) → e.homes ≡ [] → g.begins ≤ e.regs → At g t (length e.code) → Sim g alive u t → Follows g (Left g alive f e t) t (all_executed scope row (n + length locals) active u) (statements_of g.typed (layout g) row f [] (n + length locals) e))
+      → StandsIn g f → StandsAmong f [] → d.homes ≡ [] → Begun g d → At g s0 (length d.code) → Sim g before st s0 → ((x : Variable) → alive x → OrAmong before n (length locals) x)
+      → ((e : Draft) (t : CodeState) (u : State) → e.homes ≡ [] → Begun g e → At g t (length e.code) → Sim g alive u t → Follows g (Left g alive f e t) t (all_executed scope row (n + length locals) active u) (statements_of g.typed (layout g) row f [] (n + length locals) e))
       → Follows g (Left g alive f d s0) s0 (then_go (initialised scope active n locals (zeroed n (length locals) st)) (all_executed scope row (n + length locals) active)) (then_make (declared_in g.typed (layout g) false locals n d) (λ m after. statements_of g.typed (layout g) row f [] m after))
   unfolding declared_in then_make
   block_follows before locals row f n d s0 st isin stand settled initial code framed among none free at sim covers next =
@@ -187,22 +186,21 @@ module _ (g : Setting) (has : HasRegisters g) (alive : Variable → Type 0) (fil
       let after_zero : State = zeroed n (length locals) st in
       let whole : Outcome Leaving = then_go (initialised scope active n locals after_zero) (all_executed scope row (n + length locals) active) in
       let homes : c.e.homes ≡ [] = c.grown.homes ∙ none in
-      let longer = c.grown.regs in
       subst (λ (m : Made (Unit {0})). Follows g (Left g alive f d s0) s0 whole (then_make (then_make m (λ u between. then_make (all_initialised g.typed (layout g) locals n between) (λ v after. Makes (n + length locals) after))) (λ m' after. statements_of g.typed (layout g) row f [] m' after))) (sym c.is)
       (delayed g (Left g alive f d s0) c.e s0 whole (begun_code locals row f n c.e) (begun_grows locals row f n c.e isin settled initial code framed among homes) (λ within.
-      let ran = c.runs s0 st free at sim within in
+      let ran = c.runs s0 st free.regs at sim within in
       let started : Sim g (λ z. Now g has alive files ready scope active calls_follow locals n z) after_zero ran.t = sim_fewer g (λ x. Alive before locals n x) (λ z. Now g has alive files ready scope active calls_follow locals n z) after_zero ran.t (λ x info named h. (covers x h.0, h.1)) ran.sim in
       follows_from g alive f d c.e c.count s0 ran.t whole (begun_code locals row f n c.e) c.grown ran.go ran.keeps
-      (begun_follows locals row f n c.e ran.t after_zero isin stand settled initial code framed among homes (omega (arith, free, longer)) ran.at started next)))
+      (begun_follows locals row f n c.e ran.t after_zero isin stand settled initial code framed among homes (begun_later g d c.e c.count c.grown free) ran.at started next)))
 
   -- what has code of a block's initialisers
   pub block_initials : (n : ℕ) (locals : Vec LocalVar Global) (p : Vec (Unit {0}) Global) (row : _) → HasStatementCode g.typed g.instance n (S.Block' locals p row) → AreCoded g has alive files ready scope active calls_follow n locals.items
   unfolding IsShapedStatement IsLowerableStatement StatementNamesVariables
   block_initials n locals p row c = coded g has alive files ready scope active calls_follow n locals.items c.shaped.0 c.lowerable.0 c.names.0
 
-  row_onward : {k : Count} (s : TStmt) (rest : Row_of-TStmt k) (f : Frame) (n : ℕ) (d : Draft) (s0 : CodeState) (st : State) → StandsIn g f → StandsAmong f [] → d.homes ≡ [] → g.begins ≤ d.regs → RowCode n (more_of-TStmt s rest)
+  row_onward : {k : Count} (s : TStmt) (rest : Row_of-TStmt k) (f : Frame) (n : ℕ) (d : Draft) (s0 : CodeState) (st : State) → StandsIn g f → StandsAmong f [] → d.homes ≡ [] → Begun g d → RowCode n (more_of-TStmt s rest)
       → Follows g (Left g alive f d s0) s0 (executed scope s n active st) (statement_of g.typed (layout g) s f [] n d)
-      → ((e : Draft) (t : CodeState) (u : State) → e.homes ≡ [] → g.begins ≤ e.regs → At g t (length e.code) → Sim g alive u t → Follows g (Left g alive f e t) t (all_executed scope rest (n + declared s) active u) (statements_of g.typed (layout g) rest f [] (n + declared s) e))
+      → ((e : Draft) (t : CodeState) (u : State) → e.homes ≡ [] → Begun g e → At g t (length e.code) → Sim g alive u t → Follows g (Left g alive f e t) t (all_executed scope rest (n + declared s) active u) (statements_of g.typed (layout g) rest f [] (n + declared s) e))
       → Follows g (Left g alive f d s0) s0 (then_go (executed scope s n active st) (all_executed scope rest (n + declared s) active)) (then_make (statement_of g.typed (layout g) s f [] n d) (λ m after. statements_of g.typed (layout g) rest f [] m after))
   unfolding then_make declared
   row_onward s rest f n d s0 st framed among none free c first next =
@@ -211,7 +209,7 @@ module _ (g : Setting) (has : HasRegisters g) (alive : Variable → Type 0) (fil
       (go_on g alive f d s0 (executed scope s n active st) (all_executed scope rest (n + declared s) active) (behind n s) made.e (statements_of g.typed (layout g) rest f [] (behind n s) made.e)
       (subst (λ (m : Made ℕ). Follows g (Left g alive f d s0) s0 (executed scope s n active st) m) made.is first) (row_grows rest f (behind n s) made.e framed among made.homes (row_rest n s rest c))
       (λ u ran. follows_from g alive f d made.e ran.grown.0 s0 ran.t (all_executed scope rest (n + declared s) active u) (statements_of g.typed (layout g) rest f [] (behind n s) made.e) ran.grown.1 ran.go ran.keeps
-      (next made.e ran.t u made.homes (omega (arith, free, ran.grown.1.regs)) ran.at ran.sim)))
+      (next made.e ran.t u made.homes (begun_later g d made.e ran.grown.0 ran.grown.1 free) ran.at ran.sim)))
 
 -- what is said of more variables is said of fewer where a statement is left
 module _ (g : Setting) (wide alive : Variable → Type 0) (among : (x : Variable) → alive x → wide x) where
@@ -273,7 +271,7 @@ module _ (g : Setting) (has : HasRegisters g) (numbers : NumbersVariables g.inst
         under_contexts g has alive files numbers ready declares scope active calls_follow falls (S.Where' shape test p first second) h n f d s0 st framed among none free at sim c
 
     pub row_follows : {k : Count} (alive : Variable → Type 0) (files : (k : ℕ) → alive (V.File k)) (n : ℕ) → AreBefore alive n → (row : Row_of-TStmt k) → AreInStatements (naming g.may alive) n row
-        → (f : Frame) (d : Draft) (s0 : CodeState) (st : State) → StandsIn g f → StandsAmong f [] → d.homes ≡ [] → g.begins ≤ d.regs → At g s0 (length d.code) → Sim g alive st s0
+        → (f : Frame) (d : Draft) (s0 : CodeState) (st : State) → StandsIn g f → StandsAmong f [] → d.homes ≡ [] → Begun g d → At g s0 (length d.code) → Sim g alive st s0
         → RowCode g has alive files numbers ready declares scope active calls_follow falls n row → Follows g (Left g alive f d s0) s0 (all_executed scope row n active st) (statements_of g.typed (layout g) row f [] n d)
     row_follows alive files n before end_of-TStmt h f d s0 st framed among none free at sim c = stays_here g has alive files numbers ready declares scope active calls_follow falls f n d s0 st at sim
     row_follows alive files n before (more_of-TStmt s rest) h f d s0 st framed among none free at sim c =

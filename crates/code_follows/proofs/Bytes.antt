@@ -19,7 +19,7 @@ use Rattle.source_meaning.specs.State.{Outcome, State}
 use Rattle.source_meaning.specs.Values.{Scalar, Value}
 use Rattle.code_follows.specs.Agreement.{AreBytes, mark_of}
 use Rattle.code_follows.proofs.Following.{Follows, HasRegisters, IsScalar, Sim, arrives_fresh, held, register_is, register_kept, register_set, variable_kept}
-use Rattle.code_follows.proofs.Settings.{At, Reaches, Setting, Within, and_one, at_next, begins_here, ends_now, layout, one, placed_instr, regs_more}
+use Rattle.code_follows.proofs.Settings.{At, Begun, Reaches, Setting, Within, and_one, at_next, begins_here, ends_now, layout, one, placed_instr, regs_more}
 use Rattle.code_follows.proofs.Stores.{IsPut, below_free, sim_begun}
 use Rattle.code_follows.proofs.Values.{Does, Value_of, and_register, with_reg}
 use Rattle.constant_trees.proofs.Words.{converted_below}
@@ -100,15 +100,15 @@ module _ (g : Setting) (has : HasRegisters g) (alive : Variable → Type 0) wher
       let inside : d.regs < length s.registers = omega (arith, regs, within.regs, sim.registers) in
       arrives_fresh g alive elem quiet d (with_instr instr (with_reg d)) s (with_register d.regs w (reading rest s)) v d.regs w
       (0 + 1, extended d (with_reg d) (with_instr instr (with_reg d)) 0 1 (and_register d) (and_one g instr (with_reg d))) go (at_next g instr (with_reg d) s (s.at + 1) here refl)
-      (register_set g alive v (reading rest s) d.regs w has free later) (register_kept g d s d.regs w has free (omega arith) (omega (arith, regs, within.own)))
-      free (omega (arith, regs)) (below_bits elem.bits w wide few) (register_is g s d.regs w inside ∙ sym (held_wide elem w wide few)))
+      (register_set g alive v (reading rest s) d.regs w has free.regs later) (register_kept g d s d.regs w has free.regs (omega arith) (omega (arith, regs, within.own)))
+      free.regs (omega (arith, regs)) (below_bits elem.bits w wide few) (register_is g s d.regs w inside ∙ sym (held_wide elem w wide few)))
 
   -- the byte in a variable
   module _ (x : Variable) (info : VarInfo) (living : alive x) (scalar : IsScalar g x info) where
     abbrev own : ℕ
     own = register_of (layout g) x
 
-    pub byte_put : (elem : Elem) → elem.bits ≡ 32 → Fits info.elem elem → (d : Draft) (s : CodeState) (st : State) → g.begins ≤ d.regs → At g s (length d.code) → Sim g alive st s
+    pub byte_put : (elem : Elem) → elem.bits ≡ 32 → Fits info.elem elem → (d : Draft) (s : CodeState) (st : State) → Begun g d → At g s (length d.code) → Sim g alive st s
         → Follows g (λ v u out e. IsPut g has alive x info living scalar elem d s v u out e) s (next_byte st) (Makes (O.Scalar own) (with_instr (I.FrontGetByte own) d))
     byte_put elem wide fits d s st free here sim =
         reads own d s st (λ v u out e. IsPut g has alive x info living scalar elem d s v u out e) here sim (λ w rest v few later within go.

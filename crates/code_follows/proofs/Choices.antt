@@ -28,7 +28,7 @@ use Rattle.code_follows.proofs.Executing.{Left, TestMade, Tested, follows_from, 
 use Rattle.code_follows.proofs.Callees.{CallsFollow}
 use Rattle.code_follows.proofs.Following.{Extends, Follows, HasRegisters, Ran, Sim, delayed, then_on}
 use Rattle.code_follows.proofs.Jumping.{jumps, moved_to, sim_moved, skips}
-use Rattle.code_follows.proofs.Settings.{At, Reaches, Setting, Within, and_one, code_more, earlier, layout, onto, start}
+use Rattle.code_follows.proofs.Settings.{At, Begun, Reaches, Setting, Within, and_one, begun_later, code_more, earlier, layout, onto, start}
 use Rattle.code_follows.proofs.Statements.{MadeSo, StandsIn, if_first, if_second, if_test, statement_made}
 
 module _ (g : Setting) (has : HasRegisters g) (alive : Variable → Type 0) (files : (k : ℕ) → alive (V.File k)) (numbers : NumbersVariables g.instance (layout g)) (ready : (n : ℕ) (d : Draft) → IsReady g.typed g.instance (layout g) n d)
@@ -36,7 +36,7 @@ module _ (g : Setting) (has : HasRegisters g) (alive : Variable → Type 0) (fil
   -- the code of a statement follows it
   abbrev pub Agrees : ℕ → TStmt → Type 0
   Agrees n s =
-      (f : Frame) (d : Draft) (s0 : CodeState) (st : State) → StandsIn g f → StandsAmong f [] → d.homes ≡ [] → g.begins ≤ d.regs → At g s0 (length d.code) → Sim g alive st s0 → HasStatementCode g.typed g.instance n s
+      (f : Frame) (d : Draft) (s0 : CodeState) (st : State) → StandsIn g f → StandsAmong f [] → d.homes ≡ [] → Begun g d → At g s0 (length d.code) → Sim g alive st s0 → HasStatementCode g.typed g.instance n s
       → Follows g (Left g alive f d s0) s0 (executed scope s n active st) (statement_of g.typed (layout g) s f [] n d)
 
   -- code that is left at its end jumps over more code
@@ -68,7 +68,7 @@ module _ (g : Setting) (has : HasRegisters g) (alive : Variable → Type 0) (fil
       by (Source.Ends early st) h1 = λ w. h1 (within_e w)
 
   module _ (n : ℕ) (test : TExpr) (p : Boxed) (first : TStmt) (second : Held-TStmt-If-2) (isin : (IsIn (naming g.may alive)) test) (first_agrees : Agrees n first) where
-    module _ (f : Frame) (d : Draft) (s0 : CodeState) (st : State) (framed : StandsIn g f) (among : StandsAmong f []) (none : d.homes ≡ []) (free : g.begins ≤ d.regs) (at : At g s0 (length d.code)) (sim : Sim g alive st s0)
+    module _ (f : Frame) (d : Draft) (s0 : CodeState) (st : State) (framed : StandsIn g f) (among : StandsAmong f []) (none : d.homes ≡ []) (free : Begun g d) (at : At g s0 (length d.code)) (sim : Sim g alive st s0)
         (c : HasStatementCode g.typed g.instance n (S.If' test p first second)) where
       abbrev long : ℕ
       long = statement_length_of g.typed (layout g) (has_result f) f.saved first
@@ -113,7 +113,7 @@ module _ (g : Setting) (has : HasRegisters g) (alive : Variable → Type 0) (fil
           let grown : Extended d (r.grown.0 + 1) jump = extended d tests.e jump r.grown.0 1 r.grown.1 (and_one g (I.FrontJumpZero tests.r place) tests.e) in
           follows_from g alive f d jump (r.grown.0 + 1) s0 t (executed scope first n active st1) (Makes (behind n first) made_first.e) grown go r.keeps
           (subst (λ (made : Made ℕ). Follows g (Left g alive f jump t) t (executed scope first n active st1) made) made_first.is
-          (first_agrees f jump t st1 framed among jump_homes (omega (arith, free, grown.regs)) there (sim_moved g alive st1 r.t (r.t.at + 1) r.sim) (if_first g numbers declares n test p first second c)))
+          (first_agrees f jump t st1 framed among jump_homes (begun_later g d jump (r.grown.0 + 1) grown free) there (sim_moved g alive st1 r.t (r.t.at + 1) r.sim) (if_first g numbers declares n test p first second c)))
 
       -- else the code jumps over it
       over : (st1 : State) (r : Tested g alive d s0 false st1 tests.r tests.e) → Within g jump → Reaches g s0 (moved_to g alive (place + start g) r.t)
@@ -153,7 +153,7 @@ module _ (g : Setting) (has : HasRegisters g) (alive : Variable → Type 0) (fil
           }
 
   module _ (n : ℕ) (test : TExpr) (p : Boxed) (first : TStmt) (q : Boxed) (second : TStmt) (isin : (IsIn (naming g.may alive)) test) (first_agrees : Agrees n first) (second_agrees : Agrees (behind n first) second) where
-    module _ (f : Frame) (d : Draft) (s0 : CodeState) (st : State) (framed : StandsIn g f) (among : StandsAmong f []) (none : d.homes ≡ []) (free : g.begins ≤ d.regs) (at : At g s0 (length d.code)) (sim : Sim g alive st s0)
+    module _ (f : Frame) (d : Draft) (s0 : CodeState) (st : State) (framed : StandsIn g f) (among : StandsAmong f []) (none : d.homes ≡ []) (free : Begun g d) (at : At g s0 (length d.code)) (sim : Sim g alive st s0)
         (c : HasStatementCode g.typed g.instance n (S.If' test p first (Some' q second))) where
       abbrev condition : TestMade g alive has files n (ready n) scope active calls_follow test d
       condition = tests n test p first (Some' q second) isin first_agrees f d s0 st framed among none free at sim c
@@ -194,7 +194,7 @@ module _ (g : Setting) (has : HasRegisters g) (alive : Variable → Type 0) (fil
           (extended (jump n test p first (Some' q second) isin first_agrees f d s0 st framed among none free at sim c) first_made.e leap (long n test p first (Some' q second) isin first_agrees f d s0 st framed among none free at sim c) 1 first_made.extended (and_one g (I.FrontJump (place n test p first (Some' q second) isin first_agrees f d s0 st framed among none free at sim c + more)) first_made.e))) in
           follows_from g alive f d leap (r.grown.0 + (1 + (long n test p first (Some' q second) isin first_agrees f d s0 st framed among none free at sim c + 1))) s0 t (executed scope second (n + declared first) active st1) (Makes (behind (behind n first) second) made_second.e) grown (over n test p first (Some' q second) isin first_agrees f d s0 st framed among none free at sim c st1 r within) r.keeps
           (subst (λ (made : Made ℕ). Follows g (Left g alive f leap t) t (executed scope second (n + declared first) active st1) made) made_second.is
-          (second_agrees f leap t st1 framed among leap_homes (omega (arith, free, grown.regs)) there (sim_moved g alive st1 r.t (place n test p first (Some' q second) isin first_agrees f d s0 st framed among none free at sim c + start g) r.sim) (if_second g numbers declares n test p first q second c)))
+          (second_agrees f leap t st1 framed among leap_homes (begun_later g d leap (r.grown.0 + (1 + (long n test p first (Some' q second) isin first_agrees f d s0 st framed among none free at sim c + 1))) grown free) there (sim_moved g alive st1 r.t (place n test p first (Some' q second) isin first_agrees f d s0 st framed among none free at sim c + start g) r.sim) (if_second g numbers declares n test p first q second c)))
 
     pub if_else : Agrees n (S.If' test p first (Some' q second))
     unfolding executed else_executed else_of Extends

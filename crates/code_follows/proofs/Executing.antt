@@ -31,7 +31,7 @@ use Rattle.code_follows.specs.Fragment.{IsIn, May, elems_of, naming}
 use Rattle.code_follows.proofs.Expressions.{operand}
 use Rattle.code_follows.proofs.Callees.{CallsFollow}
 use Rattle.code_follows.proofs.Following.{Arrives, Extends, Follows, HasNumber, HasRegisters, Keeps, Ran, Sim, finishes_later, keeps_all, keeps_on, then_follows, spared_kept, result_kept, delayed, finished}
-use Rattle.code_follows.proofs.Settings.{At, Reaches, Setting, layout, onto, stay}
+use Rattle.code_follows.proofs.Settings.{At, Begun, Reaches, Setting, layout, onto, stay}
 use Rattle.code_follows.proofs.Targets.{variable_in}
 use Rattle.code_follows.proofs.Values.{Value_of, extends_in_register}
 use Rattle.code_follows.proofs.Numbers.{held_nonzero}
@@ -164,7 +164,7 @@ module _ (g : Setting) (alive : Variable → Type 0) where
     pub is : nonzero (slice_index t.registers r) ≡ b
 
   module _ (has : HasRegisters g) (files : (k : ℕ) → alive (V.File k)) (n : ℕ) (ready : (d : Draft) → IsReady g.typed g.instance (layout g) n d) (scope : Scope) (active : Active) (calls_follow : CallsFollow g scope active) where
-    pub test_follows : (test : TExpr) → (IsIn (naming g.may alive)) test → HasCode g.typed g.instance n test → (d : Draft) (s : CodeState) (st : State) → g.begins ≤ d.regs → At g s (length d.code) → Sim g alive st s
+    pub test_follows : (test : TExpr) → (IsIn (naming g.may alive)) test → HasCode g.typed g.instance n test → (d : Draft) (s : CodeState) (st : State) → Begun g d → At g s (length d.code) → Sim g alive st s
         → Follows g (Tested d s) s (passes scope active test st) (condition_of g.typed (layout g) test d)
     unfolding passes condition_of Extends Follows in_register number
     test_follows test isin c d s st free here sim =

@@ -63,7 +63,7 @@ use Rattle.code_follows.proofs.CallValues.{call_code, call_value, fresh_call}
 use Rattle.code_follows.proofs.Callees.{CallsFollow}
 use Rattle.code_follows.proofs.Following.{Arrives, Extends, Follows, HasRegisters, IsScalar, Sim, follows_same, held, keeps_all, then_gives}
 use Rattle.code_follows.proofs.Logical.{and_is, joined, logical_follows, or_is}
-use Rattle.code_follows.proofs.Settings.{At, Setting, layout, stay}
+use Rattle.code_follows.proofs.Settings.{At, Begun, Setting, layout, stay}
 use Rattle.code_follows.proofs.Values.{Dest, Does, Value_of, binary_follows, constant_follows, conversion_is, extends_grown, fresh_dest, mapped_is, read_is, rewrapped, unary_follows, variable_follows, with_reg}
 use Rattle.code_follows.proofs.Bytes.{byte_follows}
 use Rattle.code_follows.proofs.Casts.{casts_follow, fresh_casts}
@@ -506,7 +506,7 @@ module _ (g : Setting) (has : HasRegisters g) (alive : Variable → Type 0) (n :
 
   -- `?:` into the register of which something is said
   pub choice_goes : (ty : ValueType) (bits : ℕ) (test first second : TExpr) → IsWord ty → (IsIn (naming g.may alive)) test → (IsIn (naming g.may alive)) first → (IsIn (naming g.may alive)) second → IsWord (type_of first) → IsWord (type_of second) → AreChosen test first second → Agrees true (bits_of (kind_of test)) test → Agrees true bits first → Agrees true bits second
-      → (d : Draft) (s : CodeState) (st : State) (R : Value → State → Out → Draft → Type 0) (r : ℕ) → g.begins ≤ d.regs → At g s (length d.code) → Sim g alive st s → Dest g has alive ty.elem d s R r → Lands g has alive r R
+      → (d : Draft) (s : CodeState) (st : State) (R : Value → State → Out → Draft → Type 0) (r : ℕ) → Begun g d → At g s (length d.code) → Sim g alive st s → Dest g has alive ty.elem d s R r → Lands g has alive r R
       → Follows g R s (then_do (evaluated scope test active st) (λ v after. choose (type_of test).shape v (evaluated scope first) (evaluated scope second) active after)) (scalar_choice_of g.typed (layout g) ty bits test first second (O.Scalar r) d)
   unfolding scalar_choice_of
   choice_goes ty bits test first second word h k m a b c tests one other d s st R r free here sim dest lands =

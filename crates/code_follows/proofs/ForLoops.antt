@@ -45,7 +45,7 @@ use Rattle.code_follows.proofs.Following.{Extends, Follows, HasRegisters, Ran, S
 use Rattle.code_follows.proofs.Jumping.{jumps, moved_to, sim_moved}
 use Rattle.code_follows.proofs.Loops.{do_runs, loop_runs}
 use Rattle.code_follows.proofs.Rounds.{BackMade, back_made}
-use Rattle.code_follows.proofs.Settings.{At, Setting, and_one, code_more, earlier, layout, regs_more, start, stay}
+use Rattle.code_follows.proofs.Settings.{At, Begun, Setting, and_one, begun_later, code_more, earlier, layout, regs_more, start, stay}
 use Rattle.code_follows.proofs.Starting.{go_after}
 use Rattle.code_follows.proofs.Statements.{MadeSo, StandsIn, do_body, do_test, statement_made}
 
@@ -76,7 +76,7 @@ module _ (g : Setting) (has : HasRegisters g) (alive : Variable → Type 0) (fil
   effect_ran d s (Source.Gives v u) Fails h = tt
   effect_ran d s (Source.Ends early u) Fails h = tt
 
-  part_follows : (n : ℕ) (o : Option TExpr) → IfSome o (IsEffect (naming g.may alive)) → IfSome o (HasCode g.typed g.instance n) → (d : Draft) (s : CodeState) (st : State) → g.begins ≤ d.regs → At g s (length d.code) → Sim g alive st s
+  part_follows : (n : ℕ) (o : Option TExpr) → IfSome o (IsEffect (naming g.may alive)) → IfSome o (HasCode g.typed g.instance n) → (d : Draft) (s : CodeState) (st : State) → Begun g d → At g s (length d.code) → Sim g alive st s
       → Follows g (RanOn g alive d s) s (done scope active o st) (part_of g.typed (layout g) o d)
   unfolding done part_of Follows
   part_follows n None h c d s st free here sim = λ within. (refl, record { grown = (0, as_it_was d); t = s; go = stay g s; at = here; sim = sim; keeps = keeps_all g d s })
@@ -224,24 +224,25 @@ module _ (g : Setting) (has : HasRegisters g) (alive : Variable → Type 0) (fil
       all_grown = extended made_first.e enters behind_loop 1 (1 + (long + (part_length_of g.typed (layout g) step + (condition_length_of g.typed (layout g) test + 1)))) (and_one g (I.FrontJump place) made_first.e) enters_grown
 
       -- the turns, behind the first part
-      turns_follow : (t : CodeState) (u : State) → g.begins ≤ made_first.e.regs → At g t (length made_first.e.code) → Sim g alive u t
+      turns_follow : (t : CodeState) (u : State) → Begun g made_first.e → At g t (length made_first.e.code) → Sim g alive u t
           → Follows g (Left g alive f made_first.e t) t (rounds u.turns (passes_or_absent scope active test) (λ v. executed scope body n active v) (λ v. done scope active step v) u) (Makes (behind n body) behind_loop)
       unfolding Extends in_loop
       turns_follow t u free at sim =
           let so = numbers_are in
           let regs1 = regs_more g I.FrontTurn enters in
           let regs2 = regs_more g (I.FrontJump place) made_first.e in
-          let longer = made_body.extended.regs in
-          let more = made_step.extended.regs in
+          let begun_body : Begun g before_body = begun_later g enters before_body 1 (and_one g I.FrontTurn enters) (begun_later g made_first.e enters 1 (and_one g (I.FrontJump place) made_first.e) free) in
+          let begun_step : Begun g made_body.e = begun_later g before_body made_body.e long made_body.extended begun_body in
+          let begun_back : Begun g made_step.e = begun_later g made_body.e made_step.e (part_length_of g.typed (layout g) step) made_step.extended begun_step in
           let at_test = so.1 in
           let go_round : Outcome Leaving = rounds u.turns (passes_or_absent scope active test) (λ v. executed scope body n active v) (λ v. done scope active step v) u in
           delayed g (Left g alive f made_first.e t) behind_loop t go_round (Makes (behind n body) behind_loop) (0, as_it_was behind_loop) (λ within.
           loop_runs g alive scope active (passes_or_absent scope active test) body n (behind n body) (tests_fall n test) inner made_first.e enters made_body.e made_step.e behind_loop turn (λ v. done scope active step v) within so.3 so.0 so.2 long (part_length_of g.typed (layout g) step) (condition_length_of g.typed (layout g) test + 1) made_body.extended made_step.extended made_back.extended (omega (arith, regs1, regs2))
           (falls body n)
-          (λ s v here_s sim_s. subst (λ (m : Made ℕ). Follows g (Left g alive inner before_body s) s (executed scope body n active v) m) made_body.is (agrees inner before_body s v inner_frame inner_among begin_homes (omega (arith, free, regs1, regs2)) here_s sim_s c.body_code))
+          (λ s v here_s sim_s. subst (λ (m : Made ℕ). Follows g (Left g alive inner before_body s) s (executed scope body n active v) m) made_body.is (agrees inner before_body s v inner_frame inner_among begin_homes begun_body here_s sim_s c.body_code))
           (part_falls n step)
-          (λ s v here_s sim_s. subst (λ (m : Made (Unit {0})). Follows g (RanOn g alive made_body.e s) s (done scope active step v) m) made_step.is (part_follows n step steps c.step_code made_body.e s v (omega (arith, free, regs1, regs2, longer)) here_s sim_s))
-          (λ s v here_s sim_s. made_back.leads (omega (arith, free, regs1, regs2, longer, more)) within s v here_s sim_s)
+          (λ s v here_s sim_s. subst (λ (m : Made (Unit {0})). Follows g (RanOn g alive made_body.e s) s (done scope active step v) m) made_step.is (part_follows n step steps c.step_code made_body.e s v begun_step here_s sim_s))
+          (λ s v here_s sim_s. made_back.leads begun_back within s v here_s sim_s)
           f (behind n body) steps_in_all t (moved_to g alive (place + start g) t) u all_grown (jumps g alive place made_first.e t (earlier g enters behind_loop (1 + (long + (part_length_of g.typed (layout g) step + (condition_length_of g.typed (layout g) test + 1)))) enters_grown within) at)
           (keeps_all g made_first.e t) (omega (arith, at_test)) (sim_moved g alive u t (place + start g) sim))
 
@@ -250,14 +251,13 @@ module _ (g : Setting) (has : HasRegisters g) (alive : Variable → Type 0) (fil
     for_agrees f d s0 st framed among none free at sim code =
         let c = for_code code in
         let b = made_first f d framed among none c in
-        let longer = b.extended.regs in
         let go_round : State → Outcome Leaving = λ u. rounds u.turns (passes_or_absent scope active test) (λ v. executed scope body n active v) (λ v. done scope active step v) u in
         subst (λ (m : Made (Unit {0})). Follows g (Left g alive f d s0) s0 (then_go (done scope active first st) go_round) (then_make m (λ u begun. loop_code f d framed among none c begun))) (sym b.is)
         (subst (λ (m : Made ℕ). Follows g (Left g alive f d s0) s0 (then_go (done scope active first st) go_round) m) (sym (loop_is f d framed among none c))
         (go_after g has alive files ready scope active calls_follow d s0 (Left g alive f d s0) (done scope active first st) go_round tt b.e (Makes (behind n body) (behind_loop f d framed among none c))
         (subst (λ (m : Made (Unit {0})). Follows g (RanOn g alive d s0) s0 (done scope active first st) m) b.is (part_follows n first begins c.first_code d s0 st free at sim))
         (steps_in_all f d framed among none c, all_grown f d framed among none c)
-        (λ u ran. follows_from g alive f d b.e ran.grown.0 s0 ran.t (go_round u) (Makes (behind n body) (behind_loop f d framed among none c)) ran.grown.1 ran.go ran.keeps (turns_follow f d framed among none c ran.t u (omega (arith, free, longer)) ran.at ran.sim))))
+        (λ u ran. follows_from g alive f d b.e ran.grown.0 s0 ran.t (go_round u) (Makes (behind n body) (behind_loop f d framed among none c)) ran.grown.1 ran.go ran.keeps (turns_follow f d framed among none c ran.t u (begun_later g d b.e (part_length_of g.typed (layout g) first) b.extended free) ran.at ran.sim))))
 
   -- `while` is `for` with its condition alone
   module _ (n : ℕ) (test : TExpr) (p : Boxed) (body : TStmt) (isin : (IsIn (naming g.may alive)) test) (agrees : Agrees g has alive files numbers ready declares scope active calls_follow n body) where
@@ -354,21 +354,21 @@ module _ (g : Setting) (has : HasRegisters g) (alive : Variable → Type 0) (fil
           extended d do_before behind_do 1 (do_long + (used_length_of g.typed (layout g) 32 true test + 1)) (and_one g I.FrontTurn d)
           (extended do_before made_do.e behind_do do_long (used_length_of g.typed (layout g) 32 true test + 1) made_do.extended made_while.extended)
 
-      do_follows : (t : CodeState) (u : State) → g.begins ≤ d.regs → At g t (length d.code) → Sim g alive u t
+      do_follows : (t : CodeState) (u : State) → Begun g d → At g t (length d.code) → Sim g alive u t
           → Follows g (Left g alive f d t) t (then_round (spend_turn u (λ v. executed scope body n active v)) (λ s. rounds s.turns (passes scope active test) (λ v. executed scope body n active v) (λ v. Source.Gives Onward v) s)) (Makes (behind n body) behind_do)
       unfolding Extends in_loop state_after Follows passes_or_absent condition_length_of
       do_follows t u free at sim =
           let so = do_numbers in
           let regs1 = regs_more g I.FrontTurn d in
-          let longer = made_do.extended.regs in
+          let begun_body : Begun g do_before = begun_later g d do_before 1 (and_one g I.FrontTurn d) free in
           let go_round : Outcome Leaving = then_round (spend_turn u (λ v. executed scope body n active v)) (λ s. rounds s.turns (passes scope active test) (λ v. executed scope body n active v) (λ v. Source.Gives Onward v) s) in
           delayed g (Left g alive f d t) behind_do t go_round (Makes (behind n body) behind_do) (0, as_it_was behind_do) (λ within.
           do_runs g alive scope active (passes scope active test) body n (behind n body) (test_falls n test) do_inner d d made_do.e made_do.e behind_do do_turn (λ v. Source.Gives Onward v) within so.2 so.0 so.1 do_long 0 (used_length_of g.typed (layout g) 32 true test + 1) made_do.extended (as_it_was made_do.e) made_while.extended (omega (arith, regs1))
           (falls body n)
-          (λ s v here_s sim_s. subst (λ (m : Made ℕ). Follows g (Left g alive do_inner do_before s) s (executed scope body n active v) m) made_do.is (agrees do_inner do_before s v do_frame do_among do_homes (omega (arith, free, regs1)) here_s sim_s (do_body g numbers declares n p body test c)))
+          (λ s v here_s sim_s. subst (λ (m : Made ℕ). Follows g (Left g alive do_inner do_before s) s (executed scope body n active v) m) made_do.is (agrees do_inner do_before s v do_frame do_among do_homes begun_body here_s sim_s (do_body g numbers declares n p body test c)))
           (λ v. omega arith)
           (λ s v here_s sim_s within_s. (refl, record { grown = (0, as_it_was made_do.e); t = s; go = stay g s; at = here_s; sim = sim_s; keeps = keeps_all g made_do.e s }))
-          (λ s v here_s sim_s. made_while.leads (omega (arith, free, regs1, longer)) within s v here_s sim_s)
+          (λ s v here_s sim_s. made_while.leads (begun_later g do_before made_do.e do_long made_do.extended begun_body) within s v here_s sim_s)
           f (behind n body) _ t u refl do_grown at sim)
 
     pub do_agrees : Agrees g has alive files numbers ready declares scope active calls_follow n (S.Do' p body test)

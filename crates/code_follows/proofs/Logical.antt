@@ -23,7 +23,7 @@ use Rattle.code_follows.specs.Fragment.{IsWord}
 use Rattle.code_follows.proofs.Branching.{IsMadeWord, decided_goes, decides, jump_long, jump_more, tested, then_from}
 use Rattle.code_follows.proofs.Following.{Arrives, Extends, Follows, HasRegisters, Keeps, Sim, delayed, arrives_fresh, keeps_all, keeps_on, value_kept}
 use Rattle.code_follows.proofs.Jumping.{moved_to, sim_moved}
-use Rattle.code_follows.proofs.Settings.{At, Reaches, Setting, Within, and_one, earlier, onto, regs_more, start, stay}
+use Rattle.code_follows.proofs.Settings.{At, Begun, Reaches, Setting, Within, and_one, begun_later, earlier, onto, regs_more, start, stay}
 use Rattle.code_follows.proofs.Values.{Does, HasWord, Value_of, and_register, takes_word, with_reg}
 use Rattle.code_follows.proofs.Words.{below_bits, held_wide}
 
@@ -66,7 +66,7 @@ undecided false false e = cc
 module _ (g : Setting) (has : HasRegisters g) (alive : Variable → Type 0) (is_or : Bool) (ty : ValueType) (quiet : Bool) (from to : Elem) (long more : ℕ) (first second : Code) (one other : State → Outcome Value) (next : Value → State → Outcome Value)
     (word : IsWord ty) (one_does : Does g has alive from true one first) (other_does : Does g has alive to true other second)
     (first_made : (d : Draft) → IsMadeWord long d (first d)) (second_made : (d : Draft) → IsMadeWord more d (second d)) (next_is : (v : Value) (st : State) → next v st ≡ joined is_or other (nonzero (number v)) st) where
-  module _ (d : Draft) (s : CodeState) (st : State) (free : g.begins ≤ d.regs) (there : At g s (length d.code)) (sim : Sim g alive st s) where
+  module _ (d : Draft) (s : CodeState) (st : State) (free : Begun g d) (there : At g s (length d.code)) (sim : Sim g alive st s) where
     -- the drafts, one behind another
     abbrev opened : Draft
     opened = with_instr (I.FrontConst d.regs (from_bool is_or)) (with_reg d)
@@ -133,7 +133,7 @@ module _ (g : Setting) (has : HasRegisters g) (alive : Variable → Type 0) (is_
     landed b t u go place held_so keeps is =
         let few : from_bool b < 2 ^ 32 = from_bool_below b in
         let regs = opened_done.regs in
-        arrives_fresh g alive ty.elem quiet d done s t u d.regs (from_bool b) (_, extended d opened done (0 + 1) _ to_opened opened_done) go place held_so keeps free (omega (arith, inside, regs))
+        arrives_fresh g alive ty.elem quiet d done s t u d.regs (from_bool b) (_, extended d opened done (0 + 1) _ to_opened opened_done) go place held_so keeps free.regs (omega (arith, inside, regs))
         (below_bits ty.elem.bits (from_bool b) word.1 few) (is ∙ sym (held_wide ty.elem (from_bool b) word.1 few))
 
     -- from behind an operand that decides
@@ -180,12 +180,12 @@ module _ (g : Setting) (has : HasRegisters g) (alive : Variable → Type 0) (is_
         let regs = to_leap.regs in
         let go : Reaches g s t1 = onto g s arr.t t1 (onto g s h.t arr.t h.go arr.go) (goes_past left.register left.behind (nonzero (number v)) arr.t so within arr.at (tested g alive from opened left.behind h.t v u left.register arr)) in
         let keeps : Keeps g d s t1 = keeps_on g d opened h.grown.0 s h.t arr.t h.grown.1 h.keeps arr.keeps in
-        let begins : slice_index arr.t.registers d.regs ≡ from_bool is_or = arr.keeps d.regs (value_kept g opened d.regs free inside) ∙ h.is in
+        let begins : slice_index arr.t.registers d.regs ≡ from_bool is_or = arr.keeps d.regs (value_kept g opened d.regs free.regs inside) ∙ h.is in
         then_from g alive (Value_of g has alive to true leap t1) (Value_of g has alive ty.elem quiet d s) s t1 (other u) (λ w after. Source.Gives (Scalar (from_bool (nonzero (at w 0)))) after) (O.Scalar right.register) right.behind (Makes (O.Scalar d.regs) done) go
-        (subst (λ (m : Made Out). Follows g (Value_of g has alive to true leap t1) t1 (other u) m) right.is (other_does leap t1 u (omega (arith, free, inside, regs)) (omega (arith, place, long_so)) (sim_moved g alive u arr.t (arr.t.at + 1) arr.sim)))
+        (subst (λ (m : Made Out). Follows g (Value_of g has alive to true leap t1) t1 (other u) m) right.is (other_does leap t1 u (begun_later g d leap ((0 + 1) + (long + 1)) (extended d opened leap (0 + 1) (long + 1) to_opened to_leap) free) (omega (arith, place, long_so)) (sim_moved g alive u arr.t (arr.t.at + 1) arr.sim)))
         (1 + 1, right_done)
         (λ w last b. λ inner. behind_right (nonzero (at w 0)) (decides is_or (nonzero (at w 0))) b.t last refl inner b.at b.sim (onto g s t1 b.t go b.go)
-        (keeps_on g d leap ((0 + 1) + (long + 1)) s t1 b.t (extended d opened leap (0 + 1) (long + 1) to_opened to_leap) keeps b.keeps) (b.keeps d.regs (value_kept g leap d.regs free (omega (arith, inside, regs))) ∙ begins)
+        (keeps_on g d leap ((0 + 1) + (long + 1)) s t1 b.t (extended d opened leap (0 + 1) (long + 1) to_opened to_leap) keeps b.keeps) (b.keeps d.regs (value_kept g leap d.regs free.regs (omega (arith, inside, regs))) ∙ begins)
         (tested g alive to leap right.behind t1 w last right.register b ∙ ap nonzero (number_at w b.holds.word b.holds.value)))
       where
         number_at : (w : Value) (x : ℕ) → w ≡ Scalar x → number w ≡ at w 0
@@ -201,7 +201,7 @@ module _ (g : Setting) (has : HasRegisters g) (alive : Variable → Type 0) (is_
             → Follows g (Value_of g has alive ty.elem quiet d s) s (if c then Source.Gives (Scalar (from_bool is_or)) u else then_do (other u) (λ w after. Source.Gives (Scalar (from_bool (nonzero (at w 0)))) after)) (Makes (O.Scalar d.regs) done)
         by h v u arr true so = λ within.
             leaps left.register left.behind (nonzero (number v)) arr.t u so (earlier g leap done (more + (1 + 1)) leap_done within) arr.at arr.sim (onto g s h.t arr.t h.go arr.go)
-            (keeps_on g d opened h.grown.0 s h.t arr.t h.grown.1 h.keeps arr.keeps) (arr.keeps d.regs (value_kept g opened d.regs free inside) ∙ h.is) (tested g alive from opened left.behind h.t v u left.register arr)
+            (keeps_on g d opened h.grown.0 s h.t arr.t h.grown.1 h.keeps arr.keeps) (arr.keeps d.regs (value_kept g opened d.regs free.regs inside) ∙ h.is) (tested g alive from opened left.behind h.t v u left.register arr)
         by h v u arr false so =
             delayed g (Value_of g has alive ty.elem quiet d s) leap s (then_do (other u) (λ w after. Source.Gives (Scalar (from_bool (nonzero (at w 0)))) after)) (Makes (O.Scalar d.regs) done) (_, leap_done) (λ within. goes_right v u so h arr within)
 
@@ -210,7 +210,7 @@ module _ (g : Setting) (has : HasRegisters g) (alive : Variable → Type 0) (is_
             let h : HasWord g has alive (from_bool is_or) d opened s st d.regs =
             takes_word g has alive (from_bool is_or) d (with_reg d) 0 (I.FrontConst d.regs (from_bool is_or)) s s st d.regs free (stay g s) there sim (and_register d) (keeps_all g d s) within refl refl (omega arith) (omega arith) in
             then_from g alive (Value_of g has alive from true opened h.t) (Value_of g has alive ty.elem quiet d s) s h.t (one st) next (O.Scalar left.register) left.behind (Makes (O.Scalar d.regs) done) h.go
-            (subst (λ (m : Made Out). Follows g (Value_of g has alive from true opened h.t) h.t (one st) m) left.is (one_does opened h.t st (omega (arith, free, inside)) h.at h.sim)) (_, left_done)
+            (subst (λ (m : Made Out). Follows g (Value_of g has alive from true opened h.t) h.t (one st) m) left.is (one_does opened h.t st (begun_later g d opened (0 + 1) to_opened free) h.at h.sim)) (_, left_done)
             (λ v u arr. subst (λ (o : Outcome Value). Follows g (Value_of g has alive ty.elem quiet d s) s o (Makes (O.Scalar d.regs) done)) (sym (next_is v u)) (by h v u arr (decides is_or (nonzero (number v))) refl))
 
   pub logical_follows : (bits : ℕ) (left right : Condition) → left.code ≡ first → right.code ≡ second → right.long ≡ more → Does g has alive ty.elem quiet (λ st. then_do (one st) next) (λ d. logical_by is_or ty.shape bits left right d)

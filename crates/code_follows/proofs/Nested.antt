@@ -46,7 +46,7 @@ use Rattle.code_follows.specs.Fragment.{IsGiven, IsWord, Takes}
 use Rattle.code_follows.proofs.Changing.{no_place, only_set, operated_set_is, scalar_type, set_is, stepped_is, stepping}
 use Rattle.code_follows.proofs.Following.{Arrives, Extends, Follows, HasRegisters, IsKept, IsScalar, Keeps, Sim, delayed, extends_then, finishes_later, holds_fresh, held, keeps_all, keeps_on, register_is, register_kept, register_set, then_follows, then_on, keeps_less, value_kept}
 use Rattle.code_follows.proofs.Fresh.{IsClear, IsFresh, fresh_register, fresh_then, made_so}
-use Rattle.code_follows.proofs.Settings.{At, Reaches, Setting, Within, and_one, at_next, begins_here, earlier, layout, one, onto, regs_more, stay}
+use Rattle.code_follows.proofs.Settings.{At, Begun, Reaches, Setting, Within, and_one, at_next, begins_here, begun_later, earlier, layout, one, onto, regs_more, stay}
 use Rattle.code_follows.proofs.Stores.{IsPut, variable_dest}
 use Rattle.code_follows.proofs.Values.{Dest, Does, Grows_on, HasWord, Value_of, and_register, extends_in_register, extends_operated, extends_word, operates, register_same, rewrapped, some_word, with_reg, word_follows, put_by, written_at}
 use Rattle.code_follows.proofs.Jumping.{sim_moved}
@@ -78,14 +78,13 @@ module _ (g : Setting) (has : HasRegisters g) (alive : Variable → Type 0) (x :
   from_earlier R s t (Source.Ends early u) Fails go h = tt
 
   -- a value stays where it stands while the word of a register goes to the variable
-  stored_behind : (elem : Elem) (quiet : Bool) (d : Draft) (s : CodeState) (v : Value) (u : State) (out : Out) (e : Draft) (arr : Arrives g alive elem false d s v u out e) (q w : ℕ) → slice_index arr.t.registers q ≡ held info.elem w → w < 2 ^ info.elem.bits → g.begins ≤ d.regs
+  stored_behind : (elem : Elem) (quiet : Bool) (d : Draft) (s : CodeState) (v : Value) (u : State) (out : Out) (e : Draft) (arr : Arrives g alive elem false d s v u out e) (q w : ℕ) → slice_index arr.t.registers q ≡ held info.elem w → w < 2 ^ info.elem.bits → Begun g d
       → Within g (with_instr (I.FrontMove own q) e) → Arrives g alive elem quiet d s v (with_scalar x w u) out (with_instr (I.FrontMove own q) e)
   unfolding begun step_of
   stored_behind elem quiet d s v u out e arr q w is few free within =
-      let regs = arr.extended.1.regs in
       let last : Draft = with_instr (I.FrontMove own q) e in
       let p : IsPut g has alive x info living scalar info.elem e arr.t (Scalar w) u (O.Scalar own) last =
-      put_by g has alive (variable_dest g has alive x info living scalar info.elem e arr.t (inl refl) (omega (arith, free, regs))) e 0 (I.FrontMove own q) arr.t u w (stay g arr.t) arr.at arr.sim (as_it_was e) (keeps_all g e arr.t) within refl
+      put_by g has alive (variable_dest g has alive x info living scalar info.elem e arr.t (inl refl) (begun_later g d e arr.extended.0 arr.extended.1 free)) e 0 (I.FrontMove own q) arr.t u w (stay g arr.t) arr.at arr.sim (as_it_was e) (keeps_all g e arr.t) within refl
       (ap (λ (y : ℕ). Goes (with_register own y arr.t)) is) few in
       record {
         extended = (arr.extended.0 + p.grown.0, extended d e last arr.extended.0 p.grown.0 arr.extended.1 p.grown.1);
@@ -134,7 +133,7 @@ module _ (g : Setting) (has : HasRegisters g) (alive : Variable → Type 0) (x :
   grows_store O.Nothing e = tt
 
   module _ (scope : Scope) (active : Active) (place : Place) where
-    stores : (quiet : Bool) (d : Draft) (s : CodeState) (w : ℕ) (u : State) (r : ℕ) (e : Draft) → g.begins ≤ d.regs → Arrives g alive info.elem false d s (Scalar w) u (O.Scalar r) e
+    stores : (quiet : Bool) (d : Draft) (s : CodeState) (w : ℕ) (u : State) (r : ℕ) (e : Draft) → Begun g d → Arrives g alive info.elem false d s (Scalar w) u (O.Scalar r) e
         → Follows g (Value_of g has alive info.elem quiet d s) s (Source.Gives (Scalar w) (with_scalar x w u)) (kept_store (O.Scalar r) e)
     unfolding Follows then_make put_value in_register
     stores quiet d s w u r e free arr = λ within. let h = stands info.elem false d s w u r e arr in stored_behind info.elem quiet d s (Scalar w) u (O.Scalar r) e arr r w h.0 h.1 free within
@@ -173,7 +172,7 @@ module _ (g : Setting) (has : HasRegisters g) (alive : Variable → Type 0) (x :
     pub there : slice_index t.registers r ≡ held at_type word
     pub others : (q : ℕ) → IsKept g e1 q → (r ≡ q → ⊥) → slice_index t.registers q ≡ slice_index t1.registers q
 
-  computed_dest : (at_type : Elem) (d e1 : Draft) (k : ℕ) (s t1 : CodeState) (r : ℕ) → g.begins ≤ d.regs → Extended d k e1 → Reaches g s t1 → Keeps g d s t1 → d.regs ≤ r → r < e1.regs → Dest g has alive at_type e1 t1 (λ v u out e. Computed at_type d e1 s t1 r v u e) r
+  computed_dest : (at_type : Elem) (d e1 : Draft) (k : ℕ) (s t1 : CodeState) (r : ℕ) → Begun g d → Extended d k e1 → Reaches g s t1 → Keeps g d s t1 → d.regs ≤ r → r < e1.regs → Dest g has alive at_type e1 t1 (λ v u out e. Computed at_type d e1 s t1 r v u e) r
   computed_dest at_type d e1 k s t1 r free ext go1 keeps1 low high = record {
     takes = λ e f n m s1 place st w go sim grows keeps longer within there here few.
         let t : CodeState = written_at g has alive r (held at_type w) place s1 in
@@ -190,7 +189,7 @@ module _ (g : Setting) (has : HasRegisters g) (alive : Variable → Type 0) (x :
           go = onto g s t1 t go1 (onto g t1 s1 t go there);
           at = here;
           sim = sim_moved g alive st (with_register r (held at_type w) s1) place (register_set g alive st s1 r (held at_type w) has (omega (arith, free, low)) sim);
-          keeps = keeps_on g d d 0 s t1 t (as_it_was d) keeps1 (keeps_on g d d 0 t1 s1 t (as_it_was d) (keeps_less g d e1 t1 s1 first keeps) (register_kept g d s1 r (held at_type w) has free low (omega (arith, high, more, regs, within.own))));
+          keeps = keeps_on g d d 0 s t1 t (as_it_was d) keeps1 (keeps_on g d d 0 t1 s1 t (as_it_was d) (keeps_less g d e1 t1 s1 first keeps) (register_kept g d s1 r (held at_type w) has free.regs low (omega (arith, high, more, regs, within.own))));
           there = register_is g s1 r (held at_type w) inside;
           others = λ q kept differs. get_or-set_other s1.registers r q (held at_type w) 0 (λ e. differs (sym e)) ∙ keeps q kept;
         };
@@ -217,7 +216,7 @@ module _ (g : Setting) (has : HasRegisters g) (alive : Variable → Type 0) (x :
     pub there : slice_index t.registers r ≡ held info.elem w
     pub others : (q : ℕ) → IsKept g e1 q → (r ≡ q → ⊥) → slice_index t.registers q ≡ slice_index t1.registers q
 
-  places : (at_type : Elem) (d e1 : Draft) (s t1 : CodeState) (r : ℕ) (v : Value) (u : State) (e : Draft) → g.begins ≤ d.regs → d.regs ≤ r → r < e1.regs → (c : Computed at_type d e1 s t1 r v u e) → Within g (in_place r e) → Placed d e1 s t1 r (converted info.elem at_type c.word) u (in_place r e)
+  places : (at_type : Elem) (d e1 : Draft) (s t1 : CodeState) (r : ℕ) (v : Value) (u : State) (e : Draft) → Begun g d → d.regs ≤ r → r < e1.regs → (c : Computed at_type d e1 s t1 r v u e) → Within g (in_place r e) → Placed d e1 s t1 r (converted info.elem at_type c.word) u (in_place r e)
   unfolding begun step_of
   places at_type d e1 s t1 r v u e free low high c within = by (nat_lt info.elem.bits 32) refl within
     where
@@ -237,7 +236,7 @@ module _ (g : Setting) (has : HasRegisters g) (alive : Variable → Type 0) (x :
             go = onto g s c.t t2 c.go (one g c.t t2 (begins_here g i e c.t inner refl c.at ∙ ap (λ (k : ℕ). Goes (with_register r (rounded info.elem k) c.t)) c.there ∙ ap (λ (k : ℕ). Goes (with_register r k c.t)) (rounded_is info.elem at_type c.word c.few)));
             at = at_next g i e c.t (c.t.at + 1) c.at refl;
             sim = register_set g alive u c.t r (held info.elem number_there) has (omega (arith, free, low)) c.sim;
-            keeps = keeps_on g d d 0 s c.t t2 (as_it_was d) c.keeps (register_kept g d c.t r (held info.elem number_there) has free low (omega (arith, high, more, regs, inner.own)));
+            keeps = keeps_on g d d 0 s c.t t2 (as_it_was d) c.keeps (register_kept g d c.t r (held info.elem number_there) has free.regs low (omega (arith, high, more, regs, inner.own)));
             there = register_is g c.t r (held info.elem number_there) inside;
             others = λ q kept differs. get_or-set_other c.t.registers r q (held info.elem number_there) 0 (λ e. differs (sym e)) ∙ c.others q kept differs;
           }
@@ -246,7 +245,7 @@ module _ (g : Setting) (has : HasRegisters g) (alive : Variable → Type 0) (x :
           let wide : info.elem.bits ≡ 32 = grind (arith, nat_tests, is, few) in
           record { grown = c.grown; t = c.t; go = c.go; at = c.at; sim = c.sim; keeps = c.keeps; there = c.there ∙ fits_held info.elem at_type c.word (inr wide) c.few; others = c.others }
 
-  computed_stored : (at_type : Elem) (quiet : Bool) (d e1 : Draft) (k : ℕ) (s t1 : CodeState) (r res : ℕ) (shown : ℕ → ℕ) (f : Value → Value) (o : Outcome Value) (out : Out) (e : Draft) → g.begins ≤ d.regs → Extended d k e1 → d.regs ≤ r → r < e1.regs → d.regs ≤ res → res < e1.regs
+  computed_stored : (at_type : Elem) (quiet : Bool) (d e1 : Draft) (k : ℕ) (s t1 : CodeState) (r res : ℕ) (shown : ℕ → ℕ) (f : Value → Value) (o : Outcome Value) (out : Out) (e : Draft) → Begun g d → Extended d k e1 → d.regs ≤ r → r < e1.regs → d.regs ≤ res → res < e1.regs
       → ((w : ℕ) → f (Scalar w) ≡ Scalar (shown w)) → ((w : ℕ) → shown w < 2 ^ info.elem.bits)
       → ((t : CodeState) (w : ℕ) → slice_index t.registers r ≡ held info.elem (converted info.elem at_type w) → ((q : ℕ) → IsKept g e1 q → (r ≡ q → ⊥) → slice_index t.registers q ≡ slice_index t1.registers q) → slice_index t.registers res ≡ held info.elem (shown w))
       → Follows g (λ v u out e. Computed at_type d e1 s t1 r v u e) s o (Makes out e)
@@ -285,7 +284,7 @@ module _ (g : Setting) (has : HasRegisters g) (alive : Variable → Type 0) (x :
     pub is : slice_index t.registers r ≡ old
     pub others : (b : ℕ) → (r ≡ b → ⊥) → slice_index t.registers b ≡ slice_index s.registers b
 
-  loads : (d e : Draft) (s : CodeState) (u : State) (r old : ℕ) → g.begins ≤ d.regs → g.begins ≤ r → d.regs ≤ r → r < e.regs → At g s (length e.code) → Sim g alive u s → old ≡ held info.elem (u.scalar x) → Within g (with_instr (I.FrontMove r own) e) → Loaded d e s u r old
+  loads : (d e : Draft) (s : CodeState) (u : State) (r old : ℕ) → Begun g d → g.begins ≤ r → d.regs ≤ r → r < e.regs → At g s (length e.code) → Sim g alive u s → old ≡ held info.elem (u.scalar x) → Within g (with_instr (I.FrontMove r own) e) → Loaded d e s u r old
   unfolding begun step_of
   loads d e s u r old room free low high here sim is within =
       let load : Instr = I.FrontMove r own in
@@ -296,7 +295,7 @@ module _ (g : Setting) (has : HasRegisters g) (alive : Variable → Type 0) (x :
         go = one g s (with_register r old s) (begins_here g load e s within refl here ∙ ap (λ (y : ℕ). Goes (with_register r y s)) own_is);
         at = at_next g load e s (s.at + 1) here refl;
         sim = register_set g alive u s r old has free sim;
-        keeps = register_kept g d s r old has room low (omega (arith, high, regs, within.own));
+        keeps = register_kept g d s r old has room.regs low (omega (arith, high, regs, within.own));
         is = register_is g s r old (omega (arith, high, regs, within.regs, sim.registers));
         others = λ b differs. get_or-set_other s.registers r b old 0 (λ e. differs (sym e));
       }
@@ -335,7 +334,7 @@ module _ (g : Setting) (has : HasRegisters g) (alive : Variable → Type 0) (x :
     grows_operand dest v e = extends_in_register g has alive e v _ (λ b.
         let rest = grows_loaded dest b e in (1 + rest.0, extended e (loaded_in dest e) _ 1 rest.0 (and_one g (I.FrontMove dest own) e) rest.1))
 
-    module _ (quiet : Bool) (d : Draft) (s : CodeState) (free : g.begins ≤ d.regs) where
+    module _ (quiet : Bool) (d : Draft) (s : CodeState) (free : Begun g d) where
       -- from the old value in its register on
       operates_on : (u : State) (b w k : ℕ) (e : Draft) (t : CodeState) → Extended d k e → d.regs < e.regs → Reaches g s t → Keeps g d s t → Loaded d e t u d.regs (held info.elem (u.scalar x)) → w < 2 ^ 32 → slice_index t.registers b ≡ w → (d.regs ≡ b → ⊥)
           → Follows g (Value_of g has alive info.elem quiet d s) s (assigned scope active place op (scalar_type info.elem) from (OfScalar x) (Scalar w) u) (Makes (O.Scalar d.regs) (with_instr (I.FrontMove own d.regs) (in_place d.regs (operated_in o signed place d.regs d.regs b (loaded_in d.regs e)))))
@@ -373,7 +372,7 @@ module _ (g : Setting) (has : HasRegisters g) (alive : Variable → Type 0) (x :
           (subst (λ (y : Value). Follows g (Value_of g has alive info.elem quiet d s) s (assigned scope active place op (scalar_type info.elem) from (OfScalar x) y u) (behind_operand d.regs (O.Scalar b) e)) (sym arr.holds.value)
           (delayed g (Value_of g has alive info.elem quiet d s) (loaded_in d.regs e) s _ (behind_operand d.regs (O.Scalar b) e) (grows_loaded d.regs b e) (λ within.
           operates_on u b w (0 + arr.extended.0) e arr.t (extended d (with_reg d) e 0 arr.extended.0 (and_register d) arr.extended.1) (omega (arith, more)) arr.go (keeps_less g d (with_reg d) s arr.t (omega arith) arr.keeps)
-          (loads d e arr.t u d.regs (held info.elem (u.scalar x)) free free (omega arith) (omega (arith, more)) arr.at arr.sim refl within) small there (apart_from (first_free (layout g)) d.regs b is_clear (let low = has.free in omega (arith, free, low))))))
+          (loads d e arr.t u d.regs (held info.elem (u.scalar x)) free free.regs (omega arith) (omega (arith, more)) arr.at arr.sim refl within) small there (apart_from (first_free (layout g)) d.regs b is_clear (let low = has.free in omega (arith, free, low))))))
 
     pub operated_value : (quiet : Bool) (second : Code) (part : State → Outcome Value) → ((st : State) (s : CodeState) → Sim g alive st s → (d : Draft) → IsClear (layout g) d (second d)) → Does g has alive from.elem true part second
         → Does g has alive info.elem quiet (λ st. then_do (part st) (λ v after. assigned scope active place op (scalar_type info.elem) from (OfScalar x) v after)) (λ d. then_make (second (with_reg d)) (λ v after. behind_operand d.regs v after))
@@ -409,7 +408,7 @@ module _ (g : Setting) (has : HasRegisters g) (alive : Variable → Type 0) (x :
     old_grown : (old : ℕ) (d : Draft) → Extended d (0 + 0 + 1) (old_in old d)
     old_grown old d = extended d (with_reg (with_reg d)) (old_in old d) (0 + 0) 1 (extended d (with_reg d) (with_reg (with_reg d)) 0 0 (and_register d) (and_register (with_reg d))) (and_one g (I.FrontMove old own) (with_reg (with_reg d)))
 
-    module _ (quiet : Bool) (d : Draft) (s : CodeState) (st : State) (free : g.begins ≤ d.regs) (old new res : ℕ) (shown : ℕ → ℕ) (old_low : d.regs ≤ old) (old_high : old < d.regs + 2) (new_low : d.regs ≤ new) (new_high : new < d.regs + 2) (res_low : d.regs ≤ res) (res_high : res < d.regs + 2)
+    module _ (quiet : Bool) (d : Draft) (s : CodeState) (st : State) (free : Begun g d) (old new res : ℕ) (shown : ℕ → ℕ) (old_low : d.regs ≤ old) (old_high : old < d.regs + 2) (new_low : d.regs ≤ new) (new_high : new < d.regs + 2) (res_low : d.regs ≤ res) (res_high : res < d.regs + 2)
         (gives : (w : ℕ) → step_value order (Scalar (st.scalar x)) (Scalar w) ≡ Scalar (shown w)) (small : (w : ℕ) → st.scalar x < 2 ^ info.elem.bits → w < 2 ^ info.elem.bits → shown w < 2 ^ info.elem.bits)
         (shows : (t : CodeState) (w : ℕ) → slice_index t.registers new ≡ held info.elem w → ((new ≡ old → ⊥) → slice_index t.registers old ≡ held info.elem (st.scalar x)) → slice_index t.registers res ≡ held info.elem (shown w)) where
       with_one : (l : Loaded d (with_reg (with_reg d)) s st old (held info.elem (st.scalar x))) (q : ℕ) (f : Draft) → st.scalar x < 2 ^ info.elem.bits → HasWord g has alive 1 (old_in old d) f l.t st q
@@ -442,7 +441,7 @@ module _ (g : Setting) (has : HasRegisters g) (alive : Variable → Type 0) (x :
           (extends_then g e1 (word_in (layout g) 1 e1) _ (extends_word g has alive 1 e1) (λ q f. grows_one old new res q f)) (λ within.
           let l : Loaded d (with_reg (with_reg d)) s st old (held info.elem (st.scalar x)) = loads d (with_reg (with_reg d)) s st old (held info.elem (st.scalar x)) free (omega (arith, free, old_low)) old_low (omega (arith, old_high)) here sim refl within in
           then_follows g (λ (u : Unit {0}) after q f. (after ≡ st) × HasWord g has alive 1 e1 f l.t st q) (Value_of g has alive info.elem quiet d s) s l.t (Source.Gives tt st) (λ u after. stepped scope active op order (scalar_type info.elem) (OfScalar x) st) (word_in (layout g) 1 e1)
-          (λ q after. behind_one old new res q after) l.go (word_follows g has alive 1 e1 l.t st (omega (arith, free, regs)) l.at l.sim) (λ q f. grows_one old new res q f) (λ u after q f h. with_one l q f few h.1))
+          (λ q after. behind_one old new res q after) l.go (word_follows g has alive 1 e1 l.t st (begun_later g d e1 (0 + 0 + 1) (old_grown old d) free) l.at l.sim) (λ q f. grows_one old new res q f) (λ u after q f h. with_one l q f few h.1))
 
     -- what the code of a step is
     same_operation : (op : StepOp) (is_signed : Bool) (r a b : ℕ) (d : Draft) → with_instr (I.FrontOperate (step_operation op) r a b) d ≡ operated_in (stepping op) is_signed place r a b d

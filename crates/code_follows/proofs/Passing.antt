@@ -35,7 +35,7 @@ use Rattle.code_follows.proofs.Numbers.{takes_below, takes_held}
 use Rattle.code_follows.proofs.Standing.{some_same}
 use Rattle.std.proofs.lemmas.Option.{slice_get_within}
 use Rattle.code_follows.proofs.Fresh.{IsFresh, fresh_register, fresh_then}
-use Rattle.code_follows.proofs.Settings.{At, Reaches, Setting, Within, and_one, at_next, begins_here, earlier, layout, one, onto, regs_more, stay}
+use Rattle.code_follows.proofs.Settings.{At, Begun, Reaches, Setting, Within, and_one, at_next, begins_here, earlier, layout, one, onto, regs_more, stay}
 use Rattle.code_follows.proofs.Values.{Dest, extends_in_register, put_by}
 
 module _ (g : Setting) (has : HasRegisters g) (alive : Variable → Type 0) where
@@ -278,7 +278,7 @@ module _ (g : Setting) (has : HasRegisters g) (alive : Variable → Type 0) wher
 
     -- a call with a result, whose last instruction writes the register of which something is said
     pub call_follows : {k : Count} (row : Row_of-TExpr k) → AreDone g has alive scope active true (are_quiet row) row → AreTaken c.callee.params.items (elems_of row) → (info : VarInfo) → c.callee.result ≡ Some info → (elem : Elem) → Takes elem info.elem
-        → (d : Draft) (s : CodeState) (st : State) (R : Value → State → Out → Draft → Type 0) (r : ℕ) → g.begins ≤ d.regs → At g s (length d.code) → Sim g alive st s → Dest g has alive elem d s R r → Follows g R s (meant row st) (made_call row (O.Scalar r) d)
+        → (d : Draft) (s : CodeState) (st : State) (R : Value → State → Out → Draft → Type 0) (r : ℕ) → Begun g d → At g s (length d.code) → Sim g alive st s → Dest g has alive elem d s R r → Follows g R s (meant row st) (made_call row (O.Scalar r) d)
     unfolding call_to in_register
     call_follows row done taken info is elem takes d s st R r free here sim dest =
         then_follows g (Given g has alive scope active (are_quiet row) (elems_of row) d s st []) R s s (operands scope row active st) _ _ (λ given after. called g.typed (layout g) index given (O.Scalar r) after) (stay g s)
@@ -290,7 +290,7 @@ module _ (g : Setting) (has : HasRegisters g) (alive : Variable → Type 0) wher
 
     -- a call without one
     pub call_runs : {k : Count} (row : Row_of-TExpr k) → AreDone g has alive scope active true (are_quiet row) row → AreTaken c.callee.params.items (elems_of row) → c.callee.result ≡ None
-        → (dest : Out) (d : Draft) (s : CodeState) (st : State) → g.begins ≤ d.regs → At g s (length d.code) → Sim g alive st s → Follows g (λ v u out e. Ran g alive d s u e) s (meant row st) (made_call row dest d)
+        → (dest : Out) (d : Draft) (s : CodeState) (st : State) → Begun g d → At g s (length d.code) → Sim g alive st s → Follows g (λ v u out e. Ran g alive d s u e) s (meant row st) (made_call row dest d)
     unfolding call_to finished
     call_runs row done taken is dest d s st free here sim =
         then_follows g (Given g has alive scope active (are_quiet row) (elems_of row) d s st []) (λ v u out e. Ran g alive d s u e) s s (operands scope row active st) _ _ (λ given after. called g.typed (layout g) index given dest after) (stay g s)

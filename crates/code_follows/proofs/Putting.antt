@@ -54,7 +54,7 @@ use Rattle.code_follows.proofs.Bytes.{byte_put}
 use Rattle.code_follows.proofs.Callees.{CallsFollow}
 use Rattle.code_follows.proofs.Following.{Arrives, Extends, Follows, HasRegisters, IsScalar, Sim, held, keeps_all, then_follows, then_gives}
 use Rattle.code_follows.proofs.Operators.{wide_signed}
-use Rattle.code_follows.proofs.Settings.{At, Setting, and_one, layout, stay}
+use Rattle.code_follows.proofs.Settings.{At, Begun, Setting, and_one, layout, stay}
 use Rattle.code_follows.proofs.Stores.{IsPut, variable_dest}
 use Rattle.code_follows.proofs.Values.{Dest, Does, Value_of, conversion_is, extends_in_register, mapped_is, negated_follows, read_is, registers_follow, put_by}
 use Rattle.constant_trees.proofs.Words.{converted_below}
@@ -73,13 +73,13 @@ module _ (g : Setting) (has : HasRegisters g) (alive : Variable → Type 0) (n :
 
   -- an expression whose value the code puts there
   abbrev pub Puts : Elem → (State → Outcome Value) → (Draft → Made Out) → Type 0
-  Puts elem part code = (d : Draft) (s : CodeState) (st : State) → g.begins ≤ d.regs → At g s (length d.code) → Sim g alive st s → Follows g (Put elem d s) s (part st) (code d)
+  Puts elem part code = (d : Draft) (s : CodeState) (st : State) → Begun g d → At g s (length d.code) → Sim g alive st s → Follows g (Put elem d s) s (part st) (code d)
 
   -- the variable keeps a number of this type
   abbrev pub Kept : Elem → Type 0
   Kept elem = Fits info.elem elem
 
-  dest : (elem : Elem) (d : Draft) (s : CodeState) → Kept elem → g.begins ≤ d.regs → Dest g has alive elem d s (Put elem d s) own
+  dest : (elem : Elem) (d : Draft) (s : CodeState) → Kept elem → Begun g d → Dest g has alive elem d s (Put elem d s) own
   dest elem d s fits free = variable_dest g has alive x info living scalar elem d s fits free
 
   -- a value copied from where it stands

@@ -39,7 +39,7 @@ use Rattle.code_follows.proofs.Expressions.{operand}
 use Rattle.code_follows.proofs.Callees.{CallsFollow}
 use Rattle.code_follows.proofs.Following.{Extends, Follows, HasRegisters, Keeps, Ran, Sim, apart_set, delayed, finished, held, keeps_all, result_kept, spared_kept}
 use Rattle.code_follows.proofs.Jumping.{nothing_restored}
-use Rattle.code_follows.proofs.Settings.{At, Reaches, Setting, Within, and_one, at_next, begins_here, earlier, layout, one, onto, stay}
+use Rattle.code_follows.proofs.Settings.{At, Begun, Reaches, Setting, Within, and_one, at_next, begins_here, earlier, layout, one, onto, stay}
 use Rattle.code_follows.proofs.Statements.{StandsIn}
 use Rattle.code_follows.proofs.Values.{Value_of}
 use Rattle.code_follows.proofs.Numbers.{takes_below, takes_held}
@@ -155,7 +155,7 @@ module _ (g : Setting) (has : HasRegisters g) (alive : Variable → Type 0) (fil
           shaped None e = cc
           shaped (Some s) e = cc
 
-  pub return_follows : (e : Option TExpr) → IfSome e (λ x. IsIn (naming g.may alive) x × g.may.returns (type_of x).elem) → (f : Frame) (n : ℕ) (d : Draft) (s0 : CodeState) (st : State) → StandsIn g f → g.begins ≤ d.regs → At g s0 (length d.code) → Sim g alive st s0 → IfSome e (λ x. HasCode g.typed g.instance n x)
+  pub return_follows : (e : Option TExpr) → IfSome e (λ x. IsIn (naming g.may alive) x × g.may.returns (type_of x).elem) → (f : Frame) (n : ℕ) (d : Draft) (s0 : CodeState) (st : State) → StandsIn g f → Begun g d → At g s0 (length d.code) → Sim g alive st s0 → IfSome e (λ x. HasCode g.typed g.instance n x)
       → Follows g (Left g alive f d s0) s0 (executed scope (S.Return e) n active st) (statement_of g.typed (layout g) (S.Return e) f [] n d)
   unfolding executed statement_of returned_by given_back then_make Follows Left IsGiven
   return_follows None h f n d s0 st framed free at sim c =

@@ -22,7 +22,7 @@ use Rattle.code_follows.proofs.Callees.{CallsFollow}
 use Rattle.code_follows.proofs.Executing.{Jumped, TestMade, Tested, test_follows, test_made}
 use Rattle.code_follows.proofs.Following.{Finishes, Follows, HasRegisters, Sim, keeps_all}
 use Rattle.code_follows.proofs.Jumping.{jumps, moved_to, returns_to, sim_moved}
-use Rattle.code_follows.proofs.Settings.{At, Setting, Within, and_one, code_more, earlier, layout, onto, start}
+use Rattle.code_follows.proofs.Settings.{At, Begun, Setting, Within, and_one, code_more, earlier, layout, onto, start}
 
 module _ (g : Setting) (alive : Variable → Type 0) where
   -- where a condition passes the code is at the turn, and else behind the loop
@@ -37,7 +37,7 @@ module _ (g : Setting) (alive : Variable → Type 0) where
       pub e : Draft
       pub is : jump_back_of g.typed (layout g) test turn d ≡ Makes tt e
       pub extended : Extended d (condition_length_of g.typed (layout g) test + 1) e
-      pub leads : g.begins ≤ d.regs → Within g e → (s : CodeState) (st : State) → At g s (length d.code) → Sim g alive st s → Leads d turn (length e.code) s (passes_or_absent scope active test st)
+      pub leads : Begun g d → Within g e → (s : CodeState) (st : State) → At g s (length d.code) → Sim g alive st s → Leads d turn (length e.code) s (passes_or_absent scope active test st)
 
     tested_leads : (d tested : Draft) (r turn : ℕ) (s : CodeState) (o : Outcome Bool) → Within g (with_instr (I.FrontJumpNonzero r turn) tested) → Follows g (Tested g alive d s) s o (Makes r tested)
         → Leads d turn (length (with_instr (I.FrontJumpNonzero r turn) tested).code) s o

@@ -42,7 +42,8 @@ pub record Setting : Type 1 where
   pub instance : Instance
   -- whether it is `main`, the registers of its own values, those that its code leaves as they are until it
   -- returns, where the calls that are open go on, and how many turns are left at most, and
-  -- which functions may be called, and what the memory holds
+  -- which functions may be called, and what the memory holds; what is said of the code holds between these places of
+  -- the unit
   pub is_main : Bool
   pub begins : ℕ
   pub ends : ℕ
@@ -51,6 +52,8 @@ pub record Setting : Type 1 where
   pub most : ℕ
   pub may : May
   pub held : Held
+  pub from : ℕ
+  pub upto : ℕ
 
 module _ (g : Setting) where
   abbrev pub whole : List Step
@@ -70,6 +73,11 @@ module _ (g : Setting) where
     pub fields : g.unit.fields.items ≡ e.fields ++ entries
     pub regs : e.regs ≤ g.image.slots
     pub own : e.regs ≤ g.ends
+    pub upto : length e.code ≤ g.upto
+
+  -- code that goes on is longer
+  pub longer : (d e : Draft) (n : ℕ) → Extended d n e → length d.code ≤ length e.code
+  longer d e n x = let both = ap (λ (c : List Step). length c) x.code ∙ length-append d.code x.more in omega (arith, both)
 
   pub earlier : (d e : Draft) (n : ℕ) → Extended d n e → Within e → Within d
   earlier d e n x w = record {
@@ -79,7 +87,16 @@ module _ (g : Setting) where
     fields = w.fields ∙ ap (λ (entries : List Virtual). entries ++ w.entries) x.fields ∙ append_assoc d.fields x.entries w.entries;
     regs = omega (arith, x.regs, w.regs);
     own = omega (arith, x.regs, w.own);
+    upto = omega (arith, longer d e n x, w.upto);
   }
+
+  -- the code of a draft has begun: it stands behind the place, and its values behind the registers before them
+  pub record Begun (d : Draft) : Type 0 where
+    pub regs : g.begins ≤ d.regs
+    pub code : g.from ≤ length d.code
+
+  pub begun_later : (d e : Draft) (n : ℕ) → Extended d n e → Begun d → Begun e
+  begun_later d e n x b = record { regs = omega (arith, x.regs, b.regs); code = omega (arith, longer d e n x, b.code) }
 
   -- the code stands at a place of the unit
   abbrev pub At : CodeState → ℕ → Type 0

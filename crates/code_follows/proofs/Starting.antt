@@ -44,7 +44,7 @@ use Rattle.code_follows.proofs.Executing.{RanOn, gives, no_break, no_continue, n
 use Rattle.code_follows.proofs.Callees.{CallsFollow}
 use Rattle.code_follows.proofs.Following.{Extends, Follows, HasRegisters, IsScalar, Keeps, Ran, Sim, delayed, extends_then, finished, finishes_later, follows_other, held, keeps_all, then_follows, variable_kept}
 use Rattle.code_follows.proofs.Putting.{Put, put_follows}
-use Rattle.code_follows.proofs.Settings.{At, Reaches, Setting, and_one, at_next, begins_here, layout, one, regs_more, stay}
+use Rattle.code_follows.proofs.Settings.{At, Begun, Reaches, Setting, and_one, at_next, begins_here, begun_later, layout, one, regs_more, stay}
 use Rattle.code_follows.proofs.Standing.{some_same}
 use Rattle.code_follows.proofs.Stores.{below_free, same_itself, sim_begun}
 use Rattle.code_follows.proofs.Values.{extends_grown}
@@ -213,14 +213,14 @@ module _ (g : Setting) (has : HasRegisters g) (alive : Variable → Type 0) (fil
           (extends_then g d (put_to g.typed (layout g) (O.Scalar (register_of (layout g) (V.Local n))) e d) (λ out after. all_initialised g.typed (layout g) locals (n + 1) after) (local_grows n e d h.0.0 k) (λ out after. rest after))
 
   -- a value is put in the register of the next variable, which is alive behind it
-  abbrev Begun : LocalVar → List LocalVar → ℕ → Draft → CodeState → Value → State → Draft → Type 0
-  Begun local locals n d s v u f = (word : ℕ) × ((v ≡ Scalar word) × Ran g (λ z. Now locals (n + 1) z) d s (with_scalar (V.Local n) word u) f)
+  abbrev PutOne : LocalVar → List LocalVar → ℕ → Draft → CodeState → Value → State → Draft → Type 0
+  PutOne local locals n d s v u f = (word : ℕ) × ((v ≡ Scalar word) × Ran g (λ z. Now locals (n + 1) z) d s (with_scalar (V.Local n) word u) f)
 
   abbrev Puts_one : LocalVar → List LocalVar → ℕ → TExpr → Draft → CodeState → State → Type 0
-  Puts_one local locals n e d s st = Follows g (λ v u (out : Out) f. Begun local locals n d s v u f) s (evaluated scope e active st) (put_to g.typed (layout g) (O.Scalar (register_of (layout g) (V.Local n))) e d)
+  Puts_one local locals n e d s st = Follows g (λ v u (out : Out) f. PutOne local locals n d s v u f) s (evaluated scope e active st) (put_to g.typed (layout g) (O.Scalar (register_of (layout g) (V.Local n))) e d)
 
   -- a constant
-  constant_put : (local : LocalVar) (locals : List LocalVar) (n : ℕ) (e : TExpr) (word : ℕ) (d : Draft) (s : CodeState) (st : State) → IsScalar g (V.Local n) local.info → Takes local.info.elem (type_of e).elem → (IsIn (naming g.may alive)) e → StandsAsWord e word → g.begins ≤ d.regs → At g s (length d.code) → Sim g (λ z. Now (local ∷ locals) n z) st s
+  constant_put : (local : LocalVar) (locals : List LocalVar) (n : ℕ) (e : TExpr) (word : ℕ) (d : Draft) (s : CodeState) (st : State) → IsScalar g (V.Local n) local.info → Takes local.info.elem (type_of e).elem → (IsIn (naming g.may alive)) e → StandsAsWord e word → Begun g d → At g s (length d.code) → Sim g (λ z. Now (local ∷ locals) n z) st s
       → Puts_one local locals n e d s st
   unfolding put_to word_for word_put Follows begun step_of Started
   constant_put local locals n e word d s st scalar takes isin c free at sim =
@@ -232,8 +232,8 @@ module _ (g : Setting) (has : HasRegisters g) (alive : Variable → Type 0) (fil
       let own_few : c.value < 2 ^ local.info.elem.bits = subst (λ (w : ℕ). w < 2 ^ local.info.elem.bits) same (converted_below local.info.elem from c.value) in
       let gives_it : evaluated scope e active st ≡ Source.Gives (Scalar c.value) st = subst (λ (o : Option ℕ). Const.IsValueOf e o) c.is (value_means e c.constant) scope active st in
       let is_held : held local.info.elem c.value ≡ word = ap (held local.info.elem) (sym same) ∙ sym (fits_held local.info.elem from c.value (takes_fits local.info.elem from takes) few) ∙ c.same in
-      subst (λ (o : Outcome Value). Follows g (λ v u (out : Out) f. Begun local locals n d s v u f) s o (put_to g.typed (layout g) (O.Scalar r) e d)) (sym gives_it)
-      (subst (λ (m : Made Out). Follows g (λ v u (out : Out) f. Begun local locals n d s v u f) s (Source.Gives (Scalar c.value) st) m)
+      subst (λ (o : Outcome Value). Follows g (λ v u (out : Out) f. PutOne local locals n d s v u f) s o (put_to g.typed (layout g) (O.Scalar r) e d)) (sym gives_it)
+      (subst (λ (m : Made Out). Follows g (λ v u (out : Out) f. PutOne local locals n d s v u f) s (Source.Gives (Scalar c.value) st) m)
       (sym (ap (λ (o : Option ℕ). elim o as (λ _. Made Out) [ Some w ↦ Makes (O.Scalar r) (with_instr (I.FrontConst r w) d) | None ↦ computed_to g.typed (layout g) (O.Scalar r) e d ]) c.stands))
       (λ within.
       let low = below_free g has (V.Local n) local.info scalar in
@@ -260,7 +260,7 @@ module _ (g : Setting) (has : HasRegisters g) (alive : Variable → Type 0) (fil
 
   -- any other value
   value_put : (local : LocalVar) (locals : List LocalVar) (n : ℕ) (e : TExpr) (d : Draft) (s : CodeState) (st : State) → begins_constant local ≡ false → IsScalar g (V.Local n) local.info → alive (V.Local n) → Takes local.info.elem (type_of e).elem → (IsIn (naming g.may (λ z. Now (local ∷ locals) n z))) e → HasCode g.typed g.instance (n + 1) e
-      → g.begins ≤ d.regs → At g s (length d.code) → Sim g (λ z. Now (local ∷ locals) n z) st s → Puts_one local locals n e d s st
+      → Begun g d → At g s (length d.code) → Sim g (λ z. Now (local ∷ locals) n z) st s → Puts_one local locals n e d s st
   unfolding Started IsDeclared
   value_put local locals n e d s st begins scalar living takes isin c free at sim =
       follows_on (evaluated scope e active st) (put_to g.typed (layout g) (O.Scalar (register_of (layout g) (V.Local n))) e d)
@@ -275,13 +275,13 @@ module _ (g : Setting) (has : HasRegisters g) (alive : Variable → Type 0) (fil
       itself : IsDeclared (n + 1) (V.Local n)
       itself = declared_itself n
 
-      follows_on : (o : Outcome Value) (made : Made Out) → Follows g (Put g has (λ z. Now (local ∷ locals) n z) (n + 1) (λ j. now (V.File j) (files j) tt) (ready (n + 1)) scope active calls_follow (V.Local n) local.info (now (V.Local n) living itself) scalar (type_of e).elem d s) s o made → Follows g (λ v u (out : Out) f. Begun local locals n d s v u f) s o made
+      follows_on : (o : Outcome Value) (made : Made Out) → Follows g (Put g has (λ z. Now (local ∷ locals) n z) (n + 1) (λ j. now (V.File j) (files j) tt) (ready (n + 1)) scope active calls_follow (V.Local n) local.info (now (V.Local n) living itself) scalar (type_of e).elem d s) s o made → Follows g (λ v u (out : Out) f. PutOne local locals n d s v u f) s o made
       follows_on o made h = follows_other g _ _ s o made h (λ v u out f p. (
         p.word,
         (p.value, record { grown = p.grown; t = p.t; go = p.go; at = p.at; keeps = p.keeps; sim = sim_fewer g (λ z. Now (local ∷ locals) n z) (λ z. Now locals (n + 1) z) (with_scalar (V.Local n) p.word u) p.t (λ y info named later. (later.0, ((λ b e. never b), later.1))) (subst (λ (w : ℕ). Sim g (λ z. Now (local ∷ locals) n z) (with_scalar (V.Local n) w u) p.t) (takes_same local.info.elem (type_of e).elem p.word takes p.small) p.sim) }),
       ))
 
-  pub initials_follow : (locals : List LocalVar) (n : ℕ) (d : Draft) (s : CodeState) (st : State) → All IsScalarLocal locals → StandFrom (variables_of g.instance.body) n (map info_of locals) → AreSettled n locals → AreCoded n locals → g.begins ≤ d.regs → At g s (length d.code) → Sim g (λ z. Now locals n z) st s
+  pub initials_follow : (locals : List LocalVar) (n : ℕ) (d : Draft) (s : CodeState) (st : State) → All IsScalarLocal locals → StandFrom (variables_of g.instance.body) n (map info_of locals) → AreSettled n locals → AreCoded n locals → Begun g d → At g s (length d.code) → Sim g (λ z. Now locals n z) st s
       → Follows g (RanOn g alive d s) s (initialised scope active n locals st) (all_initialised g.typed (layout g) locals n d)
   unfolding all_initialised initialised_in initialised initialised_one AreCoded AreSettled Follows then_make then_go variable_target stored number Started begins_constant
   initials_follow [] n d s st isin stand settled c free at sim = λ within. (refl, record { grown = (0, as_it_was d); t = s; go = stay g s; at = at; sim = sim_fewer g (λ z. Now [] n z) alive st s (λ x info named h. (h, tt)) sim; keeps = keeps_all g d s })
@@ -295,7 +295,7 @@ module _ (g : Setting) (has : HasRegisters g) (alive : Variable → Type 0) (fil
       scalar = (first_is_named g n local.info (map info_of locals) stand, (all_first IsScalarLocal local locals isin))
 
       by : (o : Option TExpr) → local.initial ≡ o → IfSome o (λ e. Begins local locals n e) → IfSome o (HasCode g.typed g.instance (n + 1))
-          → ((e : Draft) (t : CodeState) (u : State) → g.begins ≤ e.regs → At g t (length e.code) → Sim g (λ z. Now locals (n + 1) z) u t → Follows g (RanOn g alive e t) t (initialised scope active (n + 1) locals u) (all_initialised g.typed (layout g) locals (n + 1) e))
+          → ((e : Draft) (t : CodeState) (u : State) → Begun g e → At g t (length e.code) → Sim g (λ z. Now locals (n + 1) z) u t → Follows g (RanOn g alive e t) t (initialised scope active (n + 1) locals u) (all_initialised g.typed (layout g) locals (n + 1) e))
           → Follows g (RanOn g alive d s) s (then_go (initialised_one scope active there o st) (initialised scope active (n + 1) locals)) (then_make (initial_put local.info n o d) (λ u after. all_initialised g.typed (layout g) locals (n + 1) after))
       by None is h k rest = rest d s st free at (sim_fewer g (λ z. Now (local ∷ locals) n z) (λ z. Now locals (n + 1) z) st s (λ y info named later. (later.0, ((λ b e. let none = starts_none local is in cc), later.1))) sim)
       by (Some e) is h k rest =
@@ -307,13 +307,12 @@ module _ (g : Setting) (has : HasRegisters g) (alive : Variable → Type 0) (fil
           subst (λ (m : Made (Unit {0})). Follows g (RanOn g alive d s) s (then_go (initialised_one scope active there (Some e) st) go_on) m) (sym (put_is local.info n e d (λ u after. next after) scalar.1))
           (subst (λ (o : Outcome Leaving). Follows g (RanOn g alive d s) s o (then_make (put_to g.typed (layout g) (O.Scalar (register_of (layout g) x)) e d) (λ out after. next after))) (sym (go_do (evaluated scope e active st) (λ v after. stored active there v after) go_on))
           (subst (λ (target : Target). Follows g (RanOn g alive d s) s (then_do (evaluated scope e active st) (λ v after. go_on (stored active target v after))) (then_make (put_to g.typed (layout g) (O.Scalar (register_of (layout g) x)) e d) (λ out after. next after))) (sym there_is)
-          (then_follows g (λ v u (out : Out) f. Begun local locals n d s v u f) (RanOn g alive d s) s s (evaluated scope e active st) (λ v after. go_on (stored active (OfScalar x) v after)) (put_to g.typed (layout g) (O.Scalar (register_of (layout g) x)) e d) (λ out after. next after) (stay g s)
+          (then_follows g (λ v u (out : Out) f. PutOne local locals n d s v u f) (RanOn g alive d s) s s (evaluated scope e active st) (λ v after. go_on (stored active (OfScalar x) v after)) (put_to g.typed (layout g) (O.Scalar (register_of (layout g) x)) e d) (λ out after. next after) (stay g s)
           puts (λ out after. initials_grow locals (n + 1) after (all_rest IsScalarLocal local locals isin) settled.2 c.1)
           (λ v u out f p.
           let ran = p.1.1 in
-          let more = ran.grown.1.regs in
           subst (λ (after : State). Follows g (RanOn g alive d s) s (go_on after) (next f)) (sym (ap (λ (w : Value). stored active (OfScalar x) w u) p.1.0))
-          (run_from d f ran.grown.0 s ran.t (go_on (with_scalar x p.0 u)) (next f) ran.grown.1 ran.go ran.keeps (rest f ran.t (with_scalar x p.0 u) (omega (arith, free, more)) ran.at ran.sim))))))
+          (run_from d f ran.grown.0 s ran.t (go_on (with_scalar x p.0 u)) (next f) ran.grown.1 ran.go ran.keeps (rest f ran.t (with_scalar x p.0 u) (begun_later g d f ran.grown.0 ran.grown.1 free) ran.at ran.sim))))))
 
   -- the registers of `main` are zero already
   pub none_cleared : (locals : List LocalVar) (n : ℕ) (d : Draft) → All IsScalarLocal locals → all_cleared (layout g) true locals n d ≡ Makes tt d

@@ -397,6 +397,8 @@ module _ (t : Typed) (image : Image) (p : HasScalarInstances t) (codable : IsCod
     most = most;
     may = may;
     held = holding;
+    from = 0;
+    upto = length (own_unit number i is).unit.code;
   }
 
   pub within_all : (number : ℕ) (i : Instance) (is : slice_get t.instances.items number ≡ Some i) (spared : ℕ → Type 0) (returns : List ℕ) (most : ℕ) (may : May) (holding : Held) → Within (setting number i is spared returns most may holding) (unit_at number i is)
@@ -408,6 +410,7 @@ module _ (t : Typed) (image : Image) (p : HasScalarInstances t) (codable : IsCod
     fields = ap (λ (d : Draft). d.fields) (own_unit number i is).drafted ∙ sym (append-nil (unit_at number i is).fields);
     regs = let last = (own_unit number i is).last in let h = ends_within number in omega (arith, last, h);
     own = let last = (own_unit number i is).last in omega (arith, last);
+    upto = omega arith;
   }
 
   -- the registers of an instance, where those that are spared are none of its own

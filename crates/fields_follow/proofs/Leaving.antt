@@ -56,10 +56,10 @@ module _ (g : Setting) where
   places_under a p = record { ends = p.ends; exists = p.exists; files_end = p.files_end; file = p.file; files_apart = p.files_apart; own_file = p.own_file; owns_apart = p.owns_apart; few = p.few }
 
   pub within_under : {d : Draft} (a : Active) → Within g d → Within (under a) d
-  within_under a w = record { more = w.more; code = w.code; entries = w.entries; fields = w.fields; regs = w.regs; own = w.own }
+  within_under a w = record { more = w.more; code = w.code; entries = w.entries; fields = w.fields; regs = w.regs; own = w.own; upto = w.upto }
 
   pub within_again : {d : Draft} (a : Active) → Within (under a) d → Within g d
-  within_again a w = record { more = w.more; code = w.code; entries = w.entries; fields = w.fields; regs = w.regs; own = w.own }
+  within_again a w = record { more = w.more; code = w.code; entries = w.entries; fields = w.fields; regs = w.regs; own = w.own; upto = w.upto }
 
   pub reaches_under : {s t : CodeState} (a : Active) → Reaches g s t → Reaches (under a) s t
   reaches_under a r = record { by = r.by }

@@ -76,7 +76,7 @@ module _ (t : Typed) (image : Image) (p : IsParallelProgram t) (codable : IsCoda
     besides has = record {
       effects = λ alive files n ready e h among c d s st free here sim. updates_follow g has alive n ready places fields scope same_extents e h (record { code = c; among = among }) d s st here sim;
       folds = λ alive files n ready e h among c d s st R r free here sim dest.
-          folds_follow g has scope places fields (λ set q. refl) alive n (operands_follow g has scope places fields (λ set q. refl) alive n ready) same_extents e h (record { code = c; among = among }) d s st R r free here sim dest;
+          folds_follow g has scope places fields (λ set q. refl) alive n (operands_follow g has scope places fields (λ set q. refl) alive n ready) same_extents e h (record { code = c; among = among }) d s st R r free.regs here sim dest;
       statements = λ alive files n ready s h. absurd h;
     }
 
