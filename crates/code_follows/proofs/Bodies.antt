@@ -1,16 +1,16 @@
--- Every statement of the fragment.
-use Rattle.std.proofs.Common.{◌≡◌, ◌∙◌, ℕ, ◌+◌, ◌≤◌, false, List, [], ◌++◌, map, Vec, Global, length, sym, subst, arith, refl, inl, inr, Option, None, Some}
+-- Blocks and statements in a row, and what jumps out of a loop.
+use Rattle.std.proofs.Common.{◌≡◌, ◌∙◌, ℕ, ◌+◌, ◌≤◌, false, List, [], ◌++◌, map, Vec, Global, length, sym, subst, arith, refl, Option, None, Some}
 use mathlib.Core.Former.{Count}
 use Rattle.std.proofs.lemmas.List.{length-map}
 use Rattle.std.specs.List.{All}
 use Rattle.cstar_tree.specs.declared.typed.LocalVar.{LocalVar}
 use Rattle.cstar_tree.specs.declared.typed.TExpr.{TExpr}
-use Rattle.cstar_tree.specs.declared.typed.TStmt.{TStmt, Row_of-TStmt, end_of-TStmt, more_of-TStmt, Held-TStmt-If-2, None', Some'}
-use Rattle.cstar_tree.specs.declared.typed.TStmt as S
+use Rattle.cstar_tree.specs.declared.typed.TStmt.{TStmt, Row_of-TStmt, end_of-TStmt, more_of-TStmt}
 use Rattle.cstar_tree.specs.declared.typed.VarInfo.{VarInfo}
-use Rattle.cstar_tree.specs.declared.typed.Variable.TheVariants as V
 use Rattle.cstar_tree.specs.declared.typed.Variable.{Variable}
 use Rattle.cstar_tree.specs.Variables.{variables_of}
+use Rattle.cstar_tree.specs.declared.typed.TStmt as S
+use Rattle.cstar_tree.specs.declared.typed.Variable.TheVariants as V
 use Rattle.code_lengths.specs.Agreement.{StandsAmong}
 use Rattle.code_lengths.specs.Growth.{Extended}
 use Rattle.code_lengths.specs.LowerableStatements.{AreLowerableStatements, IsLowerableStatement}
@@ -20,34 +20,32 @@ use Rattle.code_lengths.specs.Ready.{HasDeclared, HasStatementCode, IsReady, Num
 use Rattle.code_lengths.proofs.Declaring.{first_part, info_of, of_block, row_variables, second_part}
 use Rattle.code_lengths.proofs.Drafting.{as_it_was, extended}
 use Rattle.lower_base.specs.Drafts.{Draft, Fails, Made, Makes, then_make, with_instr}
+use Rattle.lower_base.specs.declared.emit.Out.{Out}
 use Rattle.lower_stmt.specs.declared.statement.Frame.{Frame}
-use Rattle.lower_stmt.specs.Statements.{else_of, part_of, restored, statement_of, statements_of}
+use Rattle.lower_stmt.specs.Statements.{part_of, restored, statement_of, statements_of}
 use Rattle.lower_stmt.specs.Variables.{all_initialised, declared as declared_in}
 use Rattle.meaning_laws.proofs.Parts.{behind as state_after}
-use Rattle.paris_code.specs.declared.instr.Instr.TheVariants as I
 use Rattle.paris_code.specs.Code.{CodeState}
-use Rattle.source_meaning.specs.State as Source
-use Rattle.source_meaning.specs.State.{Outcome, State, is_among, spend_turn, then_do, zeroed}
-use Rattle.source_meaning.specs.Statements.{Broke, Continued, Onward, Returned, all_executed, declared, done, else_executed, executed, initialised, then_go, Leaving}
+use Rattle.paris_code.specs.declared.operands.Field.{Field}
+use Rattle.paris_code.specs.declared.instr.Instr.TheVariants as I
+use Rattle.source_meaning.specs.State.{Outcome, State, then_do, zeroed}
+use Rattle.source_meaning.specs.Statements.{Broke, Continued, Onward, Returned, all_executed, declared, done, executed, initialised, then_go, Leaving}
 use Rattle.source_meaning.specs.Values.{Active, Scope, Value}
-use Rattle.lower_base.specs.declared.emit.Out.{Out}
-use Rattle.code_follows.proofs.Declaring.{AreBefore, among_before, clears, declared_later, sim_fewer, Alive}
-use Rattle.code_follows.specs.Fragment.{AreInStatements, IsEffect, IsScalarLocal, IsInElse, IsInStatement, IsTested, OrAmong, naming}
+use Rattle.source_meaning.specs.State as Source
+use Rattle.code_follows.proofs.Declaring.{clears, sim_fewer, Alive}
+use Rattle.code_follows.specs.Fragment.{IsEffect, IsScalarLocal, OrAmong, naming}
 use Rattle.code_follows.proofs.Assigning.{effect_follows}
-use Rattle.code_follows.proofs.Choices.{Agrees, if_alone, if_else}
-use Rattle.code_follows.proofs.Executing.{IsGiven, Jumped, Left, RanOn, follows_from, go_on, no_break, no_continue, no_return}
-use Rattle.code_follows.proofs.ForLoops.{do_agrees, for_agrees, while_agrees}
+use Rattle.code_follows.proofs.Executing.{IsGiven, Jumped, Left, RanOn, follows_from, go_on}
 use Rattle.code_follows.proofs.Callees.{CallsFollow}
 use Rattle.code_follows.proofs.Following.{Extends, Follows, follows_other, HasRegisters, Ran, Sim, delayed, extends_made, keeps_all, nothing_said}
-use Rattle.code_follows.proofs.Jumping.{nothing_restored, jumps, moved_to, sim_moved}
-use Rattle.code_follows.proofs.Returning.{return_follows}
+use Rattle.code_follows.proofs.Jumping.{jumps, moved_to, sim_moved, none_restored}
 use Rattle.code_follows.proofs.Settings.{At, Begun, Setting, Within, begun_later, layout, start, stay}
-use Rattle.code_follows.proofs.Starting.{AreCoded, AreSettled, Now, coded, settled_so, go_after, initials_follow, initials_grow}
-use Rattle.code_follows.proofs.Statements.{StandsIn, expression_code, returned_code, statement_made, with_body}
+use Rattle.code_follows.proofs.Starting.{AreCoded, AreSettled, Now, coded, go_after, initials_follow, initials_grow}
+use Rattle.code_follows.proofs.Statements.{StandsIn, expression_code, statement_made}
 
 module _ (g : Setting) (has : HasRegisters g) (alive : Variable → Type 0) (files : (k : ℕ) → alive (V.File k)) (numbers : NumbersVariables g.instance (layout g)) (ready : (n : ℕ) (d : Draft) → IsReady g.typed g.instance (layout g) n d)
     (declares : (n : ℕ) (d : Draft) → d.homes ≡ [] → HasDeclared g.typed g.instance (layout g) n d) (scope : Scope) (active : Active) (calls_follow : CallsFollow g scope active)
-    (falls : (s : TStmt) (n : ℕ) (st : State) → (state_after (executed scope s n active st)).turns ≤ st.turns) where
+    (falls : (s : TStmt) (n : ℕ) (st : State) → (state_after (executed scope s n active st)).turns ≤ st.turns) (contexts : List Field) where
   -- an expression as a statement
   effect_statement : (f : Frame) (n : ℕ) (d : Draft) (s0 : CodeState) (o : Outcome Value) (made : Made Out) → Follows g (λ v u out e. Ran g alive d s0 u e) s0 o made
       → Follows g (Left g alive f d s0) s0 (then_do o (λ v after. Source.Gives Onward after)) (then_make (then_make made (λ out after. Makes (tt {0}) after)) (λ u after. Makes n after))
@@ -58,8 +56,8 @@ module _ (g : Setting) (has : HasRegisters g) (alive : Variable → Type 0) (fil
   effect_statement f n d s0 (Source.Ends early u) Fails h = tt
 
   -- a jump out of a loop
-  jumps_out : (f : Frame) (k n place : ℕ) (d : Draft) (s0 : CodeState) (st : State) → At g s0 (length d.code) → Sim g alive st s0 → Within g (with_instr (I.FrontJump place) d) → Jumped g alive d s0 st place
-  jumps_out f k n place d s0 st at sim within = record {
+  jumps_out : (f : Frame) (n place : ℕ) (d : Draft) (s0 : CodeState) (st : State) → At g s0 (length d.code) → Sim g alive st s0 → Within g (with_instr (I.FrontJump place) d) → Jumped g alive d s0 st place
+  jumps_out f n place d s0 st at sim within = record {
     t = moved_to g alive (place + start g) s0;
     go = jumps g alive place d s0 within at;
     at = omega arith;
@@ -74,59 +72,46 @@ module _ (g : Setting) (has : HasRegisters g) (alive : Variable → Type 0) (fil
     pub names : StatementsNameVariables g.typed g.instance n row
     pub stands : StandFrom (variables_of g.instance.body) n (row_variables row)
 
-  row_first : {k : Count} (n : ℕ) (s : TStmt) (rest : Row_of-TStmt k) → RowCode n (more_of-TStmt s rest) → HasStatementCode g.typed g.instance n s
+  pub row_first : {k : Count} (n : ℕ) (s : TStmt) (rest : Row_of-TStmt k) → RowCode n (more_of-TStmt s rest) → HasStatementCode g.typed g.instance n s
   unfolding AreShapedStatements AreLowerableStatements StatementsNameVariables row_variables
   row_first n s rest c = record { shaped = c.shaped.0; lowerable = c.lowerable.0; names = c.names.0; stands = first_part (variables_of s) (row_variables rest) c.stands }
 
-  row_rest : {k : Count} (n : ℕ) (s : TStmt) (rest : Row_of-TStmt k) → RowCode n (more_of-TStmt s rest) → RowCode (behind n s) rest
+  pub row_rest : {k : Count} (n : ℕ) (s : TStmt) (rest : Row_of-TStmt k) → RowCode n (more_of-TStmt s rest) → RowCode (behind n s) rest
   unfolding AreShapedStatements AreLowerableStatements StatementsNameVariables row_variables
   row_rest n s rest c = record { shaped = c.shaped.1; lowerable = c.lowerable.1; names = c.names.1; stands = second_part (variables_of s) (row_variables rest) c.stands }
 
-  pub row_grows : {k : Count} (row : Row_of-TStmt k) (f : Frame) (n : ℕ) (d : Draft) → StandsIn g f → StandsAmong f [] → d.homes ≡ [] → RowCode n row → Extends g d (statements_of g.typed (layout g) row f [] n d)
+  pub row_grows : {k : Count} (row : Row_of-TStmt k) (f : Frame) (n : ℕ) (d : Draft) → StandsIn g f → StandsAmong f contexts → d.homes ≡ [] → RowCode n row → Extends g d (statements_of g.typed (layout g) row f contexts n d)
   unfolding statements_of Extends then_make
   row_grows end_of-TStmt f n d framed among none c = (0, as_it_was d)
   row_grows (more_of-TStmt s rest) f n d framed among none c =
-      let made = statement_made g numbers declares s f n d framed among (row_first n s rest c) none in
-      subst (λ (m : Made ℕ). Extends g d (then_make m (λ m' after. statements_of g.typed (layout g) rest f [] m' after))) (sym made.is)
-      (grown_on d made.e _ (statements_of g.typed (layout g) rest f [] (behind n s) made.e) made.extended (row_grows rest f (behind n s) made.e framed among made.homes (row_rest n s rest c)))
+      let made = statement_made g numbers declares s f contexts n d framed among (row_first n s rest c) none in
+      subst (λ (m : Made ℕ). Extends g d (then_make m (λ m' after. statements_of g.typed (layout g) rest f contexts m' after))) (sym made.is)
+      (grown_on d made.e _ (statements_of g.typed (layout g) rest f contexts (behind n s) made.e) made.extended (row_grows rest f (behind n s) made.e framed among made.homes (row_rest n s rest c)))
     where
       grown_on : (d e : Draft) (k : ℕ) (m : Made ℕ) → Extended d k e → Extends g e m → Extends g d m
       grown_on d e k (Makes x h) a b = (k + b.0, extended d e h k b.0 a b.1)
       grown_on d e k Fails a b = tt
 
-  -- a statement under contexts, which goes on
-  under_contexts : (s : TStmt) → g.may.beside.statements alive s → (n : ℕ) → Agrees g has alive files numbers ready declares scope active calls_follow n s
-  unfolding Left
-  under_contexts s may n f d s0 st framed among none free at sim c =
-      follows_other g (RanOn g alive d s0) (Left g alive f d s0) s0 (executed scope s n active st) (statement_of g.typed (layout g) s f [] n d)
-      ((calls_follow.beside has).statements alive files n (ready n) s may c f d s0 st none free at sim) left_on
-    where
-      left_on : (leaving : Leaving) (u : State) (m : ℕ) (e : Draft) → RanOn g alive d s0 leaving u m e → Left g alive f d s0 leaving u m e
-      left_on Onward u m e ran = ran.1
-      left_on Broke u m e ran = absurd (no_break ran.0)
-      left_on Continued u m e ran = absurd (no_continue ran.0)
-      left_on (Returned v) u m e ran = absurd (no_return v ran.0)
-
   -- nothing is done
-  stays_here : (f : Frame) (n : ℕ) (d : Draft) (s0 : CodeState) (st : State) → At g s0 (length d.code) → Sim g alive st s0 → Follows g (Left g alive f d s0) s0 (Source.Gives Onward st) (Makes n d)
+  pub stays_here : (f : Frame) (n : ℕ) (d : Draft) (s0 : CodeState) (st : State) → At g s0 (length d.code) → Sim g alive st s0 → Follows g (Left g alive f d s0) s0 (Source.Gives Onward st) (Makes n d)
   unfolding Follows Left
   stays_here f n d s0 st at sim = λ within. record { grown = (0, as_it_was d); t = s0; go = stay g s0; at = at; sim = sim; keeps = keeps_all g d s0 }
 
-  expression_follows : (e : TExpr) → (IsEffect (naming g.may alive)) e → (f : Frame) (n : ℕ) (d : Draft) (s0 : CodeState) (st : State) → Begun g d → At g s0 (length d.code) → Sim g alive st s0 → HasStatementCode g.typed g.instance n (S.Expression e)
+  pub expression_follows : (e : TExpr) → (IsEffect (naming g.may alive)) e → (f : Frame) (n : ℕ) (d : Draft) (s0 : CodeState) (st : State) → Begun g d → At g s0 (length d.code) → Sim g alive st s0 → HasStatementCode g.typed g.instance n (S.Expression e)
       → Follows g (Left g alive f d s0) s0 (done scope active (Some e) st) (then_make (part_of g.typed (layout g) (Some e) d) (λ u after. Makes n after))
   unfolding done part_of
   expression_follows e h f n d s0 st free at sim c =
       effect_statement f n d s0 _ _ (effect_follows g has alive n files (ready n) scope active calls_follow e h (expression_code g numbers declares n e c) d s0 st free at sim)
 
-  breaks : (f : Frame) (k n : ℕ) (d : Draft) (s0 : CodeState) (st : State) → At g s0 (length d.code) → Sim g alive st s0 → Follows g (Left g alive f d s0) s0 (Source.Gives Broke st) (Makes n (with_instr (I.FrontJump f.after) (restored [] k d)))
+  pub breaks : (f : Frame) (n : ℕ) (d : Draft) (s0 : CodeState) (st : State) → f.saved.in_loop ≡ 0 → At g s0 (length d.code) → Sim g alive st s0 → Follows g (Left g alive f d s0) s0 (Source.Gives Broke st) (Makes n (with_instr (I.FrontJump f.after) (restored contexts f.saved.in_loop d)))
   unfolding Follows Left
-  breaks f k n d s0 st at sim =
-      subst (λ (e : Draft). Follows g (Left g alive f d s0) s0 (Source.Gives Broke st) (Makes n (with_instr (I.FrontJump f.after) e))) (sym (nothing_restored k d)) (λ within. jumps_out f k n f.after d s0 st at sim within)
+  breaks f n d s0 st none at sim =
+      subst (λ (e : Draft). Follows g (Left g alive f d s0) s0 (Source.Gives Broke st) (Makes n (with_instr (I.FrontJump f.after) e))) (sym (none_restored contexts f.saved.in_loop d none)) (λ within. jumps_out f n f.after d s0 st at sim within)
 
-  continues : (f : Frame) (k n : ℕ) (d : Draft) (s0 : CodeState) (st : State) → At g s0 (length d.code) → Sim g alive st s0 → Follows g (Left g alive f d s0) s0 (Source.Gives Continued st) (Makes n (with_instr (I.FrontJump f.next) (restored [] k d)))
+  pub continues : (f : Frame) (n : ℕ) (d : Draft) (s0 : CodeState) (st : State) → f.saved.in_loop ≡ 0 → At g s0 (length d.code) → Sim g alive st s0 → Follows g (Left g alive f d s0) s0 (Source.Gives Continued st) (Makes n (with_instr (I.FrontJump f.next) (restored contexts f.saved.in_loop d)))
   unfolding Follows Left
-  continues f k n d s0 st at sim =
-      subst (λ (e : Draft). Follows g (Left g alive f d s0) s0 (Source.Gives Continued st) (Makes n (with_instr (I.FrontJump f.next) e))) (sym (nothing_restored k d)) (λ within. jumps_out f k n f.next d s0 st at sim within)
+  continues f n d s0 st none at sim =
+      subst (λ (e : Draft). Follows g (Left g alive f d s0) s0 (Source.Gives Continued st) (Makes n (with_instr (I.FrontJump f.next) e))) (sym (none_restored contexts f.saved.in_loop d none)) (λ within. jumps_out f n f.next d s0 st at sim within)
 
   pub block_stands : (n : ℕ) (locals : Vec LocalVar Global) (p : Vec (Unit {0}) Global) (row : _) → HasStatementCode g.typed g.instance n (S.Block' locals p row) → StandFrom (variables_of g.instance.body) n (map info_of locals.items ++ row_variables row)
   block_stands n locals p row c = subst (λ (own : List VarInfo). StandFrom (variables_of g.instance.body) n own) (of_block locals p row) c.stands
@@ -142,22 +127,22 @@ module _ (g : Setting) (has : HasRegisters g) (alive : Variable → Type 0) (fil
 
   -- the initialisers of a block and its statements behind them, where its variables are cleared
   abbrev pub begun_code : {k : Count} → List LocalVar → Row_of-TStmt k → Frame → ℕ → Draft → Made ℕ
-  begun_code locals row f n d = then_make (then_make (all_initialised g.typed (layout g) locals n d) (λ v after. Makes (n + length locals) after)) (λ m after. statements_of g.typed (layout g) row f [] m after)
+  begun_code locals row f n d = then_make (then_make (all_initialised g.typed (layout g) locals n d) (λ v after. Makes (n + length locals) after)) (λ m after. statements_of g.typed (layout g) row f contexts m after)
 
-  pub begun_grows : {k : Count} (locals : List LocalVar) (row : Row_of-TStmt k) (f : Frame) (n : ℕ) (d : Draft) → All IsScalarLocal locals → AreSettled g has alive files ready scope active calls_follow n locals → AreCoded g has alive files ready scope active calls_follow n locals → RowCode (n + length locals) row → StandsIn g f → StandsAmong f [] → d.homes ≡ []
+  pub begun_grows : {k : Count} (locals : List LocalVar) (row : Row_of-TStmt k) (f : Frame) (n : ℕ) (d : Draft) → All IsScalarLocal locals → AreSettled g has alive files ready scope active calls_follow n locals → AreCoded g has alive files ready scope active calls_follow n locals → RowCode (n + length locals) row → StandsIn g f → StandsAmong f contexts → d.homes ≡ []
       → Extends g d (begun_code locals row f n d)
   unfolding then_make Extends
   begun_grows locals row f n d isin settled initial code framed among none = by (all_initialised g.typed (layout g) locals n d) refl
     where
-      by : (m : Made (Unit {0})) → all_initialised g.typed (layout g) locals n d ≡ m → Extends g d (then_make (then_make m (λ v after. Makes (n + length locals) after)) (λ m' after. statements_of g.typed (layout g) row f [] m' after))
+      by : (m : Made (Unit {0})) → all_initialised g.typed (layout g) locals n d ≡ m → Extends g d (then_make (then_make m (λ v after. Makes (n + length locals) after)) (λ m' after. statements_of g.typed (layout g) row f contexts m' after))
       by Fails is = tt
       by (Makes u e) is =
           let grows : (j : ℕ) × Extended d j e = subst (λ (m : Made (Unit {0})). Extends g d m) is (initials_grow g has alive files ready scope active calls_follow locals n d isin settled initial) in
-          extends_made g d e grows.0 (statements_of g.typed (layout g) row f [] (n + length locals) e) grows.1 (row_grows row f (n + length locals) e framed among (grows.1.homes ∙ none) code)
+          extends_made g d e grows.0 (statements_of g.typed (layout g) row f contexts (n + length locals) e) grows.1 (row_grows row f (n + length locals) e framed among (grows.1.homes ∙ none) code)
 
   pub begun_follows : {k : Count} (locals : List LocalVar) (row : Row_of-TStmt k) (f : Frame) (n : ℕ) (d : Draft) (s0 : CodeState) (st : State) → All IsScalarLocal locals → StandFrom (variables_of g.instance.body) n (map info_of locals) → AreSettled g has alive files ready scope active calls_follow n locals → AreCoded g has alive files ready scope active calls_follow n locals → RowCode (n + length locals) row
-      → StandsIn g f → StandsAmong f [] → d.homes ≡ [] → Begun g d → At g s0 (length d.code) → Sim g (λ z. Now g has alive files ready scope active calls_follow locals n z) st s0
-      → ((e : Draft) (t : CodeState) (u : State) → e.homes ≡ [] → Begun g e → At g t (length e.code) → Sim g alive u t → Follows g (Left g alive f e t) t (all_executed scope row (n + length locals) active u) (statements_of g.typed (layout g) row f [] (n + length locals) e))
+      → StandsIn g f → StandsAmong f contexts → d.homes ≡ [] → Begun g d → At g s0 (length d.code) → Sim g (λ z. Now g has alive files ready scope active calls_follow locals n z) st s0
+      → ((e : Draft) (t : CodeState) (u : State) → e.homes ≡ [] → Begun g e → At g t (length e.code) → Sim g alive u t → Follows g (Left g alive f e t) t (all_executed scope row (n + length locals) active u) (statements_of g.typed (layout g) row f contexts (n + length locals) e))
       → Follows g (Left g alive f d s0) s0 (then_go (initialised scope active n locals st) (all_executed scope row (n + length locals) active)) (begun_code locals row f n d)
   unfolding then_make Extends
   begun_follows locals row f n d s0 st isin stand settled initial code framed among none free at sim next = by (all_initialised g.typed (layout g) locals n d) refl
@@ -165,28 +150,28 @@ module _ (g : Setting) (has : HasRegisters g) (alive : Variable → Type 0) (fil
       whole : Outcome Leaving
       whole = then_go (initialised scope active n locals st) (all_executed scope row (n + length locals) active)
 
-      by : (m : Made (Unit {0})) → all_initialised g.typed (layout g) locals n d ≡ m → Follows g (Left g alive f d s0) s0 whole (then_make (then_make m (λ v after. Makes (n + length locals) after)) (λ m' after. statements_of g.typed (layout g) row f [] m' after))
+      by : (m : Made (Unit {0})) → all_initialised g.typed (layout g) locals n d ≡ m → Follows g (Left g alive f d s0) s0 whole (then_make (then_make m (λ v after. Makes (n + length locals) after)) (λ m' after. statements_of g.typed (layout g) row f contexts m' after))
       by Fails is = nothing_said g (Left g alive f d s0) s0 whole
       by (Makes u e) is =
           let grows : (j : ℕ) × Extended d j e = subst (λ (m : Made (Unit {0})). Extends g d m) is (initials_grow g has alive files ready scope active calls_follow locals n d isin settled initial) in
           let homes : e.homes ≡ [] = grows.1.homes ∙ none in
-          let made : Made ℕ = statements_of g.typed (layout g) row f [] (n + length locals) e in
+          let made : Made ℕ = statements_of g.typed (layout g) row f contexts (n + length locals) e in
           go_after g has alive files ready scope active calls_follow d s0 (Left g alive f d s0) (initialised scope active n locals st) (all_executed scope row (n + length locals) active) u e made
           (subst (λ (m : Made (Unit {0})). Follows g (RanOn g alive d s0) s0 (initialised scope active n locals st) m) is (initials_follow g has alive files ready scope active calls_follow locals n d s0 st isin stand settled initial free at sim)) (row_grows row f (n + length locals) e framed among homes code)
           (λ v one. follows_from g alive f d e grows.0 s0 one.t (all_executed scope row (n + length locals) active v) made grows.1 one.go one.keeps (next e one.t v homes (begun_later g d e grows.0 grows.1 free) one.at one.sim))
 
   -- a block: its variables, and then its statements
   pub block_follows : {k : Count} (before : Variable → Type 0) (locals : List LocalVar) (row : Row_of-TStmt k) (f : Frame) (n : ℕ) (d : Draft) (s0 : CodeState) (st : State) → All IsScalarLocal locals → StandFrom (variables_of g.instance.body) n (map info_of locals) → AreSettled g has alive files ready scope active calls_follow n locals → AreCoded g has alive files ready scope active calls_follow n locals → RowCode (n + length locals) row
-      → StandsIn g f → StandsAmong f [] → d.homes ≡ [] → Begun g d → At g s0 (length d.code) → Sim g before st s0 → ((x : Variable) → alive x → OrAmong before n (length locals) x)
-      → ((e : Draft) (t : CodeState) (u : State) → e.homes ≡ [] → Begun g e → At g t (length e.code) → Sim g alive u t → Follows g (Left g alive f e t) t (all_executed scope row (n + length locals) active u) (statements_of g.typed (layout g) row f [] (n + length locals) e))
-      → Follows g (Left g alive f d s0) s0 (then_go (initialised scope active n locals (zeroed n (length locals) st)) (all_executed scope row (n + length locals) active)) (then_make (declared_in g.typed (layout g) false locals n d) (λ m after. statements_of g.typed (layout g) row f [] m after))
+      → StandsIn g f → StandsAmong f contexts → d.homes ≡ [] → Begun g d → At g s0 (length d.code) → Sim g before st s0 → ((x : Variable) → alive x → OrAmong before n (length locals) x)
+      → ((e : Draft) (t : CodeState) (u : State) → e.homes ≡ [] → Begun g e → At g t (length e.code) → Sim g alive u t → Follows g (Left g alive f e t) t (all_executed scope row (n + length locals) active u) (statements_of g.typed (layout g) row f contexts (n + length locals) e))
+      → Follows g (Left g alive f d s0) s0 (then_go (initialised scope active n locals (zeroed n (length locals) st)) (all_executed scope row (n + length locals) active)) (then_make (declared_in g.typed (layout g) false locals n d) (λ m after. statements_of g.typed (layout g) row f contexts m after))
   unfolding declared_in then_make
   block_follows before locals row f n d s0 st isin stand settled initial code framed among none free at sim covers next =
       let c = clears g has before locals n d isin stand in
       let after_zero : State = zeroed n (length locals) st in
       let whole : Outcome Leaving = then_go (initialised scope active n locals after_zero) (all_executed scope row (n + length locals) active) in
       let homes : c.e.homes ≡ [] = c.grown.homes ∙ none in
-      subst (λ (m : Made (Unit {0})). Follows g (Left g alive f d s0) s0 whole (then_make (then_make m (λ u between. then_make (all_initialised g.typed (layout g) locals n between) (λ v after. Makes (n + length locals) after))) (λ m' after. statements_of g.typed (layout g) row f [] m' after))) (sym c.is)
+      subst (λ (m : Made (Unit {0})). Follows g (Left g alive f d s0) s0 whole (then_make (then_make m (λ u between. then_make (all_initialised g.typed (layout g) locals n between) (λ v after. Makes (n + length locals) after))) (λ m' after. statements_of g.typed (layout g) row f contexts m' after))) (sym c.is)
       (delayed g (Left g alive f d s0) c.e s0 whole (begun_code locals row f n c.e) (begun_grows locals row f n c.e isin settled initial code framed among homes) (λ within.
       let ran = c.runs s0 st free.regs at sim within in
       let started : Sim g (λ z. Now g has alive files ready scope active calls_follow locals n z) after_zero ran.t = sim_fewer g (λ x. Alive before locals n x) (λ z. Now g has alive files ready scope active calls_follow locals n z) after_zero ran.t (λ x info named h. (covers x h.0, h.1)) ran.sim in
@@ -198,17 +183,17 @@ module _ (g : Setting) (has : HasRegisters g) (alive : Variable → Type 0) (fil
   unfolding IsShapedStatement IsLowerableStatement StatementNamesVariables
   block_initials n locals p row c = coded g has alive files ready scope active calls_follow n locals.items c.shaped.0 c.lowerable.0 c.names.0
 
-  row_onward : {k : Count} (s : TStmt) (rest : Row_of-TStmt k) (f : Frame) (n : ℕ) (d : Draft) (s0 : CodeState) (st : State) → StandsIn g f → StandsAmong f [] → d.homes ≡ [] → Begun g d → RowCode n (more_of-TStmt s rest)
-      → Follows g (Left g alive f d s0) s0 (executed scope s n active st) (statement_of g.typed (layout g) s f [] n d)
-      → ((e : Draft) (t : CodeState) (u : State) → e.homes ≡ [] → Begun g e → At g t (length e.code) → Sim g alive u t → Follows g (Left g alive f e t) t (all_executed scope rest (n + declared s) active u) (statements_of g.typed (layout g) rest f [] (n + declared s) e))
-      → Follows g (Left g alive f d s0) s0 (then_go (executed scope s n active st) (all_executed scope rest (n + declared s) active)) (then_make (statement_of g.typed (layout g) s f [] n d) (λ m after. statements_of g.typed (layout g) rest f [] m after))
+  pub row_onward : {k : Count} (s : TStmt) (rest : Row_of-TStmt k) (f : Frame) (n : ℕ) (d : Draft) (s0 : CodeState) (st : State) → StandsIn g f → StandsAmong f contexts → d.homes ≡ [] → Begun g d → RowCode n (more_of-TStmt s rest)
+      → Follows g (Left g alive f d s0) s0 (executed scope s n active st) (statement_of g.typed (layout g) s f contexts n d)
+      → ((e : Draft) (t : CodeState) (u : State) → e.homes ≡ [] → Begun g e → At g t (length e.code) → Sim g alive u t → Follows g (Left g alive f e t) t (all_executed scope rest (n + declared s) active u) (statements_of g.typed (layout g) rest f contexts (n + declared s) e))
+      → Follows g (Left g alive f d s0) s0 (then_go (executed scope s n active st) (all_executed scope rest (n + declared s) active)) (then_make (statement_of g.typed (layout g) s f contexts n d) (λ m after. statements_of g.typed (layout g) rest f contexts m after))
   unfolding then_make declared
   row_onward s rest f n d s0 st framed among none free c first next =
-      let made = statement_made g numbers declares s f n d framed among (row_first n s rest c) none in
-      subst (λ (m : Made ℕ). Follows g (Left g alive f d s0) s0 (then_go (executed scope s n active st) (all_executed scope rest (n + declared s) active)) (then_make m (λ m' after. statements_of g.typed (layout g) rest f [] m' after))) (sym made.is)
-      (go_on g alive f d s0 (executed scope s n active st) (all_executed scope rest (n + declared s) active) (behind n s) made.e (statements_of g.typed (layout g) rest f [] (behind n s) made.e)
+      let made = statement_made g numbers declares s f contexts n d framed among (row_first n s rest c) none in
+      subst (λ (m : Made ℕ). Follows g (Left g alive f d s0) s0 (then_go (executed scope s n active st) (all_executed scope rest (n + declared s) active)) (then_make m (λ m' after. statements_of g.typed (layout g) rest f contexts m' after))) (sym made.is)
+      (go_on g alive f d s0 (executed scope s n active st) (all_executed scope rest (n + declared s) active) (behind n s) made.e (statements_of g.typed (layout g) rest f contexts (behind n s) made.e)
       (subst (λ (m : Made ℕ). Follows g (Left g alive f d s0) s0 (executed scope s n active st) m) made.is first) (row_grows rest f (behind n s) made.e framed among made.homes (row_rest n s rest c))
-      (λ u ran. follows_from g alive f d made.e ran.grown.0 s0 ran.t (all_executed scope rest (n + declared s) active u) (statements_of g.typed (layout g) rest f [] (behind n s) made.e) ran.grown.1 ran.go ran.keeps
+      (λ u ran. follows_from g alive f d made.e ran.grown.0 s0 ran.t (all_executed scope rest (n + declared s) active u) (statements_of g.typed (layout g) rest f contexts (behind n s) made.e) ran.grown.1 ran.go ran.keeps
       (next made.e ran.t u made.homes (begun_later g d made.e ran.grown.0 ran.grown.1 free) ran.at ran.sim)))
 
 -- what is said of more variables is said of fewer where a statement is left
@@ -229,51 +214,7 @@ module _ (g : Setting) (wide alive : Variable → Type 0) (among : (x : Variable
   left_fewer f d s Onward st m e r = record { grown = r.grown; t = r.t; go = r.go; at = r.at; sim = fewer_after st r.t r.sim; keeps = r.keeps }
   left_fewer f d s Broke st m e r = jumped_fewer d s st f.after r
   left_fewer f d s Continued st m e r = jumped_fewer d s st f.next r
-  left_fewer f d s (Returned v) st m e r = record { t = r.t; go = r.go; sim = fewer_after st r.t r.sim; leaves = r.leaves; spares = r.spares; given = given_fewer s r.t v r.given }
+  left_fewer f d s (Returned v) st m e r = record { t = r.t; go = r.go; sim = fewer_after st r.t r.sim; leaves = r.leaves; spares = r.spares; given = given_fewer s r.t v r.given; allowed = r.allowed }
 
   pub follows_fewer : (f : Frame) (d : Draft) (s : CodeState) (o : Outcome Leaving) (made : Made ℕ) → Follows g (Left g wide f d s) s o made → Follows g (Left g alive f d s) s o made
   follows_fewer f d s o made h = follows_other g (Left g wide f d s) (Left g alive f d s) s o made h (λ leaving st m e r. left_fewer f d s leaving st m e r)
-
-module _ (g : Setting) (has : HasRegisters g) (numbers : NumbersVariables g.instance (layout g)) (ready : (n : ℕ) (d : Draft) → IsReady g.typed g.instance (layout g) n d)
-    (declares : (n : ℕ) (d : Draft) → d.homes ≡ [] → HasDeclared g.typed g.instance (layout g) n d) (scope : Scope) (active : Active) (calls_follow : CallsFollow g scope active)
-    (falls : (s : TStmt) (n : ℕ) (st : State) → (state_after (executed scope s n active st)).turns ≤ st.turns) where
-  mutual
-    unfolding IsInStatement IsInElse IsTested AreInStatements executed all_executed declared else_executed statement_of statements_of else_of
-
-    pub statement_follows : (alive : Variable → Type 0) (files : (k : ℕ) → alive (V.File k)) (n : ℕ) → AreBefore alive n → (s : TStmt) → IsInStatement (naming g.may alive) n s → Agrees g has alive files numbers ready declares scope active calls_follow n s
-    statement_follows alive files n before (S.Block' locals p statements) h f d s0 st framed among none free at sim c =
-        let wide : Variable → Type 0 = λ x. OrAmong alive n (length locals.items) x in
-        let wide_files : (k : ℕ) → wide (V.File k) = λ k. inl (files k) in
-        let code = block_code g has wide wide_files numbers ready declares scope active calls_follow falls n locals p statements c in
-        follows_fewer g wide alive (λ x living. inl living) f d s0 _ _
-        (block_follows g has wide wide_files numbers ready declares scope active calls_follow falls alive locals.items statements f n d s0 st h.0
-        (first_part (map info_of locals.items) (row_variables statements) (block_stands g has wide wide_files numbers ready declares scope active calls_follow falls n locals p statements c))
-        (settled_so g has wide wide_files ready scope active calls_follow alive locals.items n (λ x living. inl living) (λ x own. inr own) before h.1)
-        (block_initials g has wide wide_files numbers ready declares scope active calls_follow falls n locals p statements c) code framed among none free at sim (λ x living. living)
-        (λ e t u none_e free_e at_e sim_e. row_follows wide wide_files (n + length locals.items) (among_before alive n (length locals.items) before) statements h.2 f e t u framed among none_e free_e at_e sim_e code))
-    statement_follows alive files n before (S.Expression e) h f d s0 st framed among none free at sim c = expression_follows g has alive files numbers ready declares scope active calls_follow falls e h f n d s0 st free at sim c
-    statement_follows alive files n before S.Empty h f d s0 st framed among none free at sim c = stays_here g has alive files numbers ready declares scope active calls_follow falls f n d s0 st at sim
-    statement_follows alive files n before (S.If' test p first None') h f d s0 st framed among none free at sim c = if_alone g has alive files numbers ready declares scope active calls_follow n test p first h.0 (statement_follows alive files n before first h.1) f d s0 st framed among none free at sim c
-    statement_follows alive files n before (S.If' test p first (Some' q second)) h f d s0 st framed among none free at sim c =
-        if_else g has alive files numbers ready declares scope active calls_follow n test p first q second h.0 (statement_follows alive files n before first h.1)
-        (statement_follows alive files (behind n first) (λ x living. declared_later n (length (variables_of first)) x (before x living)) second h.2) f d s0 st framed among none free at sim c
-    statement_follows alive files n before (S.While' test p body) h f d s0 st framed among none free at sim c = while_agrees g has alive files numbers ready declares scope active calls_follow falls n test p body h.0 (statement_follows alive files n before body h.1) f d s0 st framed among none free at sim c
-    statement_follows alive files n before (S.For' first test step p body) h f d s0 st framed among none free at sim c =
-        for_agrees g has alive files numbers ready declares scope active calls_follow falls n first step test p body h.0 h.1 h.2 (statement_follows alive files n before body h.3) f d s0 st framed among none free at sim c
-    statement_follows alive files n before (S.Do' p body test) h f d s0 st framed among none free at sim c = do_agrees g has alive files numbers ready declares scope active calls_follow falls n test p body h.1 (statement_follows alive files n before body h.0) f d s0 st framed among none free at sim c
-    statement_follows alive files n before (S.With' shape p body) h f d s0 st framed among none free at sim c = statement_follows alive files n before body h f d s0 st framed among none free at sim (with_body g numbers declares n shape p body c)
-    statement_follows alive files n before S.Break h f d s0 st framed among none free at sim c = breaks g has alive files numbers ready declares scope active calls_follow falls f f.saved.in_loop n d s0 st at sim
-    statement_follows alive files n before S.Continue h f d s0 st framed among none free at sim c = continues g has alive files numbers ready declares scope active calls_follow falls f f.saved.in_loop n d s0 st at sim
-    statement_follows alive files n before (S.Return e) h f d s0 st framed among none free at sim c = return_follows g has alive files ready scope active calls_follow e h f n d s0 st framed free at sim (returned_code g numbers declares e n c)
-    statement_follows alive files n before (S.Everywhere' shape p body) h f d s0 st framed among none free at sim c =
-        under_contexts g has alive files numbers ready declares scope active calls_follow falls (S.Everywhere' shape p body) h n f d s0 st framed among none free at sim c
-    statement_follows alive files n before (S.Where' shape test p first second) h f d s0 st framed among none free at sim c =
-        under_contexts g has alive files numbers ready declares scope active calls_follow falls (S.Where' shape test p first second) h n f d s0 st framed among none free at sim c
-
-    pub row_follows : {k : Count} (alive : Variable → Type 0) (files : (k : ℕ) → alive (V.File k)) (n : ℕ) → AreBefore alive n → (row : Row_of-TStmt k) → AreInStatements (naming g.may alive) n row
-        → (f : Frame) (d : Draft) (s0 : CodeState) (st : State) → StandsIn g f → StandsAmong f [] → d.homes ≡ [] → Begun g d → At g s0 (length d.code) → Sim g alive st s0
-        → RowCode g has alive files numbers ready declares scope active calls_follow falls n row → Follows g (Left g alive f d s0) s0 (all_executed scope row n active st) (statements_of g.typed (layout g) row f [] n d)
-    row_follows alive files n before end_of-TStmt h f d s0 st framed among none free at sim c = stays_here g has alive files numbers ready declares scope active calls_follow falls f n d s0 st at sim
-    row_follows alive files n before (more_of-TStmt s rest) h f d s0 st framed among none free at sim c =
-        row_onward g has alive files numbers ready declares scope active calls_follow falls s rest f n d s0 st framed among none free c (statement_follows alive files n before s h.0 f d s0 st framed among none free at sim (row_first g has alive files numbers ready declares scope active calls_follow falls n s rest c))
-        (λ e t u none_e free_e at_e sim_e. row_follows alive files (behind n s) (λ x living. declared_later n (length (variables_of s)) x (before x living)) rest h.1 f e t u framed among none_e free_e at_e sim_e (row_rest g has alive files numbers ready declares scope active calls_follow falls n s rest c))

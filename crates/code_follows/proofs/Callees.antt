@@ -18,7 +18,7 @@ use Rattle.source_meaning.specs.State.{Outcome, State}
 use Rattle.source_meaning.specs.Values.{Active, Nothing, Scope, Value, number}
 use Rattle.code_follows.specs.Agreement.{AreBytes}
 use Rattle.code_follows.specs.Fragment.{AreTaken, IsResult, IsScalarVariable, Takes}
-use Rattle.code_follows.proofs.Besides.{BesideFollows}
+use Rattle.code_follows.proofs.Besides.{ExpressionsFollow}
 use Rattle.code_follows.proofs.Following.{Finishes, HasNumber, HasRegisters, held, input_of}
 use Rattle.code_follows.proofs.Settings.{Reaches, Setting, layout}
 
@@ -99,10 +99,10 @@ module _ (g : Setting) where
   TakesThese active index given = (m : MayCall active index) × AreTaken m.callee.callee.params.items given
 
   -- Calls follow the source: a call means what the source says of so many turns, and what is called is known. The
-  -- result takes what is returned. And so do the parallel expressions and the statements under contexts.
+  -- result takes what is returned. And so do the parallel expressions.
   pub record CallsFollow (scope : Scope) (active : Active) : Type 1 where
     pub meant : scope.call ≡ calls g.typed g.most
     pub value : (elem : Elem) (index : ℕ) (given : List Elem) → g.may.calls (Some elem) index given → (h : TakesThese active index given) × (HasResult g.typed index × IsResult h.0.callee.callee.result elem)
     pub effect : (index : ℕ) (given : List Elem) → g.may.calls None index given → TakesThese active index given
     pub returns : (elem : Elem) → g.may.returns elem → (info : VarInfo) → g.instance.result ≡ Some info → Takes info.elem elem
-    pub beside : (has : HasRegisters g) → BesideFollows g has scope active
+    pub beside : (has : HasRegisters g) → ExpressionsFollow g has scope active

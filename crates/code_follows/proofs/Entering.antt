@@ -1,5 +1,5 @@
 -- A called function runs, from its first instruction to where it goes back.
-use Rattle.std.proofs.Common.{◌≡◌, ◌∙◌, ℕ, zero, suc, take, ◌+◌, ◌-◌, ◌<◌, ◌≤◌, ◌^◌, ◌==◌, Bool, true, false, [], ◌∷◌, ◌++◌, List, Vec, Global, length, map, slice_get, slice_index, Option, Some, None, refl, sym, ap, subst, if◌then◌else◌, arith, length-append}
+use Rattle.std.proofs.Common.{◌≡◌, inl, ◌∙◌, ℕ, zero, suc, take, ◌+◌, ◌-◌, ◌<◌, ◌≤◌, ◌^◌, ◌==◌, Bool, true, false, [], ◌∷◌, ◌++◌, List, Vec, Global, length, map, slice_get, slice_index, Option, Some, None, refl, sym, ap, subst, if◌then◌else◌, arith, length-append}
 use Rattle.std.specs.List.{Contains}
 use Rattle.cstar_compile.specs.Compiled.{IsCompiled}
 use Rattle.cstar_link.specs.Linked.{entries_from}
@@ -30,12 +30,12 @@ use Rattle.source_meaning.specs.Programs.{by_owner, calls, entered, left, result
 use Rattle.source_meaning.specs.State as Source
 use Rattle.source_meaning.specs.State.{Outcome, State, is_among, then_do}
 use Rattle.source_meaning.specs.Statements.{Broke, Continued, Leaving, Onward, Returned, executed, initialised}
-use Rattle.source_meaning.specs.Values.{Active, Value, each}
+use Rattle.source_meaning.specs.Values.{Active, Scope, Value, each}
 use Rattle.code_follows.specs.Fragment.{IsBody, Beside, IsProgramBeside, OfFileOrParam, IsInStatement}
 use Rattle.lower_stmt.specs.declared.statement.Frame.{Frame}
 use Rattle.code_follows.proofs.Activations.{activation, callee_known, scalars, words}
 use Rattle.code_follows.proofs.Besides.{BesideFollows}
-use Rattle.code_follows.proofs.Bodies.{statement_follows}
+use Rattle.code_follows.proofs.Induction.{Around, statement_follows}
 use Rattle.code_follows.proofs.Callees.{AreGiven, Callee, CallsFollow, ComesBack, Enters, MayCall, RunsBody, Shared}
 use Rattle.code_follows.proofs.Closed.{NoJump, begins_closed, closed_row, go_closed}
 use Rattle.code_follows.proofs.Endings.{NeverOnward, body_never, never_second}
@@ -118,6 +118,15 @@ module _ (image : Image) (t : Typed) {beside : Beside} (p : IsProgramBeside besi
   result_given Onward u info found h closed zero_there = zero_given Onward info found refl h zero_there
   result_given Broke u info found h closed zero_there = absurd closed
   result_given Continued u info found h closed zero_there = absurd closed
+
+module _ (t : Typed) (image : Image) {beside : Beside} (p : IsProgramBeside beside t) (codable : IsCodable t) (compiled : IsCompiled t image) (holding : Held) (active : Active) where
+  abbrev running : (number : ℕ) (i : Instance) → slice_get t.instances.items number ≡ Some i → List ℕ → ℕ → Setting
+  running number i is opens most = activation t image p codable compiled holding number i is opens most
+
+  -- where this is known parallel expressions and statements under contexts follow, and it is known of each function
+  pub record AllBeside (Known : Setting → Scope → Active → Type 1) : Type 1 where
+    pub follows : (g : Setting) (scope : Scope) (a : Active) → Known g scope a → (has : HasRegisters g) → BesideFollows Known g has scope a
+    pub known : (number : ℕ) (i : Instance) (is : slice_get t.instances.items number ≡ Some i) (opens : List ℕ) (most : ℕ) → Known (running number i is opens most) (scope_of t i (calls t most)) active
 
 module _ (t : Typed) (image : Image) {beside : Beside} (p : IsProgramBeside beside t) (codable : IsCodable t) (compiled : IsCompiled t image) (holding : Held) (me : ℕ) (a : Instance) (is_me : slice_get t.instances.items me ≡ Some a) (back_to : List ℕ) (number : ℕ) (b : Instance) (is : slice_get t.instances.items number ≡ Some b)
     (some : 0 < number) (called : Contains (calls_within a.body) number) (m : ℕ) where
@@ -240,7 +249,7 @@ module _ (t : Typed) (image : Image) {beside : Beside} (p : IsProgramBeside besi
         ∙ other_is t image (scalars t image p codable compiled holding) codable compiled number b is is_other
 
     -- the body of the function follows, where its own calls do
-    module _ (calls_follow : CallsFollow inner (scope t image p codable compiled holding number b is open_calls m) active) where
+    module _ {Known : Setting → Scope → Active → Type 1} (besides : AllBeside t image p codable compiled holding active Known) (calls_follow : CallsFollow inner (scope t image p codable compiled holding number b is open_calls m) active) where
       came : (o : Outcome Leaving) → (state_after o).turns ≤ st.turns → NoJump o → RunsFunction t image p codable compiled holding number b is open_calls m s o → RunsBody caller called_one back s st (then_do o (λ leaving after. Source.Gives (result_of b.result leaving) (left st after)))
       unfolding RunsFunction RunsBody then_do state_after left
       came (Source.Gives leaving u) less closed runs = goes_back leaving u less runs closed
@@ -257,17 +266,20 @@ module _ (t : Typed) (image : Image) {beside : Beside} (p : IsProgramBeside besi
           let is_ready = ready t image p codable compiled holding number b is open_calls m in
           let declared = declares t image p codable compiled holding number b is open_calls m in
           let where_it_is = scope t image p codable compiled holding number b is open_calls m in
-          let never_rises = falls t image p codable compiled holding number b is open_calls m active in
+          let never_rises = falls t image p codable compiled holding number b is open_calls m in
+          let among_none = among t image p codable compiled holding number b is open_calls m in
+          let around : Around Known inner where_it_is active [] =
+          record { has = h; numbers = numbers; ready = is_ready; declares = declared; calls_follow = calls_follow; falls = never_rises; known = besides.known number b is open_calls m; leaves = λ may. refl } in
           let runs : Follows inner (Left inner OfFileOrParam f begin s) s (executed where_it_is body 0 active opening_state) (body_of t (layout_of t (words t image p codable compiled holding) number) f body begin) =
           subst (λ (made : Made ℕ). Follows inner (Left inner OfFileOrParam f begin s) s (executed where_it_is body 0 active opening_state) made) (sym (as_block locals q row))
-          (statement_follows inner h numbers is_ready declared where_it_is active calls_follow never_rises OfFileOrParam (λ k. tt) 0 before_all body isin.0 f begin s opening_state
-          (framed t image p codable compiled holding number b is open_calls m) (among t image p codable compiled holding number b is open_calls m) (blank_homes t image (scalars t image p codable compiled holding) codable compiled number b) (let regs = blank_regs t image (scalars t image p codable compiled holding) codable compiled number b in omega (arith, regs)) stands sim c) in
+          (statement_follows where_it_is (λ g. besides.follows g where_it_is) inner active [] around OfFileOrParam (λ k. tt) 0 before_all body isin.0 f begin s opening_state
+          (framed t image p codable compiled holding number b is open_calls m) (record { among = among_none; jumps = inl (let none = among_none.loop in omega (arith, none)) }) (blank_homes t image (scalars t image p codable compiled holding) codable compiled number b) (record { regs = let regs = blank_regs t image (scalars t image p codable compiled holding) codable compiled number b in omega (arith, regs); code = omega arith }) stands sim c) in
           let made = body_made t image p codable compiled holding number b is open_calls m (body_of t (layout_of t (words t image p codable compiled holding) number) f body begin) (made_so body body_is) in
           let never : ends_in_return b.body ≡ true → NeverOnward (executed where_it_is body 0 active opening_state) =
           λ ends. never_second (initialised where_it_is active 0 locals.items _) _ (λ u. body_never where_it_is active locals q row (sym (ap (λ (x : TStmt). ends_in_return x) body_is) ∙ ends) (0 + length locals.items) u) in
           let closed : NoJump (executed where_it_is body 0 active opening_state) = go_closed _ _ (begins_closed where_it_is active 0 locals.items _) (λ u. closed_row where_it_is row isin.1 (0 + length locals.items) active u) in
           subst (λ (x : TStmt). RunsBody caller called_one back s st (then_do (executed where_it_is x 0 active opening_state) (λ leaving after. Source.Gives (result_of b.result leaving) (left st after)))) (sym body_is)
-          (came (executed where_it_is body 0 active opening_state) (never_rises body 0 opening_state) closed
+          (came (executed where_it_is body 0 active opening_state) (never_rises active body 0 opening_state) closed
           (runs_function t image p codable compiled holding number b is open_calls m begin made.e made.n s (executed where_it_is body 0 active opening_state) (ends_by t image p codable compiled holding number b is open_calls m (executed where_it_is body 0 active opening_state) made.e made.unit never) closed
           (subst (λ (x : Made ℕ). Follows inner (Left inner OfFileOrParam f begin s) s (executed where_it_is body 0 active opening_state) x) made.is_made runs)))
         where
@@ -278,43 +290,36 @@ module _ (t : Typed) (image : Image) {beside : Beside} (p : IsProgramBeside besi
           made_so body body_is = made_here body body_is
       body_follows _ body_is isin = absurd isin
 
-module _ (t : Typed) (image : Image) {beside : Beside} (p : IsProgramBeside beside t) (codable : IsCodable t) (compiled : IsCompiled t image) (holding : Held) (active : Active) where
-  abbrev running : (number : ℕ) (i : Instance) → slice_get t.instances.items number ≡ Some i → List ℕ → ℕ → Setting
-  running number i is opens most = activation t image p codable compiled holding number i is opens most
-
-  -- the parallel expressions and the statements under contexts of each function follow
-  abbrev pub AllBeside : Type 1
-  AllBeside = (number : ℕ) (i : Instance) (is : slice_get t.instances.items number ≡ Some i) (opens : List ℕ) (most : ℕ) (has : HasRegisters (running number i is opens most)) → BesideFollows (running number i is opens most) has (scope_of t i (calls t most)) active
-
-  abbrev known : (number : ℕ) (i : Instance) (is : slice_get t.instances.items number ≡ Some i) (opens : List ℕ) (most index : ℕ) (c : Instance) (is_c : slice_get t.instances.items index ≡ Some c) (called : Contains (calls_within i.body) index) → Callee (running number i is opens most) index
+module _ (t : Typed) (image : Image) {beside : Beside} (p : IsProgramBeside beside t) (codable : IsCodable t) (compiled : IsCompiled t image) (holding : Held) (active : Active) {Known : Setting → Scope → Active → Type 1} (besides : AllBeside t image p codable compiled holding active Known) where
+  abbrev known : (number : ℕ) (i : Instance) (is : slice_get t.instances.items number ≡ Some i) (opens : List ℕ) (most index : ℕ) (c : Instance) (is_c : slice_get t.instances.items index ≡ Some c) (called : Contains (calls_within i.body) index) → Callee (running t image p codable compiled holding active number i is opens most) index
   known number i is opens most index c is_c called = callee_known t image p codable compiled holding number i is opens most index c is_c called
 
   -- the calls in a function follow, where those with one turn fewer do
-  pub calls_so : AllBeside → (most number : ℕ) (i : Instance) (is : slice_get t.instances.items number ≡ Some i) (opens : List ℕ)
-      → ((index : ℕ) (c : Instance) (is_c : slice_get t.instances.items index ≡ Some c) → 0 < index → (called : Contains (calls_within i.body) index) (m : ℕ) → most ≡ suc m → Enters (running number i is opens most) (known number i is opens most index c is_c called) m active)
-      → CallsFollow (running number i is opens most) (scope_of t i (calls t most)) active
+  pub calls_so : (most number : ℕ) (i : Instance) (is : slice_get t.instances.items number ≡ Some i) (opens : List ℕ)
+      → ((index : ℕ) (c : Instance) (is_c : slice_get t.instances.items index ≡ Some c) → 0 < index → (called : Contains (calls_within i.body) index) (m : ℕ) → most ≡ suc m → Enters (running t image p codable compiled holding active number i is opens most) (known number i is opens most index c is_c called) m active)
+      → CallsFollow (running t image p codable compiled holding active number i is opens most) (scope_of t i (calls t most)) active
   unfolding scope_of callee_known
-  calls_so besides most number i is opens enters = record {
+  calls_so most number i is opens enters = record {
     meant = refl;
     value = λ elem index given h. ((may_call index h.0 h.1.0 h.1.1 h.1.2, h.1.4), ((h.0, h.1.0, ap is_some h.1.3.1.0), h.1.3));
     effect = λ index given h. (may_call index h.0 h.1.0 h.1.1 h.1.2, h.1.4);
     returns = λ elem h. h;
-    beside = λ has. besides number i is opens most has;
+    beside = λ has. (besides.follows (running t image p codable compiled holding active number i is opens most) (scope_of t i (calls t most)) active (besides.known number i is opens most) has).expressions;
   }
     where
-      may_call : (index : ℕ) (c : Instance) (is_c : slice_get t.instances.items index ≡ Some c) → 0 < index → Contains (calls_within i.body) index → MayCall (running number i is opens most) active index
+      may_call : (index : ℕ) (c : Instance) (is_c : slice_get t.instances.items index ≡ Some c) → 0 < index → Contains (calls_within i.body) index → MayCall (running t image p codable compiled holding active number i is opens most) active index
       may_call index c is_c some called = record { callee = known number i is opens most index c is_c called; enters = λ m e. enters index c is_c some called m e }
 
-  pub enters_so : AllBeside → (m me : ℕ) (a : Instance) (is_me : slice_get t.instances.items me ≡ Some a) (back_to : List ℕ) (number : ℕ) (b : Instance) (is : slice_get t.instances.items number ≡ Some b) → 0 < number → (called : Contains (calls_within a.body) number)
-      → Enters (running me a is_me back_to (suc m)) (known me a is_me back_to (suc m) number b is called) m active
+  pub enters_so : (m me : ℕ) (a : Instance) (is_me : slice_get t.instances.items me ≡ Some a) (back_to : List ℕ) (number : ℕ) (b : Instance) (is : slice_get t.instances.items number ≡ Some b) → 0 < number → (called : Contains (calls_within a.body) number)
+      → Enters (running t image p codable compiled holding active me a is_me back_to (suc m)) (known me a is_me back_to (suc m) number b is called) m active
   unfolding callee_known Enters
-  enters_so besides zero me a is_me back_to number b is some called arguments st s back starts stacked shared few given zero_there =
-      body_follows t image p codable compiled holding me a is_me back_to number b is some called zero active arguments st s back starts stacked shared few given zero_there
-      (calls_so besides zero number b is (back_to ++ back ∷ []) (λ index c is_c some_c called_c m e. absurd (omega (arith, e)))) b.body refl (p.each number b is).body
-  enters_so besides (suc m) me a is_me back_to number b is some called arguments st s back starts stacked shared few given zero_there =
-      body_follows t image p codable compiled holding me a is_me back_to number b is some called (suc m) active arguments st s back starts stacked shared few given zero_there
-      (calls_so besides (suc m) number b is (back_to ++ back ∷ []) (λ index c is_c some_c called_c k e.
-      subst (λ (n : ℕ). Enters (running number b is (back_to ++ back ∷ []) (suc m)) (known number b is (back_to ++ back ∷ []) (suc m) index c is_c called_c) n active) (fewer m k e) (enters_so besides m number b is (back_to ++ back ∷ []) index c is_c some_c called_c)))
+  enters_so zero me a is_me back_to number b is some called arguments st s back starts stacked shared few given zero_there =
+      body_follows t image p codable compiled holding me a is_me back_to number b is some called zero active arguments st s back starts stacked shared few given zero_there besides
+      (calls_so zero number b is (back_to ++ back ∷ []) (λ index c is_c some_c called_c m e. absurd (omega (arith, e)))) b.body refl (p.each number b is).body
+  enters_so (suc m) me a is_me back_to number b is some called arguments st s back starts stacked shared few given zero_there =
+      body_follows t image p codable compiled holding me a is_me back_to number b is some called (suc m) active arguments st s back starts stacked shared few given zero_there besides
+      (calls_so (suc m) number b is (back_to ++ back ∷ []) (λ index c is_c some_c called_c k e.
+      subst (λ (n : ℕ). Enters (running t image p codable compiled holding active number b is (back_to ++ back ∷ []) (suc m)) (known number b is (back_to ++ back ∷ []) (suc m) index c is_c called_c) n active) (fewer m k e) (enters_so m number b is (back_to ++ back ∷ []) index c is_c some_c called_c)))
       b.body refl (p.each number b is).body
     where
       fewer : (m k : ℕ) → suc m ≡ suc k → m ≡ k

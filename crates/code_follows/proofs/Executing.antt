@@ -68,7 +68,7 @@ module _ (g : Setting) (alive : Variable → Type 0) where
   abbrev pub Leaves : CodeState → Type 0
   Leaves t = step g.image t ≡ (if g.is_main then Ends Machine.Done t else Goes (returned t))
 
-  -- the code comes to where the function is left
+  -- the code comes to where the function is left, as it may be
   pub record Returns (s : CodeState) (st : State) (v : Option Value) : Type 0 where
     pub t : CodeState
     pub go : Reaches g s t
@@ -76,6 +76,7 @@ module _ (g : Setting) (alive : Variable → Type 0) where
     pub leaves : Leaves t
     pub spares : (r : ℕ) → g.spared r → slice_index t.registers r ≡ slice_index s.registers r
     pub given : IsGiven s t v
+    pub allowed : g.may.leaves
 
   given_from : (s u t : CodeState) (v : Option Value) → slice_index u.registers (result_register (layout g)) ≡ slice_index s.registers (result_register (layout g)) → IsGiven u t v → IsGiven s t v
   unfolding IsGiven
@@ -90,6 +91,7 @@ module _ (g : Setting) (alive : Variable → Type 0) where
     leaves = r.leaves;
     spares = λ q spared. r.spares q spared ∙ keeps q (spared_kept g d q spared);
     given = given_from s t r.t v (keeps (result_register (layout g)) (result_kept g d)) r.given;
+    allowed = r.allowed;
   }
 
   -- the code arrives behind a draft, and the source goes on

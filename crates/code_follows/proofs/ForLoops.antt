@@ -1,5 +1,5 @@
 -- `for`, `while` and `do`.
-use Rattle.std.proofs.Common.{◌≡◌, ◌∙◌, ℕ, ◌+◌, ◌≤◌, true, List, [], length, Option, Some, None, refl, sym, ap, subst, arith}
+use Rattle.std.proofs.Common.{◌≡◌, ◌∙◌, ℕ, ◌+◌, ◌≤◌, inl, inr, true, List, [], length, Option, Some, None, refl, sym, ap, subst, arith}
 use Rattle.std.specs.Prelude.{IfSome}
 use Rattle.cstar_tree.specs.declared.typed.TExpr.{TExpr}
 use Rattle.cstar_tree.specs.declared.typed.TStmt.{TStmt}
@@ -29,6 +29,7 @@ use Rattle.lower_stmt.specs.Lengths.{at_loop, condition_length_of, part_length_o
 use Rattle.lower_stmt.specs.Statements.{jump_back_of, part_of, statement_of}
 use Rattle.meaning_laws.proofs.Parts.{behind as state_after}
 use Rattle.paris_code.specs.declared.instr.Instr.TheVariants as I
+use Rattle.paris_code.specs.declared.operands.Field.{Field}
 use Rattle.paris_code.specs.Code.{CodeState}
 use Rattle.source_meaning.proofs.ConstantLaws.{Boxed}
 use Rattle.source_meaning.specs.Expressions.{evaluated}
@@ -36,7 +37,7 @@ use Rattle.source_meaning.specs.State as Source
 use Rattle.source_meaning.specs.State.{Outcome, State, spend_turn, then_do}
 use Rattle.source_meaning.specs.Statements.{Leaving, Onward, done, executed, passes, passes_or_absent, rounds, then_go, then_round}
 use Rattle.source_meaning.specs.Values.{Active, Scope, Value, nonzero, number}
-use Rattle.code_follows.specs.Fragment.{IsEffect, IsIn, IsTested, naming}
+use Rattle.code_follows.specs.Fragment.{IsClosed, IsEffect, IsIn, IsTested, naming}
 use Rattle.code_follows.proofs.Assigning.{effect_follows}
 use Rattle.code_follows.proofs.Choices.{Agrees}
 use Rattle.code_follows.proofs.Executing.{Left, RanOn, follows_from}
@@ -51,7 +52,7 @@ use Rattle.code_follows.proofs.Statements.{MadeSo, StandsIn, do_body, do_test, s
 
 module _ (g : Setting) (has : HasRegisters g) (alive : Variable → Type 0) (files : (k : ℕ) → alive (V.File k)) (numbers : NumbersVariables g.instance (layout g)) (ready : (n : ℕ) (d : Draft) → IsReady g.typed g.instance (layout g) n d)
     (declares : (n : ℕ) (d : Draft) → d.homes ≡ [] → HasDeclared g.typed g.instance (layout g) n d) (scope : Scope) (active : Active) (calls_follow : CallsFollow g scope active)
-    (falls : (s : TStmt) (n : ℕ) (st : State) → (state_after (executed scope s n active st)).turns ≤ st.turns) where
+    (falls : (s : TStmt) (n : ℕ) (st : State) → (state_after (executed scope s n active st)).turns ≤ st.turns) (contexts : List Field) where
   -- ---- an expression that may be left out
 
   -- its code is made
@@ -110,7 +111,7 @@ module _ (g : Setting) (has : HasRegisters g) (alive : Variable → Type 0) (fil
   tested_code n None shaped lowerable names = tt
   tested_code n (Some e) shaped lowerable names = record { shaped = shaped; lowerable = lowerable.1; names = names }
 
-  module _ (n : ℕ) (first step test : Option TExpr) (p : Boxed) (body : TStmt) (begins : IfSome first (IsEffect (naming g.may alive))) (isin : (IsTested (naming g.may alive)) test) (steps : IfSome step (IsEffect (naming g.may alive))) (agrees : Agrees g has alive files numbers ready declares scope active calls_follow n body) where
+  module _ (n : ℕ) (first step test : Option TExpr) (p : Boxed) (body : TStmt) (begins : IfSome first (IsEffect (naming g.may alive))) (isin : (IsTested (naming g.may alive)) test) (steps : IfSome step (IsEffect (naming g.may alive))) (agrees : Agrees g has alive files numbers ready declares scope active calls_follow contexts n body) where
     abbrev whole : TStmt
     whole = S.For' first test step p body
 
@@ -130,7 +131,7 @@ module _ (g : Setting) (has : HasRegisters g) (alive : Variable → Type 0) (fil
       body_code = record { shaped = c.shaped.3; lowerable = c.lowerable.3; names = c.names.3; stands = subst (λ (own : List VarInfo). StandFrom (variables_of g.instance.body) n own) (of_for first test step p body) c.stands };
     }
 
-    module _ (f : Frame) (d : Draft) (framed : StandsIn g f) (among : StandsAmong f []) (none : d.homes ≡ []) (c : ForCode) where
+    module _ (f : Frame) (d : Draft) (framed : StandsIn g f) (among : StandsAmong f contexts) (none : d.homes ≡ []) (c : ForCode) where
       made_first : PartMade first d
       made_first = part_made n first d c.first_code
 
@@ -162,7 +163,7 @@ module _ (g : Setting) (has : HasRegisters g) (alive : Variable → Type 0) (fil
       unfolding in_loop
       inner_frame = record { outcome = framed.outcome; main = framed.main; scalar = framed.scalar }
 
-      inner_among : StandsAmong inner []
+      inner_among : StandsAmong inner contexts
       unfolding in_loop at_loop
       inner_among = record { loop = omega arith; all = among.all }
 
@@ -170,9 +171,9 @@ module _ (g : Setting) (has : HasRegisters g) (alive : Variable → Type 0) (fil
       unfolding with_instr with_step
       begin_homes = made_first.extended.homes ∙ none
 
-      made_body : MadeSo g numbers declares before_body long (behind n body) (statement_of g.typed (layout g) body inner [] n before_body)
+      made_body : MadeSo g numbers declares before_body long (behind n body) (statement_of g.typed (layout g) body inner contexts n before_body)
       unfolding in_loop has_result
-      made_body = statement_made g numbers declares body inner n before_body inner_frame inner_among c.body_code begin_homes
+      made_body = statement_made g numbers declares body inner contexts n before_body inner_frame inner_among c.body_code begin_homes
 
       made_step : PartMade step made_body.e
       made_step = part_made n step made_body.e c.step_code
@@ -189,7 +190,7 @@ module _ (g : Setting) (has : HasRegisters g) (alive : Variable → Type 0) (fil
           let next = turn + long + 1 in
           let place = next + part_length_of g.typed (layout g) step in
           let after = place + condition_length_of g.typed (layout g) test + 1 in
-          then_make (statement_of g.typed (layout g) body (in_loop next after f) [] n (with_instr I.FrontTurn (with_instr (I.FrontJump place) begun)))
+          then_make (statement_of g.typed (layout g) body (in_loop next after f) contexts n (with_instr I.FrontTurn (with_instr (I.FrontJump place) begun)))
           (λ m behind. then_make (part_of g.typed (layout g) step behind) (λ u stepped. then_make (jump_back_of g.typed (layout g) test turn stepped) (λ v end. Makes m end)))
 
       loop_is : loop_code made_first.e ≡ Makes (behind n body) behind_loop
@@ -226,7 +227,7 @@ module _ (g : Setting) (has : HasRegisters g) (alive : Variable → Type 0) (fil
       -- the turns, behind the first part
       turns_follow : (t : CodeState) (u : State) → Begun g made_first.e → At g t (length made_first.e.code) → Sim g alive u t
           → Follows g (Left g alive f made_first.e t) t (rounds u.turns (passes_or_absent scope active test) (λ v. executed scope body n active v) (λ v. done scope active step v) u) (Makes (behind n body) behind_loop)
-      unfolding Extends in_loop
+      unfolding Extends in_loop at_loop
       turns_follow t u free at sim =
           let so = numbers_are in
           let regs1 = regs_more g I.FrontTurn enters in
@@ -239,28 +240,28 @@ module _ (g : Setting) (has : HasRegisters g) (alive : Variable → Type 0) (fil
           delayed g (Left g alive f made_first.e t) behind_loop t go_round (Makes (behind n body) behind_loop) (0, as_it_was behind_loop) (λ within.
           loop_runs g alive scope active (passes_or_absent scope active test) body n (behind n body) (tests_fall n test) inner made_first.e enters made_body.e made_step.e behind_loop turn (λ v. done scope active step v) within so.3 so.0 so.2 long (part_length_of g.typed (layout g) step) (condition_length_of g.typed (layout g) test + 1) made_body.extended made_step.extended made_back.extended (omega (arith, regs1, regs2))
           (falls body n)
-          (λ s v here_s sim_s. subst (λ (m : Made ℕ). Follows g (Left g alive inner before_body s) s (executed scope body n active v) m) made_body.is (agrees inner before_body s v inner_frame inner_among begin_homes begun_body here_s sim_s c.body_code))
+          (λ s v here_s sim_s. subst (λ (m : Made ℕ). Follows g (Left g alive inner before_body s) s (executed scope body n active v) m) made_body.is (agrees inner before_body s v inner_frame (record { among = inner_among; jumps = inl refl }) begin_homes begun_body here_s sim_s c.body_code))
           (part_falls n step)
           (λ s v here_s sim_s. subst (λ (m : Made (Unit {0})). Follows g (RanOn g alive made_body.e s) s (done scope active step v) m) made_step.is (part_follows n step steps c.step_code made_body.e s v begun_step here_s sim_s))
           (λ s v here_s sim_s. made_back.leads begun_back within s v here_s sim_s)
           f (behind n body) steps_in_all t (moved_to g alive (place + start g) t) u all_grown (jumps g alive place made_first.e t (earlier g enters behind_loop (1 + (long + (part_length_of g.typed (layout g) step + (condition_length_of g.typed (layout g) test + 1)))) enters_grown within) at)
           (keeps_all g made_first.e t) (omega (arith, at_test)) (sim_moved g alive u t (place + start g) sim))
 
-    pub for_agrees : Agrees g has alive files numbers ready declares scope active calls_follow n whole
+    pub for_agrees : Agrees g has alive files numbers ready declares scope active calls_follow contexts n whole
     unfolding executed statement_of then_make Extends
     for_agrees f d s0 st framed among none free at sim code =
         let c = for_code code in
-        let b = made_first f d framed among none c in
+        let b = made_first f d framed among.among none c in
         let go_round : State → Outcome Leaving = λ u. rounds u.turns (passes_or_absent scope active test) (λ v. executed scope body n active v) (λ v. done scope active step v) u in
-        subst (λ (m : Made (Unit {0})). Follows g (Left g alive f d s0) s0 (then_go (done scope active first st) go_round) (then_make m (λ u begun. loop_code f d framed among none c begun))) (sym b.is)
-        (subst (λ (m : Made ℕ). Follows g (Left g alive f d s0) s0 (then_go (done scope active first st) go_round) m) (sym (loop_is f d framed among none c))
-        (go_after g has alive files ready scope active calls_follow d s0 (Left g alive f d s0) (done scope active first st) go_round tt b.e (Makes (behind n body) (behind_loop f d framed among none c))
+        subst (λ (m : Made (Unit {0})). Follows g (Left g alive f d s0) s0 (then_go (done scope active first st) go_round) (then_make m (λ u begun. loop_code f d framed among.among none c begun))) (sym b.is)
+        (subst (λ (m : Made ℕ). Follows g (Left g alive f d s0) s0 (then_go (done scope active first st) go_round) m) (sym (loop_is f d framed among.among none c))
+        (go_after g has alive files ready scope active calls_follow d s0 (Left g alive f d s0) (done scope active first st) go_round tt b.e (Makes (behind n body) (behind_loop f d framed among.among none c))
         (subst (λ (m : Made (Unit {0})). Follows g (RanOn g alive d s0) s0 (done scope active first st) m) b.is (part_follows n first begins c.first_code d s0 st free at sim))
-        (steps_in_all f d framed among none c, all_grown f d framed among none c)
-        (λ u ran. follows_from g alive f d b.e ran.grown.0 s0 ran.t (go_round u) (Makes (behind n body) (behind_loop f d framed among none c)) ran.grown.1 ran.go ran.keeps (turns_follow f d framed among none c ran.t u (begun_later g d b.e (part_length_of g.typed (layout g) first) b.extended free) ran.at ran.sim))))
+        (steps_in_all f d framed among.among none c, all_grown f d framed among.among none c)
+        (λ u ran. follows_from g alive f d b.e ran.grown.0 s0 ran.t (go_round u) (Makes (behind n body) (behind_loop f d framed among.among none c)) ran.grown.1 ran.go ran.keeps (turns_follow f d framed among.among none c ran.t u (begun_later g d b.e (part_length_of g.typed (layout g) first) b.extended free) ran.at ran.sim))))
 
   -- `while` is `for` with its condition alone
-  module _ (n : ℕ) (test : TExpr) (p : Boxed) (body : TStmt) (isin : (IsIn (naming g.may alive)) test) (agrees : Agrees g has alive files numbers ready declares scope active calls_follow n body) where
+  module _ (n : ℕ) (test : TExpr) (p : Boxed) (body : TStmt) (isin : (IsIn (naming g.may alive)) test) (agrees : Agrees g has alive files numbers ready declares scope active calls_follow contexts n body) where
     abbrev as_for : TStmt
     as_for = S.For' None (Some test) None p body
 
@@ -273,26 +274,26 @@ module _ (g : Setting) (has : HasRegisters g) (alive : Variable → Type 0) (fil
       stands = subst (λ (own : List VarInfo). StandFrom (variables_of g.instance.body) n own) (of_while test p body ∙ sym (of_for None (Some test) None p body)) c.stands;
     }
 
-    same_code : (f : Frame) (d : Draft) → statement_of g.typed (layout g) as_for f [] n d ≡ statement_of g.typed (layout g) (S.While' test p body) f [] n d
+    same_code : (f : Frame) (d : Draft) → statement_of g.typed (layout g) as_for f contexts n d ≡ statement_of g.typed (layout g) (S.While' test p body) f contexts n d
     unfolding statement_of part_of part_length_of condition_length_of then_make
     same_code f d =
         let turn = here d + 1 in
         let next = turn + statement_length_of g.typed (layout g) (has_result f) (at_loop f.saved) body + 1 in
-        ap (λ (place : ℕ). then_make (statement_of g.typed (layout g) body (in_loop next (place + used_length_of g.typed (layout g) 32 true test + 1) f) [] n (with_instr I.FrontTurn (with_instr (I.FrontJump place) d)))
+        ap (λ (place : ℕ). then_make (statement_of g.typed (layout g) body (in_loop next (place + used_length_of g.typed (layout g) 32 true test + 1) f) contexts n (with_instr I.FrontTurn (with_instr (I.FrontJump place) d)))
         (λ m behind. then_make (jump_back_of g.typed (layout g) (Some test) turn behind) (λ v end. Makes m end))) (nothing_more next)
       where
         nothing_more : (k : ℕ) → k + 0 ≡ k
         nothing_more k = omega arith
 
-    pub while_agrees : Agrees g has alive files numbers ready declares scope active calls_follow n (S.While' test p body)
-    unfolding executed done passes_or_absent then_go IsTested
+    pub while_agrees : Agrees g has alive files numbers ready declares scope active calls_follow contexts n (S.While' test p body)
+    unfolding executed done passes_or_absent then_go IsTested IsClosed
     while_agrees f d s0 st framed among none free at sim c =
         subst (λ (m : Made ℕ). Follows g (Left g alive f d s0) s0 (rounds st.turns (passes scope active test) (λ u. executed scope body n active u) (λ u. Source.Gives Onward u) st) m) (same_code f d)
-        (for_agrees n None None (Some test) p body tt isin tt agrees f d s0 st framed among none free at sim (while_code c))
+        (for_agrees n None None (Some test) p body tt isin tt agrees f d s0 st framed (record { among = among.among; jumps = inr tt }) none free at sim (while_code c))
 
   -- `do`
-  module _ (n : ℕ) (test : TExpr) (p : Boxed) (body : TStmt) (isin : (IsIn (naming g.may alive)) test) (agrees : Agrees g has alive files numbers ready declares scope active calls_follow n body) where
-    module _ (f : Frame) (d : Draft) (framed : StandsIn g f) (among : StandsAmong f []) (none : d.homes ≡ []) (c : HasStatementCode g.typed g.instance n (S.Do' p body test)) where
+  module _ (n : ℕ) (test : TExpr) (p : Boxed) (body : TStmt) (isin : (IsIn (naming g.may alive)) test) (agrees : Agrees g has alive files numbers ready declares scope active calls_follow contexts n body) where
+    module _ (f : Frame) (d : Draft) (framed : StandsIn g f) (among : StandsAmong f contexts) (none : d.homes ≡ []) (c : HasStatementCode g.typed g.instance n (S.Do' p body test)) where
       abbrev do_long : ℕ
       do_long = statement_length_of g.typed (layout g) (has_result f) (at_loop f.saved) body
 
@@ -315,7 +316,7 @@ module _ (g : Setting) (has : HasRegisters g) (alive : Variable → Type 0) (fil
       unfolding in_loop
       do_frame = record { outcome = framed.outcome; main = framed.main; scalar = framed.scalar }
 
-      do_among : StandsAmong do_inner []
+      do_among : StandsAmong do_inner contexts
       unfolding in_loop at_loop
       do_among = record { loop = omega arith; all = among.all }
 
@@ -323,9 +324,9 @@ module _ (g : Setting) (has : HasRegisters g) (alive : Variable → Type 0) (fil
       unfolding with_instr with_step
       do_homes = none
 
-      made_do : MadeSo g numbers declares do_before do_long (behind n body) (statement_of g.typed (layout g) body do_inner [] n do_before)
+      made_do : MadeSo g numbers declares do_before do_long (behind n body) (statement_of g.typed (layout g) body do_inner contexts n do_before)
       unfolding in_loop has_result
-      made_do = statement_made g numbers declares body do_inner n do_before do_frame do_among (do_body g numbers declares n p body test c) do_homes
+      made_do = statement_made g numbers declares body do_inner contexts n do_before do_frame do_among (do_body g numbers declares n p body test c) do_homes
 
       made_while : BackMade g alive has files n (ready n) scope active calls_follow (Some test) do_turn made_do.e
       unfolding IsTested
@@ -334,7 +335,7 @@ module _ (g : Setting) (has : HasRegisters g) (alive : Variable → Type 0) (fil
       abbrev behind_do : Draft
       behind_do = made_while.e
 
-      do_is : statement_of g.typed (layout g) (S.Do' p body test) f [] n d ≡ Makes (behind n body) behind_do
+      do_is : statement_of g.typed (layout g) (S.Do' p body test) f contexts n d ≡ Makes (behind n body) behind_do
       unfolding statement_of then_make
       do_is =
           ap (λ (m : Made ℕ). then_make m (λ m' behind'. then_make (jump_back_of g.typed (layout g) (Some test) do_turn behind') (λ v end. Makes m' end))) made_do.is
@@ -356,7 +357,7 @@ module _ (g : Setting) (has : HasRegisters g) (alive : Variable → Type 0) (fil
 
       do_follows : (t : CodeState) (u : State) → Begun g d → At g t (length d.code) → Sim g alive u t
           → Follows g (Left g alive f d t) t (then_round (spend_turn u (λ v. executed scope body n active v)) (λ s. rounds s.turns (passes scope active test) (λ v. executed scope body n active v) (λ v. Source.Gives Onward v) s)) (Makes (behind n body) behind_do)
-      unfolding Extends in_loop state_after Follows passes_or_absent condition_length_of
+      unfolding Extends in_loop at_loop state_after Follows passes_or_absent condition_length_of
       do_follows t u free at sim =
           let so = do_numbers in
           let regs1 = regs_more g I.FrontTurn d in
@@ -365,14 +366,14 @@ module _ (g : Setting) (has : HasRegisters g) (alive : Variable → Type 0) (fil
           delayed g (Left g alive f d t) behind_do t go_round (Makes (behind n body) behind_do) (0, as_it_was behind_do) (λ within.
           do_runs g alive scope active (passes scope active test) body n (behind n body) (test_falls n test) do_inner d d made_do.e made_do.e behind_do do_turn (λ v. Source.Gives Onward v) within so.2 so.0 so.1 do_long 0 (used_length_of g.typed (layout g) 32 true test + 1) made_do.extended (as_it_was made_do.e) made_while.extended (omega (arith, regs1))
           (falls body n)
-          (λ s v here_s sim_s. subst (λ (m : Made ℕ). Follows g (Left g alive do_inner do_before s) s (executed scope body n active v) m) made_do.is (agrees do_inner do_before s v do_frame do_among do_homes begun_body here_s sim_s (do_body g numbers declares n p body test c)))
+          (λ s v here_s sim_s. subst (λ (m : Made ℕ). Follows g (Left g alive do_inner do_before s) s (executed scope body n active v) m) made_do.is (agrees do_inner do_before s v do_frame (record { among = do_among; jumps = inl refl }) do_homes begun_body here_s sim_s (do_body g numbers declares n p body test c)))
           (λ v. omega arith)
           (λ s v here_s sim_s within_s. (refl, record { grown = (0, as_it_was made_do.e); t = s; go = stay g s; at = here_s; sim = sim_s; keeps = keeps_all g made_do.e s }))
           (λ s v here_s sim_s. made_while.leads (begun_later g do_before made_do.e do_long made_do.extended begun_body) within s v here_s sim_s)
           f (behind n body) _ t u refl do_grown at sim)
 
-    pub do_agrees : Agrees g has alive files numbers ready declares scope active calls_follow n (S.Do' p body test)
+    pub do_agrees : Agrees g has alive files numbers ready declares scope active calls_follow contexts n (S.Do' p body test)
     unfolding executed
     do_agrees f d s0 st framed among none free at sim c =
-        subst (λ (m : Made ℕ). Follows g (Left g alive f d s0) s0 (then_round (spend_turn st (λ v. executed scope body n active v)) (λ s. rounds s.turns (passes scope active test) (λ v. executed scope body n active v) (λ v. Source.Gives Onward v) s)) m) (sym (do_is f d framed among none c))
-        (do_follows f d framed among none c s0 st free at sim)
+        subst (λ (m : Made ℕ). Follows g (Left g alive f d s0) s0 (then_round (spend_turn st (λ v. executed scope body n active v)) (λ s. rounds s.turns (passes scope active test) (λ v. executed scope body n active v) (λ v. Source.Gives Onward v) s)) m) (sym (do_is f d framed among.among none c))
+        (do_follows f d framed among.among none c s0 st free at sim)

@@ -113,7 +113,7 @@ module _ (t : Typed) (image : Image) {beside : Beside} (p : IsProgramBeside besi
 
   pub runs_function : (d e : Draft) (n : ℕ) (s : CodeState) (o : Outcome Leaving) → EndsSo o e → NoJump o → Follows g (Left g OfFileOrParam frame d s) s o (Makes n e) → RunsFunction s o
   unfolding Follows RunsFunction Left NoJump given_back
-  runs_function d e n s (Source.Gives Onward u) so closed follows = left_at_end g OfFileOrParam d e s u (so.last u refl) (follows so.inside)
+  runs_function d e n s (Source.Gives Onward u) so closed follows = left_at_end g OfFileOrParam d e s u tt (so.last u refl) (follows so.inside)
   runs_function d e n s (Source.Gives Broke u) so closed follows = absurd closed
   runs_function d e n s (Source.Gives Continued u) so closed follows = absurd closed
   runs_function d e n s (Source.Gives (Returned v) u) so closed follows = follows so.inside

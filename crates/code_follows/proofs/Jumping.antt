@@ -27,6 +27,11 @@ pub nothing_restored : (k : ℕ) (d : Draft) → restored [] k d ≡ d
 unfolding restored loaded no_fields
 nothing_restored k d = ap (λ (list : List Field). loaded list d) (nothing_taken k)
 
+-- none of those that are saved is loaded
+pub none_restored : (contexts : List Field) (newest : ℕ) (d : Draft) → newest ≡ 0 → restored contexts newest d ≡ d
+unfolding restored loaded
+none_restored contexts newest d none = ap (λ (k : ℕ). restored contexts k d) none
+
 module _ (g : Setting) (alive : Variable → Type 0) where
   -- the state at another place
   abbrev pub moved_to : ℕ → CodeState → CodeState

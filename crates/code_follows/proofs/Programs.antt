@@ -7,6 +7,7 @@ use Rattle.cstar_base.specs.declared.operators.Winner.{Winner}
 use Rattle.cstar_compile.specs.Compiled.{IsCompiled}
 use Rattle.cstar_tree.specs.declared.typed.Instance.{Instance}
 use Rattle.cstar_tree.specs.declared.typed.LocalVar.{LocalVar}
+use Rattle.cstar_tree.specs.declared.typed.TExpr.{TExpr}
 use Rattle.cstar_tree.specs.declared.typed.TStmt.{TStmt, Row_of-TStmt}
 use Rattle.cstar_tree.specs.declared.typed.TStmt as S
 use Rattle.cstar_tree.specs.declared.typed.Typed.{Typed}
@@ -31,12 +32,12 @@ use Rattle.source_meaning.specs.Programs.{Run, by_owner, calls, entered, left, m
 use Rattle.source_meaning.specs.State as Source
 use Rattle.source_meaning.specs.State.{Outcome, State, is_among, then_do, zeroed}
 use Rattle.source_meaning.specs.Statements.{Leaving, executed, initialised}
-use Rattle.source_meaning.specs.Values.{Active, number}
+use Rattle.source_meaning.specs.Values.{Active, Scope, number}
 use Rattle.code_follows.specs.Agreement.{AreBytes, CodeMeansSource, ComesTo, end_of, mark_of}
 use Rattle.code_follows.specs.Fragment.{IsBody, IsFileVariable, Beside, IsProgramBeside, IsInStatement, OfFileOrParam, OrAmong}
 use Rattle.code_follows.proofs.Activations.{scalars, words}
 use Rattle.code_follows.proofs.Beginnings.{starts_grow, starts_run}
-use Rattle.code_follows.proofs.Bodies.{begun_code, begun_follows, begun_grows, block_code, block_initials, block_stands, row_follows, follows_fewer}
+use Rattle.code_follows.proofs.Bodies.{begun_code, begun_follows, begun_grows, block_code, block_initials, block_stands, follows_fewer}
 use Rattle.code_follows.proofs.Callees.{CallsFollow}
 use Rattle.code_follows.proofs.Closed.{NoJump, begins_closed, closed_row, go_closed}
 use Rattle.code_follows.proofs.ConstantRegisters.{constant_at}
@@ -49,6 +50,7 @@ use Rattle.code_follows.proofs.Functions.{BodyMade, EndsSo, RunsFunction, among,
 use Rattle.code_follows.proofs.Openings.{constants_run}
 use Rattle.std.proofs.lemmas.Nat.{pow_pos}
 use Rattle.source_meaning.specs.Reductions.{int_type}
+use Rattle.code_follows.proofs.Induction.{Around, row_follows}
 use Rattle.code_follows.proofs.Numbers.{zero_converted}
 use Rattle.code_follows.proofs.Regions.{IsOwn, base_behind, base_inside, below, local_own, own_behind, param_own}
 use Rattle.code_follows.proofs.Settings.{At, EndsIn, Held, Reaches, Setting, Within, earlier, ends_later, ends_now, onto, start}
@@ -71,7 +73,7 @@ unfolding start_in
 starts_at_zero [] = refl
 starts_at_zero (u ∷ us) = refl
 
-module _ (t : Typed) (image : Image) {beside : Beside} (p : IsProgramBeside beside t) (codable : IsCodable t) (compiled : IsCompiled t image) (holding : Held) (memory : BitMemory) (input : List ℕ) (rest : Source.Rest) (turns : ℕ) (winner : Winner) (are : AreBytes input) (begins : holding.holds (start_state t input rest turns winner) memory) (besides : AllBeside t image p codable compiled holding (λ s p. true)) where
+module _ (t : Typed) (image : Image) {beside : Beside} (p : IsProgramBeside beside t) (codable : IsCodable t) (compiled : IsCompiled t image) (holding : Held) (memory : BitMemory) (input : List ℕ) (rest : Source.Rest) (turns : ℕ) (winner : Winner) (are : AreBytes input) (begins : holding.holds (start_state t input rest turns winner) memory) {Known : Setting → Scope → Active → Type 1} (besides : AllBeside t image p codable compiled holding (λ s p. true) Known) where
   abbrev main_setting : Setting
   main_setting = g t image p codable compiled holding 0 p.main p.is_main [] turns
 
@@ -235,17 +237,19 @@ module _ (t : Typed) (image : Image) {beside : Beside} (p : IsProgramBeside besi
       let is_ready = ready t image p codable compiled holding 0 p.main p.is_main [] turns in
       let declared = declares t image p codable compiled holding 0 p.main p.is_main [] turns in
       let here = scope t image p codable compiled holding 0 p.main p.is_main [] turns in
-      let never_rises = falls t image p codable compiled holding 0 p.main p.is_main [] turns active in
+      let never_rises = falls t image p codable compiled holding 0 p.main p.is_main [] turns in
       let framed_so = framed t image p codable compiled holding 0 p.main p.is_main [] turns in
       let among_so = among t image p codable compiled holding 0 p.main p.is_main [] turns in
+      let around : Around Known main_setting here active [] =
+      record { has = has_it; numbers = numbers; ready = is_ready; declares = declared; calls_follow = main_calls; falls = never_rises; known = besides.known 0 p.main p.is_main [] turns; leaves = λ may. refl } in
       let homes = starts_homes t image (scalars t image p codable compiled holding) codable compiled p.main in
       let regs = starts_regs t image (scalars t image p codable compiled holding) codable compiled p.main in
       let c : HasStatementCode t p.main 0 (S.Block' locals q row) = subst (λ (s : TStmt). HasStatementCode t p.main 0 s) is (codable 0 p.main p.is_main).1 in
-      let own_row = block_code main_setting has_it wide one numbers is_ready declared here active main_calls never_rises 0 locals q row c in
-      let initial = block_initials main_setting has_it wide one numbers is_ready declared here active main_calls never_rises 0 locals q row c in
+      let own_row = block_code main_setting has_it wide one numbers is_ready declared here active main_calls (never_rises active) [] 0 locals q row c in
+      let initial = block_initials main_setting has_it wide one numbers is_ready declared here active main_calls (never_rises active) [] 0 locals q row c in
       let settled = settled_so main_setting has_it wide one is_ready here active main_calls OfFileOrParam locals.items 0 (λ x living. inl living) (λ x own. inr own) before_all h.0.1 in
-      let stand = first_part (map info_of locals.items) (row_variables row) (block_stands main_setting has_it wide one numbers is_ready declared here active main_calls never_rises 0 locals q row c) in
-      let code : Made ℕ = begun_code main_setting has_it wide one numbers is_ready declared here active main_calls never_rises locals.items row f 0 begun_there in
+      let stand = first_part (map info_of locals.items) (row_variables row) (block_stands main_setting has_it wide one numbers is_ready declared here active main_calls (never_rises active) [] 0 locals q row c) in
+      let code : Made ℕ = begun_code main_setting has_it wide one numbers is_ready declared here active main_calls (never_rises active) [] locals.items row f 0 begun_there in
       let code_is : body_of t (own t image p codable compiled holding 0 p.main p.is_main [] turns) f p.main.body begun_there ≡ code =
       ap (λ (b : TStmt). body_of t (own t image p codable compiled holding 0 p.main p.is_main [] turns) f b begun_there) is
       ∙ ap (λ (m : Made (Unit {0})). then_make (then_make m (λ u between. then_make (all_initialised t (own t image p codable compiled holding 0 p.main p.is_main [] turns) locals.items 0 between) (λ v after. Makes (0 + length locals.items) after))) (λ number after. statements_of t (own t image p codable compiled holding 0 p.main p.is_main [] turns) row f [] number after))
@@ -256,7 +260,7 @@ module _ (t : Typed) (image : Image) {beside : Beside} (p : IsProgramBeside besi
       let never : ends_in_return p.main.body ≡ true → NeverOnward whole =
       λ ends. never_second (initialised here active 0 locals.items _) _ (λ u. body_never here active locals q row (sym (ap (λ (x : TStmt). ends_in_return x) is) ∙ ends) (0 + length locals.items) u) in
       let ends : EndsSo t image p codable compiled holding 0 p.main p.is_main [] turns whole made.e = ends_by t image p codable compiled holding 0 p.main p.is_main [] turns whole made.e made.unit never in
-      let grown : (j : ℕ) × Extended begun_there j made.e = subst (λ (m : Made ℕ). Extends main_setting begun_there m) made.is_made (begun_grows main_setting has_it wide one numbers is_ready declared here active main_calls never_rises locals.items row f 0 begun_there h.0.0 settled initial own_row framed_so among_so homes) in
+      let grown : (j : ℕ) × Extended begun_there j made.e = subst (λ (m : Made ℕ). Extends main_setting begun_there m) made.is_made (begun_grows main_setting has_it wide one numbers is_ready declared here active main_calls (never_rises active) [] locals.items row f 0 begun_there h.0.0 settled initial own_row framed_so among_so homes) in
       let opens = opened_so (earlier main_setting begun_there made.e grown.0 grown.1 ends.inside) in
       let now : Variable → Type 0 = λ x. Now main_setting has_it wide one is_ready here active main_calls locals.items 0 x in
       let sim : Sim main_setting now (begun_body locals.items row) opens.there =
@@ -267,18 +271,33 @@ module _ (t : Typed) (image : Image) {beside : Beside} (p : IsProgramBeside besi
       (runs_function t image p codable compiled holding 0 p.main p.is_main [] turns begun_there made.e made.n opens.there whole ends closed
       (subst (λ (m : Made ℕ). Follows main_setting (Left main_setting OfFileOrParam f begun_there opens.there) opens.there whole m) made.is_made
       (follows_fewer main_setting wide OfFileOrParam (λ x living. inl living) f begun_there opens.there whole code
-      (begun_follows main_setting has_it wide one numbers is_ready declared here active main_calls never_rises locals.items row f 0 begun_there opens.there (begun_body locals.items row) h.0.0 stand settled initial own_row framed_so among_so homes (omega (arith, regs)) opens.at sim
-      (λ e there u none free at sim_there. row_follows main_setting has_it numbers is_ready declared here active main_calls never_rises wide one (0 + length locals.items) (among_before OfFileOrParam 0 (length locals.items) before_all) row h.0.2 f e there u framed_so among_so none free at sim_there own_row))))))
+      (begun_follows main_setting has_it wide one numbers is_ready declared here active main_calls (never_rises active) [] locals.items row f 0 begun_there opens.there (begun_body locals.items row) h.0.0 stand settled initial own_row framed_so among_so homes (record { regs = omega (arith, regs); code = omega arith }) opens.at sim
+      (λ e there u none free at sim_there. row_follows here (λ g. besides.follows g here) main_setting active [] around wide one (0 + length locals.items) (among_before OfFileOrParam 0 (length locals.items) before_all) row h.0.2 f e there u framed_so among_so (inl (let none = among_so.loop in omega (arith, none))) none free at sim_there own_row))))))
   runs _ is h = absurd h
 
 -- the code comes to the end of the source's meaning
 pub program_follows : (t : Typed) (image : Image) {beside : Beside} (p : IsProgramBeside beside t) (codable : IsCodable t) (compiled : IsCompiled t image) (holding : Held)
-    (memory : BitMemory) (input : List ℕ) (rest : Source.Rest) (turns : ℕ) (winner : Winner) → AreBytes input → holding.holds (start_state t input rest turns winner) memory → AllBeside t image p codable compiled holding (λ s p. true)
+    {Known : Setting → Scope → Active → Type 1} (memory : BitMemory) (input : List ℕ) (rest : Source.Rest) (turns : ℕ) (winner : Winner) → AreBytes input → holding.holds (start_state t input rest turns winner) memory → AllBeside t image p codable compiled holding (λ s p. true) Known
     → Comes holding image (opening image memory turns (record { bytes = input; mark = mark_of rest })) (meaning t input rest turns winner)
 unfolding meaning run_body
 program_follows t image p codable compiled holding memory input rest turns winner are begins besides =
     subst (λ (o : Option Instance). Comes holding image (opening image memory turns (record { bytes = input; mark = mark_of rest })) (run_of (run_body t (calls t turns) o [] (λ s p. true) (start_state t input rest turns winner)))) (sym p.is_main)
     (runs t image p codable compiled holding memory input rest turns winner are begins besides p.main.body refl (p.each 0 p.main p.is_main).body)
 
+-- a unit of a program that has nothing beside scalars
+record NothingBeside (g : Setting) : Type 1 where
+  pub effects : (e : TExpr) → g.may.beside.effects e → ⊥
+  pub folds : (e : TExpr) → g.may.beside.folds e → ⊥
+  pub conditions : (shape : ℕ) (e : TExpr) → g.may.beside.conditions shape e → ⊥
+  pub widens : (shape : ℕ) → g.may.beside.widens shape → ⊥
+
 pub means_source : CodeMeansSource
-means_source t image p codable compiled memory input rest turns winner are = (program_follows t image p codable compiled nothing_held memory input rest turns winner are (tt {0}) (λ number i is opens most has. record { effects = λ alive files n ready e h. absurd h; folds = λ alive files n ready e h. absurd h; statements = λ alive files n ready s h. absurd h })).to
+means_source t image p codable compiled memory input rest turns winner are =
+    (program_follows t image p codable compiled nothing_held {Known = λ g scope a. NothingBeside g} memory input rest turns winner are (tt {0}) (record {
+      follows = λ g scope a known has. record {
+        expressions = record { effects = λ alive files n ready e h. absurd (known.effects e h); folds = λ alive files n ready e h. absurd (known.folds e h) };
+        wheres = λ alive files n ready shape test q first second h. absurd (known.conditions shape test h);
+        widenings = λ alive files n ready shape q body h. absurd (known.widens shape h);
+      };
+      known = λ number i is opens most. record { effects = λ e h. h; folds = λ e h. h; conditions = λ shape e h. h; widens = λ shape h. h };
+    })).to

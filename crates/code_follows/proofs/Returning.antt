@@ -59,18 +59,19 @@ unfolding with_end
 end_more g e = and_one g (if g.is_main then I.FrontHalt else I.FrontReturn) e
 
 -- the function is left at the end of its body
-pub left_at_end : (g : Setting) (alive : Variable → Type 0) (d e : Draft) (s : CodeState) (u : State) → Within g (with_end g.is_main e) → Ran g alive d s u e → Returns g alive s u None
+pub left_at_end : (g : Setting) (alive : Variable → Type 0) (d e : Draft) (s : CodeState) (u : State) → g.may.leaves → Within g (with_end g.is_main e) → Ran g alive d s u e → Returns g alive s u None
 unfolding IsGiven
-left_at_end g alive d e s u within ran = record {
+left_at_end g alive d e s u allowed within ran = record {
   t = ran.t;
   go = ran.go;
   sim = ran.sim;
   leaves = leaves g alive e ran.t within ran.at;
   spares = λ r spared. ran.keeps r (spared_kept g d r spared);
   given = ran.keeps (result_register (layout g)) (result_kept g d);
+  allowed = allowed;
 }
 
-module _ (g : Setting) (has : HasRegisters g) (alive : Variable → Type 0) (files : (k : ℕ) → alive (V.File k)) (ready : (n : ℕ) (d : Draft) → IsReady g.typed g.instance (layout g) n d) (scope : Scope) (active : Active) (calls_follow : CallsFollow g scope active) where
+module _ (g : Setting) (has : HasRegisters g) (alive : Variable → Type 0) (files : (k : ℕ) → alive (V.File k)) (ready : (n : ℕ) (d : Draft) → IsReady g.typed g.instance (layout g) n d) (scope : Scope) (active : Active) (calls_follow : CallsFollow g scope active) (allowed : g.may.leaves) where
   -- what is behind the code of a `return`
   abbrev then_leaves : ℕ → Draft → Made ℕ
   then_leaves n after = Makes n (with_end g.is_main after)
@@ -105,6 +106,7 @@ module _ (g : Setting) (has : HasRegisters g) (alive : Variable → Type 0) (fil
     leaves = leaves g alive e t within at;
     spares = λ k spared. keeps k (spared_kept g d k spared);
     given = λ info found. absurd (let no : Some info ≡ None = sym found ∙ no_result refl in cc);
+    allowed = allowed;
   }
   given_so elem takes f d s0 w u R.Scalar n r e t none no_result go keeps at sim few is = λ within.
       let q : ℕ = result_register (layout g) in
@@ -120,6 +122,7 @@ module _ (g : Setting) (has : HasRegisters g) (alive : Variable → Type 0) (fil
         leaves = leaves g alive moves t1 within (at_next g i e t (t.at + 1) at refl);
         spares = λ k spared. get_or-set_other t.registers q k (slice_index t.registers r) 0 (λ e. has.spared_result (subst (λ (m : ℕ). g.spared m) e spared)) ∙ keeps k (spared_kept g d k spared);
         given = λ info found. (w, (refl, takes_below info.elem elem w (takes info found) few, get_or-set_same t.registers q (slice_index t.registers r) 0 inside ∙ is ∙ takes_held info.elem elem w (takes info found) few));
+        allowed = allowed;
       }
   given_so elem takes f d s0 w u R.Parallel n r e t none no_result go keeps at sim few is = absurd (none refl)
 
@@ -160,7 +163,7 @@ module _ (g : Setting) (has : HasRegisters g) (alive : Variable → Type 0) (fil
   unfolding executed statement_of returned_by given_back then_make Follows Left IsGiven
   return_follows None h f n d s0 st framed free at sim c =
       subst (λ (e : Draft). Follows g (Left g alive f d s0) s0 (Source.Gives (Returned None) st) (Makes n e)) (sym (ends_so f f.saved.in_all framed.main d))
-      (λ within. record { t = s0; go = stay g s0; sim = sim; leaves = leaves g alive d s0 within at; spares = λ r spared. refl; given = refl })
+      (λ within. record { t = s0; go = stay g s0; sim = sim; leaves = leaves g alive d s0 within at; spares = λ r spared. refl; given = refl; allowed = allowed })
   return_follows (Some e) h f n d s0 st framed free at sim c =
       subst (λ (m : Made ℕ). Follows g (Left g alive f d s0) s0 (then_do (evaluated scope e active st) (λ v after. Source.Gives (Returned (Some (returned active (type_of e).shape v))) after)) m)
       (λ i. then_make (then_make (next_of g.typed (layout g) (type_of e).elem.bits true e d) (λ v after. stored_result (layout g) f.outcome v after)) (λ u after. Makes n (sym (ends_so f f.saved.in_all framed.main after) i)))

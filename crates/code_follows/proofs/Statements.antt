@@ -1,5 +1,5 @@
 -- The code of statements follows the source.
-use Rattle.std.proofs.Common.{◌≡◌, ◌∙◌, ℕ, Option, Some, None, List, [], ◌∷◌, length, refl, sym, ap, subst, arith}
+use Rattle.std.proofs.Common.{◌≡◌, ◌∙◌, ◌⊎◌, inl, inr, ℕ, Option, Some, None, List, [], ◌∷◌, ◌++◌, length, length-append, refl, sym, ap, subst, arith}
 use Rattle.std.specs.Prelude.{IfSome}
 use Rattle.cstar_tree.specs.declared.typed.TExpr.{TExpr}
 use Rattle.cstar_tree.specs.declared.typed.TStmt.{TStmt, Row_of-TStmt, end_of-TStmt, more_of-TStmt, Held-TStmt-If-2, None', Some'}
@@ -13,16 +13,18 @@ use Rattle.code_lengths.specs.Ready.{Declares, HasCode, HasDeclared, HasStatemen
 use Rattle.code_lengths.specs.LowerableStatements.{IsLowerableStatement}
 use Rattle.code_lengths.specs.NamingStatements.{StandFrom, StatementNamesVariables}
 use Rattle.code_lengths.specs.ShapedStatements.{IsShapedPart, IsShapedStatement}
-use Rattle.code_lengths.proofs.Declaring.{else_variables, first_part, of_do, of_if, of_with, second_part}
+use Rattle.code_lengths.proofs.Declaring.{else_variables, first_part, of_do, of_everywhere, of_if, of_where, of_with, second_part}
 use Rattle.code_lengths.proofs.StatementLengths.{statements}
 use Rattle.source_meaning.proofs.ConstantLaws.{Boxed}
 use Rattle.lower_base.specs.Drafts.{Draft, Fails, Made, Makes}
 use Rattle.lower_stmt.specs.declared.statement.Frame.{Frame}
 use Rattle.lower_stmt.specs.declared.statement.Outcome.TheVariants as R
-use Rattle.lower_stmt.specs.Frames.{has_result}
-use Rattle.lower_stmt.specs.Lengths.{statement_length_of}
+use Rattle.lower_stmt.specs.Frames.{has_result, in_context}
+use Rattle.lower_stmt.specs.Lengths.{one_more, statement_length_of}
 use Rattle.lower_stmt.specs.Programs.{outcome_of}
 use Rattle.lower_stmt.specs.Statements.{statement_of}
+use Rattle.paris_code.specs.declared.operands.Field.{Field}
+use Rattle.code_follows.specs.Fragment.{IsClosed, IsClosedElse}
 use Rattle.code_follows.proofs.Settings.{Setting, layout}
 
 -- the frame of a statement of the function
@@ -30,6 +32,41 @@ pub record StandsIn (g : Setting) (f : Frame) : Type 0 where
   pub outcome : f.outcome ≡ outcome_of g.instance.result
   pub main : f.is_main ≡ g.is_main
   pub scalar : f.outcome ≡ R.Parallel → ⊥
+
+pub in_context_too : (g : Setting) (f : Frame) → StandsIn g f → StandsIn g (in_context f)
+unfolding in_context
+in_context_too g f h = record { outcome = h.outcome; main = h.main; scalar = h.scalar }
+
+-- a statement among these saved contexts, of which its jumps out of a loop load none
+pub record StandsHere (f : Frame) (contexts : List Field) (s : TStmt) : Type 0 where
+  pub among : StandsAmong f contexts
+  pub jumps : (f.saved.in_loop ≡ 0) ⊎ IsClosed s
+
+-- of a part of it
+module _ (f : Frame) (contexts : List Field) where
+  pub if_first_here : (test : TExpr) (p : Boxed) (first : TStmt) (second : Held-TStmt-If-2) → StandsHere f contexts (S.If' test p first second) → StandsHere f contexts first
+  unfolding IsClosed
+  if_first_here test p first second h = record { among = h.among; jumps = by h.jumps }
+    where
+      by : (f.saved.in_loop ≡ 0) ⊎ IsClosed (S.If' test p first second) → (f.saved.in_loop ≡ 0) ⊎ IsClosed first
+      by (inl none) = inl none
+      by (inr closed) = inr closed.0
+
+  pub if_second_here : (test : TExpr) (p : Boxed) (first : TStmt) (q : Boxed) (second : TStmt) → StandsHere f contexts (S.If' test p first (Some' q second)) → StandsHere f contexts second
+  unfolding IsClosed IsClosedElse
+  if_second_here test p first q second h = record { among = h.among; jumps = by h.jumps }
+    where
+      by : (f.saved.in_loop ≡ 0) ⊎ IsClosed (S.If' test p first (Some' q second)) → (f.saved.in_loop ≡ 0) ⊎ IsClosed second
+      by (inl none) = inl none
+      by (inr closed) = inr closed.1
+
+  pub with_here : (shape : ℕ) (p : Boxed) (body : TStmt) → StandsHere f contexts (S.With' shape p body) → StandsHere f contexts body
+  unfolding IsClosed
+  with_here shape p body h = record { among = h.among; jumps = h.jumps }
+
+pub deeper : (f : Frame) (contexts : List Field) (saved : Field) → StandsAmong f contexts → StandsAmong (in_context f) (contexts ++ saved ∷ [])
+unfolding in_context one_more
+deeper f contexts saved k = let long = length-append contexts (saved ∷ []) in record { loop = omega (arith, k.loop, long); all = omega (arith, k.all, long) }
 
 no_length : {A : Type 0} (xs : List A) → length xs ≡ 0 → xs ≡ []
 no_length [] e = refl
@@ -44,13 +81,13 @@ module _ (g : Setting) (numbers : NumbersVariables g.instance (layout g)) (decla
     pub homes : e.homes ≡ []
 
   -- where no variable is parallel no home is added
-  pub statement_made : (s : TStmt) (f : Frame) (n : ℕ) (d : Draft) → StandsIn g f → StandsAmong f [] → HasStatementCode g.typed g.instance n s → d.homes ≡ []
-      → MadeSo d (statement_length_of g.typed (layout g) (has_result f) f.saved s) (behind n s) (statement_of g.typed (layout g) s f [] n d)
+  pub statement_made : (s : TStmt) (f : Frame) (contexts : List Field) (n : ℕ) (d : Draft) → StandsIn g f → StandsAmong f contexts → HasStatementCode g.typed g.instance n s → d.homes ≡ []
+      → MadeSo d (statement_length_of g.typed (layout g) (has_result f) f.saved s) (behind n s) (statement_of g.typed (layout g) s f contexts n d)
   unfolding Leads
-  statement_made s f n d framed among c none = by (statement_of g.typed (layout g) s f [] n d) refl (statements g.typed g.instance (layout g) s f [] n d numbers framed.outcome among c (declared n d none))
+  statement_made s f contexts n d framed among c none = by (statement_of g.typed (layout g) s f contexts n d) refl (statements g.typed g.instance (layout g) s f contexts n d numbers framed.outcome among c (declared n d none))
     where
-      by : (made : Made ℕ) → statement_of g.typed (layout g) s f [] n d ≡ made → Leads d (statement_length_of g.typed (layout g) (has_result f) f.saved s) (Declares g.typed g.instance (layout g) (behind n s)) made
-          → MadeSo d (statement_length_of g.typed (layout g) (has_result f) f.saved s) (behind n s) (statement_of g.typed (layout g) s f [] n d)
+      by : (made : Made ℕ) → statement_of g.typed (layout g) s f contexts n d ≡ made → Leads d (statement_length_of g.typed (layout g) (has_result f) f.saved s) (Declares g.typed g.instance (layout g) (behind n s)) made
+          → MadeSo d (statement_length_of g.typed (layout g) (has_result f) f.saved s) (behind n s) (statement_of g.typed (layout g) s f contexts n d)
       by Fails is h = absurd h
       by (Makes m e) is h =
           let x = h.1.1 in
@@ -107,6 +144,33 @@ module _ (g : Setting) (numbers : NumbersVariables g.instance (layout g)) (decla
     lowerable = c.lowerable;
     names = c.names;
     stands = subst (λ (own : List VarInfo). StandFrom (variables_of g.instance.body) n own) (of_with shape p body) c.stands;
+  }
+
+  pub everywhere_body : (n shape : ℕ) (p : Boxed) (body : TStmt) → HasStatementCode g.typed g.instance n (S.Everywhere' shape p body) → HasStatementCode g.typed g.instance n body
+  unfolding IsShapedStatement IsLowerableStatement StatementNamesVariables
+  everywhere_body n shape p body c = record {
+    shaped = c.shaped;
+    lowerable = c.lowerable;
+    names = c.names;
+    stands = subst (λ (own : List VarInfo). StandFrom (variables_of g.instance.body) n own) (of_everywhere shape p body) c.stands;
+  }
+
+  pub where_first : (n shape : ℕ) (test : TExpr) (p : Boxed) (first : TStmt) (second : Held-TStmt-If-2) → HasStatementCode g.typed g.instance n (S.Where' shape test p first second) → HasStatementCode g.typed g.instance n first
+  unfolding IsShapedStatement IsLowerableStatement StatementNamesVariables
+  where_first n shape test p first second c = record {
+    shaped = c.shaped.1;
+    lowerable = c.lowerable.2;
+    names = c.names.1;
+    stands = first_part (variables_of first) (else_variables second) (subst (λ (own : List VarInfo). StandFrom (variables_of g.instance.body) n own) (of_where shape test p first second) c.stands);
+  }
+
+  pub where_second : (n shape : ℕ) (test : TExpr) (p : Boxed) (first : TStmt) (q : Boxed) (second : TStmt) → HasStatementCode g.typed g.instance n (S.Where' shape test p first (Some' q second)) → HasStatementCode g.typed g.instance (behind n first) second
+  unfolding IsShapedStatement IsLowerableStatement StatementNamesVariables else_variables
+  where_second n shape test p first q second c = record {
+    shaped = c.shaped.2;
+    lowerable = c.lowerable.3;
+    names = c.names.2;
+    stands = second_part (variables_of first) (else_variables (Some' q second)) (subst (λ (own : List VarInfo). StandFrom (variables_of g.instance.body) n own) (of_where shape test p first (Some' q second)) c.stands);
   }
 
   pub expression_code : (n : ℕ) (e : TExpr) → HasStatementCode g.typed g.instance n (S.Expression e) → HasCode g.typed g.instance n e

@@ -1,5 +1,5 @@
 -- The programs of which it is said so far that their code means them: scalar ones, and those with some parallel
--- expressions and statements under contexts beside. Variables of the file and of blocks, parameters and results are of
+-- expressions beside and statements under contexts. Variables of the file and of blocks, parameters and results are of
 -- any scalar type, `bool`, `char`, `short` or `int`, signed or not. The operands of operators, which typing promotes,
 -- have 32 bits, and so has what is printed. Expressions name variables of open blocks alone, as typing gives.
 use Rattle.std.specs.Prelude.{ℕ, List, map, slice_get, ◌≡◌, ◌<◌, ◌^◌, [], IfSome, Option, Some, None, ◌⊎◌, ◌+◌, ◌∷◌, length, true}
@@ -50,26 +50,32 @@ unfoldable pub IsOperand : UnaryOp → ValueType → Type 0
 IsOperand U.Not ty = IsScalarType ty
 IsOperand _ ty = IsWord ty
 
--- the parallel expressions and the statements under contexts that a program may have beside scalar ones, and its
--- parallel variables
+-- the parallel expressions that a program may have beside scalar ones, the contexts under which its statements may
+-- stand, and its parallel variables
 pub record Beside : Type 1 where
   pub effects : TExpr → Type 0  -- whose value is not used
   pub folds : TExpr → Type 0  -- whose value is a number
-  pub statements : (Variable → Type 0) → TStmt → Type 0  -- those under contexts, that name these scalar variables
+  pub conditions : ℕ → TExpr → Type 0  -- of `where`, by its shape
+  pub widens : ℕ → Type 0  -- the shapes of `everywhere`
   pub variables : VarInfo → Type 0  -- of the file
 
 -- What the body of a function may do: call which functions, by their instances' numbers, with arguments of which
--- types, for a value of which type where it is used; return numbers of which types; name which variables; and have
--- which parallel expressions and statements under contexts.
+-- types, for a value of which type where it is used; return numbers of which types; name which variables; have which
+-- parallel expressions and contexts; and be left before its end.
 pub record May : Type 1 where
   pub calls : Option Elem → ℕ → List Elem → Type 0
   pub returns : Elem → Type 0
   pub names : Variable → Type 0
   pub beside : Beside
+  pub leaves : Type 0
 
 -- the same with other variables to name
 abbrev pub naming : May → (Variable → Type 0) → May
 naming may names = record may { names = names }
+
+-- the same under contexts, where nothing is called and the function is not left
+abbrev pub under_contexts : May → May
+under_contexts may = record may { calls = λ used index given. ⊥; leaves = ⊥ }
 
 -- the variables of some, and so many of a block from a number on
 abbrev pub OrAmong : (Variable → Type 0) → ℕ → ℕ → Variable → Type 0
@@ -166,33 +172,7 @@ unfoldable pub IsTested : May → Option TExpr → Type 0
 IsTested may None = Unit {0}
 IsTested may (Some e) = IsIn may e
 
--- Statements of these, where so many variables of blocks are declared before. Those of a block may be named in it
--- alone; each function begins with the variables of the file and its parameters.
-unfoldable mutual
-  pub IsInStatement : May → ℕ → TStmt → Type 0
-  IsInStatement may n (S.Block' locals p statements) = All IsScalarLocal locals.items × AreInitials may n locals.items × AreInStatements (within may n (length locals.items)) (n + length locals.items) statements
-  IsInStatement may n (S.Expression e) = IsEffect may e
-  IsInStatement may n S.Empty = Unit {0}
-  IsInStatement may n (S.If' test p first second) = IsIn may test × IsInStatement may n first × IsInElse may (behind n first) second
-  IsInStatement may n (S.While' test p body) = IsIn may test × IsInStatement may n body
-  IsInStatement may n (S.Do' p body test) = IsInStatement may n body × IsIn may test
-  IsInStatement may n (S.For' first test step p body) = IfSome first (IsEffect may) × IsTested may test × IfSome step (IsEffect may) × IsInStatement may n body
-  IsInStatement may n S.Break = Unit {0}
-  IsInStatement may n S.Continue = Unit {0}
-  IsInStatement may n (S.Return e) = IfSome e (λ e. IsIn may e × may.returns (type_of e).elem)
-  IsInStatement may n (S.With' shape p body) = IsInStatement may n body
-  IsInStatement may n (S.Everywhere' shape p body) = may.beside.statements may.names (S.Everywhere' shape p body)
-  IsInStatement may n (S.Where' shape test p first second) = may.beside.statements may.names (S.Where' shape test p first second)
-
-  pub AreInStatements : {k : _} → May → ℕ → Row_of-TStmt k → Type 0
-  AreInStatements may n end_of-TStmt = Unit {0}
-  AreInStatements may n (more_of-TStmt s rest) = IsInStatement may n s × AreInStatements may (behind n s) rest
-
-  pub IsInElse : May → ℕ → Held-TStmt-If-2 → Type 0
-  IsInElse may n None' = Unit {0}
-  IsInElse may n (Some' p s) = IsInStatement may n s
-
--- in which no loop is left or gone on with from without
+-- a statement in which no loop is left or gone on with from without
 unfoldable mutual
   pub IsClosed : TStmt → Type 0
   IsClosed (S.Block' locals p statements) = AreClosed statements
@@ -211,6 +191,36 @@ unfoldable mutual
   pub IsClosedElse : Held-TStmt-If-2 → Type 0
   IsClosedElse None' = Unit {0}
   IsClosedElse (Some' p s) = IsClosed s
+
+-- Statements of these, where so many variables of blocks are declared before. Those of a block may be named in it
+-- alone; each function begins with the variables of the file and its parameters. What stands under a context leads
+-- nowhere else than to its end.
+unfoldable mutual
+  pub IsInStatement : May → ℕ → TStmt → Type 0
+  IsInStatement may n (S.Block' locals p statements) = All IsScalarLocal locals.items × AreInitials may n locals.items × AreInStatements (within may n (length locals.items)) (n + length locals.items) statements
+  IsInStatement may n (S.Expression e) = IsEffect may e
+  IsInStatement may n S.Empty = Unit {0}
+  IsInStatement may n (S.If' test p first second) = IsIn may test × IsInStatement may n first × IsInElse may (behind n first) second
+  IsInStatement may n (S.While' test p body) = IsIn may test × IsInStatement may n body
+  IsInStatement may n (S.Do' p body test) = IsInStatement may n body × IsIn may test
+  IsInStatement may n (S.For' first test step p body) = IfSome first (IsEffect may) × IsTested may test × IfSome step (IsEffect may) × IsInStatement may n body
+  IsInStatement may n S.Break = Unit {0}
+  IsInStatement may n S.Continue = Unit {0}
+  IsInStatement may n (S.Return e) = may.leaves × IfSome e (λ e. IsIn may e × may.returns (type_of e).elem)
+  IsInStatement may n (S.With' shape p body) = IsInStatement may n body
+  IsInStatement may n (S.Everywhere' shape p body) = may.beside.widens shape × IsInStatement (under_contexts may) n body × IsClosed body
+  IsInStatement may n (S.Where' shape test p first second) =
+      may.beside.conditions shape test × ScalarsAmong may.names test
+      × IsInStatement (under_contexts may) n first × IsClosed first
+      × IsInElse (under_contexts may) (behind n first) second × IsClosedElse second
+
+  pub AreInStatements : {k : _} → May → ℕ → Row_of-TStmt k → Type 0
+  AreInStatements may n end_of-TStmt = Unit {0}
+  AreInStatements may n (more_of-TStmt s rest) = IsInStatement may n s × AreInStatements may (behind n s) rest
+
+  pub IsInElse : May → ℕ → Held-TStmt-If-2 → Type 0
+  IsInElse may n None' = Unit {0}
+  IsInElse may n (Some' p s) = IsInStatement may n s
 
 -- a block of such statements
 unfoldable pub IsBody : May → TStmt → Type 0
@@ -251,14 +261,15 @@ may_of beside t i = record {
   returns = λ elem. (info : VarInfo) → i.result ≡ Some info → Takes info.elem elem;
   names = OfFileOrParam;
   beside = beside;
+  leaves = Unit {0};
 }
 
 -- the numbers of the instances that each instance calls
 abbrev pub called_in : Typed → List (List ℕ)
 called_in t = map (λ (i : Instance). calls_within i.body) t.instances.items
 
--- A program of functions without recursion, with such parallel expressions, statements and variables beside the
--- scalar ones.
+-- A program of functions without recursion, with such parallel expressions, contexts and variables beside the scalar
+-- ones.
 pub record IsProgramBeside (beside : Beside) (t : Typed) : Type 0 where
   pub main : Instance
   pub is_main : slice_get t.instances.items 0 ≡ Some main
@@ -269,7 +280,7 @@ pub record IsProgramBeside (beside : Beside) (t : Typed) : Type 0 where
 
 -- one of scalars alone
 abbrev pub nothing_beside : Beside
-nothing_beside = record { effects = λ e. ⊥; folds = λ e. ⊥; statements = λ names s. ⊥; variables = λ info. ⊥ }
+nothing_beside = record { effects = λ e. ⊥; folds = λ e. ⊥; conditions = λ shape e. ⊥; widens = λ shape. ⊥; variables = λ info. ⊥ }
 
 abbrev pub IsScalarProgram : Typed → Type 0
 IsScalarProgram t = IsProgramBeside nothing_beside t

@@ -4,6 +4,7 @@ use Rattle.std.proofs.lemmas.Nat.{pow_pos}
 use Rattle.cstar_base.specs.declared.operators.Winner.{Winner}
 use Rattle.cstar_compile.specs.Compiled.{IsCompiled}
 use Rattle.cstar_tree.specs.declared.typed.Instance.{Instance}
+use Rattle.cstar_tree.specs.declared.typed.TExpr.{TExpr}
 use Rattle.cstar_tree.specs.declared.typed.Typed.{Typed}
 use Rattle.cstar_tree.specs.declared.typed.VarInfo.{VarInfo}
 use Rattle.cstar_tree.specs.declared.typed.Variable.{Variable}
@@ -23,12 +24,12 @@ use Rattle.source_meaning.specs.Values.{Active, Scope}
 use Rattle.code_follows.specs.Agreement.{AreBytes, mark_of}
 use Rattle.code_follows.specs.Fragment.{IsFileVariable}
 use Rattle.code_follows.proofs.Activations.{activation}
-use Rattle.code_follows.proofs.Besides.{BesideFollows}
+use Rattle.code_follows.proofs.Besides.{BesideFollows, ExpressionsFollow}
 use Rattle.code_follows.proofs.Entering.{AllBeside}
 use Rattle.code_follows.proofs.Following.{HasRegisters}
 use Rattle.code_follows.proofs.Programs.{Comes, program_follows}
 use Rattle.code_follows.proofs.Settings.{Setting, layout}
-use Rattle.fields_follow.specs.Fragment.{IsParallelProgram, fields_beside}
+use Rattle.fields_follow.specs.Fragment.{IsFold, IsParallelProgram, IsUpdate, fields_beside}
 use Rattle.fields_follow.specs.Laws.{ComesToAll, HasTheNumbers, IsNew, ParallelCodeMeansSource}
 use Rattle.fields_follow.proofs.Assigning.{updates_follow}
 use Rattle.fields_follow.proofs.Expressions.{pure_after}
@@ -50,6 +51,30 @@ operands_follow : (g : Setting) (has : HasRegisters g) (scope : Scope) (places :
 operands_follow g has scope places fields full alive n ready set e is c d s st here sim =
     operand_after g has alive n ready places fields set e true is c.code.names (pure_after g has alive n ready places fields set e is c) d s st here sim
 
+-- what is known of a unit of such a program where everything is active
+record KnowsFields (g : Setting) (scope : Scope) (a : Active) : Type 1 where
+  pub places : PlacesFields g
+  pub fields : HoldsTheFields g
+  pub is_active : fields.active ≡ a
+  pub full : (set q : ℕ) → fields.active set q ≡ true
+  pub same_extents : SameExtents g scope
+  pub effects : (e : TExpr) → g.may.beside.effects e → IsUpdate e
+  pub folds : (e : TExpr) → g.may.beside.folds e → IsFold e
+  pub conditions : (set : ℕ) (e : TExpr) → g.may.beside.conditions set e → ⊥
+  pub widens : (set : ℕ) → g.may.beside.widens set → ⊥
+
+-- every update and every fold of it follows
+besides : (g : Setting) (scope : Scope) (a : Active) → KnowsFields g scope a → (has : HasRegisters g) → BesideFollows KnowsFields g has scope a
+besides g scope a k has = record {
+  expressions = subst (λ (active : Active). ExpressionsFollow g has scope active) k.is_active (record {
+    effects = λ alive files n ready e h among c d s st free here sim. updates_follow g has alive n ready k.places k.fields scope k.same_extents e (k.effects e h) (record { code = c; among = among }) d s st here sim;
+    folds = λ alive files n ready e h among c d s st R r free here sim dest.
+        folds_follow g has scope k.places k.fields k.full alive n (operands_follow g has scope k.places k.fields k.full alive n ready) k.same_extents e (k.folds e h) (record { code = c; among = among }) d s st R r free.regs here sim dest;
+  });
+  wheres = λ alive files n ready shape test p first second h. absurd (k.conditions shape test h);
+  widenings = λ alive files n ready shape p body h. absurd (k.widens shape h);
+}
+
 module _ (t : Typed) (image : Image) (p : IsParallelProgram t) (codable : IsCodable t) (compiled : IsCompiled t image) (sound : IsSound image) where
   made : IsTranslated t compiled.lowered.words compiled.before compiled.after image
   made = translated t image compiled sound
@@ -64,24 +89,25 @@ module _ (t : Typed) (image : Image) (p : IsParallelProgram t) (codable : IsCoda
     places : PlacesFields g
     places = places_fields g made
 
-    abbrev fields : HoldsTheFields g
-    fields = record { active = everywhere; opens = λ st m h. h; closes = λ st m h. h }
-
     same_extents : SameExtents g scope
     unfolding scope_of
     same_extents set exists = sym (extents_are t compiled.lowered.words compiled.before compiled.after image made set exists)
 
-    -- every update and every fold of a function follows
-    besides : (has : HasRegisters g) → BesideFollows g has scope everywhere
-    besides has = record {
-      effects = λ alive files n ready e h among c d s st free here sim. updates_follow g has alive n ready places fields scope same_extents e h (record { code = c; among = among }) d s st here sim;
-      folds = λ alive files n ready e h among c d s st R r free here sim dest.
-          folds_follow g has scope places fields (λ set q. refl) alive n (operands_follow g has scope places fields (λ set q. refl) alive n ready) same_extents e h (record { code = c; among = among }) d s st R r free.regs here sim dest;
-      statements = λ alive files n ready s h. absurd h;
-    }
+  known : (number : ℕ) (i : Instance) (is : slice_get t.instances.items number ≡ Some i) (opens : List ℕ) (most : ℕ) → KnowsFields (g number i is opens most) (scope number i is opens most) everywhere
+  known number i is opens most = record {
+    places = places number i is opens most;
+    fields = record { active = everywhere; opens = λ st m h. h; closes = λ st m h. h };
+    is_active = refl;
+    full = λ set q. refl;
+    same_extents = same_extents number i is opens most;
+    effects = λ e h. h;
+    folds = λ e h. h;
+    conditions = λ set e h. h;
+    widens = λ set h. h;
+  }
 
-  all_beside : AllBeside t image p codable compiled (fields_held t image everywhere) everywhere
-  all_beside number i is opens most has = besides number i is opens most has
+  all_beside : AllBeside t image p codable compiled (fields_held t image everywhere) everywhere KnowsFields
+  all_beside = record { follows = besides; known = known }
 
   -- a parallel variable of the file begins with 0
   begins_at_zero : (k : ℕ) (info : VarInfo) (set : ℕ) → slice_get t.vars.items k ≡ Some info → info.shape ≡ Some set → start_of t (V.File k) ≡ 0

@@ -118,7 +118,7 @@ IsParallelVariable info = (set : ℕ) × ((info.shape ≡ Some set) × (info.arr
 -- A program of functions on scalars, without recursion, and of parallel variables of the file: such updates are
 -- statements, also within `with`, and such folds stand within scalar expressions.
 abbrev pub fields_beside : Beside
-fields_beside = record { effects = IsUpdate; folds = IsFold; statements = λ names s. ⊥; variables = IsParallelVariable }
+fields_beside = record { effects = IsUpdate; folds = IsFold; conditions = λ set e. ⊥; widens = λ set. ⊥; variables = IsParallelVariable }
 
 abbrev pub IsParallelProgram : Typed → Type 0
 IsParallelProgram t = IsProgramBeside fields_beside t
