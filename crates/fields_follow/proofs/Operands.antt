@@ -49,7 +49,7 @@ operating op signed dest left (R.Field b) = I.Operate (operation_of op signed) d
 operating op signed dest left (R.Word k) = I.OperateConstant (operation_of op signed) dest left k
 
 module _ (g : Setting) where
-  in_field_extends : (v : Out) (dest : Field) (d : Draft) → Extends g d (in_a_field v dest d)
+  pub in_field_extends : (v : Out) (dest : Field) (d : Draft) → Extends g d (in_a_field v dest d)
   unfolding Extends in_a_field
   in_field_extends (O.Field f) dest d = (0, as_it_was d)
   in_field_extends (O.Scalar r) dest d = (1, and_one g (I.MoveConstant dest (K.Reg r)) d)
