@@ -19,7 +19,7 @@ use Rattle.lower_expr.specs.declared.operands.Own.{Own}
 use Rattle.lower_expr.specs.declared.steps.Right.{Right}
 use Rattle.lower_expr.specs.declared.steps.Right.TheVariants as R
 use Rattle.lower_expr.specs.Operands.{in_place, is_quiet, operand_by, own_of, standing}
-use Rattle.lower_expr.specs.Steps.{fields_operated, in_a_field, on_fields, on_word, right_operated, takes_word, with_field_check, word_of, word_taken}
+use Rattle.lower_expr.specs.Steps.{fields_operated, in_a_field, on_fields, on_word, right_operated, takes_word, with_field_check, word_taken}
 use Rattle.lower_expr.specs.Values.{Code, fields_by, right_by, right_given, spread_into}
 use Rattle.paris_code.specs.declared.instr.Instr.{Instr}
 use Rattle.paris_code.specs.declared.instr.Instr.TheVariants as I

@@ -1,5 +1,5 @@
 -- Where the fields of a unit stand in the image, as the code of its expressions relies on it.
-use Rattle.std.proofs.Common.{◌≡◌, ◌∙◌, ℕ, ◌+◌, ◌<◌, ◌≤◌, ◌^◌, List, [], ◌∷◌, ◌++◌, length, slice_get, Some, true, refl, ap, append_assoc}
+use Rattle.std.proofs.Common.{◌≡◌, ◌∙◌, ℕ, ◌+◌, ◌<◌, ◌≤◌, ◌^◌, List, [], ◌∷◌, ◌++◌, length, slice_get, Some, refl, ap, append_assoc}
 use Rattle.cstar_tree.specs.declared.typed.VarInfo.{VarInfo}
 use Rattle.lower_base.specs.Drafts.{Draft, Plain, Step, step as step_of, with_instr, with_step}
 use Rattle.paris_code.specs.declared.instr.Instr.{Instr}
@@ -49,7 +49,6 @@ module _ (g : Setting) where
   -- what the memory holds of the source's state is the numbers of the fields, where these positions are active
   pub record HoldsTheFields : Type 0 where
     pub active : Active
-    pub all : (set p : ℕ) → active set p ≡ true
     pub opens : (st : State) (m : BitMemory) → g.held.holds st m → HoldsFields g.typed g.image active st m
     pub closes : (st : State) (m : BitMemory) → HoldsFields g.typed g.image active st m → g.held.holds st m
 
