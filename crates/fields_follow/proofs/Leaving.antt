@@ -53,7 +53,7 @@ module _ (g : Setting) where
   under a = record g { held = fields_held g.typed g.image a }
 
   pub places_under : (a : Active) → PlacesFields g → PlacesFields (under a)
-  places_under a p = record { ends = p.ends; exists = p.exists; file = p.file; files_apart = p.files_apart; own_file = p.own_file; owns_apart = p.owns_apart; few = p.few }
+  places_under a p = record { ends = p.ends; exists = p.exists; files_end = p.files_end; file = p.file; files_apart = p.files_apart; own_file = p.own_file; owns_apart = p.owns_apart; few = p.few }
 
   pub within_under : {d : Draft} (a : Active) → Within g d → Within (under a) d
   within_under a w = record { more = w.more; code = w.code; entries = w.entries; fields = w.fields; regs = w.regs; own = w.own }
