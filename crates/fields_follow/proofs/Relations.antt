@@ -1,5 +1,5 @@
 -- The code of a relation of two parallel operands leaves the test flags.
-use Rattle.std.proofs.Common.{◌≡◌, ◌∙◌, ℕ, ◌+◌, ◌≤◌, ◌==◌, ◌&&◌, inl, inr, Bool, true, false, not, [], ◌∷◌, length, Option, Some, None, refl, sym, ap, subst, arith, if◌then◌else◌}
+use Rattle.std.proofs.Common.{◌≡◌, ◌∙◌, ℕ, ◌+◌, ◌<◌, ◌≤◌, true, ◌==◌, ◌&&◌, inl, inr, Bool, true, false, not, [], ◌∷◌, length, Option, Some, None, refl, sym, ap, subst, arith, if◌then◌else◌}
 use Rattle.std.specs.Prelude.{unwrap_or}
 use Rattle.cstar_base.specs.declared.elem.Elem.{Elem}
 use Rattle.cstar_base.specs.declared.operators.Op.{Op}
@@ -33,6 +33,7 @@ use Rattle.paris_code.specs.declared.operands.Konst.TheVariants as K
 use Rattle.paris_code.specs.declared.program.Owner.TheVariants as W
 use Rattle.paris_code.specs.Code.{CodeState}
 use Rattle.paris_code.specs.Meaning.{after}
+use Rattle.paris_code.specs.Memory.{is_active, processors}
 use Rattle.paris_code.specs.Spans.{IsNamedAt, StandsAt}
 use Rattle.source_meaning.specs.Constants.{then_value}
 use Rattle.source_meaning.specs.State.{State}
@@ -43,16 +44,16 @@ use Rattle.code_follows.proofs.Settings.{At, Setting, Within, and_one, code_more
 use Rattle.fields_follow.specs.Fragment.{IsPure}
 use Rattle.fields_follow.proofs.Expressions.{operand_grows, operand_type, pure_after}
 use Rattle.fields_follow.proofs.Forms.{HasItsCode, pure_word}
-use Rattle.fields_follow.proofs.Instructions.{HasNumbers, extents, place, puts_constant, word_in}
+use Rattle.fields_follow.proofs.Instructions.{HasNumbers, shapes, extents, place, puts_constant, word_in}
 use Rattle.fields_follow.proofs.Meaning.{AreOperands, left_of, value_in}
 use Rattle.fields_follow.proofs.Operands.{GivesRight, GivesWord, in_field_extends, left_after, right_after, right_extends}
-use Rattle.fields_follow.proofs.Passing.{After, Behind, GivesField, Passes, Stands, after_same, code_longer, fields_longer, gives_numbers, in_file_has, made_after, names_second, passes_from, passes_on, still_numbers, then_after}
+use Rattle.fields_follow.proofs.Passing.{After, Behind, GivesField, Passes, Stands, after_same, code_longer, fields_longer, flags_of, gives_numbers, in_file_has, made_after, names_second, passes_from, passes_on, still_numbers, then_after}
 use Rattle.fields_follow.proofs.Places.{HoldsTheFields, IsOwnField, PlacesFields, stands_here}
 use Rattle.fields_follow.proofs.Quiet.{pure_quiet}
 use Rattle.fields_follow.proofs.Reductions.{pure_kind}
 use Rattle.fields_follow.proofs.Values.{Gives, and_entry, next_field, one_more, operand_after, operand_of, taken, with_entry}
 use Rattle.fields_follow.proofs.Writing.{Written, named, own_written}
-use Rattle.fields_follow.proofs.TestFlags.{ComparesAs, FilesEnd, LeavesTests, compares, puts_compare, tested_last}
+use Rattle.fields_follow.proofs.TestFlags.{ComparesAs, LeavesTests, compares, puts_compare, tested_last}
 
 -- an expression of 32 bits, and a relation of two such, are of no narrow type
 no_relation_kind : (set : ℕ) (left right : TExpr) → AreOperands set left right → relation_kind left right ≡ None
@@ -94,7 +95,7 @@ module _ (g : Setting) (alive : Variable → Type 0) where
     stays = λ wanted h first last q below. p.stays wanted h first last q (omega (arith, below, less));
   }
 
-module _ (g : Setting) (has : HasRegisters g) (alive : Variable → Type 0) (n : ℕ) (ready : (d : Draft) → IsReady g.typed g.instance (layout g) n d) (places : PlacesFields g) (fields : HoldsTheFields g) (files_end : FilesEnd g alive fields) where
+module _ (g : Setting) (has : HasRegisters g) (alive : Variable → Type 0) (n : ℕ) (ready : (d : Draft) → IsReady g.typed g.instance (layout g) n d) (places : PlacesFields g) (fields : HoldsTheFields g) where
   abbrev operand : Bool → TExpr → Draft → Made Out
   operand quiet e d = operand_of g has alive n ready places fields quiet e d
 
@@ -140,7 +141,7 @@ module _ (g : Setting) (has : HasRegisters g) (alive : Variable → Type 0) (n :
       → Tests d s set st (λ q. outcome op 32 (not signed) (v q) (w q)) (with_instr (I.Compare c.relation a b) e2)
   unfolding step_of passes_on passes_from
   field_compared set op signed c bound a b v w d e1 e2 s st related low less left right within =
-      tested_last g alive fields files_end bound set d e2 compare s st (λ q. outcome op 32 (not signed) (v q) (w q)) (Unit {0}) low
+      tested_last g alive fields places bound set d e2 compare s st (λ q. outcome op 32 (not signed) (v q) (w q)) (Unit {0}) low
       (passes_from g alive bound d d1 e2 s st (Unit {0}) (and_entry set 32 W.Own d) (passes_on g alive bound (length e1.fields) d1 e1 e2 s st (Behind g a e1) (Behind g b e2) (Unit {0}) less left.passes right.passes (λ u. early) (λ u. behind_b)))
       tt numbers.exists within (puts_compare g set op signed c a b right.passes.t v w related numbers (gives_numbers g alive places fields (length e1.fields) e1 left.passes.t set st w b e2 right))
     where
@@ -172,7 +173,7 @@ module _ (g : Setting) (has : HasRegisters g) (alive : Variable → Type 0) (n :
       → Tests d s set st (λ q. outcome op 32 (not signed) (v q) (w q)) (with_instr (I.Compare c.relation a (next_field set 32 d)) (with_instr (I.MoveConstant (next_field set 32 d) k) e2))
   unfolding step_of passes_on passes_from passes_less
   word_compared set op signed c a k v w d e1 e2 s st related left right within =
-      tested_last g alive fields files_end (length d.fields) set d e3 compare s st (λ q. outcome op 32 (not signed) (v q) (w q)) (Unit {0}) (omega arith)
+      tested_last g alive fields places (length d.fields) set d e3 compare s st (λ q. outcome op 32 (not signed) (v q) (w q)) (Unit {0}) (omega arith)
       (passes_from g alive (length d.fields) d d1 e3 s st (Unit {0}) (and_entry set 32 W.Own d) (passes_on g alive (length d.fields) (length d.fields) d1 e2 e3 s st (Unit {0}) (Unit {0}) (Unit {0}) (omega arith) (passes_less g alive (length d.fields) (length d1.fields) d1 e2 s st (Unit {0}) (omega (arith, first)) both) spreads (λ u. tt) (λ u. tt)))
       tt numbers.exists within (puts_compare g set op signed c a spare moved.t v w related (still left.stands)
       (subst (λ (x : ℕ → ℕ). HasNumbers g set spare moved.t x) same_all moved.has))
@@ -221,7 +222,13 @@ module _ (g : Setting) (has : HasRegisters g) (alive : Variable → Type 0) (n :
       own : IsOwnField g spare
       own = taken g set 32 W.Own d e3 (both.grown.0 + 1) within3 (extended d1 e2 e3 both.grown.0 1 both.grown.1 (and_one g move e2))
 
-      moved : Written g places fields alive set spare e2 move right.passes.t st (λ q. word_in g k right.passes.t)
+      Again : Type 0
+      Again = (later : ℕ) × (IsNamedAt g.unit spare.offset later × (length e2.code < later))
+
+      again : Again
+      again = (length e3.code, (named_spare, omega (arith, long)))
+
+      moved : Written g places fields alive set spare e2 move right.passes.t st (λ q. word_in g k right.passes.t) Again
       moved = own_written g places fields alive set move spare e2 right.passes.t st (λ q. word_in g k right.passes.t) within3 right.passes.at right.passes.sim refl refl (puts_constant g set spare k right.passes.t refl right.small) own
 
       spreads : Passes g alive (length d.fields) e2 e3 right.passes.t st (Unit {0})
@@ -232,21 +239,24 @@ module _ (g : Setting) (has : HasRegisters g) (alive : Variable → Type 0) (n :
         at = moved.at;
         registers = moved.registers;
         sim = moved.sim;
-        stays = λ u h one last q below own_h before low after high. moved.stays h one last (length e3.code) q (λ same. omega (arith, same, below)) own_h before after (omega (arith, low)) (omega (arith, high, long)) named_spare (omega (arith, long));
+        stays = λ u h one last q below own_h before low after high. moved.stays again h one last q (λ same. omega (arith, same, below)) own_h before after (omega (arith, low)) (omega (arith, high, long));
       }
 
       numbers : HasNumbers g set a right.passes.t v
       numbers = still_numbers g alive places fields (length d1.fields) (length e1.fields) d1 s set st v a e1 e2 (Unit {0}) left right.passes tt (omega arith) (length e3.code, (named_a, omega (arith, long)))
+
+      was_on : (q : ℕ) → q < processors (shapes g) set → is_active (shapes g) moved.t.memory set q ≡ true → is_active (shapes g) right.passes.t.memory set q ≡ true
+      was_on q below on = flags_of g alive places fields st right.passes.t set q right.passes.sim numbers.exists below ∙ sym (flags_of g alive places fields st moved.t set q moved.sim numbers.exists below) ∙ on
 
       still : Stands g alive (length d1.fields) e1 set a left.passes.t st v → HasNumbers g set a moved.t v
       still (inl h) = record {
         of_set = numbers.of_set;
         exists = numbers.exists;
         len = numbers.len;
-        are = λ q below.
-            moved.stays a h.somewhere (length e3.code) (length e3.code) q (λ same. let newer = h.newer in omega (arith, newer, same, first)) h.own h.named named_a (let before = h.before in omega (arith, before, longer)) (omega (arith, long)) named_spare (omega (arith, long))
-            ∙ numbers.are q below;
-        small = numbers.small;
+        are = λ q below on.
+            moved.stays again a h.somewhere (length e3.code) q (λ same. let newer = h.newer in omega (arith, newer, same, first)) h.own h.named named_a (let before = h.before in omega (arith, before, longer)) (omega (arith, long))
+            ∙ numbers.are q below (was_on q below on);
+        small = λ q below on. numbers.small q below (was_on q below on);
       }
       still (inr h) = in_file_has g alive places fields set a st v moved.t h moved.sim
 

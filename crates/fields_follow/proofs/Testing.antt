@@ -44,7 +44,7 @@ use Rattle.fields_follow.proofs.Places.{HoldsTheFields, PlacesFields, stands_her
 use Rattle.fields_follow.proofs.Reductions.{pure_kind}
 use Rattle.fields_follow.proofs.Values.{Gives, and_entry, next_field, operand_after, operand_of, taken, with_entry}
 use Rattle.fields_follow.proofs.Writing.{named}
-use Rattle.fields_follow.proofs.TestFlags.{FilesEnd, LeavesTests, puts_nonzero, tested_last}
+use Rattle.fields_follow.proofs.TestFlags.{LeavesTests, puts_nonzero, tested_last}
 use Rattle.fields_follow.proofs.Relations.{relation_after, relation_code}
 
 value_means : (scope : Scope) (active : Active) (set : ℕ) (e : TExpr) (st : State) → IsCondition set e → evaluated scope e active st ≡ Source.Gives (Parallel (λ q. value_in (scope.extents set) st e q)) st
@@ -58,7 +58,7 @@ value_means scope active set e st is = pure_means scope active set e st is
 pub condition_means : (g : Setting) (scope : Scope) → SameExtents g scope → (active : Active) (set : ℕ) (e : TExpr) (st : State) → IsCondition set e → set < length (shapes g) → evaluated scope e active st ≡ Source.Gives (Parallel (λ q. value_in (extents g set) st e q)) st
 condition_means g scope same active set e st is exists = value_means scope active set e st is ∙ ap (λ (xs : List ℕ). Source.Gives (Parallel (λ q. value_in xs st e q)) st) (same set exists)
 
-module _ (g : Setting) (has : HasRegisters g) (alive : Variable → Type 0) (n : ℕ) (ready : (d : Draft) → IsReady g.typed g.instance (layout g) n d) (places : PlacesFields g) (fields : HoldsTheFields g) (files_end : FilesEnd g alive fields) where
+module _ (g : Setting) (has : HasRegisters g) (alive : Variable → Type 0) (n : ℕ) (ready : (d : Draft) → IsReady g.typed g.instance (layout g) n d) (places : PlacesFields g) (fields : HoldsTheFields g) where
   abbrev operand : Bool → TExpr → Draft → Made Out
   operand quiet e d = operand_of g has alive n ready places fields quiet e d
 
@@ -76,7 +76,7 @@ module _ (g : Setting) (has : HasRegisters g) (alive : Variable → Type 0) (n :
       (made_after g (λ _ f. Condition set e d s st f) tt (with_instr (I.NeZero a) e1) (λ within.
       let there : StandsAt g.unit (length e1.code) (I.NeZero a) = stands_here g (I.NeZero a) e1 within refl in
       let numbers = gives_numbers g alive places fields (length d.fields) d s set st (λ q. value_in (extents g set) st e q) a e1 gives in
-      tested_last g alive fields files_end (length d.fields) set d e1 (I.NeZero a) s st (λ q. value_in (extents g set) st e q) (Behind g a e1) (omega arith) gives.passes (length e1.code, (named g places fields alive (I.NeZero a) a [] (length e1.code) there refl, omega arith)) numbers.exists within
+      tested_last g alive fields places (length d.fields) set d e1 (I.NeZero a) s st (λ q. value_in (extents g set) st e q) (Behind g a e1) (omega arith) gives.passes (length e1.code, (named g places fields alive (I.NeZero a) a [] (length e1.code) there refl, omega arith)) numbers.exists within
       (puts_nonzero g set a gives.passes.t (λ q. value_in (extents g set) st e q) numbers))))
     where
       next : Out → Draft → Made (Unit {0})
@@ -104,7 +104,7 @@ module _ (g : Setting) (has : HasRegisters g) (alive : Variable → Type 0) (n :
         wide = wide.1;
         same = λ q below. refl;
       }) sim in
-      tested_last g alive fields files_end (length d.fields) set d d1 (I.NeZero source) s st (λ q. st.parallel (V.File k) 0 q) (Unit {0}) (omega arith)
+      tested_last g alive fields places (length d.fields) set d d1 (I.NeZero source) s st (λ q. st.parallel (V.File k) 0 q) (Unit {0}) (omega arith)
       (passes_from g alive (length d.fields) d d1 d1 s st (Unit {0}) (and_entry set info.elem.bits (W.File (file_number g.typed k 0)) d) (passes_all g alive (length d.fields) d1 s st (Unit {0}) here sim)) tt numbers.exists within (puts_nonzero g set source s (λ q. st.parallel (V.File k) 0 q) numbers)))
     where
       info : VarInfo
@@ -159,8 +159,8 @@ module _ (g : Setting) (has : HasRegisters g) (alive : Variable → Type 0) (n :
           let parts = binary_parts g has alive n ready places fields ty place op p q left right c in
           after_same g (λ _ f. Condition set (T.Binary' ty place op p left q right) d s st f)
           (ap (λ (b : Bool). tested_by b (truth_of g.typed (layout g) (T.Binary' ty place op p left q right)) (next_of g.typed (layout g) (bits_of (kind_of (T.Binary' ty place op p left q right))) true (T.Binary' ty place op p left q right)) d) related
-          ∙ relation_code g has alive n ready places fields files_end set op left right related is.1 parts.0 parts.1 d s st here sim ty place p q is.0.0 is.2)
-          (relation_after g has alive n ready places fields files_end set op left right related is.1 parts.0 parts.1 d s st here sim is.2)
+          ∙ relation_code g has alive n ready places fields set op left right related is.1 parts.0 parts.1 d s st here sim ty place p q is.0.0 is.2)
+          (relation_after g has alive n ready places fields set op left right related is.1 parts.0 parts.1 d s st here sim is.2)
       by false plain_one = pure_tested set (T.Binary' ty place op p left q right) (is.0, (plain_one, is.1), is.2) plain_one c d s st here sim
   condition_tested set (T.Variable ty (V.File k)) is c d s st here sim = variable_tested set k ty is c.code.names d s st here sim
   condition_tested set (T.Unary' ty op p inner) is c d s st here sim = pure_tested set (T.Unary' ty op p inner) is is.1 c d s st here sim
