@@ -1,5 +1,5 @@
 -- The code of a relation of two parallel operands leaves the test flags.
-use Rattle.std.proofs.Common.{◌≡◌, ◌∙◌, ℕ, ◌+◌, ◌<◌, ◌≤◌, true, ◌==◌, ◌&&◌, inl, inr, Bool, true, false, not, [], ◌∷◌, length, Option, Some, None, refl, sym, ap, subst, arith, if◌then◌else◌}
+use Rattle.std.proofs.Common.{◌≡◌, ◌∙◌, ℕ, ◌+◌, ◌<◌, ◌≤◌, true, inl, inr, Bool, true, false, not, [], ◌∷◌, length, Option, Some, None, refl, sym, ap, subst, arith, if◌then◌else◌}
 use Rattle.std.specs.Prelude.{unwrap_or}
 use Rattle.cstar_base.specs.declared.elem.Elem.{Elem}
 use Rattle.cstar_base.specs.declared.operators.Op.{Op}
@@ -11,47 +11,43 @@ use Rattle.cstar_tree.specs.declared.typed.ValueType.{ValueType}
 use Rattle.cstar_tree.specs.declared.typed.Variable.{Variable}
 use Rattle.cstar_tree.specs.Typed.{type_of}
 use Rattle.code_lengths.specs.Ready.{IsReady}
-use Rattle.code_lengths.proofs.Drafting.{and_instr, as_it_was, extended}
+use Rattle.code_lengths.proofs.Drafting.{and_instr, extended}
 use Rattle.lower_base.specs.declared.emit.Out.{Out}
 use Rattle.lower_base.specs.declared.operators.Machine.{Machine}
 use Rattle.lower_base.specs.declared.operators.Machine.TheVariants as M
-use Rattle.lower_base.specs.Drafts.{Draft, Made, Makes, a_field, an_entry, from, step as step_of, then_make, with_instr}
+use Rattle.lower_base.specs.Drafts.{Draft, Made, a_field, an_entry, step as step_of, then_make, with_instr}
 use Rattle.lower_base.specs.Kinds.{bits_of, common_kind, kind_of}
 use Rattle.lower_base.specs.Operators.{is_signed, machine_of, relates}
 use Rattle.lower_expr.specs.declared.steps.Right.{Right}
 use Rattle.lower_expr.specs.declared.steps.Right.TheVariants as R
 use Rattle.lower_expr.specs.Kinds.{kind_with, reads_signed, relation_kind}
 use Rattle.lower_expr.specs.Operands.{is_quiet, operand_by}
-use Rattle.lower_expr.specs.Steps.{in_a_field, word_of, word_taken}
-use Rattle.lower_expr.specs.Values.{compared, relation_by, right_by, right_given, spread_into, truth_of, value_of}
+use Rattle.lower_expr.specs.Steps.{word_of}
+use Rattle.lower_expr.specs.Values.{compared, relation_by, right_by, spread_into, truth_of, value_of}
 use Rattle.paris_code.specs.declared.instr.Instr.{Instr}
 use Rattle.paris_code.specs.declared.instr.Instr.TheVariants as I
 use Rattle.paris_code.specs.declared.operands.Compare.{Compare}
 use Rattle.paris_code.specs.declared.operands.Field.{Field}
 use Rattle.paris_code.specs.declared.operands.Konst.{Konst}
-use Rattle.paris_code.specs.declared.operands.Konst.TheVariants as K
 use Rattle.paris_code.specs.declared.program.Owner.TheVariants as W
 use Rattle.paris_code.specs.Code.{CodeState}
-use Rattle.paris_code.specs.Meaning.{after}
 use Rattle.paris_code.specs.Memory.{is_active, processors}
 use Rattle.paris_code.specs.Spans.{IsNamedAt, StandsAt}
-use Rattle.source_meaning.specs.Constants.{then_value}
 use Rattle.source_meaning.specs.State.{State}
 use Rattle.source_meaning.proofs.ConstantLaws.{Boxed}
 use Rattle.code_follows.proofs.Following.{Extends, HasRegisters, Sim, extends_then}
 use Rattle.code_follows.proofs.Operators.{wide_signed}
 use Rattle.code_follows.proofs.Settings.{At, Setting, Within, and_one, code_more, earlier, layout, one}
-use Rattle.fields_follow.specs.Fragment.{IsPure}
 use Rattle.fields_follow.proofs.Expressions.{operand_grows, operand_type, pure_after}
 use Rattle.fields_follow.proofs.Forms.{HasItsCode, pure_word}
 use Rattle.fields_follow.proofs.Instructions.{HasNumbers, shapes, extents, place, puts_constant, word_in}
 use Rattle.fields_follow.proofs.Meaning.{AreOperands, left_of, value_in}
-use Rattle.fields_follow.proofs.Operands.{GivesRight, GivesWord, in_field_extends, left_after, right_after, right_extends}
-use Rattle.fields_follow.proofs.Passing.{After, Behind, GivesField, Passes, Stands, after_same, code_longer, fields_longer, flags_of, gives_numbers, in_file_has, made_after, names_second, passes_from, passes_on, still_numbers, then_after}
+use Rattle.fields_follow.proofs.Operands.{GivesRight, GivesWord, RightField, left_after, pure_left, pure_right, right_after, right_extends}
+use Rattle.fields_follow.proofs.Passing.{After, Behind, GivesField, Passes, Stands, after_same, code_longer, fields_longer, flags_of, gives_numbers, in_file_has, made_after, names_second, passes_from, passes_less, passes_on, still_numbers, then_after}
 use Rattle.fields_follow.proofs.Places.{HoldsTheFields, IsOwnField, PlacesFields, stands_here}
 use Rattle.fields_follow.proofs.Quiet.{pure_quiet}
 use Rattle.fields_follow.proofs.Reductions.{pure_kind}
-use Rattle.fields_follow.proofs.Values.{Gives, and_entry, next_field, one_more, operand_after, operand_of, taken, with_entry}
+use Rattle.fields_follow.proofs.Values.{and_entry, next_field, one_more, operand_of, taken, with_entry}
 use Rattle.fields_follow.proofs.Writing.{Written, named, own_written}
 use Rattle.fields_follow.proofs.TestFlags.{ComparesAs, LeavesTests, compares, puts_compare, tested_last}
 
@@ -82,58 +78,12 @@ read_as set op left right are related =
     ∙ ap (λ (k : Option Elem). elim k as (λ _. Bool) [ None ↦ is_signed (type_of left).elem | Some kind ↦ kind.signed ]) (no_relation_kind set left right are)
     ∙ wide_signed (type_of left).elem (operand_type set left (left_of set left right are)).1
 
-module _ (g : Setting) (alive : Variable → Type 0) where
-  -- entries below fewer stay too
-  unfoldable passes_less : (bound other : ℕ) (d e : Draft) (s : CodeState) (st : State) (used : Type 0) → bound ≤ other → Passes g alive other d e s st used → Passes g alive bound d e s st used
-  passes_less bound other d e s st used less p = record {
-    grown = p.grown;
-    t = p.t;
-    go = p.go;
-    at = p.at;
-    registers = p.registers;
-    sim = p.sim;
-    stays = λ wanted h first last q below. p.stays wanted h first last q (omega (arith, below, less));
-  }
-
 module _ (g : Setting) (has : HasRegisters g) (alive : Variable → Type 0) (n : ℕ) (ready : (d : Draft) → IsReady g.typed g.instance (layout g) n d) (places : PlacesFields g) (fields : HoldsTheFields g) where
   abbrev operand : Bool → TExpr → Draft → Made Out
   operand quiet e d = operand_of g has alive n ready places fields quiet e d
 
   abbrev pub Tests : Draft → CodeState → ℕ → State → (ℕ → ℕ) → Draft → Type 0
   Tests d s set st v e = LeavesTests g alive fields d s set st v e
-
-  -- a pure left operand stands in a field, the fresh one is not used
-  pure_left : (set : ℕ) (e : TExpr) (quiet : Bool) → IsPure set e → HasItsCode g.typed g.instance alive n e → (dest : Field) (d : Draft) (s : CodeState) (st : State) → At g s (length d.code) → Sim g alive st s
-      → After g (GivesField g alive (length d.fields) d s set st (λ q. value_in (extents g set) st e q)) (spread_into (operand quiet e) e dest d)
-  unfolding spread_into in_a_field
-  pure_left set e quiet pure c dest d s st here sim =
-      after_same g Q (ap (λ (o : Option ℕ). elim o as (λ _. Made Field) [ Some word ↦ Makes dest (with_instr (I.MoveConstant dest (K.Imm word)) d) | None ↦ then_make (operand quiet e d) (λ x after. in_a_field x dest after) ]) (pure_word set e pure))
-      (then_after g (Gives g has alive n ready places fields (length d.fields) d s set st (λ q. value_in (extents g set) st e q)) Q (operand quiet e d) (λ x after. in_a_field x dest after)
-      (operand_after g has alive n ready places fields set e quiet pure c.code.names (pure_after g has alive n ready places fields set e pure c) d s st here sim) (λ x after. in_field_extends g x dest after)
-      (λ x after (f, (is, gives)). after_same g Q (ap (λ (o : Out). in_a_field o dest after) is) (made_after g Q f after (λ within. gives))))
-    where
-      Q : Field → Draft → Type 0
-      Q = GivesField g alive (length d.fields) d s set st (λ q. value_in (extents g set) st e q)
-
-  -- a pure right operand stands in a field
-  abbrev RightField : Draft → CodeState → ℕ → State → (ℕ → ℕ) → Right → Draft → Type 0
-  RightField d s set st v right e = (b : Field) × ((right ≡ R.Field b) × GivesField g alive (length d.fields) d s set st v b e)
-
-  pure_right : (set : ℕ) (op : Op) (e : TExpr) → IsPure set e → HasItsCode g.typed g.instance alive n e → (d : Draft) (s : CodeState) (st : State) → At g s (length d.code) → Sim g alive st s
-      → After g (RightField d s set st (λ q. value_in (extents g set) st e q)) (right_by (operand true e) op e d)
-  unfolding right_by word_taken then_make right_given from Extends
-  pure_right set op e pure c d s st here sim =
-      after_same g Q (ap (λ (o : Option ℕ). elim (then_value o (λ w. if divides op && w == 0 then None else Some w)) as (λ _. Made Right) [ Some word ↦ Makes (R.Word (K.Imm word)) d | None ↦ then_make (operand true e d) (λ x after. from (right_given x) (λ right. Makes right after)) ]) (pure_word set e pure))
-      (then_after g (Gives g has alive n ready places fields (length d.fields) d s set st (λ q. value_in (extents g set) st e q)) Q (operand true e d) (λ x after. from (right_given x) (λ right. Makes right after))
-      (operand_after g has alive n ready places fields set e true pure c.code.names (pure_after g has alive n ready places fields set e pure c) d s st here sim) (λ x after. given (right_given x) after)
-      (λ x after (f, (is, gives)). after_same g Q (ap (λ (o : Out). from (right_given o) (λ right. Makes right after)) is) (made_after g Q (R.Field f) after (λ within. (f, (refl, gives))))))
-    where
-      Q : Right → Draft → Type 0
-      Q = RightField d s set st (λ q. value_in (extents g set) st e q)
-
-      given : (o : Option Right) (after : Draft) → Extends g after (from o (λ right. Makes right after))
-      given (Some right) after = (0, as_it_was after)
-      given None after = tt
 
   -- both operands stand in fields
   field_compared : (set : ℕ) (op : Op) (signed : Bool) (c : ComparesAs op signed) (bound : ℕ) (a b : Field) (v w : ℕ → ℕ) (d e1 e2 : Draft) (s : CodeState) (st : State) → relates op ≡ true → length d.fields ≤ bound → bound ≤ length e1.fields
@@ -313,7 +263,7 @@ module _ (g : Setting) (has : HasRegisters g) (alive : Variable → Type 0) (n :
     unfolding compared
     relation_after (inl (pure, any)) =
         then_after g (GivesField g alive (length d1.fields) d1 s set st v) Q (spread_into (operand (is_quiet right) left) left spare d1) (λ a e. next a e)
-        (pure_left set left (is_quiet right) pure c_left spare d1 s st here sim) next_extends
+        (pure_left g has alive n ready places fields set left (is_quiet right) pure c_left (pure_after g has alive n ready places fields set left pure c_left) spare d1 s st here sim) next_extends
         (λ a e1 one. then_after g (GivesRight g has alive n ready places fields (length e1.fields) e1 one.passes.t set st w) Q (right_by (operand true right) op right e1) (λ b after. compared (M.Compare c.relation) a b spare after)
         (right_after g has alive n ready places fields set op right no_check any c_right (λ p. pure_after g has alive n ready places fields set right p c_right) e1 one.passes.t st one.passes.at one.passes.sim) (λ b after. compared_extends c.relation a b spare after)
         (λ b e2 two. by a e1 one b e2 two))
@@ -328,7 +278,7 @@ module _ (g : Setting) (has : HasRegisters g) (alive : Variable → Type 0) (n :
     relation_after (inr (promoted, pure)) =
         then_after g (GivesField g alive (length d.fields) d1 s set st v) Q (spread_into (operand (is_quiet right) left) left spare d1) (λ a e. next a e)
         (left_after g has alive n ready places fields set left (is_quiet right) (λ p. pure_quiet set right pure) (inr promoted) c_left (λ p. pure_after g has alive n ready places fields set left p c_left) d s st here sim (λ x. operand_grows g has alive n ready places fields left c_left (is_quiet right) x)) next_extends
-        (λ a e1 one. then_after g (RightField e1 one.passes.t set st w) Q (right_by (operand true right) op right e1) (λ b after. compared (M.Compare c.relation) a b spare after)
-        (pure_right set op right pure c_right e1 one.passes.t st one.passes.at one.passes.sim) (λ b after. compared_extends c.relation a b spare after)
+        (λ a e1 one. then_after g (RightField g has alive n ready places fields e1 one.passes.t set st w) Q (right_by (operand true right) op right e1) (λ b after. compared (M.Compare c.relation) a b spare after)
+        (pure_right g has alive n ready places fields set op right pure c_right (pure_after g has alive n ready places fields set right pure c_right) e1 one.passes.t st one.passes.at one.passes.sim) (λ b after. compared_extends c.relation a b spare after)
         (λ b e2 (f, (is, gives)). after_same g Q (ap (λ (x : Right). compared (M.Compare c.relation) a x spare e2) is)
         (made_after g Q tt (with_instr (I.Compare c.relation a f) e2) (λ within. field_compared set op signed c (length d.fields) a f v w d e1 e2 s st related (omega arith) (let first = one_more set 32 W.Own d in let more = fields_longer d1 e1 one.passes.grown.0 one.passes.grown.1 in omega (arith, first, more)) one gives within))))
