@@ -12,7 +12,7 @@ use Rattle.paris_code.specs.Shapes.{bits_at}
 use Rattle.paris_code.specs.Spans.{IsNamedAt}
 use Rattle.source_meaning.specs.Expressions.{evaluated}
 use Rattle.source_meaning.specs.State.{Gives, State}
-use Rattle.source_meaning.specs.Values.{Active, Parallel, Scope, Value, nonzero}
+use Rattle.source_meaning.specs.Values.{Active, Scope, Value, nonzero}
 use Rattle.code_follows.proofs.Following.{HasRegisters, Sim}
 use Rattle.code_follows.proofs.Settings.{At, Reaches, Setting, Within, layout}
 use Rattle.fields_follow.proofs.Fields.{fields_held}

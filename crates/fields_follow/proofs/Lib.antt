@@ -22,6 +22,8 @@ pub mod Programs
 pub mod Quiet
 pub mod Reducing
 pub mod Reductions
+pub mod Relations
+pub mod TestFlags
 pub mod Testing
 pub mod Updates
 pub mod Values
