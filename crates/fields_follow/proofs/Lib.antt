@@ -1,6 +1,7 @@
 pub mod Assigning
 pub mod Bits
 pub mod Contexts
+pub mod Courses
 pub mod Effects
 pub mod Example
 pub mod Expressions
@@ -22,6 +23,8 @@ pub mod Programs
 pub mod Quiet
 pub mod Reducing
 pub mod Reductions
+pub mod Saving
+pub mod Selective
 pub mod Testing
 pub mod Updates
 pub mod Values
