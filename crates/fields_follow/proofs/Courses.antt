@@ -100,14 +100,14 @@ module _ (g : Setting) (alive : Variable → Type 0) where
   no_course bound a d s u here sim = record { grown = (0, as_it_was d); go = stay g s; at = here; registers = refl; sim = sim; stays = λ h first last p below own ends before low after high. refl }
 
   -- code that passes, as that of a condition does
-  pub course_passed : (bound : ℕ) (a : Active) (d e : Draft) (s : CodeState) (u : State) → (x : Passes (under g a) alive bound d e s u (Unit {0})) → Course bound a d e s x.t u
-  course_passed bound a d e s u x = record {
+  pub course_passed : (bound other : ℕ) (a : Active) (d e : Draft) (s : CodeState) (u : State) → bound ≤ other → (x : Passes (under g a) alive other d e s u (Unit {0})) → Course bound a d e s x.t u
+  course_passed bound other a d e s u less x = record {
     grown = x.grown;
     go = reaches_again g a x.go;
     at = x.at;
     registers = x.registers;
     sim = x.sim;
-    stays = λ h first last p below own ends. x.stays tt h first last p below own;
+    stays = λ h first last p below own ends. x.stays tt h first last p (omega (arith, below, less)) own;
   }
 
   -- an instruction that stores in an entry which is named behind it

@@ -15,6 +15,7 @@ pub mod Joining
 pub mod Leaving
 pub mod Meaning
 pub mod Named
+pub mod Narrowing
 pub mod Operands
 pub mod Passing
 pub mod Places

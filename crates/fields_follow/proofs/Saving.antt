@@ -19,8 +19,9 @@ use Rattle.code_follows.proofs.Settings.{Setting, Within, and_one, code_more, ea
 use Rattle.fields_follow.proofs.Courses.{AreSameBeside, Course, FlagsTurn, IsFlag, Turned, course_from, course_of, course_on, course_stored, course_turned, leaves_of}
 use Rattle.fields_follow.proofs.Instructions.{number_in, shapes}
 use Rattle.fields_follow.proofs.Leaving.{Leaves, under, within_under}
+use Rattle.fields_follow.proofs.Named.{NamesFields}
 use Rattle.fields_follow.proofs.Passing.{After, code_longer, fields_longer}
-use Rattle.fields_follow.proofs.Places.{stands_here}
+use Rattle.fields_follow.proofs.Places.{IsOwnField, PlacesFields, stands_here}
 
 module _ (g : Setting) where
   -- what is said where a draft is within the unit, if the code goes on from it
@@ -37,6 +38,16 @@ module _ (g : Setting) where
   then_later R Q later (Makes x e) next h longer grows f = after_within Q (later e) (next x e) (grows x e) (λ w. let l = longer e in f x e (h (earlier g e (later e) l.0 l.1 w)) w)
   then_later R Q later Fails next h longer grows f = tt
 
+  -- what was made is itself
+  pub after_itself : {A : Type 0} (made : Made A) → After g (λ x e. made ≡ Makes x e) made
+  unfolding After
+  after_itself (Makes x e) = λ w. refl
+  after_itself Fails = tt
+
+  pub after_there : {A : Type 0} (R : A → Draft → Type 0) {made : Made A} (x : A) (e : Draft) → made ≡ Makes x e → After g R made → Within g e → R x e
+  unfolding After
+  after_there R x e is h = subst (λ (m : Made _). After g R m) is h
+
   -- where the setting has other positions that are active
   pub after_again : {A : Type 0} (a : Active) (R : A → Draft → Type 0) (made : Made A) → After (under g a) R made → After g R made
   unfolding After
@@ -48,6 +59,12 @@ module _ (g : Setting) where
   named_next i saved e within plain names = (i, stands_here g i e within plain, subst (λ (fields : List Field). Any (λ (f : Field). entry_of f ≡ saved.offset) fields) (sym names) (0, saved, omega arith, refl, refl))
 
   module _ (alive : Variable → Type 0) where
+    -- an own entry of one bit that is the only field of the next instruction, and its set
+    pub flag_next : (places : PlacesFields g) (i : Instr) (saved : Field) (e : Draft) → IsOwnField g saved → saved.len ≡ 1 → Within g (with_instr i e) → step_of i ≡ Plain i → NamesFields i → fields_of i ≡ saved ∷ [] → IsFlag g alive saved × (saved.set < length (shapes g))
+    flag_next places i saved e own bit within plain simple names =
+        let h = places.ends (length e.code) i saved [] (stands_here g i e within plain) plain simple names in
+        (record { own = own; bit = bit; ends = h.1 }, h.0)
+
     -- the code of a statement goes on in the source and leaves its state, where these positions are active
     abbrev pub Runs : Active → Draft → CodeState → Outcome Leaving → ℕ → Draft → Type 0
     Runs a d s o m e = (u : State) × ((o ≡ Gives Onward u) × Leaves (under g a) alive d e s u)
