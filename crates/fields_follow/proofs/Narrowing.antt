@@ -156,11 +156,10 @@ module _ (g : Setting) (alive : Variable → Type 0) (flags : FlagsTurn g alive)
       stored = flags.store_context a saved known x.passes.t st is_flag (record { within = within; here = course.at; sim = course.sim })
 
       begins : Begins (Unit {0}) a a saved d for_test saves s stored.0.t st
-      unfolding stored
       begins = record {
         here = stored.0.at;
         sim = stored.0.sim;
-        saved = saved_next g alive flags (length d.fields) a saved for_test known s x.passes.t st (omega arith) (let c = counts in let l = longer in omega (arith, c.0, c.1, l)) is_flag within course;
+        saved = saved_next g alive (length d.fields) a saved for_test known s x.passes.t st (omega arith) (let c = counts in let l = longer in omega (arith, c.0, c.1, l)) is_flag within course stored;
       }
 
       flags_there : (p : ℕ) → p < processors (shapes g) shape → a shape p ≡ true → is_tested (shapes g) stored.0.t.memory shape p ≡ nonzero (v p)

@@ -16,7 +16,7 @@ use Rattle.source_meaning.specs.Statements.{Leaving, Onward}
 use Rattle.source_meaning.specs.Values.{Active}
 use Rattle.code_follows.proofs.Following.{Extends}
 use Rattle.code_follows.proofs.Settings.{Setting, Within, and_one, code_more, earlier}
-use Rattle.fields_follow.proofs.Courses.{AreSameBeside, Course, FlagsTurn, IsFlag, Turned, course_from, course_of, course_on, course_stored, course_turned, leaves_of}
+use Rattle.fields_follow.proofs.Courses.{AreSameBeside, Course, FlagsTurn, IsFlag, Stored, Turned, course_from, course_of, course_on, course_stored, course_turned, leaves_of}
 use Rattle.fields_follow.proofs.Instructions.{number_in, shapes}
 use Rattle.fields_follow.proofs.Leaving.{Leaves, under, within_under}
 use Rattle.fields_follow.proofs.Named.{NamesFields}
@@ -82,12 +82,12 @@ module _ (g : Setting) where
       pub holds : named → (later : ℕ) → IsNamedAt g.unit saved.offset later → length e.code ≤ later → (p : ℕ) → p < processors (shapes g) saved.set → number_in g saved t p ≡ from_bool (a saved.set p)
 
     -- a context is saved behind other code
-    pub saved_next : (flags : FlagsTurn g alive) (bound : ℕ) (a : Active) (saved : Field) (d e : Draft) (s t : CodeState) (u : State) → bound ≤ saved.offset → saved.offset < length e.fields → (flag : IsFlag g alive saved) → (within : Within g (with_instr (I.StoreContext saved) e)) → (x : Course g alive bound a d e s t u)
-        → Saved (Unit {0}) bound a a saved d (with_instr (I.StoreContext saved) e) s (flags.store_context a saved e t u flag (record { within = within; here = x.at; sim = x.sim })).0.t u
+    pub saved_next : (bound : ℕ) (a : Active) (saved : Field) (d e : Draft) (s t : CodeState) (u : State) → bound ≤ saved.offset → saved.offset < length e.fields → IsFlag g alive saved → Within g (with_instr (I.StoreContext saved) e) → Course g alive bound a d e s t u
+        → (stored : (r : Stored g alive a saved e (I.StoreContext saved) t u) × ((p : ℕ) → p < processors (shapes g) saved.set → number_in g saved r.t p ≡ from_bool (a saved.set p)))
+        → Saved (Unit {0}) bound a a saved d (with_instr (I.StoreContext saved) e) s stored.0.t u
     unfolding step_of
-    saved_next flags bound a saved d e s t u newer inside flag within x =
+    saved_next bound a saved d e s t u newer inside flag within x stored =
         let i : Instr = I.StoreContext saved in
-        let stored = flags.store_context a saved e t u flag (record { within = within; here = x.at; sim = x.sim }) in
         let long : length (with_instr i e).code ≡ length e.code + 1 = code_more g i e in
         record {
           flag = flag;
