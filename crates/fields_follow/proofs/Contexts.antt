@@ -1,5 +1,5 @@
 -- A statement in which contexts say which positions are active follows.
-use Rattle.std.proofs.Common.{◌≡◌, ◌∙◌, ℕ, ◌+◌, ◌<◌, ◌==◌, ◌&&◌, ◌||◌, Bool, true, false, List, [], ◌∷◌, ◌++◌, length, Some, refl, sym, ap, subst, arith, if◌then◌else◌}
+use Rattle.std.proofs.Common.{◌≡◌, ◌∙◌, ℕ, ◌+◌, ◌<◌, ◌≤◌, ◌==◌, ◌&&◌, ◌||◌, Bool, true, List, [], ◌∷◌, ◌++◌, length, slice_index, Some, refl, sym, ap, subst, arith, if◌then◌else◌}
 use Rattle.std.specs.Prelude.{nat_le, nat_lt}
 use Rattle.std.proofs.lemmas.Bool.Decides.{nat_tests}
 use mathlib.Core.Former.{Count}
@@ -11,8 +11,8 @@ use Rattle.cstar_tree.specs.declared.typed.Variable.{Variable}
 use Rattle.cstar_tree.specs.declared.typed.Variable.TheVariants as V
 use Rattle.code_lengths.specs.Growth.{Extended}
 use Rattle.code_lengths.specs.Lowerable.{InField}
-use Rattle.code_lengths.specs.Ready.{IsReady}
-use Rattle.code_lengths.proofs.Drafting.{as_it_was, extended}
+use Rattle.code_lengths.specs.Ready.{HasStatementCode, IsReady}
+use Rattle.code_lengths.proofs.Drafting.{and_instr, as_it_was, extended}
 use Rattle.lower_base.specs.declared.emit.Out.{Out}
 use Rattle.lower_base.specs.Drafts.{Draft, Fails, Made, Makes, an_entry, step as step_of, then_make, with_instr}
 use Rattle.lower_expr.specs.Effects.{effect_of}
@@ -26,22 +26,22 @@ use Rattle.paris_code.specs.declared.program.Owner.TheVariants as W
 use Rattle.paris_code.specs.Code.{CodeState}
 use Rattle.source_meaning.specs.Expressions.{evaluated}
 use Rattle.source_meaning.specs.Narrowing.{where_nonzero, where_zero, widened as all_active}
-use Rattle.source_meaning.specs.State.{Gives, Outcome, State, is_among, then_do, zeroed}
+use Rattle.source_meaning.specs.State.{Ends, Gives, Outcome, State, is_among, then_do, zeroed}
 use Rattle.source_meaning.specs.Statements.{Leaving, Onward, all_executed, declared, done, else_executed, executed, initialised, then_go}
 use Rattle.source_meaning.specs.Values.{Active, Parallel, Scope, Value}
 use Rattle.source_meaning.proofs.ConstantLaws.{Boxed}
-use Rattle.code_follows.proofs.Following.{Extends, HasRegisters, Sim, extends_made, extends_then}
-use Rattle.code_follows.proofs.Settings.{At, Setting, Within, and_one, earlier, layout}
-use Rattle.fields_follow.specs.Fragment.{IsCondition, IsUpdate}
+use Rattle.code_follows.proofs.Following.{Extends, Follows, HasRegisters, Ran, Sim, nothing_said, extends_made, extends_then}
+use Rattle.code_follows.proofs.Settings.{At, Setting, Within, and_one, code_more, earlier, layout}
+use Rattle.fields_follow.specs.Fragment.{IsCondition, IsSelective, IsUpdate}
 use Rattle.fields_follow.proofs.Courses.{Course, FlagsTurn, IsFlag, course_of, course_on, leaves_of, no_course}
 use Rattle.fields_follow.proofs.Forms.{HasItsCode}
 use Rattle.fields_follow.proofs.Instructions.{shapes}
-use Rattle.fields_follow.proofs.Leaving.{Leaves, Tests, UpdateLeaves, under, within_under}
-use Rattle.fields_follow.proofs.Narrowing.{Begins, among, narrowed_alone, narrowed_keeping, narrows, narrows_alone, others, turned_else, turned_on, turns}
-use Rattle.fields_follow.proofs.Passing.{After, after_same, after_weaker, fields_longer, made_after, then_after}
+use Rattle.fields_follow.proofs.Leaving.{Leaves, Tests, UpdateLeaves, under, within_again, within_under}
+use Rattle.fields_follow.proofs.Narrowing.{Begins, NamedLater, among, narrowed_alone, narrowed_keeping, narrows, narrows_alone, others, turned_else, turned_on, turns}
+use Rattle.fields_follow.proofs.Passing.{After, after_same, after_weaker, code_longer, fields_longer, made_after, then_after}
 use Rattle.fields_follow.proofs.Places.{HoldsTheFields, PlacesFields, stands_here}
-use Rattle.fields_follow.proofs.Saving.{Runs, Saved, after_again, after_itself, after_there, after_within, closed, closes, flag_next, saved_next, then_later}
-use Rattle.fields_follow.proofs.Selective.{AllSelect, ElseSelects, Selects, closing_grows, nothing_declared, otherwise_grows, row_grows, statement_grows}
+use Rattle.fields_follow.proofs.Saving.{Closes, Runs, after_again, after_itself, after_there, after_within, closed, closes, flag_next, named_next, saved_next, then_later}
+use Rattle.fields_follow.proofs.Selective.{AllSelect, ElseSelects, Selects, selective_selects, closing_grows, nothing_declared, otherwise_grows, row_grows, statement_grows}
 use Rattle.fields_follow.proofs.Values.{and_entry, next_field, one_more, taken, with_entry}
 
 -- no variables become zero
@@ -220,3 +220,131 @@ module _ (g : Setting) (has : HasRegisters g) (alive : Variable → Type 0) (n :
       (alone_runs a d s (executed scope first k b st) (else_executed scope None' (k + declared first) (others shape v a)) (closing saved (made known)) (λ u. refl)
       (closed g alive flags (Unit {0}) a b saved d for_test (inner known) s (narrows_alone g alive flags places fields_under active_under a shape v d known s st w x w_inner).t st (executed scope first k b st) (made known) tt (let i = begins.saved.inside in omega (arith, i)) (both_entries shape d) begins.saved
       (agrees b k m (in_context f) (contexts ++ saved ∷ []) (inner known) (narrows_alone g alive flags places fields_under active_under a shape v d known s st w x w_inner).t st begins.here begins.sim)))))
+
+  -- where something is
+  where_else : (shape : ℕ) (test : TExpr) (p q : Boxed) (first second : TStmt) → Selects g alive n (S.Where' shape test p first (Some' q second)) → Agrees first → Agrees second → Agrees (S.Where' shape test p first (Some' q second))
+  unfolding Selects ElseSelects statement_of an_entry then_make narrowed with_kept kept_for otherwise_of turned else_executed closing After step_of
+  where_else shape test p q first second is agrees otherwise a k m f contexts d s st here sim =
+      where_by shape test is.0 is.1 is.2 a for_test s st here sim saved refl Q next
+      (λ known. extends_made g (with_instr (I.StoreContext saved) known) (inner known) 2 (next known) (and_instr (I.LogandContextWithTest shape) (with_instr (I.StoreContext saved) known) (keeps known) 1 (and_one g (I.StoreTest holds) (with_instr (I.StoreContext saved) known))) (grows known))
+      (λ v is_value known w x. after_within g Q (inner known) (next known) (grows known) (λ w_inner. by v is_value known w x w_inner (made known)
+      (agrees (among shape v a) k m (in_context f) (contexts ++ saved ∷ []) (inner known) (narrows g alive flags places fields_under active_under a shape v d known s st w x w_inner).t st
+      (narrowed_keeping g alive flags places fields_under active_under a shape v d known s st w x w_inner).here (narrowed_keeping g alive flags places fields_under active_under a shape v d known s st w x w_inner).sim)))
+    where
+      begun : Draft
+      begun = with_entry shape 1 W.Own d
+
+      for_test : Draft
+      for_test = with_entry shape 1 W.Own begun
+
+      saved : Field
+      saved = next_field shape 1 d
+
+      holds : Field
+      holds = next_field shape 1 begun
+
+      keeps : Draft → Draft
+      keeps known = with_instr (I.StoreTest holds) (with_instr (I.StoreContext saved) known)
+
+      inner : Draft → Draft
+      inner known = with_instr (I.LogandContextWithTest shape) (keeps known)
+
+      made : Draft → Made ℕ
+      made known = statement_of g.typed (layout g) first (in_context f) (contexts ++ saved ∷ []) m (inner known)
+
+      turns_back : Draft → Draft
+      turns_back behind = with_instr (I.LogandcContextWithTest shape) (with_instr (I.LoadTest holds) behind)
+
+      made_else : ℕ → Draft → Made ℕ
+      made_else j behind = statement_of g.typed (layout g) second (in_context f) (contexts ++ saved ∷ []) j (turns_back behind)
+
+      rest : ℕ → Draft → Made ℕ
+      rest j behind = otherwise_of g.typed (layout g) (Some' q second) f contexts shape saved holds j behind
+
+      next : Draft → Made ℕ
+      next known = then_make (closing saved (made known)) rest
+
+      o : Outcome Leaving
+      o = executed scope (S.Where' shape test p first (Some' q second)) k a st
+
+      Q : ℕ → Draft → Type 0
+      Q j e = Runs g alive a d s o j e
+
+      grows : (known : Draft) → Extends g (inner known) (next known)
+      grows known =
+          extends_then g (inner known) (closing saved (made known)) rest (closing_grows g alive n has ready saved (inner known) (made known) (statement_grows g alive n has ready first is.3 (in_context f) (contexts ++ saved ∷ []) m (inner known)))
+          (λ j behind. otherwise_grows g alive n has ready (Some' q second) is.4 f contexts shape saved holds j behind)
+
+      by : (v : ℕ → ℕ) → evaluated scope test a st ≡ Gives (Parallel v) st → (known : Draft) (w : Within g (with_instr (I.StoreContext saved) known)) (x : Tests (under g a) alive (fields_under a) (length for_test.fields) for_test s shape st v known) (w_inner : Within g (inner known)) (made : Made ℕ)
+          → RunsSo (among shape v a) (inner known) (narrows g alive flags places fields_under active_under a shape v d known s st w x w_inner).t (executed scope first k (among shape v a) st) made → After g Q (then_make (closing saved made) rest)
+      by v is_value known w x w_inner Fails part = tt
+      by v is_value known w x w_inner (Makes j h) part =
+          let b : Active = among shape v a in
+          let z : Active = others shape v a in
+          let one : Outcome Leaving = executed scope first k b st in
+          let two : State → Outcome Leaving = else_executed scope (Some' q second) (k + declared first) z in
+          let t : CodeState = (narrows g alive flags places fields_under active_under a shape v d known s st w x w_inner).t in
+          let begins : Begins g alive flags (NamedLater g holds (keeps known)) a b saved d for_test (inner known) s t st = narrowed_keeping g alive flags places fields_under active_under a shape v d known s st w x w_inner in
+          let behind : Draft = with_instr (I.LoadContext saved) h in
+          let loads : Draft = with_instr (I.LoadTest holds) behind in
+          let made_two : Made ℕ = made_else j behind in
+          after_within g Q (turns_back behind) (closing saved made_two) (closing_grows g alive n has ready saved (turns_back behind) made_two (statement_grows g alive n has ready second is.4 (in_context f) (contexts ++ saved ∷ []) j (turns_back behind))) (λ w_turned.
+          let w_loads : Within g loads = earlier g loads (turns_back behind) 1 (and_one g (I.LogandcContextWithTest shape) loads) w_turned in
+          let w_behind : Within g behind = earlier g behind loads 1 (and_one g (I.LoadTest holds) behind) w_loads in
+          let w_h : Within g h = earlier g h behind 1 (and_one g (I.LoadContext saved) h) w_behind in
+          let runs : Runs g alive b (inner known) t one j h = part w_h in
+          let long : length (keeps known).code ≤ length behind.code =
+          let l = code_longer (inner known) h runs.1.1.grown.0 runs.1.1.grown.1 in let m = code_more g (I.LogandContextWithTest shape) (keeps known) in let n = code_more g (I.LoadContext saved) h in omega (arith, l, m, n) in
+          let c : Closes g alive a (inner known) behind t one = closes g alive flags (NamedLater g holds (keeps known)) (length d.fields) a b saved for_test (inner known) h s t st one j (length behind.code, (named_next g (I.LoadTest holds) holds behind w_loads refl refl, long)) begins.saved w_behind runs in
+          let r : CodeState = (turns g alive flags places fields_under active_under a shape v d known s st w x w_inner behind c.t c.u c.course w_turned).t in
+          let back : Begins g alive flags (Unit {0}) a z saved d for_test (turns_back behind) s r c.u = turned_else g alive flags places fields_under active_under a shape v d known s st w x w_inner behind c.t c.u c.course w_turned in
+          after_weaker g (λ i e. Runs g alive a d s (two c.u) i e) Q (closing saved made_two)
+          (λ i e last. (last.0, (where_means scope a shape test p first (Some' q second) k v st is_value ∙ row_means scope a one two c.u last.0 c.is last.1.0, last.1.1)))
+          (closed g alive flags (Unit {0}) a z saved d for_test (turns_back behind) s r c.u (two c.u) made_two tt (let i = back.saved.inside in omega (arith, i)) (both_entries shape d) back.saved
+          (otherwise z (k + declared first) j (in_context f) (contexts ++ saved ∷ []) (turns_back behind) r c.u back.here back.sim)))
+
+  mutual
+    unfolding Selects AllSelect ElseSelects executed all_executed statement_of statements_of
+
+    pub selective_leaves : (t : TStmt) → Selects g alive n t → Agrees t
+    selective_leaves (S.Block' locals p statements) is a k m f contexts d s st here sim =
+        same_runs a d s (executed scope (S.Block' locals p statements) k a st) (all_executed scope statements (k + length locals.items) a st) (statement_of g.typed (layout g) (S.Block' locals p statements) f contexts m d) (block_means scope a locals.items statements k st is.0)
+        (after_same g (λ j e. Runs g alive a d s (all_executed scope statements (k + length locals.items) a st) j e) (nothing_declared g alive n locals.items (λ j after. statements_of g.typed (layout g) statements f contexts j after) m d is.0)
+        (row_leaves statements is.1 a (k + length locals.items) (m + length locals.items) f contexts d s st here sim))
+    selective_leaves (S.Expression e) is a k m f contexts d s st here sim = update_runs a e d s st m is.0 is.1 here sim
+    selective_leaves S.Empty is a k m f contexts d s st here sim = nothing_runs a d s st m here sim
+    selective_leaves (S.With' shape p body) is a k m f contexts d s st here sim = selective_leaves body is a k m f contexts d s st here sim
+    selective_leaves (S.Everywhere' shape p body) is a k m f contexts d s st here sim = everywhere_agrees shape p body is (selective_leaves body is) a k m f contexts d s st here sim
+    selective_leaves (S.Where' shape test p first None') is a k m f contexts d s st here sim = where_alone shape test p first is (selective_leaves first is.3) a k m f contexts d s st here sim
+    selective_leaves (S.Where' shape test p first (Some' q second)) is a k m f contexts d s st here sim =
+        where_else shape test p q first second is (selective_leaves first is.3) (selective_leaves second is.4) a k m f contexts d s st here sim
+    selective_leaves _ is a k m f contexts d s st here sim = absurd is
+
+    row_leaves : {c : Count} (row : Row_of-TStmt c) → AllSelect g alive n row → (a : Active) (k m : ℕ) (f : Frame) (contexts : List Field) (d : Draft) (s : CodeState) (st : State) → At g s (length d.code) → Sim (under g a) alive st s
+        → RunsSo a d s (all_executed scope row k a st) (statements_of g.typed (layout g) row f contexts m d)
+    row_leaves end_of-TStmt is a k m f contexts d s st here sim = nothing_runs a d s st m here sim
+    row_leaves (more_of-TStmt t rest) is a k m f contexts d s st here sim =
+        row_runs a d s (executed scope t k a st) (all_executed scope rest (k + declared t) a) (statement_of g.typed (layout g) t f contexts m d) (λ j after. statements_of g.typed (layout g) rest f contexts j after)
+        (selective_leaves t is.0 a k m f contexts d s st here sim) (λ j e. row_grows g alive n has ready rest is.1 f contexts j e) (λ j e r u at_e sim_e. row_leaves rest is.1 a (k + declared t) j f contexts e r u at_e sim_e)
+
+  -- so it follows, and goes on
+  abbrev Arrives : Active → Draft → CodeState → Leaving → State → ℕ → Draft → Type 0
+  Arrives a d s leaving u m e = (leaving ≡ Onward) × Ran (under g a) alive d s u e
+
+  runs_follow : (a : Active) (d : Draft) (s : CodeState) (o : Outcome Leaving) (made : Made ℕ) → RunsSo a d s o made → Follows (under g a) (Arrives a d s) s o made
+  unfolding After Follows
+  runs_follow a d s (Gives leaving u) (Makes m e) h = λ w.
+      let r = h (within_again g a w) in
+      let x = r.1.1 in
+      let left : leaving ≡ Onward = let is = r.1.0 in cc in
+      let state : u ≡ r.0 = let is = r.1.0 in cc in (
+        left,
+        record { grown = x.grown; t = x.t; go = x.go; at = x.at; sim = subst (λ (v : State). Sim (under g a) alive v x.t) (sym state) x.sim; keeps = λ q kept. ap (λ (registers : List ℕ). slice_index registers q) x.registers },
+      )
+  runs_follow a d s (Ends early u) (Makes m e) h = λ w. let r = h (within_again g a w) in let is = r.1.0 in cc
+  runs_follow a d s o Fails h = nothing_said (under g a) (Arrives a d s) s o
+
+  pub selective_follows : (t : TStmt) → IsSelective alive t → HasStatementCode g.typed g.instance n t → (a : Active) (k m : ℕ) (f : Frame) (contexts : List Field) (d : Draft) (s : CodeState) (st : State) → At g s (length d.code) → Sim (under g a) alive st s
+      → Follows (under g a) (λ leaving u j e. (leaving ≡ Onward) × Ran (under g a) alive d s u e) s (executed scope t k a st) (statement_of g.typed (layout g) t f contexts m d)
+  selective_follows t is c a k m f contexts d s st here sim =
+      runs_follow a d s (executed scope t k a st) (statement_of g.typed (layout g) t f contexts m d) (selective_leaves t (selective_selects g alive n t is c) a k m f contexts d s st here sim)

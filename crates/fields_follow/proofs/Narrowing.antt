@@ -1,11 +1,11 @@
 -- The code of `where`: it saves the context and narrows it, and turns it for what is behind `else`.
-use Rattle.std.proofs.Common.{◌≡◌, ◌∙◌, ℕ, ◌+◌, ◌<◌, ◌≤◌, ◌==◌, ◌&&◌, Bool, true, false, not, List, length, refl, sym, ap, arith, if◌then◌else◌}
+use Rattle.std.proofs.Common.{◌≡◌, ◌∙◌, ℕ, ◌+◌, ◌<◌, ◌≤◌, ◌==◌, ◌&&◌, Bool, true, false, not, length, refl, sym, ap, arith, if◌then◌else◌}
 use Rattle.std.specs.Int.{from_bool}
 use Rattle.std.proofs.lemmas.Bool.Decides.{nat_tests}
 use Rattle.cstar_tree.specs.declared.typed.Variable.{Variable}
 use Rattle.code_lengths.specs.Growth.{Extended}
 use Rattle.code_lengths.proofs.Drafting.{extended}
-use Rattle.lower_base.specs.Drafts.{Draft, Fails, Made, Makes, Plain, step as step_of, then_make, with_instr}
+use Rattle.lower_base.specs.Drafts.{Draft, step as step_of, with_instr}
 use Rattle.paris_code.specs.declared.instr.Instr.{Instr}
 use Rattle.paris_code.specs.declared.instr.Instr.TheVariants as I
 use Rattle.paris_code.specs.declared.operands.Field.{Field}
@@ -22,7 +22,7 @@ use Rattle.fields_follow.proofs.Courses.{AreSameBeside, Course, FlagsTurn, IsFla
 use Rattle.fields_follow.proofs.Instructions.{number_in, shapes}
 use Rattle.fields_follow.proofs.Leaving.{Tests, under}
 use Rattle.fields_follow.proofs.Passing.{code_longer, fields_longer}
-use Rattle.fields_follow.proofs.Places.{HoldsTheFields, IsOwnField, PlacesFields}
+use Rattle.fields_follow.proofs.Places.{HoldsTheFields, PlacesFields}
 use Rattle.fields_follow.proofs.Saving.{Saved, flag_next, named_next, saved_next, saved_on}
 use Rattle.fields_follow.proofs.Values.{and_entry, next_field, one_more, taken, with_entry}
 

@@ -40,6 +40,7 @@ module _ (alive : Variable → Type 0) where
   -- they declare no variables
   mutual
     unfolding IsSelective AreSelective IsSelectiveElse row_variables else_variables
+
     declares_nothing : (s : TStmt) → IsSelective alive s → variables_of s ≡ []
     declares_nothing (S.Block' locals p statements) is = of_block locals p statements ∙ ap (λ (xs : List LocalVar). map info_of xs ++ row_variables statements) is.0 ∙ row_declares_nothing statements is.1
     declares_nothing (S.Expression e) is = of_expression e
@@ -86,6 +87,7 @@ module _ (g : Setting) (alive : Variable → Type 0) (n : ℕ) where
 
   mutual
     unfolding IsSelective AreSelective IsSelectiveElse Selects AllSelect ElseSelects IsShapedStatement AreShapedStatements IsShapedElse IsLowerableStatement AreLowerableStatements IsLowerableElse StatementNamesVariables StatementsNameVariables ElseNamesVariables
+
     selects : (s : TStmt) → IsSelective alive s → IsShapedStatement s → IsLowerableStatement g.typed g.instance.result s → StatementNamesVariables g.typed g.instance n s → Selects s
     selects (S.Block' locals p statements) is shaped lowerable names =
         (is.0, all_select statements is.1 shaped.1 lowerable.1 (subst (λ (k : ℕ). StatementsNameVariables g.typed g.instance k statements) (no_more n (length locals.items) (ap length is.0)) names.1))
