@@ -47,34 +47,35 @@ use Rattle.source_meaning.specs.Expressions.{evaluated}
 use Rattle.source_meaning.specs.Reductions.{promoted, updated}
 use Rattle.source_meaning.specs.State.{Gives, Outcome, State, with_positions}
 use Rattle.source_meaning.specs.Targets.{step_op}
-use Rattle.source_meaning.specs.Values.{Active, Parallel, Scope, Value}
+use Rattle.source_meaning.specs.Values.{Parallel, Scope, Value}
 use Rattle.source_meaning.proofs.ConstantLaws.{Boxed}
 use Rattle.code_follows.proofs.Following.{Follows, HasRegisters, Ran, Sim}
-use Rattle.code_follows.proofs.Settings.{At, Setting, Within, and_one, layout, onto}
+use Rattle.code_follows.proofs.Settings.{At, Setting, Within, and_one, code_more, layout, onto}
 use Rattle.fields_follow.specs.Fragment.{HasOperation, IsOperand, IsOperation, IsTarget, IsUpdate}
 use Rattle.fields_follow.specs.Fields.{IsElement, file_number}
 use Rattle.fields_follow.proofs.Forms.{HasItsCode, field_is}
 use Rattle.fields_follow.proofs.Instructions.{HasNumbers, Puts, SameExtents, extents, puts_operate_constant, shapes, word_in}
 use Rattle.fields_follow.proofs.Meaning.{promoted_means, pure_means, value_in}
-use Rattle.fields_follow.proofs.Passing.{After, Passes, after_same, in_file_has, made_after, passes_all}
+use Rattle.fields_follow.proofs.Leaving.{Leaves, UpdateLeaves}
+use Rattle.fields_follow.proofs.Passing.{After, Passes, after_same, code_longer, in_file_has, made_after, passes_all}
 use Rattle.fields_follow.proofs.Places.{HoldsTheFields, IsFileField, PlacesFields}
 use Rattle.fields_follow.proofs.Updates.{IsFileTarget, assign_means, file_target, promoted_wide, step_means, updated_is}
-use Rattle.fields_follow.proofs.Values.{and_entry, next_field, taken, with_entry}
+use Rattle.fields_follow.proofs.Values.{and_entry, next_field, one_more, taken, with_entry}
 use Rattle.fields_follow.proofs.Writing.{few, file_written}
 use Rattle.fields_follow.proofs.Effects.{IsEntryFor, in_place_last, put_last}
 use Rattle.fields_follow.proofs.Expressions.{operand_type}
 use Rattle.code_follows.specs.Fragment.{ScalarsAmong}
 
 module _ (g : Setting) (has : HasRegisters g) (alive : Variable → Type 0) (n : ℕ) (ready : (d : Draft) → IsReady g.typed g.instance (layout g) n d) (places : PlacesFields g) (fields : HoldsTheFields g) where
-  -- what is said of code where it is made follows the source's part that gives a value
-  follows_after : (d : Draft) (s : CodeState) (v : Value) (u : State) (made : Made Out) → After g (λ out e. Ran g alive d s u e) made → Follows g (λ v u out e. Ran g alive d s u e) s (Gives v u) made
+  -- code that leaves a state has run, which follows the source's part that gives a value
+  follows_after : (d : Draft) (s : CodeState) (v : Value) (u : State) (made : Made Out) → After g (λ out e. Leaves g alive d e s u) made → Follows g (λ v u out e. Ran g alive d s u e) s (Gives v u) made
   unfolding After Follows
-  follows_after d s v u (Makes out e) h = h
+  follows_after d s v u (Makes out e) h = λ within. let l = h within in record { grown = l.grown; t = l.t; go = l.go; at = l.at; sim = l.sim; keeps = λ r kept. ap (λ (registers : List ℕ). slice_index registers r) l.registers }
   follows_after d s v u Fails h = tt
 
-  -- The last instruction writes the variable: with the entry for it before, the code has run, and the state has what the
-  -- source stores.
-  module _ (set k : ℕ) (info : VarInfo) (is : IsElement g.typed k info set 0) (word : info.elem.bits ≡ 32) (passes : ℕ → Bool) (passing : (p : ℕ) → p < processors (shapes g) set → passes p ≡ true) (d : Draft) (s : CodeState) (st : State) where
+  -- The last instruction writes the variable where it is active: with the entry for it before, the code leaves a state
+  -- that has what the source stores.
+  module _ (set k : ℕ) (info : VarInfo) (is : IsElement g.typed k info set 0) (word : info.elem.bits ≡ 32) (d : Draft) (s : CodeState) (st : State) where
     abbrev entered : Draft
     entered = with_entry set info.elem.bits (W.File (file_number g.typed k 0)) d
 
@@ -89,19 +90,25 @@ module _ (g : Setting) (has : HasRegisters g) (alive : Variable → Type 0) (n :
     was_small : Sim g alive st s → (p : ℕ) → p < processors (shapes g) set → st.parallel (V.File k) 0 p < 2 ^ 32
     was_small sim p below = subst (λ (b : ℕ). st.parallel (V.File k) 0 p < 2 ^ b) word ((fields.opens st s.memory sim.memory).small k 0 set p info is below)
 
-    ran : (v w : ℕ → ℕ) → ((p : ℕ) → p < processors (shapes g) set → v p < 2 ^ 32 → w p ≡ v p) → (e2 : Draft) (i : Instr) → Within g (with_instr i e2) → (p : Passes g alive (length entered.fields) entered e2 s st (Unit {0})) → Puts g set i variable p.t v
-        → Ran g alive d s (with_positions (V.File k) 0 passes w st) (with_instr i e2)
-    ran v w same e2 i within p puts =
+    leaves : (v w : ℕ → ℕ) → ((p : ℕ) → p < processors (shapes g) set → v p < 2 ^ 32 → w p ≡ v p) → (e2 : Draft) (i : Instr) → Within g (with_instr i e2) → (p : Passes g alive (length entered.fields) entered e2 s st (Unit {0})) → Puts g set i variable p.t v
+        → Leaves g alive d (with_instr i e2) s (with_positions (V.File k) 0 (fields.active set) w st)
+    leaves v w same e2 i within p puts =
         let x : Extended entered (p.grown.0 + 1) (with_instr i e2) = extended entered e2 (with_instr i e2) p.grown.0 1 p.grown.1 (and_one g i e2) in
-        let h = file_written g places fields alive set i variable e2 p.t st v within p.at p.sim refl refl puts k 0 info passes w is word (entry_for (with_instr i e2) (p.grown.0 + 1) x within) passing
-        (λ q below. same q below (few g places fields alive set i variable e2 p.t st v within p.at p.sim refl refl puts q below)) in
+        let h = file_written g places fields alive set i variable e2 p.t st v within p.at p.sim refl refl puts k 0 info (fields.active set) w is word (entry_for (with_instr i e2) (p.grown.0 + 1) x within) (λ q below. refl)
+        (λ q below on. same q below (few g places fields alive set i variable e2 p.t st v within p.at p.sim refl refl puts q below on)) in
+        let longer = code_longer entered e2 p.grown.0 p.grown.1 in
+        let one : length (with_instr i e2).code ≡ length e2.code + 1 = code_more g i e2 in
+        let more = one_more set info.elem.bits (W.File (file_number g.typed k 0)) d in
         record {
           grown = (0 + (p.grown.0 + 1), extended d entered (with_instr i e2) 0 (p.grown.0 + 1) (and_entry set info.elem.bits (W.File (file_number g.typed k 0)) d) x);
           t = h.t;
           go = onto g s p.t h.t p.go h.go;
           at = h.at;
+          registers = h.registers ∙ p.registers;
           sim = h.sim;
-          keeps = λ r kept. ap (λ (registers : List ℕ). slice_index registers r) (h.registers ∙ p.registers);
+          stays = λ f first last q below own ends before low after high.
+              h.stays tt f first last q (λ alike. omega (arith, alike, below)) own before after (omega (arith, low, longer)) (omega (arith, high, one))
+              ∙ p.stays tt f first last q (omega (arith, below, more)) own before low after (omega (arith, high, one));
         }
 
     -- the variable with all its bits is that entry
@@ -150,26 +157,31 @@ module _ (g : Setting) (has : HasRegisters g) (alive : Variable → Type 0) (n :
       by None = refl
       by (Some x) = ap (λ (b : Bool). if b then Some mine else None) (fits_well x (type_of target).elem value wide)
 
-  module _ (scope : Scope) (active : Active) (everywhere : (set p : ℕ) → p < processors (shapes g) set → active set p ≡ true) (same_extents : SameExtents g scope) where
-    operand_means : (set : ℕ) (e : TExpr) (st : State) → set < length (shapes g) → IsOperand set e → evaluated scope e active st ≡ Gives (Parallel (λ q. value_in (extents g set) st e q)) st
+  module _ (scope : Scope) (same_extents : SameExtents g scope) where
+    operand_means : (set : ℕ) (e : TExpr) (st : State) → set < length (shapes g) → IsOperand set e → evaluated scope e fields.active st ≡ Gives (Parallel (λ q. value_in (extents g set) st e q)) st
     operand_means set e st exists is = by is ∙ ap (λ (xs : List ℕ). Gives (Parallel (λ q. value_in xs st e q)) st) (same_extents set exists)
       where
-        by : IsOperand set e → evaluated scope e active st ≡ Gives (Parallel (λ q. value_in (scope.extents set) st e q)) st
-        by (inl h) = pure_means scope active set e st h
-        by (inr h) = promoted_means scope active set e st h
+        by : IsOperand set e → evaluated scope e fields.active st ≡ Gives (Parallel (λ q. value_in (scope.extents set) st e q)) st
+        by (inl h) = pure_means scope fields.active set e st h
+        by (inr h) = promoted_means scope fields.active set e st h
 
     assigns : (ty : ValueType) (place : Place) (op : AssignOp) (p q : Boxed) (target value : TExpr) (set : ℕ) → ty ≡ type_of target → IsTarget set target → HasOperation op → IsOperand set value → NamesVariables g.typed g.instance n target → HasItsCode g.typed g.instance alive n value
         → (d : Draft) (s : CodeState) (st : State) → At g s (length d.code) → Sim g alive st s
-        → Follows g (λ v u out f. Ran g alive d s u f) s (evaluated scope (T.Assign' ty place op p target q value) active st) (effect_of g.typed (layout g) (T.Assign' ty place op p target q value) d)
+        → UpdateLeaves g alive fields scope (T.Assign' ty place op p target q value) d s st
     unfolding effect_of assignment_effect variable_operated
-    assigns ty place op p q target value set same is_target operates is_operand names c d s st here sim =
-        subst (λ (o : Outcome Value). Follows g (λ v u out f. Ran g alive d s u f) s o (effect_of g.typed (layout g) (T.Assign' ty place op p target q value) d))
-        (sym (assign_means scope active set ty place op p q target value h.k (λ x. value_in (extents g set) st value x) st (ap (λ (y : ValueType). y.shape) same ∙ h.type.0) operates (h.means scope active st) (operand_means set value st (places.exists h.k 0 set h.info h.is) is_operand)))
-        (follows_after d s (Parallel w) u (effect_of g.typed (layout g) (T.Assign' ty place op p target q value) d)
-        (after_same g (λ out e. Ran g alive d s u e)
-        (ap (λ (o : Option Own). elim o as (λ _. Made Out) [ Some own ↦ then_make (whole_of g.typed (layout g) target own d) (λ dest after. variable_assigned g.typed (layout g) op place target value dest after) | None ↦ value_of g.typed (layout g) ty.elem.bits (T.Assign' ty place op p target q value) d ]) (own_is set h.k op target value h.own h.type.1)
-        ∙ variable_is set h.k h.info h.is h.wide (active set) (everywhere set) d s st target (λ dest after. variable_assigned g.typed (layout g) op place target value dest after) h.type.1)
-        (by (assign_op_of op) refl operates)))
+    assigns ty place op p q target value set same is_target operates is_operand names c d s st here sim = (
+      Parallel w,
+      (
+        u,
+        (
+          assign_means scope fields.active set ty place op p q target value h.k (λ x. value_in (extents g set) st value x) st (ap (λ (y : ValueType). y.shape) same ∙ h.type.0) operates (h.means scope fields.active st) (operand_means set value st (places.exists h.k 0 set h.info h.is) is_operand),
+          (after_same g (λ out e. Leaves g alive d e s u)
+              (ap (λ (o : Option Own). elim o as (λ _. Made Out) [ Some own ↦ then_make (whole_of g.typed (layout g) target own d) (λ dest after. variable_assigned g.typed (layout g) op place target value dest after) | None ↦ value_of g.typed (layout g) ty.elem.bits (T.Assign' ty place op p target q value) d ]) (own_is set h.k op target value h.own h.type.1)
+              ∙ variable_is set h.k h.info h.is h.wide d s st target (λ dest after. variable_assigned g.typed (layout g) op place target value dest after) h.type.1)
+              (by (assign_op_of op) refl operates)),
+        ),
+      ),
+    )
       where
         h : IsFileTarget g.typed set target
         h = file_target g.typed g.instance n set target is_target names
@@ -178,7 +190,7 @@ module _ (g : Setting) (has : HasRegisters g) (alive : Variable → Type 0) (n :
         w = λ x. updated op ty.elem (type_of value).elem (st.parallel (V.File h.k) 0 x) (value_in (extents g set) st value x)
 
         u : State
-        u = with_positions (V.File h.k) 0 (active set) w st
+        u = with_positions (V.File h.k) 0 (fields.active set) w st
 
         d1 : Draft
         d1 = with_entry set h.info.elem.bits (W.File (file_number g.typed h.k 0)) d
@@ -187,18 +199,18 @@ module _ (g : Setting) (has : HasRegisters g) (alive : Variable → Type 0) (n :
         f = next_field set 32 d
 
         by : (o : Option Op) → assign_op_of op ≡ o → IfSome o IsOperation
-            → After g (λ out e. Ran g alive d s u e) (elim (assign_op_of op) as (λ _. Made Out) [ None ↦ put_to g.typed (layout g) (O.Field f) value d1 | Some x ↦ variable_operated g.typed (layout g) x place target value (O.Field f) d1 ])
+            → After g (λ out e. Leaves g alive d e s u) (elim (assign_op_of op) as (λ _. Made Out) [ None ↦ put_to g.typed (layout g) (O.Field f) value d1 | Some x ↦ variable_operated g.typed (layout g) x place target value (O.Field f) d1 ])
         by None is known =
-            after_same g (λ out e. Ran g alive d s u e) (ap (λ (o : Option Op). elim o as (λ _. Made Out) [ None ↦ put_to g.typed (layout g) (O.Field f) value d1 | Some x ↦ variable_operated g.typed (layout g) x place target value (O.Field f) d1 ]) is)
-            (put_last g has alive n ready places fields set (length d.fields) value is_operand c d1 s st here sim (λ out e. Ran g alive d s u e)
-            (λ e2 i within passes puts. ran set h.k h.info h.is h.wide (active set) (everywhere set) d s st (λ x. value_in (extents g set) st value x) w (λ x below small. plainly op ty.elem (type_of value).elem (st.parallel (V.File h.k) 0 x) (value_in (extents g set) st value x) is) e2 i within passes puts))
+            after_same g (λ out e. Leaves g alive d e s u) (ap (λ (o : Option Op). elim o as (λ _. Made Out) [ None ↦ put_to g.typed (layout g) (O.Field f) value d1 | Some x ↦ variable_operated g.typed (layout g) x place target value (O.Field f) d1 ]) is)
+            (put_last g has alive n ready places fields set (length d.fields) value is_operand c d1 s st here sim (λ out e. Leaves g alive d e s u)
+            (λ e2 i within passes puts. leaves set h.k h.info h.is h.wide d s st (λ x. value_in (extents g set) st value x) w (λ x below small. plainly op ty.elem (type_of value).elem (st.parallel (V.File h.k) 0 x) (value_in (extents g set) st value x) is) e2 i within passes puts))
         by (Some x) is known =
             let signed : Bool = assigned_signed x (type_of target).elem (type_of value).elem in
-            after_same g (λ out e. Ran g alive d s u e) (ap (λ (o : Option Op). elim o as (λ _. Made Out) [ None ↦ put_to g.typed (layout g) (O.Field f) value d1 | Some x ↦ variable_operated g.typed (layout g) x place target value (O.Field f) d1 ]) is)
-            (in_place_last g has alive n ready places fields set (length d.fields) h.k h.info x signed place value d1 s st h.is h.wide (entry_for set h.k h.info h.is h.wide (active set) (everywhere set) d s st) known is_operand c here sim (λ out e. Ran g alive d s u e)
-            (λ e2 i within passes puts. ran set h.k h.info h.is h.wide (active set) (everywhere set) d s st (λ y. outcome x 32 (not signed) (st.parallel (V.File h.k) 0 y) (value_in (extents g set) st value y)) w
+            after_same g (λ out e. Leaves g alive d e s u) (ap (λ (o : Option Op). elim o as (λ _. Made Out) [ None ↦ put_to g.typed (layout g) (O.Field f) value d1 | Some x ↦ variable_operated g.typed (layout g) x place target value (O.Field f) d1 ]) is)
+            (in_place_last g has alive n ready places fields set (length d.fields) h.k h.info x signed place value d1 s st h.is h.wide (entry_for set h.k h.info h.is h.wide d s st) known is_operand c here sim (λ out e. Leaves g alive d e s u)
+            (λ e2 i within passes puts. leaves set h.k h.info h.is h.wide d s st (λ y. outcome x 32 (not signed) (st.parallel (V.File h.k) 0 y) (value_in (extents g set) st value y)) w
             (λ y below small. ap (λ (t : ValueType). updated op t.elem (type_of value).elem (st.parallel (V.File h.k) 0 y) (value_in (extents g set) st value y)) same
-            ∙ updated_is op x (type_of target).elem (type_of value).elem (st.parallel (V.File h.k) 0 y) (value_in (extents g set) st value y) is h.type.1 (operand_type set value is_operand).1 (was_small set h.k h.info h.is h.wide (active set) (everywhere set) d s st sim y below) small) e2 i within passes puts))
+            ∙ updated_is op x (type_of target).elem (type_of value).elem (st.parallel (V.File h.k) 0 y) (value_in (extents g set) st value y) is h.type.1 (operand_type set value is_operand).1 (was_small set h.k h.info h.is h.wide d s st sim y below) small) e2 i within passes puts))
 
     -- one more, or one less
     abbrev stepping : StepOp → Op
@@ -230,25 +242,31 @@ module _ (g : Setting) (has : HasRegisters g) (alive : Variable → Type 0) (n :
 
     steps : (ty : ValueType) (op : StepOp) (order : StepOrder) (p : Boxed) (target : TExpr) (set : ℕ) → ty ≡ type_of target → IsTarget set target → NamesVariables g.typed g.instance n target
         → (d : Draft) (s : CodeState) (st : State) → At g s (length d.code) → Sim g alive st s
-        → Follows g (λ v u out f. Ran g alive d s u f) s (evaluated scope (T.Step' ty op order p target) active st) (effect_of g.typed (layout g) (T.Step' ty op order p target) d)
+        → UpdateLeaves g alive fields scope (T.Step' ty op order p target) d s st
     unfolding effect_of step_effect variable_stepped word_in
-    steps ty op order p target set same is_target names d s st here sim =
-        subst (λ (o : Outcome Value). Follows g (λ v u out f. Ran g alive d s u f) s o (effect_of g.typed (layout g) (T.Step' ty op order p target) d)) (sym means.1)
-        (follows_after d s means.0 u (effect_of g.typed (layout g) (T.Step' ty op order p target) d)
-        (after_same g (λ out e. Ran g alive d s u e)
-        (ap (λ (o : Option Own). elim o as (λ _. Made Out) [ Some own ↦ then_make (whole_of g.typed (layout g) target own d) (λ dest after. variable_stepped (layout g) (type_of target).elem op dest after) | None ↦ value_of g.typed (layout g) ty.elem.bits (T.Step' ty op order p target) d ]) (stepped_is set h.k target h.own h.type.1)
-        ∙ variable_is set h.k h.info h.is h.wide (active set) (everywhere set) d s st target (λ dest after. variable_stepped (layout g) (type_of target).elem op dest after) h.type.1
-        ∙ ap (λ act. Makes (O.Field f) (with_instr (I.OperateConstant act f f (K.Imm 1)) d1)) (step_operates op signed))
-        (made_after g (λ out e. Ran g alive d s u e) (O.Field f) (with_instr i d1) (λ within.
-        let file : IsFileField g h.k 0 f = entry_for set h.k h.info h.is h.wide (active set) (everywhere set) d s st (with_instr i d1) 1 (and_one g i d1) within in
-        let numbers : HasNumbers g set f s (λ q. st.parallel (V.File h.k) 0 q) =
-        in_file_has g alive places fields set f st (λ q. st.parallel (V.File h.k) 0 q) s (record { k = h.k; info = h.info; is = h.is; word = h.wide; file = file; of_set = refl; wide = refl; same = λ q below. refl }) sim in
-        ran set h.k h.info h.is h.wide (active set) (everywhere set) d s st (λ x. outcome (stepping op) 32 (not signed) (st.parallel (V.File h.k) 0 x) 1) w
-        (λ x below small. ap (λ (t : ValueType). updated (step_op op) t.elem (promoted t.elem) (st.parallel (V.File h.k) 0 x) 1) same
-        ∙ updated_is (step_op op) (stepping op) (type_of target).elem (promoted (type_of target).elem) (st.parallel (V.File h.k) 0 x) 1 (step_assigns op) h.type.1 (ap (λ (e : Elem). e.bits) (promoted_wide (type_of target).elem h.type.1) ∙ h.type.1)
-        (was_small set h.k h.info h.is h.wide (active set) (everywhere set) d s st sim x below) small)
-        d1 i within (passes_all g alive (length d1.fields) d1 s st (Unit {0}) here sim)
-        (puts_operate_constant g set (stepping op) signed f f (K.Imm 1) s (λ q. st.parallel (V.File h.k) 0 q) (step_known op) refl numbers (omega arith))))))
+    steps ty op order p target set same is_target names d s st here sim = (
+      means.0,
+      (
+        u,
+        (
+          means.1,
+          (after_same g (λ out e. Leaves g alive d e s u)
+              (ap (λ (o : Option Own). elim o as (λ _. Made Out) [ Some own ↦ then_make (whole_of g.typed (layout g) target own d) (λ dest after. variable_stepped (layout g) (type_of target).elem op dest after) | None ↦ value_of g.typed (layout g) ty.elem.bits (T.Step' ty op order p target) d ]) (stepped_is set h.k target h.own h.type.1)
+              ∙ variable_is set h.k h.info h.is h.wide d s st target (λ dest after. variable_stepped (layout g) (type_of target).elem op dest after) h.type.1
+              ∙ ap (λ act. Makes (O.Field f) (with_instr (I.OperateConstant act f f (K.Imm 1)) d1)) (step_operates op signed))
+              (made_after g (λ out e. Leaves g alive d e s u) (O.Field f) (with_instr i d1) (λ within.
+              let file : IsFileField g h.k 0 f = entry_for set h.k h.info h.is h.wide d s st (with_instr i d1) 1 (and_one g i d1) within in
+              let numbers : HasNumbers g set f s (λ q. st.parallel (V.File h.k) 0 q) =
+              in_file_has g alive places fields set f st (λ q. st.parallel (V.File h.k) 0 q) s (record { k = h.k; info = h.info; is = h.is; word = h.wide; file = file; of_set = refl; wide = refl; same = λ q below. refl }) sim in
+              leaves set h.k h.info h.is h.wide d s st (λ x. outcome (stepping op) 32 (not signed) (st.parallel (V.File h.k) 0 x) 1) w
+              (λ x below small. ap (λ (t : ValueType). updated (step_op op) t.elem (promoted t.elem) (st.parallel (V.File h.k) 0 x) 1) same
+              ∙ updated_is (step_op op) (stepping op) (type_of target).elem (promoted (type_of target).elem) (st.parallel (V.File h.k) 0 x) 1 (step_assigns op) h.type.1 (ap (λ (e : Elem). e.bits) (promoted_wide (type_of target).elem h.type.1) ∙ h.type.1)
+              (was_small set h.k h.info h.is h.wide d s st sim x below) small)
+              d1 i within (passes_all g alive (length d1.fields) d1 s st (Unit {0}) here sim)
+              (puts_operate_constant g set (stepping op) signed f f (K.Imm 1) s (λ q. st.parallel (V.File h.k) 0 q) (step_known op) refl numbers (omega arith))))),
+        ),
+      ),
+    )
       where
         h : IsFileTarget g.typed set target
         h = file_target g.typed g.instance n set target is_target names
@@ -257,7 +275,7 @@ module _ (g : Setting) (has : HasRegisters g) (alive : Variable → Type 0) (n :
         w = λ x. updated (step_op op) ty.elem (promoted ty.elem) (st.parallel (V.File h.k) 0 x) 1
 
         u : State
-        u = with_positions (V.File h.k) 0 (active set) w st
+        u = with_positions (V.File h.k) 0 (fields.active set) w st
 
         d1 : Draft
         d1 = with_entry set h.info.elem.bits (W.File (file_number g.typed h.k 0)) d
@@ -271,17 +289,23 @@ module _ (g : Setting) (has : HasRegisters g) (alive : Variable → Type 0) (n :
         i : Instr
         i = I.OperateConstant (operation_of (stepping op) signed) f f (K.Imm 1)
 
-        means : (v : Value) × (evaluated scope (T.Step' ty op order p target) active st ≡ Gives v u)
-        means = step_means scope active set ty op order p target h.k st (ap (λ (y : ValueType). y.shape) same ∙ h.type.0) (h.means scope active st)
+        means : (v : Value) × (evaluated scope (T.Step' ty op order p target) fields.active st ≡ Gives v u)
+        means = step_means scope fields.active set ty op order p target h.k st (ap (λ (y : ValueType). y.shape) same ∙ h.type.0) (h.means scope fields.active st)
 
-    -- an update runs, and leaves what it leaves in the source
-    pub updates_follow : (e : TExpr) → IsUpdate e → HasItsCode g.typed g.instance alive n e → (d : Draft) (s : CodeState) (st : State) → At g s (length d.code) → Sim g alive st s
-        → Follows g (λ v u out f. Ran g alive d s u f) s (evaluated scope e active st) (effect_of g.typed (layout g) e d)
+    -- an update leaves what it leaves in the source
+    pub updates_leave : (e : TExpr) → IsUpdate e → HasItsCode g.typed g.instance alive n e → (d : Draft) (s : CodeState) (st : State) → At g s (length d.code) → Sim g alive st s → UpdateLeaves g alive fields scope e d s st
     unfolding IsUpdate NamesVariables IsShaped IsLowerable ScalarsAmong
-    updates_follow (T.Assign' ty place op p target q value) is c =
+    updates_leave (T.Assign' ty place op p target q value) is c =
         assigns ty place op p q target value set_of is.1.0 is.1.1 is.1.2 is.1.3 c.code.names.0 (record { code = record { shaped = c.code.shaped.3; lowerable = c.code.lowerable.3; names = c.code.names.1 }; among = c.among.1 })
       where
         set_of : ℕ
         set_of = is.0
-    updates_follow (T.Step' ty op order p target) is c = steps ty op order p target is.0 is.1.0 is.1.1 c.code.names
-    updates_follow _ is c = absurd is
+    updates_leave (T.Step' ty op order p target) is c = steps ty op order p target is.0 is.1.0 is.1.1 c.code.names
+    updates_leave _ is c = absurd is
+
+    -- so it follows
+    pub updates_follow : (e : TExpr) → IsUpdate e → HasItsCode g.typed g.instance alive n e → (d : Draft) (s : CodeState) (st : State) → At g s (length d.code) → Sim g alive st s
+        → Follows g (λ v u out f. Ran g alive d s u f) s (evaluated scope e fields.active st) (effect_of g.typed (layout g) e d)
+    updates_follow e is c d s st here sim =
+        let (v, (u, (means, after))) = updates_leave e is c d s st here sim in
+        subst (λ (o : Outcome Value). Follows g (λ v u out f. Ran g alive d s u f) s o (effect_of g.typed (layout g) e d)) (sym means) (follows_after d s v u (effect_of g.typed (layout g) e d) after)

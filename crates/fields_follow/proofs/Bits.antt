@@ -2,7 +2,7 @@
 use Rattle.std.proofs.Common.{◌≡◌, ℕ, suc, zero, ◌+◌, ◌-◌, ◌*◌, ◌^◌, ◌%◌, ◌<◌, ◌≤◌, inl, inr, Bool, true, false, ◌&&◌, ◌==◌, List, if◌then◌else◌, refl, sym, ap, ◌∙◌, subst, arith}
 use Rattle.std.specs.Prelude.{nat_le, nat_lt}
 use Rattle.std.specs.Int.{bit_at}
-use Rattle.std.proofs.lemmas.Bool.{eqb-true}
+use Rattle.std.proofs.lemmas.Bool.{and_right, eqb-true}
 use Rattle.paris_code.specs.declared.operands.Field.{Field}
 use Rattle.paris_code.specs.Memory.{BitMemory, run_number, field_number, is_active}
 use Rattle.paris_code.specs.Shapes.{SetShape, bits_at}
@@ -46,6 +46,11 @@ field_written w m p e =
     run_number_is _ w.run.offset w.run.len (w.value p) (λ j h.
     if_true (covers w.run w.run.set (w.run.offset + j) && w.writes p) _ _ (and_both _ _ (covers_own w.run j h) e)
     ∙ ap (λ k. bit_at (w.value p) k) (let k : w.run.offset + j - w.run.offset ≡ j = omega arith in k))
+
+-- and where it does not
+pub field_kept : (w : Write) (m : BitMemory) (f : Field) (p : ℕ) → w.writes p ≡ false → field_number (written w m) f p ≡ field_number m f p
+unfolding field_number written
+field_kept w m f p e = run_number_same _ _ f.offset f.len (λ j h. if_false (covers w.run f.set (f.offset + j) && w.writes p) _ _ (and_right _ _ e))
 
 covers_apart : (f g : Field) (j : ℕ) → Apart f g → j < g.len → covers f g.set (g.offset + j) ≡ false
 unfolding covers

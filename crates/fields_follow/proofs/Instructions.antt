@@ -102,13 +102,13 @@ module _ (g : Setting) where
   abbrev pub wrote : Write → CodeState → CodeState
   wrote w s = record s { at = s.at + 1; memory = written w s.memory }
 
-  -- a field of 32 bits of a set has these numbers
+  -- a field of 32 bits of a set has these numbers at the active positions
   pub record HasNumbers (set : ℕ) (f : Field) (s : CodeState) (v : ℕ → ℕ) : Type 0 where
     pub of_set : f.set ≡ set
     pub exists : set < length shapes
     pub len : f.len ≡ 32
-    pub are : (p : ℕ) → p < processors shapes set → number_in f s p ≡ v p
-    pub small : (p : ℕ) → p < processors shapes set → v p < 2 ^ 32
+    pub are : (p : ℕ) → p < processors shapes set → is_active shapes s.memory set p ≡ true → number_in f s p ≡ v p
+    pub small : (p : ℕ) → p < processors shapes set → is_active shapes s.memory set p ≡ true → v p < 2 ^ 32
 
   -- an instruction by which a field takes these numbers where it is active
   pub record Puts (set : ℕ) (i : Instr) (d : Field) (s : CodeState) (v : ℕ → ℕ) : Type 0 where
@@ -119,7 +119,7 @@ module _ (g : Setting) where
     pub write : Write
     pub run : write.run ≡ place d
     pub writes : (p : ℕ) → write.writes p ≡ is_active shapes s.memory d.set p
-    pub value : (p : ℕ) → p < processors shapes set → write.value p % 2 ^ d.len ≡ v p
+    pub value : (p : ℕ) → p < processors shapes set → is_active shapes s.memory set p ≡ true → write.value p % 2 ^ d.len ≡ v p
     pub goes : begun g.image (placed_instr g i) s ≡ Goes (wrote write s)
 
   -- numbers that are the same where they are words
@@ -128,8 +128,8 @@ module _ (g : Setting) where
     of_set = h.of_set;
     exists = h.exists;
     len = h.len;
-    are = λ p below. h.are p below ∙ sym (alike p (h.small p below));
-    small = λ p below. subst (λ (n : ℕ). n < 2 ^ 32) (sym (alike p (h.small p below))) (h.small p below);
+    are = λ p below on. h.are p below on ∙ sym (alike p (h.small p below on));
+    small = λ p below on. subst (λ (n : ℕ). n < 2 ^ 32) (sym (alike p (h.small p below on))) (h.small p below on);
   }
 
   pub puts_alike : (set : ℕ) (i : Instr) (d : Field) (s : CodeState) (v w : ℕ → ℕ) → d.len ≡ 32 → ((p : ℕ) → v p < 2 ^ 32 → w p ≡ v p) → Puts set i d s v → Puts set i d s w
@@ -141,7 +141,7 @@ module _ (g : Setting) where
     write = h.write;
     run = h.run;
     writes = h.writes;
-    value = λ p below. h.value p below ∙ sym (alike p (subst (λ (n : ℕ). n < 2 ^ 32) (ap (λ (n : ℕ). h.write.value p % 2 ^ n) (sym wide) ∙ h.value p below) (small (h.write.value p))));
+    value = λ p below on. h.value p below on ∙ sym (alike p (subst (λ (n : ℕ). n < 2 ^ 32) (ap (λ (n : ℕ). h.write.value p % 2 ^ n) (sym wide) ∙ h.value p below on) (small (h.write.value p))));
     goes = h.goes;
   }
     where
@@ -158,9 +158,9 @@ module _ (g : Setting) where
     write = elementwise shapes (I.Move signed (place d) (place a)) [] s.memory;
     run = refl;
     writes = λ p. refl;
-    value = λ p below.
+    value = λ p below on.
         ap (λ (n : ℕ). residue n (number_of a.len signed (number_in a s p)) % 2 ^ n) wide ∙ ap (λ (n : ℕ). residue 32 (number_of n signed (number_in a s p)) % 2 ^ 32) has.len
-        ∙ ap (λ (w : ℕ). residue 32 (number_of 32 signed w) % 2 ^ 32) (has.are p below) ∙ ap (λ (w : ℕ). w % 2 ^ 32) (residue_of_number 32 signed (v p) (has.small p below)) ∙ whole (v p) (has.small p below);
+        ∙ ap (λ (w : ℕ). residue 32 (number_of 32 signed w) % 2 ^ 32) (has.are p below on) ∙ ap (λ (w : ℕ). w % 2 ^ 32) (residue_of_number 32 signed (v p) (has.small p below on)) ∙ whole (v p) (has.small p below on);
     goes = refl;
   }
 
@@ -179,7 +179,7 @@ module _ (g : Setting) where
     write = elementwise shapes (I.MoveConstant (place d) (K.Imm w)) [] s.memory;
     run = refl;
     writes = λ p. refl;
-    value = λ p below. ap (λ (n : ℕ). w % 2 ^ n) wide ∙ whole w few;
+    value = λ p below on. ap (λ (n : ℕ). w % 2 ^ n) wide ∙ whole w few;
     goes = refl;
   }
   puts_constant set d (K.Reg r) s wide few = record {
@@ -190,7 +190,7 @@ module _ (g : Setting) where
     write = elementwise shapes (I.MoveConstant (place d) (K.Reg r)) (slice_index s.registers r ∷ []) s.memory;
     run = refl;
     writes = λ p. refl;
-    value = λ p below. ap (λ (n : ℕ). slice_index s.registers r % 2 ^ n) wide ∙ whole (slice_index s.registers r) few;
+    value = λ p below on. ap (λ (n : ℕ). slice_index s.registers r % 2 ^ n) wide ∙ whole (slice_index s.registers r) few;
     goes = refl;
   }
 
@@ -214,7 +214,7 @@ module _ (g : Setting) where
     write = elementwise shapes (I.Operate (operation_of op signed) (place d) (place a) (place b)) [] s.memory;
     run = refl;
     writes = λ p. refl;
-    value = λ p below. done op signed d.len (number_in a s p) (number_in b s p) (v p) (w p) wide (one.are p below) (other.are p below) is (one.small p below) (other.small p below);
+    value = λ p below on. done op signed d.len (number_in a s p) (number_in b s p) (v p) (w p) wide (one.are p below on) (other.are p below on) is (one.small p below on) (other.small p below on);
     goes = refl;
   }
 
@@ -229,7 +229,7 @@ module _ (g : Setting) where
     write = elementwise shapes (I.OperateConstant (operation_of op signed) (place d) (place a) (K.Imm w)) [] s.memory;
     run = refl;
     writes = λ p. refl;
-    value = λ p below. done op signed d.len (number_in a s p) (w % 2 ^ d.len) (v p) w wide (one.are p below) (ap (λ (n : ℕ). w % 2 ^ n) wide ∙ whole w few) is (one.small p below) few;
+    value = λ p below on. done op signed d.len (number_in a s p) (w % 2 ^ d.len) (v p) w wide (one.are p below on) (ap (λ (n : ℕ). w % 2 ^ n) wide ∙ whole w few) is (one.small p below on) few;
     goes = refl;
   }
   puts_operate_constant set op signed d a (K.Reg r) s v is wide one few = record {
@@ -240,9 +240,9 @@ module _ (g : Setting) where
     write = elementwise shapes (I.OperateConstant (operation_of op signed) (place d) (place a) (K.Reg r)) (slice_index s.registers r ∷ []) s.memory;
     run = refl;
     writes = λ p. refl;
-    value = λ p below.
+    value = λ p below on.
         let w : ℕ = slice_index s.registers r in
-        done op signed d.len (number_in a s p) (w % 2 ^ d.len) (v p) w wide (one.are p below) (ap (λ (n : ℕ). w % 2 ^ n) wide ∙ whole w few) is (one.small p below) few;
+        done op signed d.len (number_in a s p) (w % 2 ^ d.len) (v p) w wide (one.are p below on) (ap (λ (n : ℕ). w % 2 ^ n) wide ∙ whole w few) is (one.small p below on) few;
     goes = refl;
   }
 
@@ -256,9 +256,9 @@ module _ (g : Setting) where
     write = elementwise shapes (I.Negate (place d) (place a)) [] s.memory;
     run = refl;
     writes = λ p. refl;
-    value = λ p below.
-        ap (λ (n : ℕ). residue n (neg_ℤ (pos (number_in a s p))) % 2 ^ n) wide ∙ ap (λ (w : ℕ). residue 32 (neg_ℤ (pos w)) % 2 ^ 32) (has.are p below)
-        ∙ ap (λ (w : ℕ). w % 2 ^ 32) (minus_same (v p)) ∙ whole (unary_of U.Minus (v p)) (unary_below U.Minus (v p) (has.small p below));
+    value = λ p below on.
+        ap (λ (n : ℕ). residue n (neg_ℤ (pos (number_in a s p))) % 2 ^ n) wide ∙ ap (λ (w : ℕ). residue 32 (neg_ℤ (pos w)) % 2 ^ 32) (has.are p below on)
+        ∙ ap (λ (w : ℕ). w % 2 ^ 32) (minus_same (v p)) ∙ whole (unary_of U.Minus (v p)) (unary_below U.Minus (v p) (has.small p below on));
     goes = refl;
   }
 
@@ -272,8 +272,8 @@ module _ (g : Setting) where
     write = elementwise shapes (I.Lognot (place d) (place a)) [] s.memory;
     run = refl;
     writes = λ p. refl;
-    value = λ p below.
-        ap (λ (n : ℕ). (2 ^ n - 1 - number_in a s p) % 2 ^ n) wide ∙ ap (λ (w : ℕ). (2 ^ 32 - 1 - w) % 2 ^ 32) (has.are p below) ∙ whole (unary_of U.Complement (v p)) (unary_below U.Complement (v p) (has.small p below));
+    value = λ p below on.
+        ap (λ (n : ℕ). (2 ^ n - 1 - number_in a s p) % 2 ^ n) wide ∙ ap (λ (w : ℕ). (2 ^ 32 - 1 - w) % 2 ^ 32) (has.are p below on) ∙ whole (unary_of U.Complement (v p)) (unary_below U.Complement (v p) (has.small p below on));
     goes = refl;
   }
 
@@ -288,7 +288,7 @@ module _ (g : Setting) where
     write = elementwise shapes (I.MyNewsCoordinate (place d) axis) [] s.memory;
     run = refl;
     writes = λ p. refl;
-    value = λ p below.
+    value = λ p below on.
         ap (λ (n : ℕ). coordinate (extents d.set) p axis % 2 ^ n) wide ∙ ap (λ (n : ℕ). coordinate (extents n) p axis % 2 ^ 32) of_set
         ∙ whole (coordinate (extents set) p axis) (few p below);
     goes = refl;

@@ -12,7 +12,7 @@ use Rattle.paris_code.specs.Spans.{StandsAt, fields_of}
 use Rattle.code_follows.proofs.Settings.{Setting}
 use Rattle.fields_follow.specs.Fields.{file_number}
 use Rattle.fields_follow.proofs.FileFields as Files
-use Rattle.fields_follow.proofs.FileFields.{IsTranslated, apart_back, few_positions, file_exists}
+use Rattle.fields_follow.proofs.FileFields.{IsTranslated, apart_back, few_positions, file_ends, file_exists}
 use Rattle.fields_follow.proofs.Placing as Placing
 use Rattle.fields_follow.proofs.Placing.{IsThere, at_bits, file_moved, own_and_file, written_apart}
 use Rattle.fields_follow.proofs.Places.{IsOwnField, PlacesFields}
@@ -31,6 +31,7 @@ module _ (g : Setting) (made : IsTranslated g.typed g.words g.before g.after g.i
   places_fields = record {
     ends = λ at i f others stands plain simple names. Placing.ends g made i at f (stands_there at i stands plain) simple (first_of (fields_of i) others f names);
     exists = λ k element set info is. file_exists g.typed g.words g.before g.after g.image made k info set element is;
+    files_end = λ k element set info is. file_ends g.typed g.words g.before g.after g.image made k info set element is;
     file = λ k element info f is word own.
         file_moved g made f k info element (record { element = is; entry = subst (λ (len : ℕ). IsEntry g.unit f.offset (record { set = f.set; len = len; owner = W.File (file_number g.typed k element) })) (sym word) own; is = sym word });
     files_apart = λ k element set j other t info of one two differ. Files.files_apart g.typed g.words g.before g.after g.image made k info set element j of t other one two differ;

@@ -24,8 +24,10 @@ pub mod Programs
 pub mod Quiet
 pub mod Reducing
 pub mod Reductions
+pub mod Relations
 pub mod Saving
 pub mod Selective
+pub mod TestFlags
 pub mod Testing
 pub mod Updates
 pub mod Values

@@ -1,5 +1,5 @@
 -- Code of a parallel expression as it grows: what it leaves of what stood before it, and where its value stands.
-use Rattle.std.proofs.Common.{◌≡◌, ◌∙◌, ℕ, ◌+◌, ◌<◌, ◌≤◌, List, ◌∷◌, ◌++◌, Any, length, refl, sym, ap, subst, arith, ◌^◌, ◌⊎◌, inl, inr, length-append}
+use Rattle.std.proofs.Common.{◌≡◌, ◌∙◌, ℕ, ◌+◌, ◌<◌, ◌≤◌, true, List, ◌∷◌, ◌++◌, Any, length, refl, sym, ap, subst, arith, ◌^◌, ◌⊎◌, inl, inr, length-append}
 use Rattle.cstar_tree.specs.declared.typed.VarInfo.{VarInfo}
 use Rattle.cstar_tree.specs.declared.typed.Variable.{Variable}
 use Rattle.cstar_tree.specs.declared.typed.Variable.TheVariants as V
@@ -9,7 +9,7 @@ use Rattle.lower_base.specs.Drafts.{Draft, Fails, Made, Makes, then_make, with_i
 use Rattle.paris_code.specs.declared.instr.Instr.{Instr}
 use Rattle.paris_code.specs.declared.operands.Field.{Field}
 use Rattle.paris_code.specs.Code.{CodeState}
-use Rattle.paris_code.specs.Memory.{field_number, processors}
+use Rattle.paris_code.specs.Memory.{field_number, is_active, processors}
 use Rattle.paris_code.specs.Spans.{IsNamedAt, StandsAt, entry_of, fields_of}
 use Rattle.source_meaning.specs.State.{State}
 use Rattle.code_follows.proofs.Following.{Extends, Sim}
@@ -115,6 +115,18 @@ module _ (g : Setting) where
       stays = λ wanted h first last p below own before low after high. a.stays wanted h first last p below own before (let l = code_longer d e 0 taken in omega (arith, low, l)) after high;
     }
 
+    -- entries below fewer stay too
+    unfoldable pub passes_less : (bound other : ℕ) (d e : Draft) (s : CodeState) (st : State) (used : Type 0) → bound ≤ other → Passes other d e s st used → Passes bound d e s st used
+    passes_less bound other d e s st used less p = record {
+      grown = p.grown;
+      t = p.t;
+      go = p.go;
+      at = p.at;
+      registers = p.registers;
+      sim = p.sim;
+      stays = λ wanted h first last q below. p.stays wanted h first last q (omega (arith, below, less));
+    }
+
     -- a value of numbers stands in an own entry that is new and named by now, or in the field of a variable
     pub record InOwn (bound : ℕ) (e : Draft) (set : ℕ) (f : Field) (t : CodeState) (v : ℕ → ℕ) : Type 0 where
       pub own : IsOwnField g f
@@ -160,31 +172,29 @@ module _ (g : Setting) where
       stands = stands_less bound other f set h gives.passes.t st v less gives.stands;
     }
 
-    -- entries below fewer stay too
     pub gives_less : (bound other : ℕ) (d e : Draft) (s : CodeState) (set : ℕ) (st : State) (v : ℕ → ℕ) (h : Field) → bound ≤ other → GivesField other d s set st v h e → GivesField bound d s set st v h e
-    gives_less bound other d e s set st v h less gives = record {
-      passes = record {
-        grown = gives.passes.grown;
-        t = gives.passes.t;
-        go = gives.passes.go;
-        at = gives.passes.at;
-        registers = gives.passes.registers;
-        sim = gives.passes.sim;
-        stays = λ wanted h first last p below. gives.passes.stays wanted h first last p (omega (arith, below, less));
-      };
-      stands = stands_less bound other e set h gives.passes.t st v less gives.stands;
-    }
+    unfolding passes_less
+    gives_less bound other d e s set st v h less gives = record { passes = passes_less bound other d e s st (Behind h e) less gives.passes; stands = stands_less bound other e set h gives.passes.t st v less gives.stands }
 
     module _ (places : PlacesFields g) (fields : HoldsTheFields g) where
+      -- which positions are active
+      pub flags_of : (st : State) (t : CodeState) (set p : ℕ) → Sim g alive st t → set < length (shapes g) → p < processors (shapes g) set → is_active (shapes g) t.memory set p ≡ fields.active set p
+      flags_of st t set p sim exists below = (fields.opens st t.memory sim.memory).flags set p exists below
+
+      -- the numbers of a variable are words at every position
+      in_file_small : (set : ℕ) (f : Field) (st : State) (v : ℕ → ℕ) (t : CodeState) → InFile set f st v → Sim g alive st t → (p : ℕ) → p < processors (shapes g) set → v p < 2 ^ 32
+      in_file_small set f st v t h sim p below =
+          subst (λ (n : ℕ). n < 2 ^ 32) (sym (h.same p below)) (subst (λ (n : ℕ). st.parallel (V.File h.k) 0 p < 2 ^ n) h.word ((fields.opens st t.memory sim.memory).small h.k 0 set p h.info h.is below))
+
       pub in_file_has : (set : ℕ) (f : Field) (st : State) (v : ℕ → ℕ) (t : CodeState) → InFile set f st v → Sim g alive st t → HasNumbers g set f t v
       in_file_has set f st v t h sim = record {
         of_set = h.of_set;
         exists = places.exists h.k 0 set h.info h.is;
         len = h.wide;
-        are = λ p below.
+        are = λ p below on.
             ap (λ (x : Field). field_number t.memory x p) (places.file h.k 0 h.info f (subst (λ (n : ℕ). IsElement g.typed h.k h.info n 0) (sym h.of_set) h.is) (h.word ∙ sym h.wide) h.file)
             ∙ (fields.opens st t.memory sim.memory).numbers h.k 0 set p h.info h.is below ∙ sym (h.same p below);
-        small = λ p below. subst (λ (n : ℕ). n < 2 ^ 32) (sym (h.same p below)) (subst (λ (n : ℕ). st.parallel (V.File h.k) 0 p < 2 ^ n) h.word ((fields.opens st t.memory sim.memory).small h.k 0 set p h.info h.is below));
+        small = λ p below on. in_file_small set f st v t h sim p below;
       }
 
       -- so the numbers are there at once
@@ -204,7 +214,7 @@ module _ (g : Setting) where
 
           by : Stands bound e set f h.passes.t st v → Stands bound e set f h.passes.t st w
           by (inl own) = inl (record { own = own.own; newer = own.newer; older = own.older; somewhere = own.somewhere; named = own.named; before = own.before; has = has_alike g set f h.passes.t v w alike own.has })
-          by (inr file) = inr (record { k = file.k; info = file.info; is = file.is; word = file.word; file = file.file; of_set = file.of_set; wide = file.wide; same = λ p below. alike p (has.small p below) ∙ file.same p below })
+          by (inr file) = inr (record { k = file.k; info = file.info; is = file.is; word = file.word; file = file.file; of_set = file.of_set; wide = file.wide; same = λ p below. alike p (in_file_small set f st v h.passes.t file h.passes.sim p below) ∙ file.same p below })
 
       -- and behind code that passes, where an instruction names the field then
       pub still_numbers : (bound other : ℕ) (d : Draft) (s : CodeState) (set : ℕ) (st : State) (v : ℕ → ℕ) (f : Field) (e e2 : Draft) (used : Type 0) → (h : GivesField bound d s set st v f e) → (b : Passes other e e2 h.passes.t st used) → used → length e.fields ≤ other → Behind f e2
@@ -216,9 +226,12 @@ module _ (g : Setting) where
             of_set = own.has.of_set;
             exists = own.has.exists;
             len = own.has.len;
-            are = λ p below. b.stays wanted f own.somewhere behind.0 p (let l = own.older in omega (arith, l, more)) own.own own.named own.before behind.1.0 behind.1.1 ∙ own.has.are p below;
-            small = own.has.small;
+            are = λ p below on. b.stays wanted f own.somewhere behind.0 p (let l = own.older in omega (arith, l, more)) own.own own.named own.before behind.1.0 behind.1.1 ∙ own.has.are p below (was_on own.has.exists p below on);
+            small = λ p below on. own.has.small p below (was_on own.has.exists p below on);
           }
+            where
+              was_on : set < length (shapes g) → (p : ℕ) → p < processors (shapes g) set → is_active (shapes g) b.t.memory set p ≡ true → is_active (shapes g) h.passes.t.memory set p ≡ true
+              was_on exists p below on = flags_of st h.passes.t set p h.passes.sim exists below ∙ sym (flags_of st b.t set p b.sim exists below) ∙ on
           by (inr file) = in_file_has set f st v b.t file b.sim
 
       -- an instruction by which an own entry takes numbers
@@ -237,7 +250,7 @@ module _ (g : Setting) where
               registers = w.registers;
               sim = w.sim;
               stays = λ wanted h first last p below is_own before low after high.
-                  w.stays h first last wanted.0 p (λ same. omega (arith, same, below, newer)) is_own before after (omega (arith, low)) (omega (arith, high, long)) wanted.1.0 (let l = wanted.1.1 in omega (arith, l, long));
+                  w.stays (wanted.0, (wanted.1.0, let l = wanted.1.1 in omega (arith, l, long))) h first last p (λ same. omega (arith, same, below, newer)) is_own before after (omega (arith, low)) (omega (arith, high, long));
             };
             stands = inl (record {
               own = own;

@@ -1,5 +1,5 @@
 -- Where the fields of a unit stand in the image, as the code of its expressions relies on it.
-use Rattle.std.proofs.Common.{◌≡◌, ◌∙◌, ℕ, ◌+◌, ◌<◌, ◌≤◌, ◌^◌, List, [], ◌∷◌, ◌++◌, length, slice_get, Some, true, refl, ap, append_assoc}
+use Rattle.std.proofs.Common.{◌≡◌, ◌∙◌, ℕ, ◌+◌, ◌<◌, ◌≤◌, ◌^◌, List, [], ◌∷◌, ◌++◌, length, slice_get, Some, refl, ap, append_assoc}
 use Rattle.cstar_tree.specs.declared.typed.VarInfo.{VarInfo}
 use Rattle.lower_base.specs.Drafts.{Draft, Plain, Step, step as step_of, with_instr, with_step}
 use Rattle.paris_code.specs.declared.instr.Instr.{Instr}
@@ -33,12 +33,13 @@ module _ (g : Setting) where
   IsFileField k element f = IsEntry g.unit f.offset (record { set = f.set; len = f.len; owner = W.File (file_number g.typed k element) })
 
   -- What is known of the unit's fields in the image: those that instructions name end below the flags; the
-  -- entry of an element is at its field, which is apart from those of other elements and from own entries; two
-  -- own entries are apart where each is named at an instruction, or before it, and behind it; and the shapes have
-  -- few positions.
+  -- entry of an element is at its field, which ends below them too, and is apart from those of other elements and
+  -- from own entries; two own entries are apart where each is named at an instruction, or before it, and behind it;
+  -- and the shapes have few positions.
   pub record PlacesFields : Type 0 where
     pub ends : (at : ℕ) (i : Instr) (f : Field) (others : List Field) → StandsAt g.unit at i → step_of i ≡ Plain i → NamesFields i → fields_of i ≡ f ∷ others → (f.set < length (shapes g)) × ((place g f).offset + f.len ≤ bits_at (shapes g) f.set)
     pub exists : (k element set : ℕ) (info : VarInfo) → IsElement g.typed k info set element → set < length (shapes g)
+    pub files_end : (k element set : ℕ) (info : VarInfo) → IsElement g.typed k info set element → (of_file k element).offset + (of_file k element).len ≤ bits_at (shapes g) (of_file k element).set
     pub file : (k element : ℕ) (info : VarInfo) (f : Field) → IsElement g.typed k info f.set element → info.elem.bits ≡ f.len → IsFileField k element f → place g f ≡ of_file k element
     pub files_apart : (k element set j other t : ℕ) (info of : VarInfo) → IsElement g.typed k info set element → IsElement g.typed j of t other → (k ≡ j → element ≡ other → ⊥) → Apart (of_file k element) (of_file j other)
     pub own_file : (k element set : ℕ) (info : VarInfo) (f : Field) → IsElement g.typed k info set element → IsOwnField f → Apart (place g f) (of_file k element)
@@ -49,7 +50,6 @@ module _ (g : Setting) where
   -- what the memory holds of the source's state is the numbers of the fields, where these positions are active
   pub record HoldsTheFields : Type 0 where
     pub active : Active
-    pub all : (set p : ℕ) → active set p ≡ true
     pub opens : (st : State) (m : BitMemory) → g.held.holds st m → HoldsFields g.typed g.image active st m
     pub closes : (st : State) (m : BitMemory) → HoldsFields g.typed g.image active st m → g.held.holds st m
 

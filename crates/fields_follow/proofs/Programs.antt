@@ -45,9 +45,9 @@ abbrev pub everywhere : Active
 everywhere = λ set p. true
 
 -- the code of a pure parallel expression leaves its numbers in a field
-operands_follow : (g : Setting) (has : HasRegisters g) (scope : Scope) (places : PlacesFields g) (fields : HoldsTheFields g) (alive : Variable → Type 0) → (n : ℕ) → ((d : Draft) → IsReady g.typed g.instance (layout g) n d)
-    → OperandsStand g has scope everywhere (λ set p. refl) places fields alive n
-operands_follow g has scope places fields alive n ready set e is c d s st here sim =
+operands_follow : (g : Setting) (has : HasRegisters g) (scope : Scope) (places : PlacesFields g) (fields : HoldsTheFields g) (full : (set p : ℕ) → fields.active set p ≡ true) (alive : Variable → Type 0) → (n : ℕ) → ((d : Draft) → IsReady g.typed g.instance (layout g) n d)
+    → OperandsStand g has scope places fields full alive n
+operands_follow g has scope places fields full alive n ready set e is c d s st here sim =
     operand_after g has alive n ready places fields set e true is c.code.names (pure_after g has alive n ready places fields set e is c) d s st here sim
 
 module _ (t : Typed) (image : Image) (p : IsParallelProgram t) (codable : IsCodable t) (compiled : IsCompiled t image) (sound : IsSound image) where
@@ -64,8 +64,8 @@ module _ (t : Typed) (image : Image) (p : IsParallelProgram t) (codable : IsCoda
     places : PlacesFields g
     places = places_fields g made
 
-    fields : HoldsTheFields g
-    fields = record { active = everywhere; all = λ set p. refl; opens = λ st m h. h; closes = λ st m h. h }
+    abbrev fields : HoldsTheFields g
+    fields = record { active = everywhere; opens = λ st m h. h; closes = λ st m h. h }
 
     same_extents : SameExtents g scope
     unfolding scope_of
@@ -74,9 +74,9 @@ module _ (t : Typed) (image : Image) (p : IsParallelProgram t) (codable : IsCoda
     -- every update and every fold of a function follows
     besides : (has : HasRegisters g) → BesideFollows g has scope everywhere
     besides has = record {
-      effects = λ alive files n ready e h among c d s st free here sim. updates_follow g has alive n ready places fields scope everywhere (λ set q below. refl) same_extents e h (record { code = c; among = among }) d s st here sim;
+      effects = λ alive files n ready e h among c d s st free here sim. updates_follow g has alive n ready places fields scope same_extents e h (record { code = c; among = among }) d s st here sim;
       folds = λ alive files n ready e h among c d s st R r free here sim dest.
-          folds_follow g has scope everywhere (λ set q. refl) places fields alive n (operands_follow g has scope places fields alive n ready) same_extents e h (record { code = c; among = among }) d s st R r free here sim dest;
+          folds_follow g has scope places fields (λ set q. refl) alive n (operands_follow g has scope places fields (λ set q. refl) alive n ready) same_extents e h (record { code = c; among = among }) d s st R r free here sim dest;
     }
 
   all_beside : AllBeside t image p codable compiled (fields_held t image everywhere) everywhere

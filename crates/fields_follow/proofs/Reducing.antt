@@ -37,7 +37,7 @@ use Rattle.source_meaning.specs.Expressions.{evaluated, reduction_of}
 use Rattle.source_meaning.specs.Reductions.{combiner_of, folded, reduced}
 use Rattle.source_meaning.specs.State as Source
 use Rattle.source_meaning.specs.State.{Outcome, State, then_do}
-use Rattle.source_meaning.specs.Values.{Active, Scalar, Scope, Value, at, positions, unary_of}
+use Rattle.source_meaning.specs.Values.{Scalar, Scope, Value, at, positions, unary_of}
 use Rattle.source_meaning.proofs.ConstantLaws.{Boxed}
 use Rattle.code_follows.specs.Fragment.{IsWord}
 use Rattle.code_follows.proofs.Following.{Extends, Follows, HasRegisters, Keeps, Sim, then_follows}
@@ -85,7 +85,7 @@ unfolding gone_to then_make
 gone_inside dest (Makes v e) next = refl
 gone_inside dest Fails next = refl
 
-module _ (g : Setting) (has : HasRegisters g) (scope : Scope) (active : Active) (full : (set p : ℕ) → active set p ≡ true) (fields : HoldsTheFields g) (alive : Variable → Type 0) where
+module _ (g : Setting) (has : HasRegisters g) (scope : Scope) (fields : HoldsTheFields g) (full : (set p : ℕ) → fields.active set p ≡ true) (alive : Variable → Type 0) where
   -- Behind the code of a parallel value, a field has its numbers; registers that are kept stay.
   pub record HasField (set : ℕ) (d : Draft) (s : CodeState) (v : Value) (u : State) (out : Out) (e : Draft) : Type 0 where
     pub field : Field
@@ -114,14 +114,14 @@ module _ (g : Setting) (has : HasRegisters g) (scope : Scope) (active : Active) 
     signed = (type_of operand).elem.signed
 
     abbrev whole : Value → ℕ
-    whole v = folded (combiner_of op) (not signed) (active set) (λ q. number_at v q) (positions scope set)
+    whole v = folded (combiner_of op) (not signed) (fields.active set) (λ q. number_at v q) (positions scope set)
 
     abbrev number : Value → ℕ
-    number v = reduced op (not signed) (active set) (λ q. number_at v q) (positions scope set)
+    number v = reduced op (not signed) (fields.active set) (λ q. number_at v q) (positions scope set)
 
-    reduction_is : (v : Value) → reduction_of scope active op (type_of operand) v ≡ Scalar (number v)
+    reduction_is : (v : Value) → reduction_of scope fields.active op (type_of operand) v ≡ Scalar (number v)
     unfolding reduction_of
-    reduction_is v = ap (λ (o : Option ℕ). elim o as (λ _. Value) [ None ↦ v | Some s ↦ Scalar (reduced op (not signed) (active s) (λ q. number_at v q) (positions scope s)) ]) wide.0
+    reduction_is v = ap (λ (o : Option ℕ). elim o as (λ _. Value) [ None ↦ v | Some s ↦ Scalar (reduced op (not signed) (fields.active s) (λ q. number_at v q) (positions scope s)) ]) wide.0
 
     abbrev made : ℕ → Field → Draft → Draft
     made r f e = negated_by op r (with_instr (I.Global (folding op signed) r f) e)
@@ -147,17 +147,20 @@ module _ (g : Setting) (has : HasRegisters g) (scope : Scope) (active : Active) 
     module _ (d : Draft) (s : CodeState) (R : Value → State → Out → Draft → Type 0) (r : ℕ) (dest : Dest g has alive ty.elem d s R r) where
       -- the fold of the field's numbers
       module _ (v : Value) (u : State) (out : Out) (e : Draft) (h : HasField set d s v u out e) where
-        everywhere : (q : ℕ) → q < processors (shapes g) h.field.set → is_active (shapes g) h.t.memory h.field.set q ≡ active set q
-        everywhere q below = (fields.opens u h.t.memory h.sim.memory).flags h.field.set q (subst (λ (k : ℕ). k < length (shapes g)) (sym h.numbers.of_set) h.numbers.exists) below ∙ fields.all h.field.set q ∙ sym (full set q)
+        alike : (q : ℕ) → q < processors (shapes g) set → is_active (shapes g) h.t.memory set q ≡ fields.active set q
+        alike q below = (fields.opens u h.t.memory h.sim.memory).flags set q h.numbers.exists below
 
         whole_is : (global_fold (shapes g) h.t.memory (folding op signed) (place g h.field) ≡ whole v) × (whole v < 2 ^ 32)
         whole_is =
-            subst (λ (n : ℕ). (global_fold (shapes g) h.t.memory (folding op signed) (place g h.field) ≡ folded (combiner_of op) (not signed) (active set) (λ q. number_at v q) n) × (folded (combiner_of op) (not signed) (active set) (λ q. number_at v q) n < 2 ^ 32))
+            subst (λ (n : ℕ). (global_fold (shapes g) h.t.memory (folding op signed) (place g h.field) ≡ folded (combiner_of op) (not signed) (fields.active set) (λ q. number_at v q) n) × (folded (combiner_of op) (not signed) (fields.active set) (λ q. number_at v q) n < 2 ^ 32))
             (ap (λ (k : ℕ). processors (shapes g) k) h.numbers.of_set ∙ as_many h.numbers.exists)
-            (global_is (shapes g) h.t.memory op signed (place g h.field) (active set) (λ q. number_at v q) h.numbers.len everywhere (λ q below. h.numbers.are q (inside q below)) (λ q below. h.numbers.small q (inside q below)))
+            (global_is (shapes g) h.t.memory op signed (place g h.field) (fields.active set) (λ q. number_at v q) h.numbers.len (λ q below. ap (λ (k : ℕ). is_active (shapes g) h.t.memory k q) h.numbers.of_set ∙ alike q (inside q below)) (λ q below. h.numbers.are q (inside q below) (on q (inside q below))) (λ q below. h.numbers.small q (inside q below) (on q (inside q below))))
           where
             inside : (q : ℕ) → q < processors (shapes g) h.field.set → q < processors (shapes g) set
             inside q below = subst (λ (k : ℕ). q < processors (shapes g) k) h.numbers.of_set below
+
+            on : (q : ℕ) → q < processors (shapes g) set → is_active (shapes g) h.t.memory set q ≡ true
+            on q below = alike q below ∙ full set q
 
         global_puts : begun g.image (placed_instr g (I.Global (folding op signed) r h.field)) h.t ≡ Goes (with_register r (whole v) h.t)
         global_puts = global_does (folding op signed) r h.field h.t ∙ ap (λ (w : ℕ). Goes (with_register r w h.t)) whole_is.0
@@ -174,18 +177,18 @@ module _ (g : Setting) (has : HasRegisters g) (scope : Scope) (active : Active) 
             put_by g has alive dest e h.grown.0 (I.Global (folding op signed) r h.field) h.t u w h.go h.at h.sim h.grown.1 h.keeps within refl
             (puts ∙ ap (λ (n : ℕ). Goes (with_register r n h.t)) (sym (held_wide ty.elem w word.1 few))) (below_bits ty.elem.bits w word.1 few)
 
-        folds_so : Follows g R s (Source.Gives (reduction_of scope active op (type_of operand) v) u) (next r out e)
+        folds_so : Follows g R s (Source.Gives (reduction_of scope fields.active op (type_of operand) v) u) (next r out e)
         unfolding Follows
         folds_so =
             subst (λ (w : Value). Follows g R s (Source.Gives w u) (next r out e)) (sym (reduction_is v))
             (subst (λ (o : Out). Follows g R s (Source.Gives (Scalar (number v)) u) (next r o e)) (sym h.is)
-            (subst (λ (m : Made Out). Follows g R s (Source.Gives (Scalar (number v)) u) m) (sym (made_is r h.field e)) (λ within. subst (λ (w : ℕ). R (Scalar w) u (O.Scalar r) (made r h.field e)) (sym (reduced_is op (not signed) (active set) (λ q. number_at v q) (positions scope set))) (ends op (whole v) global_puts whole_is.1 within))))
+            (subst (λ (m : Made Out). Follows g R s (Source.Gives (Scalar (number v)) u) m) (sym (made_is r h.field e)) (λ within. subst (λ (w : ℕ). R (Scalar w) u (O.Scalar r) (made r h.field e)) (sym (reduced_is op (not signed) (fields.active set) (λ q. number_at v q) (positions scope set))) (ends op (whole v) global_puts whole_is.1 within))))
 
       -- the code of the fold, behind that of its operand
-      pub fold_follows : (st : State) → At g s (length d.code) → Sim g alive st s → Follows g (λ v u out e. HasField set d s v u out e) s (evaluated scope operand active st) (next_of g.typed (layout g) (reduced_bits op operand) true operand d)
-          → Follows g R s (evaluated scope (T.Reduce' ty op p operand) active st) (computed_to g.typed (layout g) (O.Scalar r) (T.Reduce' ty op p operand) d)
+      pub fold_follows : (st : State) → At g s (length d.code) → Sim g alive st s → Follows g (λ v u out e. HasField set d s v u out e) s (evaluated scope operand fields.active st) (next_of g.typed (layout g) (reduced_bits op operand) true operand d)
+          → Follows g R s (evaluated scope (T.Reduce' ty op p operand) fields.active st) (computed_to g.typed (layout g) (O.Scalar r) (T.Reduce' ty op p operand) d)
       unfolding computed_to evaluated message_to
       fold_follows st here sim does =
-          subst (λ (m : Made Out). Follows g R s (evaluated scope (T.Reduce' ty op p operand) active st) m) (sym (gone_inside (O.Scalar r) (next_of g.typed (layout g) (reduced_bits op operand) true operand d) (λ v after. communicated g.typed (layout g) (T.Reduce' ty op p operand) O.Nothing (v ∷ []) (O.Scalar r) after)))
-          (then_follows g (λ v u out e. HasField set d s v u out e) R s s (evaluated scope operand active st) (λ v after. Source.Gives (reduction_of scope active op (type_of operand) v) after) (next_of g.typed (layout g) (reduced_bits op operand) true operand d) (λ v after. next r v after)
+          subst (λ (m : Made Out). Follows g R s (evaluated scope (T.Reduce' ty op p operand) fields.active st) m) (sym (gone_inside (O.Scalar r) (next_of g.typed (layout g) (reduced_bits op operand) true operand d) (λ v after. communicated g.typed (layout g) (T.Reduce' ty op p operand) O.Nothing (v ∷ []) (O.Scalar r) after)))
+          (then_follows g (λ v u out e. HasField set d s v u out e) R s s (evaluated scope operand fields.active st) (λ v after. Source.Gives (reduction_of scope fields.active op (type_of operand) v) after) (next_of g.typed (layout g) (reduced_bits op operand) true operand d) (λ v after. next r v after)
           (stay g s) does (λ v after. next_grows r v after) (λ v u out e h. folds_so v u out e h))

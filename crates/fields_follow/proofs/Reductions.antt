@@ -26,7 +26,7 @@ use Rattle.paris_code.specs.Memory.{processors}
 use Rattle.source_meaning.specs.Expressions.{evaluated}
 use Rattle.source_meaning.specs.State as Source
 use Rattle.source_meaning.specs.State.{Outcome, State}
-use Rattle.source_meaning.specs.Values.{Active, Parallel, Scope, Value, at, positions}
+use Rattle.source_meaning.specs.Values.{Parallel, Scope, Value, at, positions}
 use Rattle.source_meaning.proofs.ConstantLaws.{Boxed}
 use Rattle.vp_sets.specs.Positions.{position_count}
 use Rattle.code_follows.proofs.Following.{Follows, HasRegisters, Sim}
@@ -89,9 +89,9 @@ module _ (g : Setting) where
   unfolding folded_bits
   operand_bits n op operand d none = ap (λ (k : Option Elem). next_of g.typed (layout g) (folded_bits (fold_by (reduce_op_of op) operand) k) true operand d) none
 
-  module _ (has : HasRegisters g) (scope : Scope) (active : Active) (full : (set p : ℕ) → active set p ≡ true) (places : PlacesFields g) (fields : HoldsTheFields g) (alive : Variable → Type 0) where
+  module _ (has : HasRegisters g) (scope : Scope) (places : PlacesFields g) (fields : HoldsTheFields g) (full : (set p : ℕ) → fields.active set p ≡ true) (alive : Variable → Type 0) where
     -- a field that code gives is that of the value
-    pub field_given : (bound : ℕ) (d : Draft) (s : CodeState) (set : ℕ) (st : State) (v : ℕ → ℕ) (f : Field) (e : Draft) → GivesField g alive bound d s set st v f e → HasField g has scope active full fields alive set d s (Parallel v) st (O.Field f) e
+    pub field_given : (bound : ℕ) (d : Draft) (s : CodeState) (set : ℕ) (st : State) (v : ℕ → ℕ) (f : Field) (e : Draft) → GivesField g alive bound d s set st v f e → HasField g has scope fields full alive set d s (Parallel v) st (O.Field f) e
     unfolding at
     field_given bound d s set st v f e h = record {
       field = f;
@@ -116,24 +116,24 @@ module _ (g : Setting) where
       as_many set exists = ap position_count (sym (same_extents set exists))
 
       operand_stands : (set : ℕ) (e : TExpr) (d : Draft) (s : CodeState) (st : State) → IsPure set e → HasItsCode g.typed g.instance alive n e → At g s (length d.code) → Sim g alive st s
-          → Follows g (λ v u out x. HasField g has scope active full fields alive set d s v u out x) s (evaluated scope e active st) (next_of g.typed (layout g) 32 true e d)
+          → Follows g (λ v u out x. HasField g has scope fields full alive set d s v u out x) s (evaluated scope e fields.active st) (next_of g.typed (layout g) 32 true e d)
       operand_stands set e d s st is c here sim =
-          subst (λ (o : Outcome Value). Follows g (λ v u out x. HasField g has scope active full fields alive set d s v u out x) s o (next_of g.typed (layout g) 32 true e d)) (sym (pure_means scope active set e st is))
-          (given_follows (λ v u out x. HasField g has scope active full fields alive set d s v u out x) s (Parallel (λ q. value_in (scope.extents set) st e q)) st (next_of g.typed (layout g) 32 true e d)
-          (after_weaker g (λ (out : Out) (x : Draft). (f : Field) × ((out ≡ O.Field f) × GivesField g alive (length d.fields) d s set st (λ q. value_in (extents g set) st e q) f x)) (λ out x. HasField g has scope active full fields alive set d s (Parallel (λ q. value_in (scope.extents set) st e q)) st out x) (next_of g.typed (layout g) 32 true e d)
-          (λ out x given. subst (λ (o : Out). HasField g has scope active full fields alive set d s (Parallel (λ q. value_in (scope.extents set) st e q)) st o x) (sym given.1.0) (meant given.0 x given.1.1)) (stand set e is c d s st here sim)))
+          subst (λ (o : Outcome Value). Follows g (λ v u out x. HasField g has scope fields full alive set d s v u out x) s o (next_of g.typed (layout g) 32 true e d)) (sym (pure_means scope fields.active set e st is))
+          (given_follows (λ v u out x. HasField g has scope fields full alive set d s v u out x) s (Parallel (λ q. value_in (scope.extents set) st e q)) st (next_of g.typed (layout g) 32 true e d)
+          (after_weaker g (λ (out : Out) (x : Draft). (f : Field) × ((out ≡ O.Field f) × GivesField g alive (length d.fields) d s set st (λ q. value_in (extents g set) st e q) f x)) (λ out x. HasField g has scope fields full alive set d s (Parallel (λ q. value_in (scope.extents set) st e q)) st out x) (next_of g.typed (layout g) 32 true e d)
+          (λ out x given. subst (λ (o : Out). HasField g has scope fields full alive set d s (Parallel (λ q. value_in (scope.extents set) st e q)) st o x) (sym given.1.0) (meant given.0 x given.1.1)) (stand set e is c d s st here sim)))
         where
-          meant : (f : Field) (x : Draft) → GivesField g alive (length d.fields) d s set st (λ q. value_in (extents g set) st e q) f x → HasField g has scope active full fields alive set d s (Parallel (λ q. value_in (scope.extents set) st e q)) st (O.Field f) x
+          meant : (f : Field) (x : Draft) → GivesField g alive (length d.fields) d s set st (λ q. value_in (extents g set) st e q) f x → HasField g has scope fields full alive set d s (Parallel (λ q. value_in (scope.extents set) st e q)) st (O.Field f) x
           meant f x gives =
               let h = field_given (length d.fields) d s set st (λ q. value_in (extents g set) st e q) f x gives in
-              subst (λ (xs : List ℕ). HasField g has scope active full fields alive set d s (Parallel (λ q. value_in xs st e q)) st (O.Field f) x) (sym (same_extents set h.numbers.exists)) h
+              subst (λ (xs : List ℕ). HasField g has scope fields full alive set d s (Parallel (λ q. value_in xs st e q)) st (O.Field f) x) (sym (same_extents set h.numbers.exists)) h
 
       -- so that of their folds leaves the number where it is to be
       pub folds_follow : (e : TExpr) → IsFold e → HasItsCode g.typed g.instance alive n e → (d : Draft) (s : CodeState) (st : State) (R : Value → State → Out → Draft → Type 0) (r : ℕ) → g.begins ≤ d.regs → At g s (length d.code) → Sim g alive st s
-          → Dest g has alive (type_of e).elem d s R r → Follows g R s (evaluated scope e active st) (computed_to g.typed (layout g) (O.Scalar r) e d)
+          → Dest g has alive (type_of e).elem d s R r → Follows g R s (evaluated scope e fields.active st) (computed_to g.typed (layout g) (O.Scalar r) e d)
       unfolding IsFold
       folds_follow (T.Reduce' ty op p operand) (word, (set, is)) c d s st R r free here sim dest =
           let code = operand_code alive n ty op p operand c in
-          fold_follows g has scope active full fields alive ty op p operand set word (pure_type set operand is) (pure_kind set operand is) (as_many set) d s R r dest st here sim
-          (subst (λ (m : Made Out). Follows g (λ v u out x. HasField g has scope active full fields alive set d s v u out x) s (evaluated scope operand active st) m) (sym (operand_bits n op operand d (pure_kind set operand is))) (operand_stands set operand d s st is code here sim))
+          fold_follows g has scope fields full alive ty op p operand set word (pure_type set operand is) (pure_kind set operand is) (as_many set) d s R r dest st here sim
+          (subst (λ (m : Made Out). Follows g (λ v u out x. HasField g has scope fields full alive set d s v u out x) s (evaluated scope operand fields.active st) m) (sym (operand_bits n op operand d (pure_kind set operand is))) (operand_stands set operand d s st is code here sim))
       folds_follow _ is c d s st R r free here sim dest = absurd is

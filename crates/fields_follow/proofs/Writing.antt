@@ -1,5 +1,5 @@
 -- What an instruction on fields leaves: its destination has the numbers, and all else is as it was.
-use Rattle.std.proofs.Common.{◌≡◌, ◌≢◌, ◌∙◌, ℕ, ◌+◌, ◌%◌, ◌<◌, ◌≤◌, ◌^◌, ◌⊎◌, inl, inr, Bool, true, ◌&&◌, ◌==◌, Any, List, ◌∷◌, length, slice_get, refl, sym, ap, subst, arith, if◌then◌else◌}
+use Rattle.std.proofs.Common.{◌≡◌, ◌≢◌, ◌∙◌, ℕ, ◌+◌, ◌%◌, ◌<◌, ◌≤◌, ◌^◌, ◌⊎◌, inl, inr, Bool, true, false, ◌&&◌, ◌==◌, Any, List, ◌∷◌, length, slice_get, refl, sym, ap, subst, arith, if◌then◌else◌}
 use Rattle.std.proofs.lemmas.Bool.{cases_eq}
 use Rattle.std.proofs.lemmas.Bool.Decides.{nat_tests}
 use Rattle.cstar_tree.specs.declared.typed.VarInfo.{VarInfo}
@@ -18,7 +18,7 @@ use Rattle.code_follows.specs.Agreement.{AreBytes, mark_of}
 use Rattle.code_follows.proofs.Following.{Sim, held}
 use Rattle.code_follows.proofs.Standing.{some_same}
 use Rattle.code_follows.proofs.Settings.{At, Reaches, Setting, Within, at_next, begins_here, one}
-use Rattle.fields_follow.proofs.Bits.{active_apart, field_apart, field_written}
+use Rattle.fields_follow.proofs.Bits.{active_apart, field_apart, field_kept, field_written}
 use Rattle.fields_follow.proofs.Fields.{HoldsFields}
 use Rattle.fields_follow.specs.Fields.{IsElement}
 use Rattle.fields_follow.proofs.FileFields.{Apart, apart_back}
@@ -49,17 +49,16 @@ module _ (g : Setting) (places : PlacesFields g) (fields : HoldsTheFields g) (al
   pub named : (i : Instr) (d : Field) (others : List Field) (at : ℕ) → StandsAt g.unit at i → fields_of i ≡ d ∷ others → IsNamedAt g.unit d.offset at
   named i d others at there names = (i, there, subst (λ (xs : List Field). Any (λ (f : Field). entry_of f ≡ d.offset) xs) (sym names) (0, d, omega arith, refl, refl))
 
-  -- Behind an instruction that stands next: the destination has the numbers, and what stands in own entries
-  -- that are named before and behind it stays, where the destination is named behind it too.
-  pub record Written (set : ℕ) (d : Field) (e : Draft) (i : Instr) (s : CodeState) (u : State) (v : ℕ → ℕ) : Type 0 where
+  -- Behind an instruction that stands next: the destination has the numbers, and if its answer is used, what stands in
+  -- own entries that are named before and behind it stays.
+  pub record Written (set : ℕ) (d : Field) (e : Draft) (i : Instr) (s : CodeState) (u : State) (v : ℕ → ℕ) (used : Type 0) : Type 0 where
     pub t : CodeState
     pub go : Reaches g s t
     pub at : At g t (length (with_instr i e).code)
     pub registers : t.registers ≡ s.registers
     pub sim : Sim g alive u t
     pub has : HasNumbers g set d t v
-    pub stays : (h : Field) (first last later p : ℕ) → (h.offset ≡ d.offset → ⊥) → IsOwnField g h → IsNamedAt g.unit h.offset first → IsNamedAt g.unit h.offset last → first ≤ length e.code → length e.code < last
-        → IsNamedAt g.unit d.offset later → length e.code < later → number_in g h t p ≡ number_in g h s p
+    pub stays : used → (h : Field) (first last p : ℕ) → (h.offset ≡ d.offset → ⊥) → IsOwnField g h → IsNamedAt g.unit h.offset first → IsNamedAt g.unit h.offset last → first ≤ length e.code → length e.code < last → number_in g h t p ≡ number_in g h s p
 
   module _ (set : ℕ) (i : Instr) (d : Field) (e : Draft) (s : CodeState) (st : State) (v : ℕ → ℕ) (within : Within g (with_instr i e)) (here : At g s (length e.code)) (sim : Sim g alive st s) (of_set : d.set ≡ set) (wide : d.len ≡ 32) (puts : Puts g set i d s v) where
     there : StandsAt g.unit (length e.code) i
@@ -79,20 +78,29 @@ module _ (g : Setting) (places : PlacesFields g) (fields : HoldsTheFields g) (al
         active_apart (shapes g) puts.write s.memory q p (subst (λ (f : Field). f.offset + f.len ≤ bits_at (shapes g) f.set) (sym puts.run) d_ends.1)
         ∙ was.flags q p within_sets below
 
-    value_is : (p : ℕ) → p < processors (shapes g) set → field_number (written puts.write s.memory) (place g d) p ≡ v p
-    value_is p below =
-        ap (λ (f : Field). field_number (written puts.write s.memory) f p) (sym puts.run)
-        ∙ field_written puts.write s.memory p (puts.writes p ∙ ap (λ (q : ℕ). is_active (shapes g) s.memory q p) of_set ∙ was.flags set p set_exists below ∙ fields.all set p)
-        ∙ ap (λ (f : Field). puts.write.value p % 2 ^ f.len) puts.run ∙ puts.value p below
+    writes_where : (p : ℕ) → p < processors (shapes g) set → puts.write.writes p ≡ fields.active set p
+    writes_where p below = puts.writes p ∙ ap (λ (q : ℕ). is_active (shapes g) s.memory q p) of_set ∙ was.flags set p set_exists below
 
-    pub few : (p : ℕ) → p < processors (shapes g) set → v p < 2 ^ 32
-    few p below = subst (λ (n : ℕ). n < 2 ^ 32) (ap (λ (n : ℕ). puts.write.value p % 2 ^ n) (sym wide) ∙ puts.value p below) (small (puts.write.value p))
+    value_is : (p : ℕ) → p < processors (shapes g) set → fields.active set p ≡ true → field_number (written puts.write s.memory) (place g d) p ≡ v p
+    value_is p below on =
+        ap (λ (f : Field). field_number (written puts.write s.memory) f p) (sym puts.run)
+        ∙ field_written puts.write s.memory p (writes_where p below ∙ on)
+        ∙ ap (λ (f : Field). puts.write.value p % 2 ^ f.len) puts.run ∙ puts.value p below (was.flags set p set_exists below ∙ on)
+
+    pub few : (p : ℕ) → p < processors (shapes g) set → fields.active set p ≡ true → v p < 2 ^ 32
+    few p below on = subst (λ (n : ℕ). n < 2 ^ 32) (ap (λ (n : ℕ). puts.write.value p % 2 ^ n) (sym wide) ∙ puts.value p below (was.flags set p set_exists below ∙ on)) (small (puts.write.value p))
       where
         small : (n : ℕ) → n % 2 ^ 32 < 2 ^ 32
         small n = omega arith
 
     numbers : HasNumbers g set d (wrote g puts.write s) v
-    numbers = record { of_set = of_set; exists = set_exists; len = wide; are = value_is; small = few }
+    numbers = record {
+      of_set = of_set;
+      exists = set_exists;
+      len = wide;
+      are = λ p below on. value_is p below (sym (active_still set p set_exists below) ∙ on);
+      small = λ p below on. few p below (sym (active_still set p set_exists below) ∙ on);
+    }
 
     elsewhere : (f : Field) (p : ℕ) → Apart (place g d) f → field_number (written puts.write s.memory) f p ≡ field_number s.memory f p
     elsewhere f p apart = field_apart puts.write s.memory f p (subst (λ (h : Field). Apart h f) (sym puts.run) apart)
@@ -105,7 +113,7 @@ module _ (g : Setting) (places : PlacesFields g) (fields : HoldsTheFields g) (al
     winner_still = was.winner
 
     -- an own entry takes the numbers
-    pub own_written : IsOwnField g d → Written set d e i s st v
+    pub own_written : IsOwnField g d → Written set d e i s st v ((later : ℕ) × (IsNamedAt g.unit d.offset later × (length e.code < later)))
     own_written own = record {
       t = wrote g puts.write s;
       go = go;
@@ -118,12 +126,13 @@ module _ (g : Setting) (places : PlacesFields g) (fields : HoldsTheFields g) (al
         winner = winner_still;
       }) sim;
       has = numbers;
-      stays = λ h first last later p other is_own before after low high again behind.
-          elsewhere (place g h) p (apart_back (place g h) (place g d) (places.owns_apart h d first (length e.code) last later other is_own own d_ends.0 before after low high (named i d puts.others (length e.code) there puts.names) again behind));
+      stays = λ again h first last p other is_own before after low high.
+          elsewhere (place g h) p (apart_back (place g h) (place g d) (places.owns_apart h d first (length e.code) last again.0 other is_own own d_ends.0 before after low high (named i d puts.others (length e.code) there puts.names) again.1.0 again.1.1));
     }
 
-    -- a variable of the file takes the numbers, or others that are the same at the positions that there are
-    pub file_written : (k element : ℕ) (info : VarInfo) (passes : ℕ → Bool) (w : ℕ → ℕ) → IsElement g.typed k info set element → info.elem.bits ≡ 32 → IsFileField g k element d → ((p : ℕ) → p < processors (shapes g) set → passes p ≡ true) → ((p : ℕ) → p < processors (shapes g) set → w p ≡ v p) → Written set d e i s (with_positions (V.File k) element passes w st) v
+    -- a variable of the file takes the numbers where it is active, or others that are the same there
+    pub file_written : (k element : ℕ) (info : VarInfo) (passes : ℕ → Bool) (w : ℕ → ℕ) → IsElement g.typed k info set element → info.elem.bits ≡ 32 → IsFileField g k element d → ((p : ℕ) → p < processors (shapes g) set → passes p ≡ fields.active set p)
+        → ((p : ℕ) → p < processors (shapes g) set → fields.active set p ≡ true → w p ≡ v p) → Written set d e i s (with_positions (V.File k) element passes w st) v (Unit {0})
     unfolding with_positions is_same
     file_written k element info passes w is word own passing same_numbers = record {
       t = wrote g puts.write s;
@@ -137,15 +146,18 @@ module _ (g : Setting) (places : PlacesFields g) (fields : HoldsTheFields g) (al
         winner = winner_still;
       }) sim;
       has = numbers;
-      stays = λ h first last later p other is_own before after low high again behind. elsewhere (place g h) p (subst (λ (f : Field). Apart f (place g h)) (sym at_file) (apart_back (place g h) (of_file g k element) (places.own_file k element set info h is is_own)));
+      stays = λ used h first last p other is_own before after low high. elsewhere (place g h) p (subst (λ (f : Field). Apart f (place g h)) (sym at_file) (apart_back (place g h) (of_file g k element) (places.own_file k element set info h is is_own)));
     }
       where
         at_file : place g d ≡ of_file g k element
         at_file = places.file k element info d (subst (λ (n : ℕ). IsElement g.typed k info n element) (sym of_set) is) (word ∙ sym wide) own
 
-        -- the variable behind it, at one of its positions and elsewhere
+        -- the variable behind it, at one of its active positions and elsewhere
         here_is : (j other p : ℕ) (old : ℕ) → k ≡ j → other ≡ element → passes p ≡ true → (if (k == j) && (other == element) && passes p then w p else old) ≡ w p
         here_is j other p old same equal passed = grind (arith, nat_tests, same, equal, passed)
+
+        off_is : (j other p : ℕ) (old : ℕ) → passes p ≡ false → (if (k == j) && (other == element) && passes p then w p else old) ≡ old
+        off_is j other p old passed = grind (arith, nat_tests, passed)
 
         there_is : (j other p : ℕ) (old : ℕ) → ((k ≢ j) ⊎ (other ≢ element)) → (if (k == j) && (other == element) && passes p then w p else old) ≡ old
         there_is j other p old (inl differ) = grind (arith, nat_tests, differ)
@@ -167,16 +179,37 @@ module _ (g : Setting) (places : PlacesFields g) (fields : HoldsTheFields g) (al
         by_element : (j other q p : ℕ) (of : VarInfo) → IsElement g.typed j of q other → p < processors (shapes g) q → (k ≡ j) ⊎ (k ≢ j) → (other ≡ element) ⊎ (other ≢ element)
             → field_number (written puts.write s.memory) (of_file g j other) p ≡ (with_positions (V.File k) element passes w st).parallel (V.File j) other p
         by_element j other q p of which below (inl same) (inl equal) =
-            let inside : p < processors (shapes g) set = subst (λ (n : ℕ). p < processors (shapes g) n) (same_set j other q of which same).0 below in
-            ap (λ (f : Field). field_number (written puts.write s.memory) f p) (ap (λ (n : ℕ). of_file g n other) (sym same) ∙ ap (λ (n : ℕ). of_file g k n) equal ∙ sym at_file)
-            ∙ value_is p inside ∙ sym (same_numbers p inside) ∙ sym (here_is j other p (st.parallel (V.File j) other p) same equal (passing p inside))
+            by (fields.active set p) refl
+          where
+            inside : p < processors (shapes g) set
+            inside = subst (λ (n : ℕ). p < processors (shapes g) n) (same_set j other q of which same).0 below
+
+            stands : of_file g j other ≡ place g d
+            stands = ap (λ (n : ℕ). of_file g n other) (sym same) ∙ ap (λ (n : ℕ). of_file g k n) equal ∙ sym at_file
+
+            by : (b : Bool) → fields.active set p ≡ b → field_number (written puts.write s.memory) (of_file g j other) p ≡ (with_positions (V.File k) element passes w st).parallel (V.File j) other p
+            by true on =
+                ap (λ (f : Field). field_number (written puts.write s.memory) f p) stands
+                ∙ value_is p inside on ∙ sym (same_numbers p inside on) ∙ sym (here_is j other p (st.parallel (V.File j) other p) same equal (passing p inside ∙ on))
+            by false off =
+                field_kept puts.write s.memory (of_file g j other) p (writes_where p inside ∙ off)
+                ∙ was.numbers j other q p of which below ∙ sym (off_is j other p (st.parallel (V.File j) other p) (passing p inside ∙ off))
         by_element j other q p of which below (inr differ) any = moved_on j other q p of which below (inl differ) (λ same equal. differ same)
         by_element j other q p of which below (inl same) (inr differ) = moved_on j other q p of which below (inr differ) (λ same equal. differ (sym equal))
 
         small_still : (j other q p : ℕ) (of : VarInfo) → IsElement g.typed j of q other → p < processors (shapes g) q → (k ≡ j) ⊎ (k ≢ j) → (other ≡ element) ⊎ (other ≢ element) → (with_positions (V.File k) element passes w st).parallel (V.File j) other p < 2 ^ of.elem.bits
         small_still j other q p of which below (inl same) (inl equal) =
-            let both = same_set j other q of which same in
-            let inside : p < processors (shapes g) set = subst (λ (n : ℕ). p < processors (shapes g) n) both.0 below in
-            subst (λ (n : ℕ). n < 2 ^ of.elem.bits) (sym (here_is j other p (st.parallel (V.File j) other p) same equal (passing p inside))) (subst (λ (n : ℕ). w p < 2 ^ n) (sym both.1) (subst (λ (n : ℕ). n < 2 ^ 32) (sym (same_numbers p inside)) (few p inside)))
+            by (fields.active set p) refl
+          where
+            both : (q ≡ set) × (of.elem.bits ≡ 32)
+            both = same_set j other q of which same
+
+            inside : p < processors (shapes g) set
+            inside = subst (λ (n : ℕ). p < processors (shapes g) n) both.0 below
+
+            by : (b : Bool) → fields.active set p ≡ b → (with_positions (V.File k) element passes w st).parallel (V.File j) other p < 2 ^ of.elem.bits
+            by true on =
+                subst (λ (n : ℕ). n < 2 ^ of.elem.bits) (sym (here_is j other p (st.parallel (V.File j) other p) same equal (passing p inside ∙ on))) (subst (λ (n : ℕ). w p < 2 ^ n) (sym both.1) (subst (λ (n : ℕ). n < 2 ^ 32) (sym (same_numbers p inside on)) (few p inside on)))
+            by false off = subst (λ (n : ℕ). n < 2 ^ of.elem.bits) (sym (off_is j other p (st.parallel (V.File j) other p) (passing p inside ∙ off))) (was.small j other q p of which below)
         small_still j other q p of which below (inr differ) any = subst (λ (n : ℕ). n < 2 ^ of.elem.bits) (sym (there_is j other p (st.parallel (V.File j) other p) (inl differ))) (was.small j other q p of which below)
         small_still j other q p of which below (inl same) (inr differ) = subst (λ (n : ℕ). n < 2 ^ of.elem.bits) (sym (there_is j other p (st.parallel (V.File j) other p) (inr differ))) (was.small j other q p of which below)
