@@ -33,15 +33,20 @@ use Rattle.source_meaning.proofs.ConstantLaws.{Boxed}
 use Rattle.code_follows.proofs.Following.{Extends, Follows, HasRegisters, Ran, Sim, nothing_said, extends_made, extends_then}
 use Rattle.code_follows.proofs.Settings.{At, Setting, Within, and_one, code_more, earlier, layout}
 use Rattle.fields_follow.specs.Fragment.{IsCondition, IsSelective, IsUpdate}
-use Rattle.fields_follow.proofs.Courses.{Course, FlagsTurn, IsFlag, course_of, course_on, leaves_of, no_course}
+use Rattle.fields_follow.proofs.Assigning.{updates_leave}
+use Rattle.fields_follow.proofs.Courses.{Course, course_of, course_on, leaves_of, no_course}
+use Rattle.fields_follow.proofs.Flags.{set_context, store_context}
 use Rattle.fields_follow.proofs.Forms.{HasItsCode}
-use Rattle.fields_follow.proofs.Instructions.{shapes}
-use Rattle.fields_follow.proofs.Leaving.{Leaves, Tests, UpdateLeaves, under, within_again, within_under}
+use Rattle.fields_follow.proofs.Instructions.{SameExtents, extents, shapes}
+use Rattle.fields_follow.proofs.Leaving.{Leaves, UpdateLeaves, fields_under, places_under, registers_under, under, within_again, within_under}
+use Rattle.fields_follow.proofs.Meaning.{value_in}
 use Rattle.fields_follow.proofs.Narrowing.{Begins, NamedLater, among, narrowed_alone, narrowed_keeping, narrows, narrows_alone, others, turned_else, turned_on, turns}
 use Rattle.fields_follow.proofs.Passing.{After, after_same, after_weaker, code_longer, fields_longer, made_after, then_after}
-use Rattle.fields_follow.proofs.Places.{HoldsTheFields, PlacesFields, stands_here}
-use Rattle.fields_follow.proofs.Saving.{Closes, Runs, after_again, after_itself, after_there, after_within, closed, closes, flag_next, named_next, saved_next, then_later}
+use Rattle.fields_follow.proofs.Places.{IsOwnField, PlacesFields, stands_here}
+use Rattle.fields_follow.proofs.Saving.{Closes, Runs, after_again, after_itself, after_there, after_within, closed, closes, named_next, saved_next, then_later}
 use Rattle.fields_follow.proofs.Selective.{AllSelect, ElseSelects, Selects, selective_selects, closing_grows, nothing_declared, otherwise_grows, row_grows, statement_grows}
+use Rattle.fields_follow.proofs.TestFlags.{LeavesTests}
+use Rattle.fields_follow.proofs.Testing.{condition_means, condition_tested}
 use Rattle.fields_follow.proofs.Values.{and_entry, next_field, one_more, taken, with_entry}
 
 -- no variables become zero
@@ -105,11 +110,7 @@ makes_same : {A : Type 0} (g : Setting) (x : A) (e : Draft) → Extends g e (Mak
 unfolding Extends
 makes_same g x e = (0, as_it_was e)
 
-module _ (g : Setting) (has : HasRegisters g) (alive : Variable → Type 0) (n : ℕ) (ready : (d : Draft) → IsReady g.typed g.instance (layout g) n d) (places : PlacesFields g) (scope : Scope) (flags : FlagsTurn g alive)
-    (fields_under : (a : Active) → HoldsTheFields (under g a)) (active_under : (a : Active) → (fields_under a).active ≡ a)
-    (updates : (a : Active) (e : TExpr) → IsUpdate e → HasItsCode g.typed g.instance alive n e → (d : Draft) (s : CodeState) (st : State) → At g s (length d.code) → Sim (under g a) alive st s → UpdateLeaves (under g a) alive (fields_under a) scope e d s st)
-    (tests : (a : Active) (set : ℕ) (e : TExpr) → IsCondition set e → HasItsCode g.typed g.instance alive n e → set < length (shapes g) → (d : Draft) (s : CodeState) (st : State) → At g s (length d.code) → Sim (under g a) alive st s
-    → (v : ℕ → ℕ) × ((evaluated scope e a st ≡ Gives (Parallel v) st) × After (under g a) (λ u f. Tests (under g a) alive (fields_under a) (length d.fields) d s set st v f) (tested g.typed (layout g) e d))) where
+module _ (g : Setting) (has : HasRegisters g) (alive : Variable → Type 0) (n : ℕ) (ready : (d : Draft) → IsReady g.typed g.instance (layout g) n d) (places : PlacesFields g) (scope : Scope) (same_extents : SameExtents g scope) where
   -- what a statement does, its code does
   abbrev RunsSo : Active → Draft → CodeState → Outcome Leaving → Made ℕ → Type 0
   RunsSo a d s o made = After g (λ m e. Runs g alive a d s o m e) made
@@ -129,11 +130,11 @@ module _ (g : Setting) (has : HasRegisters g) (alive : Variable → Type 0) (n :
   update_runs a e d s st m is c here sim =
       by (effect_of g.typed (layout g) e d) (after_again g a (λ out f. Leaves (under g a) alive d f s h.1.0) (effect_of g.typed (layout g) e d) h.1.1.1)
     where
-      h : UpdateLeaves (under g a) alive (fields_under a) scope e d s st
-      h = updates a e is c d s st here sim
+      h : UpdateLeaves (under g a) alive (fields_under g a) scope e d s st
+      h = updates_leave (under g a) (registers_under g a has) alive n ready (places_under g a places) (fields_under g a) scope same_extents e is c d s st here sim
 
       means : done scope a (Some e) st ≡ Gives Onward h.1.0
-      means = update_means scope a e h.0 st h.1.0 (subst (λ (x : Active). evaluated scope e x st ≡ Gives h.0 h.1.0) (active_under a) h.1.1.0)
+      means = update_means scope a e h.0 st h.1.0 h.1.1.0
 
       by : (made : Made Out) → After g (λ out f. Leaves (under g a) alive d f s h.1.0) made → RunsSo a d s (done scope a (Some e) st) (then_make (then_make made (λ out after. Makes (tt {0}) after)) (λ u after. Makes m after))
       by (Makes out f) leaves = λ w. (h.1.0, (means, leaves w))
@@ -173,22 +174,22 @@ module _ (g : Setting) (has : HasRegisters g) (alive : Variable → Type 0) (n :
       let made : Made ℕ = statement_of g.typed (layout g) body (in_context f) (contexts ++ saved ∷ []) m inner in
       after_within g (λ m e. Runs g alive a d s o m e) inner (closing saved made) (closing_grows g alive n has ready saved inner made (statement_grows g alive n has ready body is (in_context f) (contexts ++ saved ∷ []) m inner)) (λ w.
       let w_stores : Within g stores = earlier g stores inner 1 (and_one g (I.SetContext shape) stores) w in
-      let flag : IsFlag g alive saved = (flag_next g alive places (I.StoreContext saved) saved begun (taken g shape 1 W.Own d stores 1 w_stores (and_one g (I.StoreContext saved) begun)) refl w_stores refl tt refl).0 in
-      let stored = flags.store_context a saved begun s st flag (record { within = w_stores; here = here; sim = sim }) in
+      let own : IsOwnField g saved = taken g shape 1 W.Own d stores 1 w_stores (and_one g (I.StoreContext saved) begun) in
+      let stored = store_context g places alive a shape saved begun s st own refl refl w_stores here sim in
       let more : length begun.fields ≡ length d.fields + 1 = one_more shape 1 W.Own d in
-      let begins : Begins g alive flags (Unit {0}) a a saved d begun stores s stored.0.t st = record {
-        here = stored.0.at;
-        sim = stored.0.sim;
-        saved = saved_next g alive (length d.fields) a saved begun begun s s st (omega arith) (omega (arith, more)) flag w_stores (no_course g alive (length d.fields) a begun s st here sim) stored;
+      let begins : Begins g alive places (Unit {0}) a a saved d begun stores s stored.t st = record {
+        here = stored.at;
+        sim = stored.sim;
+        saved = saved_next g alive places (length d.fields) a saved begun begun s s st (omega arith) (omega (arith, more)) own w_stores (no_course g alive (length d.fields) a begun s st here sim) stored;
       } in
-      let sets = flags.set_context a b shape stores stored.0.t st (record { within = w; here = stored.0.at; sim = stored.0.sim }) (λ p below. all_there shape a p) (λ q p differ. all_beside shape a q p differ) in
-      let x : Begins g alive flags (Unit {0}) a b saved d begun inner s sets.t st = turned_on g alive flags (Unit {0}) a a b saved d begun stores (I.SetContext shape) s stored.0.t st (let i = begins.saved.inside in omega (arith, i)) (λ q p differ. sym (all_beside shape a q p differ)) begins sets in
-      closed g alive flags (Unit {0}) a b saved d begun inner s sets.t st o made tt (let i = x.saved.inside in omega (arith, i)) (and_entry shape 1 W.Own d) x.saved (agrees b k m (in_context f) (contexts ++ saved ∷ []) inner sets.t st x.here x.sim))
+      let sets = set_context g places alive a shape stores stored.t st b (λ p below. all_there shape a p) (λ q p differ. all_beside shape a q p differ) w stored.at stored.sim in
+      let x : Begins g alive places (Unit {0}) a b saved d begun inner s sets.t st = turned_on g alive places (Unit {0}) a a b saved d begun stores (I.SetContext shape) s stored.t st (let i = begins.saved.inside in omega (arith, i)) (λ q p differ. sym (all_beside shape a q p differ)) begins sets in
+      closed g alive places (Unit {0}) a b saved d begun inner s sets.t st o made tt (let i = x.saved.inside in omega (arith, i)) (and_entry shape 1 W.Own d) x.saved (agrees b k m (in_context f) (contexts ++ saved ∷ []) inner sets.t st x.here x.sim))
 
   -- Behind a condition the context is saved. Where it is, the condition has left the test flags.
   where_by : (shape : ℕ) (test : TExpr) → IsCondition shape test → InField g.typed test → HasItsCode g.typed g.instance alive n test → (a : Active) (d : Draft) (s : CodeState) (st : State) → At g s (length d.code) → Sim (under g a) alive st s
       → (saved : Field) → saved.set ≡ shape → (Q : ℕ → Draft → Type 0) (next : Draft → Made ℕ) → ((known : Draft) → Extends g (with_instr (I.StoreContext saved) known) (next known))
-      → ((v : ℕ → ℕ) → evaluated scope test a st ≡ Gives (Parallel v) st → (known : Draft) → Within g (with_instr (I.StoreContext saved) known) → Tests (under g a) alive (fields_under a) (length d.fields) d s shape st v known → After g Q (next known))
+      → ((v : ℕ → ℕ) → evaluated scope test a st ≡ Gives (Parallel v) st → (known : Draft) → Within g (with_instr (I.StoreContext saved) known) → LeavesTests (under g a) alive (fields_under g a) d s shape st v known → After g Q (next known))
       → After g Q (then_make (tested g.typed (layout g) test d) (λ u known. next known))
   unfolding step_of
   where_by shape test is field c a d s st here sim saved of_set Q next grows f =
@@ -196,8 +197,10 @@ module _ (g : Setting) (has : HasRegisters g) (alive : Variable → Type 0) (n :
       (λ known. (1, and_one g (I.StoreContext saved) known)) (λ u known. grows known) (λ u known made w.
       let within : Within g known = earlier g known (with_instr (I.StoreContext saved) known) 1 (and_one g (I.StoreContext saved) known) w in
       let exists = subst (λ (q : ℕ). q < length (shapes g)) of_set (places.ends (length known.code) (I.StoreContext saved) saved [] (stands_here g (I.StoreContext saved) known w refl) refl tt refl).0 in
-      let t = tests a shape test is c exists d s st here sim in
-      f t.0 t.1.0 known w (after_there (under g a) (λ u e. Tests (under g a) alive (fields_under a) (length d.fields) d s shape st t.0 e) u known made t.1.1 (within_under g a within)))
+      let v : ℕ → ℕ = λ q. value_in (extents g shape) st test q in
+      f v (condition_means g scope same_extents a shape test st is exists) known w
+      (after_there (under g a) (λ u e. LeavesTests (under g a) alive (fields_under g a) d s shape st v e) u known made
+      (condition_tested (under g a) (registers_under g a has) alive n ready (places_under g a places) (fields_under g a) shape test is c d s st here sim) (within_under g a within)))
 
   -- where nothing is behind `else`
   where_alone : (shape : ℕ) (test : TExpr) (p : Boxed) (first : TStmt) → Selects g alive n (S.Where' shape test p first None') → Agrees first → Agrees (S.Where' shape test p first None')
@@ -215,11 +218,11 @@ module _ (g : Setting) (has : HasRegisters g) (alive : Variable → Type 0) (n :
       where_by shape test is.0 is.1 is.2 a for_test s st here sim saved refl Q next (λ known. extends_made g (with_instr (I.StoreContext saved) known) (inner known) 1 (next known) (and_one g (I.LogandContextWithTest shape) (with_instr (I.StoreContext saved) known)) (grows known)) (λ v is_value known w x.
       after_within g Q (inner known) (next known) (grows known) (λ w_inner.
       let b : Active = among shape v a in
-      let begins : Begins g alive flags (Unit {0}) a b saved d for_test (inner known) s (narrows_alone g alive flags places fields_under active_under a shape v d known s st w x w_inner).t st = narrowed_alone g alive flags places fields_under active_under a shape v d known s st w x w_inner in
+      let begins : Begins g alive places (Unit {0}) a b saved d for_test (inner known) s (narrows_alone g alive places a shape v d known s st w x w_inner).t st = narrowed_alone g alive places a shape v d known s st w x w_inner in
       same_runs a d s (executed scope (S.Where' shape test p first None') k a st) (then_go (executed scope first k b st) (else_executed scope None' (k + declared first) (others shape v a))) (next known) (where_means scope a shape test p first None' k v st is_value)
       (alone_runs a d s (executed scope first k b st) (else_executed scope None' (k + declared first) (others shape v a)) (closing saved (made known)) (λ u. refl)
-      (closed g alive flags (Unit {0}) a b saved d for_test (inner known) s (narrows_alone g alive flags places fields_under active_under a shape v d known s st w x w_inner).t st (executed scope first k b st) (made known) tt (let i = begins.saved.inside in omega (arith, i)) (both_entries shape d) begins.saved
-      (agrees b k m (in_context f) (contexts ++ saved ∷ []) (inner known) (narrows_alone g alive flags places fields_under active_under a shape v d known s st w x w_inner).t st begins.here begins.sim)))))
+      (closed g alive places (Unit {0}) a b saved d for_test (inner known) s (narrows_alone g alive places a shape v d known s st w x w_inner).t st (executed scope first k b st) (made known) tt (let i = begins.saved.inside in omega (arith, i)) (both_entries shape d) begins.saved
+      (agrees b k m (in_context f) (contexts ++ saved ∷ []) (inner known) (narrows_alone g alive places a shape v d known s st w x w_inner).t st begins.here begins.sim)))))
 
   -- where something is
   where_else : (shape : ℕ) (test : TExpr) (p q : Boxed) (first second : TStmt) → Selects g alive n (S.Where' shape test p first (Some' q second)) → Agrees first → Agrees second → Agrees (S.Where' shape test p first (Some' q second))
@@ -228,8 +231,8 @@ module _ (g : Setting) (has : HasRegisters g) (alive : Variable → Type 0) (n :
       where_by shape test is.0 is.1 is.2 a for_test s st here sim saved refl Q next
       (λ known. extends_made g (with_instr (I.StoreContext saved) known) (inner known) 2 (next known) (and_instr (I.LogandContextWithTest shape) (with_instr (I.StoreContext saved) known) (keeps known) 1 (and_one g (I.StoreTest holds) (with_instr (I.StoreContext saved) known))) (grows known))
       (λ v is_value known w x. after_within g Q (inner known) (next known) (grows known) (λ w_inner. by v is_value known w x w_inner (made known)
-      (agrees (among shape v a) k m (in_context f) (contexts ++ saved ∷ []) (inner known) (narrows g alive flags places fields_under active_under a shape v d known s st w x w_inner).t st
-      (narrowed_keeping g alive flags places fields_under active_under a shape v d known s st w x w_inner).here (narrowed_keeping g alive flags places fields_under active_under a shape v d known s st w x w_inner).sim)))
+      (agrees (among shape v a) k m (in_context f) (contexts ++ saved ∷ []) (inner known) (narrows g alive places a shape v d known s st w x w_inner).t st
+      (narrowed_keeping g alive places a shape v d known s st w x w_inner).here (narrowed_keeping g alive places a shape v d known s st w x w_inner).sim)))
     where
       begun : Draft
       begun = with_entry shape 1 W.Own d
@@ -275,16 +278,16 @@ module _ (g : Setting) (has : HasRegisters g) (alive : Variable → Type 0) (n :
           extends_then g (inner known) (closing saved (made known)) rest (closing_grows g alive n has ready saved (inner known) (made known) (statement_grows g alive n has ready first is.3 (in_context f) (contexts ++ saved ∷ []) m (inner known)))
           (λ j behind. otherwise_grows g alive n has ready (Some' q second) is.4 f contexts shape saved holds j behind)
 
-      by : (v : ℕ → ℕ) → evaluated scope test a st ≡ Gives (Parallel v) st → (known : Draft) (w : Within g (with_instr (I.StoreContext saved) known)) (x : Tests (under g a) alive (fields_under a) (length for_test.fields) for_test s shape st v known) (w_inner : Within g (inner known)) (made : Made ℕ)
-          → RunsSo (among shape v a) (inner known) (narrows g alive flags places fields_under active_under a shape v d known s st w x w_inner).t (executed scope first k (among shape v a) st) made → After g Q (then_make (closing saved made) rest)
+      by : (v : ℕ → ℕ) → evaluated scope test a st ≡ Gives (Parallel v) st → (known : Draft) (w : Within g (with_instr (I.StoreContext saved) known)) (x : LeavesTests (under g a) alive (fields_under g a) for_test s shape st v known) (w_inner : Within g (inner known)) (made : Made ℕ)
+          → RunsSo (among shape v a) (inner known) (narrows g alive places a shape v d known s st w x w_inner).t (executed scope first k (among shape v a) st) made → After g Q (then_make (closing saved made) rest)
       by v is_value known w x w_inner Fails part = tt
       by v is_value known w x w_inner (Makes j h) part =
           let b : Active = among shape v a in
           let z : Active = others shape v a in
           let one : Outcome Leaving = executed scope first k b st in
           let two : State → Outcome Leaving = else_executed scope (Some' q second) (k + declared first) z in
-          let t : CodeState = (narrows g alive flags places fields_under active_under a shape v d known s st w x w_inner).t in
-          let begins : Begins g alive flags (NamedLater g holds (keeps known)) a b saved d for_test (inner known) s t st = narrowed_keeping g alive flags places fields_under active_under a shape v d known s st w x w_inner in
+          let t : CodeState = (narrows g alive places a shape v d known s st w x w_inner).t in
+          let begins : Begins g alive places (NamedLater g holds (keeps known)) a b saved d for_test (inner known) s t st = narrowed_keeping g alive places a shape v d known s st w x w_inner in
           let behind : Draft = with_instr (I.LoadContext saved) h in
           let loads : Draft = with_instr (I.LoadTest holds) behind in
           let made_two : Made ℕ = made_else j behind in
@@ -295,12 +298,12 @@ module _ (g : Setting) (has : HasRegisters g) (alive : Variable → Type 0) (n :
           let runs : Runs g alive b (inner known) t one j h = part w_h in
           let long : length (keeps known).code ≤ length behind.code =
           let l = code_longer (inner known) h runs.1.1.grown.0 runs.1.1.grown.1 in let m = code_more g (I.LogandContextWithTest shape) (keeps known) in let n = code_more g (I.LoadContext saved) h in omega (arith, l, m, n) in
-          let c : Closes g alive a (inner known) behind t one = closes g alive flags (NamedLater g holds (keeps known)) (length d.fields) a b saved for_test (inner known) h s t st one j (length behind.code, (named_next g (I.LoadTest holds) holds behind w_loads refl refl, long)) begins.saved w_behind runs in
-          let r : CodeState = (turns g alive flags places fields_under active_under a shape v d known s st w x w_inner behind c.t c.u c.course w_turned).t in
-          let back : Begins g alive flags (Unit {0}) a z saved d for_test (turns_back behind) s r c.u = turned_else g alive flags places fields_under active_under a shape v d known s st w x w_inner behind c.t c.u c.course w_turned in
+          let c : Closes g alive a (inner known) behind t one = closes g alive places (NamedLater g holds (keeps known)) (length d.fields) a b saved for_test (inner known) h s t st one j (length behind.code, (named_next g (I.LoadTest holds) holds behind w_loads refl refl, long)) begins.saved w_behind runs in
+          let r : CodeState = (turns g alive places a shape v d known s st w x w_inner behind c.t c.u c.course w_turned).t in
+          let back : Begins g alive places (Unit {0}) a z saved d for_test (turns_back behind) s r c.u = turned_else g alive places a shape v d known s st w x w_inner behind c.t c.u c.course w_turned in
           after_weaker g (λ i e. Runs g alive a d s (two c.u) i e) Q (closing saved made_two)
           (λ i e last. (last.0, (where_means scope a shape test p first (Some' q second) k v st is_value ∙ row_means scope a one two c.u last.0 c.is last.1.0, last.1.1)))
-          (closed g alive flags (Unit {0}) a z saved d for_test (turns_back behind) s r c.u (two c.u) made_two tt (let i = back.saved.inside in omega (arith, i)) (both_entries shape d) back.saved
+          (closed g alive places (Unit {0}) a z saved d for_test (turns_back behind) s r c.u (two c.u) made_two tt (let i = back.saved.inside in omega (arith, i)) (both_entries shape d) back.saved
           (otherwise z (k + declared first) j (in_context f) (contexts ++ saved ∷ []) (turns_back behind) r c.u back.here back.sim)))
 
   mutual

@@ -18,12 +18,14 @@ use Rattle.source_meaning.specs.State.{State}
 use Rattle.source_meaning.specs.Values.{Active, Parallel, at, nonzero}
 use Rattle.code_follows.proofs.Following.{Sim}
 use Rattle.code_follows.proofs.Settings.{Setting, Within, and_one, code_more, earlier, At}
-use Rattle.fields_follow.proofs.Courses.{AreSameBeside, Course, FlagsTurn, IsFlag, Stored, Turned, course_passed, course_stored, course_turned}
+use Rattle.fields_follow.proofs.Courses.{AreSameBeside, Course, course_less, course_of, course_stored, course_turned}
+use Rattle.fields_follow.proofs.Flags.{Stored, Turned, load_test, narrow_context, store_context, store_test, turn_context}
 use Rattle.fields_follow.proofs.Instructions.{number_in, shapes}
-use Rattle.fields_follow.proofs.Leaving.{Tests, under}
+use Rattle.fields_follow.proofs.Leaving.{fields_under, under}
 use Rattle.fields_follow.proofs.Passing.{code_longer, fields_longer}
-use Rattle.fields_follow.proofs.Places.{HoldsTheFields, PlacesFields}
-use Rattle.fields_follow.proofs.Saving.{Saved, flag_next, named_next, saved_next, saved_on}
+use Rattle.fields_follow.proofs.Places.{IsOwnField, PlacesFields}
+use Rattle.fields_follow.proofs.Saving.{Saved, named_next, saved_next, saved_on}
+use Rattle.fields_follow.proofs.TestFlags.{LeavesTests}
 use Rattle.fields_follow.proofs.Values.{and_entry, next_field, one_more, taken, with_entry}
 
 -- ---- where the source narrows
@@ -92,7 +94,7 @@ module _ (set : ℕ) (v : ℕ → ℕ) (a : Active) where
 abbrev pub NamedLater : Setting → Field → Draft → Type 0
 NamedLater g f e = (later : ℕ) × (IsNamedAt g.unit f.offset later × (length e.code ≤ later))
 
-module _ (g : Setting) (alive : Variable → Type 0) (flags : FlagsTurn g alive) where
+module _ (g : Setting) (alive : Variable → Type 0) (places : PlacesFields g) where
   -- The code stands where a part begins, and a context has been saved in a field.
   pub record Begins (named : Type 0) (a b : Active) (f : Field) (d r e : Draft) (s t : CodeState) (u : State) : Type 0 where
     pub here : At g t (length e.code)
@@ -100,19 +102,19 @@ module _ (g : Setting) (alive : Variable → Type 0) (flags : FlagsTurn g alive)
     pub saved : Saved g alive named (length d.fields) a b f r e s t u
 
   -- behind an instruction that writes flags it is saved still
-  pub turned_on : (named : Type 0) (a b c : Active) (f : Field) (d r e : Draft) (i : Instr) (s t : CodeState) (u : State) → length d.fields ≤ length e.fields → AreSameBeside g alive f.set c a → Begins named a b f d r e s t u → (turned : Turned g alive c e i t u)
+  pub turned_on : (named : Type 0) (a b c : Active) (f : Field) (d r e : Draft) (i : Instr) (s t : CodeState) (u : State) → length d.fields ≤ length e.fields → AreSameBeside f.set c a → Begins named a b f d r e s t u → (turned : Turned g places alive b c e i t u)
       → Begins named a c f d r (with_instr i e) s turned.t u
   turned_on named a b c f d r e i s t u more beside x turned = record {
     here = turned.at;
     sim = turned.sim;
     saved = saved_on g alive named named (length d.fields) (length e.fields) a b c f r e (with_instr i e) s t turned.t u u (λ given. given) more x.saved.inside (1, and_one g i e) beside
-        (λ given. course_turned g alive (length e.fields) c e i t u turned) x.saved;
+        (λ given. course_turned g alive places (length e.fields) b c e i t u turned) x.saved;
   }
 
   instr_fields : (i : Instr) (e : Draft) → length e.fields ≤ length (with_instr i e).fields
   instr_fields i e = fields_longer e (with_instr i e) 1 (and_one g i e)
 
-  module _ (places : PlacesFields g) (fields_under : (a : Active) → HoldsTheFields (under g a)) (active_under : (a : Active) → (fields_under a).active ≡ a) (a : Active) (shape : ℕ) (v : ℕ → ℕ) (d known : Draft) (s : CodeState) (st : State) where
+  module _ (a : Active) (shape : ℕ) (v : ℕ → ℕ) (d known : Draft) (s : CodeState) (st : State) where
     abbrev begun : Draft
     begun = with_entry shape 1 W.Own d
 
@@ -132,88 +134,80 @@ module _ (g : Setting) (alive : Variable → Type 0) (flags : FlagsTurn g alive)
     keeps = with_instr (I.StoreTest holds) saves
 
     -- the condition's code has run, and the context is saved behind it
-    module _ (within : Within g saves) (x : Tests (under g a) alive (fields_under a) (length for_test.fields) for_test s shape st v known) where
-      to_known : Extended for_test x.passes.grown.0 known
-      to_known = x.passes.grown.1
+    module _ (within : Within g saves) (x : LeavesTests (under g a) alive (fields_under g a) for_test s shape st v known) where
+      to_known : Extended for_test x.leaves.grown.0 known
+      to_known = x.leaves.grown.1
 
       counts : (length begun.fields ≡ length d.fields + 1) × (length for_test.fields ≡ length begun.fields + 1)
       counts = (one_more shape 1 W.Own d, one_more shape 1 W.Own begun)
 
       longer : length for_test.fields ≤ length known.fields
-      longer = fields_longer for_test known x.passes.grown.0 to_known
+      longer = fields_longer for_test known x.leaves.grown.0 to_known
 
-      is_flag : IsFlag g alive saved
-      unfolding step_of
-      is_flag =
-          (flag_next g alive places (I.StoreContext saved) saved known
-          (taken g shape 1 W.Own d saves (0 + (x.passes.grown.0 + 1)) within (extended begun for_test saves 0 (x.passes.grown.0 + 1) (and_entry shape 1 W.Own begun) (extended for_test known saves x.passes.grown.0 1 to_known (and_one g (I.StoreContext saved) known))))
-          refl within refl tt refl).0
+      is_own : IsOwnField g saved
+      is_own = taken g shape 1 W.Own d saves (0 + (x.leaves.grown.0 + 1)) within (extended begun for_test saves 0 (x.leaves.grown.0 + 1) (and_entry shape 1 W.Own begun) (extended for_test known saves x.leaves.grown.0 1 to_known (and_one g (I.StoreContext saved) known)))
 
-      course : Course g alive (length d.fields) a for_test known s x.passes.t st
-      course = course_passed g alive (length d.fields) (length for_test.fields) a for_test known s st (let c = counts in omega (arith, c.0, c.1)) x.passes
+      course : Course g alive (length d.fields) a for_test known s x.leaves.t st
+      course = course_less g alive (length d.fields) (length for_test.fields) a for_test known s x.leaves.t st (let c = counts in omega (arith, c.0, c.1)) (course_of g alive a for_test known s st x.leaves)
 
-      pub stored : (r : Stored g alive a saved known (I.StoreContext saved) x.passes.t st) × ((p : ℕ) → p < processors (shapes g) shape → number_in g saved r.t p ≡ from_bool (a shape p))
-      stored = flags.store_context a saved known x.passes.t st is_flag (record { within = within; here = course.at; sim = course.sim })
+      pub stored : Stored g places alive a shape saved known (I.StoreContext saved) x.leaves.t st (λ p. Unit {0}) (λ p. from_bool (a shape p))
+      stored = store_context g places alive a shape saved known x.leaves.t st is_own refl refl within course.at course.sim
 
-      begins : Begins (Unit {0}) a a saved d for_test saves s stored.0.t st
+      begins : Begins (Unit {0}) a a saved d for_test saves s stored.t st
       begins = record {
-        here = stored.0.at;
-        sim = stored.0.sim;
-        saved = saved_next g alive (length d.fields) a saved for_test known s x.passes.t st (omega arith) (let c = counts in let l = longer in omega (arith, c.0, c.1, l)) is_flag within course stored;
+        here = stored.at;
+        sim = stored.sim;
+        saved = saved_next g alive places (length d.fields) a saved for_test known s x.leaves.t st (omega arith) (let c = counts in let l = longer in omega (arith, c.0, c.1, l)) is_own within course stored;
       }
 
-      flags_there : (p : ℕ) → p < processors (shapes g) shape → a shape p ≡ true → is_tested (shapes g) stored.0.t.memory shape p ≡ nonzero (v p)
-      flags_there p below active = stored.0.tests p below ∙ x.flags p below (ap (λ (y : Active). y shape p) (active_under a) ∙ active)
+      flags_there : (p : ℕ) → p < processors (shapes g) shape → a shape p ≡ true → is_tested (shapes g) stored.t.memory shape p ≡ nonzero (v p)
+      flags_there p below active = stored.tests shape p ∙ x.flags p below active
 
       inside : length d.fields ≤ length saves.fields
       inside = let c = counts in let l = longer in let m = instr_fields (I.StoreContext saved) known in omega (arith, c.0, c.1, l, m)
 
       -- where nothing is behind `else`
-      pub narrows_alone : Within g (with_instr (I.LogandContextWithTest shape) saves) → Turned g alive (among shape v a) saves (I.LogandContextWithTest shape) stored.0.t st
+      pub narrows_alone : Within g (with_instr (I.LogandContextWithTest shape) saves) → Turned g places alive a (among shape v a) saves (I.LogandContextWithTest shape) stored.t st
       narrows_alone w =
-          flags.and_test a (among shape v a) shape saves stored.0.t st (record { within = w; here = stored.0.at; sim = stored.0.sim }) (λ p below active. among_active shape v a p active ∙ sym (flags_there p below active)) (λ p inactive. among_inactive shape v a p inactive) (λ q p differ. among_beside shape v a q p differ)
+          narrow_context g places alive a shape saves stored.t st (among shape v a) (λ p below active. among_active shape v a p active ∙ sym (flags_there p below active)) (λ p below inactive. among_inactive shape v a p inactive) (λ q p differ. among_beside shape v a q p differ) w stored.at stored.sim
 
       pub narrowed_alone : (w : Within g (with_instr (I.LogandContextWithTest shape) saves)) → Begins (Unit {0}) a (among shape v a) saved d for_test (with_instr (I.LogandContextWithTest shape) saves) s (narrows_alone w).t st
-      narrowed_alone w = turned_on (Unit {0}) a a (among shape v a) saved d for_test saves (I.LogandContextWithTest shape) s stored.0.t st inside (λ q p differ. sym (among_beside shape v a q p differ)) begins (narrows_alone w)
+      narrowed_alone w = turned_on (Unit {0}) a a (among shape v a) saved d for_test saves (I.LogandContextWithTest shape) s stored.t st inside (λ q p differ. sym (among_beside shape v a q p differ)) begins (narrows_alone w)
 
       -- where something is
       module _ (w : Within g (with_instr (I.LogandContextWithTest shape) keeps)) where
         within_keeps : Within g keeps
         within_keeps = earlier g keeps (with_instr (I.LogandContextWithTest shape) keeps) 1 (and_one g (I.LogandContextWithTest shape) keeps) w
 
-        keeps_flag : IsFlag g alive holds
-        unfolding step_of
-        keeps_flag =
-            (flag_next g alive places (I.StoreTest holds) holds saves
-            (taken g shape 1 W.Own begun keeps (x.passes.grown.0 + (1 + 1)) within_keeps (extended for_test known keeps x.passes.grown.0 (1 + 1) to_known (extended known saves keeps 1 1 (and_one g (I.StoreContext saved) known) (and_one g (I.StoreTest holds) saves))))
-            refl within_keeps refl tt refl).0
+        keeps_own : IsOwnField g holds
+        keeps_own = taken g shape 1 W.Own begun keeps (x.leaves.grown.0 + (1 + 1)) within_keeps (extended for_test known keeps x.leaves.grown.0 (1 + 1) to_known (extended known saves keeps 1 1 (and_one g (I.StoreContext saved) known) (and_one g (I.StoreTest holds) saves)))
 
-        pub kept : (r : Stored g alive a holds saves (I.StoreTest holds) stored.0.t st) × ((p : ℕ) → p < processors (shapes g) shape → a shape p ≡ true → number_in g holds r.t p ≡ from_bool (is_tested (shapes g) stored.0.t.memory shape p))
-        kept = flags.store_test a holds saves stored.0.t st keeps_flag (record { within = within_keeps; here = stored.0.at; sim = stored.0.sim })
+        pub kept : Stored g places alive a shape holds saves (I.StoreTest holds) stored.t st (λ p. a shape p ≡ true) (λ p. from_bool (is_tested (shapes g) stored.t.memory shape p))
+        kept = store_test g places alive a shape holds saves stored.t st keeps_own refl refl within_keeps stored.at stored.sim
 
-        flags_kept : (p : ℕ) → p < processors (shapes g) shape → a shape p ≡ true → is_tested (shapes g) kept.0.t.memory shape p ≡ nonzero (v p)
-        flags_kept p below active = kept.0.tests p below ∙ flags_there p below active
+        flags_kept : (p : ℕ) → p < processors (shapes g) shape → a shape p ≡ true → is_tested (shapes g) kept.t.memory shape p ≡ nonzero (v p)
+        flags_kept p below active = kept.tests shape p ∙ flags_there p below active
 
-        keeping : Begins (NamedLater g holds keeps) a a saved d for_test keeps s kept.0.t st
+        keeping : Begins (NamedLater g holds keeps) a a saved d for_test keeps s kept.t st
         keeping = record {
-          here = kept.0.at;
-          sim = kept.0.sim;
-          saved = saved_on g alive (Unit {0}) (NamedLater g holds keeps) (length d.fields) (length begun.fields) a a a saved for_test saves keeps s stored.0.t kept.0.t st st (λ named. tt) (let c = counts in omega (arith, c.0)) (let c = counts in omega (arith, c.0)) (1, and_one g (I.StoreTest holds) saves) (λ q p differ. refl)
-              (λ named. course_stored g alive (length begun.fields) a holds saves (I.StoreTest holds) stored.0.t st named.0 (omega arith) named.1.0 (let l = named.1.1 in let m = code_more g (I.StoreTest holds) saves in omega (arith, l, m)) kept.0) begins.saved;
+          here = kept.at;
+          sim = kept.sim;
+          saved = saved_on g alive (Unit {0}) (NamedLater g holds keeps) (length d.fields) (length begun.fields) a a a saved for_test saves keeps s stored.t kept.t st st (λ named. tt) (let c = counts in omega (arith, c.0)) (let c = counts in omega (arith, c.0)) (1, and_one g (I.StoreTest holds) saves) (λ q p differ. refl)
+              (λ named. course_stored g alive places (length begun.fields) a shape holds saves (I.StoreTest holds) stored.t st (λ p. a shape p ≡ true) (λ p. from_bool (is_tested (shapes g) stored.t.memory shape p)) named.0 (omega arith) named.1.0 (let l = named.1.1 in let m = code_more g (I.StoreTest holds) saves in omega (arith, l, m)) kept) begins.saved;
         }
 
-        pub narrows : Turned g alive (among shape v a) keeps (I.LogandContextWithTest shape) kept.0.t st
+        pub narrows : Turned g places alive a (among shape v a) keeps (I.LogandContextWithTest shape) kept.t st
         narrows =
-            flags.and_test a (among shape v a) shape keeps kept.0.t st (record { within = w; here = kept.0.at; sim = kept.0.sim }) (λ p below active. among_active shape v a p active ∙ sym (flags_kept p below active)) (λ p inactive. among_inactive shape v a p inactive) (λ q p differ. among_beside shape v a q p differ)
+            narrow_context g places alive a shape keeps kept.t st (among shape v a) (λ p below active. among_active shape v a p active ∙ sym (flags_kept p below active)) (λ p below inactive. among_inactive shape v a p inactive) (λ q p differ. among_beside shape v a q p differ) w kept.at kept.sim
 
         kept_inside : length d.fields ≤ length keeps.fields
         kept_inside = let l = inside in let m = instr_fields (I.StoreTest holds) saves in omega (arith, l, m)
 
         pub narrowed_keeping : Begins (NamedLater g holds keeps) a (among shape v a) saved d for_test (with_instr (I.LogandContextWithTest shape) keeps) s narrows.t st
-        narrowed_keeping = turned_on (NamedLater g holds keeps) a a (among shape v a) saved d for_test keeps (I.LogandContextWithTest shape) s kept.0.t st kept_inside (λ q p differ. sym (among_beside shape v a q p differ)) keeping narrows
+        narrowed_keeping = turned_on (NamedLater g holds keeps) a a (among shape v a) saved d for_test keeps (I.LogandContextWithTest shape) s kept.t st kept_inside (λ q p differ. sym (among_beside shape v a q p differ)) keeping narrows
 
         test_kept : (p : ℕ) → p < processors (shapes g) shape → a shape p ≡ true → number_in g holds narrows.t p ≡ from_bool (nonzero (v p))
-        test_kept p below active = narrows.stays holds p keeps_flag.ends ∙ kept.1 p below active ∙ ap from_bool (flags_there p below active)
+        test_kept p below active = narrows.stays holds p kept.ends ∙ kept.has p below active ∙ ap from_bool (flags_there p below active)
 
         -- Behind the first part the saved context has been loaded. What is behind `else` begins where the kept flags say so.
         module _ (behind : Draft) (t : CodeState) (u : State) (first : Course g alive (length (with_instr (I.LogandContextWithTest shape) keeps).fields) a (with_instr (I.LogandContextWithTest shape) keeps) behind narrows.t t u)
@@ -250,16 +244,15 @@ module _ (g : Setting) (alive : Variable → Type 0) (flags : FlagsTurn g alive)
 
           test_there : (p : ℕ) → p < processors (shapes g) shape → a shape p ≡ true → number_in g holds t p ≡ from_bool (nonzero (v p))
           test_there p below active =
-              first.stays holds (length saves.code) (length behind.code) p (let z = sizes in omega (arith, z.1)) keeps_flag.own keeps_flag.ends named_keeps (let l = lengths in omega (arith, l.0, l.1)) named_loads (omega arith)
+              first.stays holds (length saves.code) (length behind.code) p (let z = sizes in omega (arith, z.1)) keeps_own kept.ends named_keeps (let l = lengths in omega (arith, l.0, l.1)) named_loads (omega arith)
               ∙ test_kept p below active
 
-          pub loaded : (r : Turned g alive a behind (I.LoadTest holds) t u) × ((p : ℕ) → p < processors (shapes g) shape → a shape p ≡ true → is_tested (shapes g) r.t.memory shape p ≡ nonzero (v p))
-          loaded = flags.load_test a holds behind t u (λ p. nonzero (v p)) keeps_flag (record { within = within_loads; here = first.at; sim = first.sim }) test_there
+          pub loaded : (back : Turned g places alive a a behind (I.LoadTest holds) t u) × ((p : ℕ) → p < processors (shapes g) shape → a shape p ≡ true → is_tested (shapes g) back.t.memory shape p ≡ nonzero (v p))
+          loaded = load_test g places alive a shape holds behind t u (λ p. nonzero (v p)) refl test_there within_loads first.at first.sim
 
-          pub turns : Turned g alive (others shape v a) loads (I.LogandcContextWithTest shape) loaded.0.t u
+          pub turns : Turned g places alive a (others shape v a) loads (I.LogandcContextWithTest shape) loaded.0.t u
           turns =
-              flags.and_not_test a (others shape v a) shape loads loaded.0.t u (record { within = later; here = loaded.0.at; sim = loaded.0.sim }) (λ p below active. others_active shape v a p active ∙ ap not (sym (loaded.1 p below active))) (λ p inactive. others_inactive shape v a p inactive)
-              (λ q p differ. others_beside shape v a q p differ)
+              turn_context g places alive a shape loads loaded.0.t u (others shape v a) (λ p below active. others_active shape v a p active ∙ ap not (sym (loaded.1 p below active))) (λ p below inactive. others_inactive shape v a p inactive) (λ q p differ. others_beside shape v a q p differ) later loaded.0.at loaded.0.sim
 
           pub turned_else : Begins (Unit {0}) a (others shape v a) saved d for_test (with_instr (I.LogandcContextWithTest shape) loads) s turns.t u
           turned_else =

@@ -16,10 +16,10 @@ use Rattle.source_meaning.specs.Statements.{Leaving, Onward}
 use Rattle.source_meaning.specs.Values.{Active}
 use Rattle.code_follows.proofs.Following.{Extends}
 use Rattle.code_follows.proofs.Settings.{Setting, Within, and_one, code_more, earlier}
-use Rattle.fields_follow.proofs.Courses.{AreSameBeside, Course, FlagsTurn, IsFlag, Stored, Turned, course_from, course_of, course_on, course_stored, course_turned, leaves_of}
+use Rattle.fields_follow.proofs.Courses.{AreSameBeside, Course, course_from, course_of, course_on, course_stored, course_turned, leaves_of}
+use Rattle.fields_follow.proofs.Flags.{Stored, Turned, load_context}
 use Rattle.fields_follow.proofs.Instructions.{number_in, shapes}
-use Rattle.fields_follow.proofs.Leaving.{Leaves, under, within_under}
-use Rattle.fields_follow.proofs.Named.{NamesFields}
+use Rattle.fields_follow.proofs.Leaving.{EndsBelow, Leaves, under, within_under}
 use Rattle.fields_follow.proofs.Passing.{After, code_longer, fields_longer}
 use Rattle.fields_follow.proofs.Places.{IsOwnField, PlacesFields, stands_here}
 
@@ -59,12 +59,6 @@ module _ (g : Setting) where
   named_next i saved e within plain names = (i, stands_here g i e within plain, subst (λ (fields : List Field). Any (λ (f : Field). entry_of f ≡ saved.offset) fields) (sym names) (0, saved, omega arith, refl, refl))
 
   module _ (alive : Variable → Type 0) where
-    -- an own entry of one bit that is the only field of the next instruction, and its set
-    pub flag_next : (places : PlacesFields g) (i : Instr) (saved : Field) (e : Draft) → IsOwnField g saved → saved.len ≡ 1 → Within g (with_instr i e) → step_of i ≡ Plain i → NamesFields i → fields_of i ≡ saved ∷ [] → IsFlag g alive saved × (saved.set < length (shapes g))
-    flag_next places i saved e own bit within plain simple names =
-        let h = places.ends (length e.code) i saved [] (stands_here g i e within plain) plain simple names in
-        (record { own = own; bit = bit; ends = h.1 }, h.0)
-
     -- the code of a statement goes on in the source and leaves its state, where these positions are active
     abbrev pub Runs : Active → Draft → CodeState → Outcome Leaving → ℕ → Draft → Type 0
     Runs a d s o m e = (u : State) × ((o ≡ Gives Onward u) × Leaves (under g a) alive d e s u)
@@ -72,42 +66,44 @@ module _ (g : Setting) where
     -- The context of a set, as it is where some positions are active, is saved in an own entry. Where that is named later
     -- it has stayed there since, while other positions became active.
     pub record Saved (named : Type 0) (bound : ℕ) (a b : Active) (saved : Field) (d e : Draft) (s t : CodeState) (u : State) : Type 0 where
-      pub flag : IsFlag g alive saved
+      pub own : IsOwnField g saved
+      pub ends : EndsBelow g saved
       pub inside : saved.offset < length e.fields
       pub first : ℕ
       pub named_at : IsNamedAt g.unit saved.offset first
       pub before : first < length e.code
-      pub beside : AreSameBeside g alive saved.set b a
+      pub beside : AreSameBeside saved.set b a
       pub course : named → (later : ℕ) → IsNamedAt g.unit saved.offset later → length e.code ≤ later → Course g alive bound b d e s t u
       pub holds : named → (later : ℕ) → IsNamedAt g.unit saved.offset later → length e.code ≤ later → (p : ℕ) → p < processors (shapes g) saved.set → number_in g saved t p ≡ from_bool (a saved.set p)
 
     -- a context is saved behind other code
-    pub saved_next : (bound : ℕ) (a : Active) (saved : Field) (d e : Draft) (s t : CodeState) (u : State) → bound ≤ saved.offset → saved.offset < length e.fields → IsFlag g alive saved → Within g (with_instr (I.StoreContext saved) e) → Course g alive bound a d e s t u
-        → (stored : (r : Stored g alive a saved e (I.StoreContext saved) t u) × ((p : ℕ) → p < processors (shapes g) saved.set → number_in g saved r.t p ≡ from_bool (a saved.set p)))
-        → Saved (Unit {0}) bound a a saved d (with_instr (I.StoreContext saved) e) s stored.0.t u
+    pub saved_next : (places : PlacesFields g) (bound : ℕ) (a : Active) (saved : Field) (d e : Draft) (s t : CodeState) (u : State) → bound ≤ saved.offset → saved.offset < length e.fields → IsOwnField g saved → Within g (with_instr (I.StoreContext saved) e) → Course g alive bound a d e s t u
+        → (stored : Stored g places alive a saved.set saved e (I.StoreContext saved) t u (λ p. Unit {0}) (λ p. from_bool (a saved.set p))) → Saved (Unit {0}) bound a a saved d (with_instr (I.StoreContext saved) e) s stored.t u
     unfolding step_of
-    saved_next bound a saved d e s t u newer inside flag within x stored =
+    saved_next places bound a saved d e s t u newer inside own within x stored =
         let i : Instr = I.StoreContext saved in
         let long : length (with_instr i e).code ≡ length e.code + 1 = code_more g i e in
         record {
-          flag = flag;
+          own = own;
+          ends = stored.ends;
           inside = let l = fields_longer e (with_instr i e) 1 (and_one g i e) in omega (arith, inside, l);
           first = length e.code;
           named_at = named_next i saved e within refl refl;
           before = omega (arith, long);
           beside = λ q p differ. refl;
-          course = λ anything later named behind. course_on g alive bound bound a a d e (with_instr i e) s t stored.0.t u u (omega arith) x
-              (course_stored g alive bound a saved e i t u later newer named (omega (arith, behind, long)) stored.0);
-          holds = λ anything later named behind. stored.1;
+          course = λ anything later named behind. course_on g alive bound bound a a d e (with_instr i e) s t stored.t u u (omega arith) x
+              (course_stored g alive places bound a saved.set saved e i t u (λ p. Unit {0}) (λ p. from_bool (a saved.set p)) later newer named (omega (arith, behind, long)) stored);
+          holds = λ anything later named behind p below. stored.has p below tt;
         }
 
     -- it stays there on a course, which there may be where more is named
-    pub saved_on : (one both : Type 0) (bound other : ℕ) (a b c : Active) (saved : Field) (d e f : Draft) (s t r : CodeState) (u v : State) → (both → one) → bound ≤ other → saved.offset < other → ((n : ℕ) × Extended e n f) → AreSameBeside g alive saved.set c a
+    pub saved_on : (one both : Type 0) (bound other : ℕ) (a b c : Active) (saved : Field) (d e f : Draft) (s t r : CodeState) (u v : State) → (both → one) → bound ≤ other → saved.offset < other → ((n : ℕ) × Extended e n f) → AreSameBeside saved.set c a
         → (both → Course g alive other c e f t r v) → Saved one bound a b saved d e s t u → Saved both bound a c saved d f s r v
     saved_on one both bound other a b c saved d e f s t r u v fewer more below longer beside course x =
         let l = code_longer e f longer.0 longer.1 in
         record {
-          flag = x.flag;
+          own = x.own;
+          ends = x.ends;
           inside = let fields = fields_longer e f longer.0 longer.1 in let inside = x.inside in omega (arith, fields, inside);
           first = x.first;
           named_at = x.named_at;
@@ -115,7 +111,7 @@ module _ (g : Setting) where
           beside = beside;
           course = λ named later at behind. course_on g alive bound other b c d e f s t r u v more (x.course (fewer named) later at (omega (arith, l, behind))) (course named);
           holds = λ named later at behind p inside.
-              (course named).stays saved x.first later p below x.flag.own x.flag.ends x.named_at x.before at behind ∙ x.holds (fewer named) later at (omega (arith, l, behind)) p inside;
+              (course named).stays saved x.first later p below x.own x.ends x.named_at x.before at behind ∙ x.holds (fewer named) later at (omega (arith, l, behind)) p inside;
         }
 
     -- Behind a part the saved context is loaded.
@@ -125,34 +121,34 @@ module _ (g : Setting) where
       pub t : CodeState
       pub course : Course g alive (length e.fields) a e f s t u
 
-    pub closes : (flags : FlagsTurn g alive) (named : Type 0) (bound : ℕ) (a b : Active) (saved : Field) (d e h : Draft) (s t : CodeState) (u : State) (o : Outcome Leaving) (m : ℕ) → named → Saved named bound a b saved d e s t u → Within g (with_instr (I.LoadContext saved) h) → Runs b e t o m h
+    pub closes : (places : PlacesFields g) (named : Type 0) (bound : ℕ) (a b : Active) (saved : Field) (d e h : Draft) (s t : CodeState) (u : State) (o : Outcome Leaving) (m : ℕ) → named → Saved named bound a b saved d e s t u → Within g (with_instr (I.LoadContext saved) h) → Runs b e t o m h
         → Closes a e (with_instr (I.LoadContext saved) h) t o
     unfolding step_of
-    closes flags named bound a b saved d e h s t u o m given x within runs =
+    closes places named bound a b saved d e h s t u o m given x within runs =
         let v : State = runs.0 in
         let leaves = runs.1.1 in
         let i : Instr = I.LoadContext saved in
         let part : Course g alive (length e.fields) b e h t leaves.t v = course_of g alive b e h t v leaves in
         let at : IsNamedAt g.unit saved.offset (length h.code) = named_next i saved h within refl refl in
         let long = code_longer e h part.grown.0 part.grown.1 in
-        let turned : Turned g alive a h i leaves.t v = flags.load_context b a saved h leaves.t v x.flag (record { within = within; here = part.at; sim = part.sim })
-        (λ p inside. part.stays saved x.first (length h.code) p x.inside x.flag.own x.flag.ends x.named_at x.before at (omega arith) ∙ x.holds given (length h.code) at long p inside) x.beside in
+        let turned : Turned g places alive b a h i leaves.t v = load_context g places alive b saved.set saved h leaves.t v a refl
+        (λ p inside. part.stays saved x.first (length h.code) p x.inside x.own x.ends x.named_at x.before at (omega arith) ∙ x.holds given (length h.code) at long p inside) x.beside within part.at part.sim in
         record {
           u = v;
           is = runs.1.0;
           t = turned.t;
-          course = course_on g alive (length e.fields) (length e.fields) b a e h (with_instr i h) t leaves.t turned.t v v (omega arith) part (course_turned g alive (length e.fields) a h i leaves.t v turned);
+          course = course_on g alive (length e.fields) (length e.fields) b a e h (with_instr i h) t leaves.t turned.t v v (omega arith) part (course_turned g alive places (length e.fields) b a h i leaves.t v turned);
         }
 
     -- so a part is closed by it
-    pub closed : (flags : FlagsTurn g alive) (named : Type 0) (a b : Active) (saved : Field) (d r e : Draft) (s t : CodeState) (u : State) (o : Outcome Leaving) (made : Made ℕ) → named → length d.fields ≤ length e.fields → Extended d 0 r
+    pub closed : (places : PlacesFields g) (named : Type 0) (a b : Active) (saved : Field) (d r e : Draft) (s t : CodeState) (u : State) (o : Outcome Leaving) (made : Made ℕ) → named → length d.fields ≤ length e.fields → Extended d 0 r
         → Saved named (length d.fields) a b saved r e s t u → After g (Runs b e t o) made → After g (Runs a d s o) (closing saved made)
     unfolding After closing then_make step_of
-    closed flags named a b saved d r e s t u o Fails given less taken x part = tt
-    closed flags named a b saved d r e s t u o (Makes m h) given less taken x part = λ w.
+    closed places named a b saved d r e s t u o Fails given less taken x part = tt
+    closed places named a b saved d r e s t u o (Makes m h) given less taken x part = λ w.
         let i : Instr = I.LoadContext saved in
         let within : Within g h = earlier g h (with_instr i h) 1 (and_one g i h) w in
-        let c : Closes a e (with_instr i h) t o = closes flags (named) (length d.fields) a b saved r e h s t u o m given x w (part within) in
+        let c : Closes a e (with_instr i h) t o = closes places named (length d.fields) a b saved r e h s t u o m given x w (part within) in
         let runs : Runs b e t o m h = part within in
         let at : IsNamedAt g.unit saved.offset (length h.code) = named_next i saved h w refl refl in
         let long : length e.code ≤ length h.code = code_longer e h runs.1.1.grown.0 runs.1.1.grown.1 in
