@@ -40,8 +40,8 @@ use Rattle.fields_follow.proofs.Forms.{HasItsCode}
 use Rattle.fields_follow.proofs.Instructions.{SameExtents, extents, shapes}
 use Rattle.fields_follow.proofs.Leaving.{Leaves, UpdateLeaves, fields_under, places_under, registers_under, under, within_again, within_under}
 use Rattle.fields_follow.proofs.Meaning.{value_in}
-use Rattle.fields_follow.proofs.Narrowing.{Begins, NamedLater, among, narrowed_alone, narrowed_keeping, narrows, narrows_alone, others, turned_else, turned_on, turns}
-use Rattle.fields_follow.proofs.Passing.{After, after_same, after_weaker, code_longer, fields_longer, made_after, then_after}
+use Rattle.fields_follow.proofs.Narrowing.{Begins, among, narrowed_alone, narrowed_keeping, narrows, narrows_alone, others, turned_else, turned_on, turns}
+use Rattle.fields_follow.proofs.Passing.{After, Behind, after_same, after_weaker, code_longer, fields_longer, made_after, then_after}
 use Rattle.fields_follow.proofs.Places.{IsOwnField, PlacesFields, stands_here}
 use Rattle.fields_follow.proofs.Saving.{Closes, Runs, after_again, after_itself, after_there, after_within, closed, closes, named_next, saved_next, then_later}
 use Rattle.fields_follow.proofs.Selective.{AllSelect, ElseSelects, Selects, selective_selects, closing_grows, nothing_declared, otherwise_grows, row_grows, statement_grows}
@@ -287,7 +287,7 @@ module _ (g : Setting) (has : HasRegisters g) (alive : Variable → Type 0) (n :
           let one : Outcome Leaving = executed scope first k b st in
           let two : State → Outcome Leaving = else_executed scope (Some' q second) (k + declared first) z in
           let t : CodeState = (narrows g alive places a shape v d known s st w x w_inner).t in
-          let begins : Begins g alive places (NamedLater g holds (keeps known)) a b saved d for_test (inner known) s t st = narrowed_keeping g alive places a shape v d known s st w x w_inner in
+          let begins : Begins g alive places (Behind g holds (keeps known)) a b saved d for_test (inner known) s t st = narrowed_keeping g alive places a shape v d known s st w x w_inner in
           let behind : Draft = with_instr (I.LoadContext saved) h in
           let loads : Draft = with_instr (I.LoadTest holds) behind in
           let made_two : Made ℕ = made_else j behind in
@@ -298,7 +298,7 @@ module _ (g : Setting) (has : HasRegisters g) (alive : Variable → Type 0) (n :
           let runs : Runs g alive b (inner known) t one j h = part w_h in
           let long : length (keeps known).code ≤ length behind.code =
           let l = code_longer (inner known) h runs.1.1.grown.0 runs.1.1.grown.1 in let m = code_more g (I.LogandContextWithTest shape) (keeps known) in let n = code_more g (I.LoadContext saved) h in omega (arith, l, m, n) in
-          let c : Closes g alive a (inner known) behind t one = closes g alive places (NamedLater g holds (keeps known)) (length d.fields) a b saved for_test (inner known) h s t st one j (length behind.code, (named_next g (I.LoadTest holds) holds behind w_loads refl refl, long)) begins.saved w_behind runs in
+          let c : Closes g alive a (inner known) behind t one = closes g alive places (Behind g holds (keeps known)) (length d.fields) a b saved for_test (inner known) h s t st one j (length behind.code, (named_next g (I.LoadTest holds) holds behind w_loads refl refl, long)) begins.saved w_behind runs in
           let r : CodeState = (turns g alive places a shape v d known s st w x w_inner behind c.t c.u c.course w_turned).t in
           let back : Begins g alive places (Unit {0}) a z saved d for_test (turns_back behind) s r c.u = turned_else g alive places a shape v d known s st w x w_inner behind c.t c.u c.course w_turned in
           after_weaker g (λ i e. Runs g alive a d s (two c.u) i e) Q (closing saved made_two)

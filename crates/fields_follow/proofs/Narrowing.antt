@@ -22,7 +22,7 @@ use Rattle.fields_follow.proofs.Courses.{AreSameBeside, Course, course_less, cou
 use Rattle.fields_follow.proofs.Flags.{Stored, Turned, load_test, narrow_context, store_context, store_test, turn_context}
 use Rattle.fields_follow.proofs.Instructions.{number_in, shapes}
 use Rattle.fields_follow.proofs.Leaving.{fields_under, under}
-use Rattle.fields_follow.proofs.Passing.{code_longer, fields_longer}
+use Rattle.fields_follow.proofs.Passing.{Behind, code_longer, fields_longer}
 use Rattle.fields_follow.proofs.Places.{IsOwnField, PlacesFields}
 use Rattle.fields_follow.proofs.Saving.{Saved, named_next, saved_next, saved_on}
 use Rattle.fields_follow.proofs.TestFlags.{LeavesTests}
@@ -89,10 +89,6 @@ module _ (set : ℕ) (v : ℕ → ℕ) (a : Active) where
   others_beside q p differ = narrowed_beside set (λ q. v q == 0) a q p differ
 
 -- ---- what the code does
-
--- the place of the field is named behind a draft
-abbrev pub NamedLater : Setting → Field → Draft → Type 0
-NamedLater g f e = (later : ℕ) × (IsNamedAt g.unit f.offset later × (length e.code ≤ later))
 
 module _ (g : Setting) (alive : Variable → Type 0) (places : PlacesFields g) where
   -- The code stands where a part begins, and a context has been saved in a field.
@@ -188,11 +184,11 @@ module _ (g : Setting) (alive : Variable → Type 0) (places : PlacesFields g) w
         flags_kept : (p : ℕ) → p < processors (shapes g) shape → a shape p ≡ true → is_tested (shapes g) kept.t.memory shape p ≡ nonzero (v p)
         flags_kept p below active = kept.tests shape p ∙ flags_there p below active
 
-        keeping : Begins (NamedLater g holds keeps) a a saved d for_test keeps s kept.t st
+        keeping : Begins (Behind g holds keeps) a a saved d for_test keeps s kept.t st
         keeping = record {
           here = kept.at;
           sim = kept.sim;
-          saved = saved_on g alive (Unit {0}) (NamedLater g holds keeps) (length d.fields) (length begun.fields) a a a saved for_test saves keeps s stored.t kept.t st st (λ named. tt) (let c = counts in omega (arith, c.0)) (let c = counts in omega (arith, c.0)) (1, and_one g (I.StoreTest holds) saves) (λ q p differ. refl)
+          saved = saved_on g alive (Unit {0}) (Behind g holds keeps) (length d.fields) (length begun.fields) a a a saved for_test saves keeps s stored.t kept.t st st (λ named. tt) (let c = counts in omega (arith, c.0)) (let c = counts in omega (arith, c.0)) (1, and_one g (I.StoreTest holds) saves) (λ q p differ. refl)
               (λ named. course_stored g alive places (length begun.fields) a shape holds saves (I.StoreTest holds) stored.t st (λ p. a shape p ≡ true) (λ p. from_bool (is_tested (shapes g) stored.t.memory shape p)) named.0 (omega arith) named.1.0 (let l = named.1.1 in let m = code_more g (I.StoreTest holds) saves in omega (arith, l, m)) kept) begins.saved;
         }
 
@@ -203,8 +199,8 @@ module _ (g : Setting) (alive : Variable → Type 0) (places : PlacesFields g) w
         kept_inside : length d.fields ≤ length keeps.fields
         kept_inside = let l = inside in let m = instr_fields (I.StoreTest holds) saves in omega (arith, l, m)
 
-        pub narrowed_keeping : Begins (NamedLater g holds keeps) a (among shape v a) saved d for_test (with_instr (I.LogandContextWithTest shape) keeps) s narrows.t st
-        narrowed_keeping = turned_on (NamedLater g holds keeps) a a (among shape v a) saved d for_test keeps (I.LogandContextWithTest shape) s kept.t st kept_inside (λ q p differ. sym (among_beside shape v a q p differ)) keeping narrows
+        pub narrowed_keeping : Begins (Behind g holds keeps) a (among shape v a) saved d for_test (with_instr (I.LogandContextWithTest shape) keeps) s narrows.t st
+        narrowed_keeping = turned_on (Behind g holds keeps) a a (among shape v a) saved d for_test keeps (I.LogandContextWithTest shape) s kept.t st kept_inside (λ q p differ. sym (among_beside shape v a q p differ)) keeping narrows
 
         test_kept : (p : ℕ) → p < processors (shapes g) shape → a shape p ≡ true → number_in g holds narrows.t p ≡ from_bool (nonzero (v p))
         test_kept p below active = narrows.stays holds p kept.ends ∙ kept.has p below active ∙ ap from_bool (flags_there p below active)
@@ -238,7 +234,7 @@ module _ (g : Setting) (alive : Variable → Type 0) (places : PlacesFields g) w
           back = record {
             here = first.at;
             sim = first.sim;
-            saved = saved_on g alive (NamedLater g holds keeps) (Unit {0}) (length d.fields) (length (with_instr (I.LogandContextWithTest shape) keeps).fields) a (among shape v a) a saved for_test (with_instr (I.LogandContextWithTest shape) keeps) behind s narrows.t t st u
+            saved = saved_on g alive (Behind g holds keeps) (Unit {0}) (length d.fields) (length (with_instr (I.LogandContextWithTest shape) keeps).fields) a (among shape v a) a saved for_test (with_instr (I.LogandContextWithTest shape) keeps) behind s narrows.t t st u
                 (λ given. (length behind.code, (named_loads, let l = lengths in omega (arith, l.1, l.2)))) (let z = sizes in omega (arith, z.0, z.1)) (let z = sizes in omega (arith, z.0, z.1)) first.grown (λ q p differ. refl) (λ given. first) narrowed_keeping.saved;
           }
 
