@@ -1,6 +1,7 @@
 pub mod Assigning
 pub mod Bits
 pub mod Contexts
+pub mod Courses
 pub mod Effects
 pub mod Example
 pub mod Expressions
@@ -14,6 +15,7 @@ pub mod Joining
 pub mod Leaving
 pub mod Meaning
 pub mod Named
+pub mod Narrowing
 pub mod Operands
 pub mod Passing
 pub mod Places
@@ -22,6 +24,10 @@ pub mod Programs
 pub mod Quiet
 pub mod Reducing
 pub mod Reductions
+pub mod Relations
+pub mod Saving
+pub mod Selective
+pub mod TestFlags
 pub mod Testing
 pub mod Updates
 pub mod Values

@@ -17,7 +17,7 @@ use Rattle.source_meaning.specs.Expressions.{evaluated, mapped, operated}
 use Rattle.source_meaning.specs.State.{Gives, Outcome, State, then_do}
 use Rattle.source_meaning.specs.Targets.{read, variable_target}
 use Rattle.source_meaning.specs.Values.{Active, Parallel, Scalar, Scope, Value, at, convert_to, each, failing, own_coordinate, positions, unary_of, unless}
-use Rattle.source_meaning.proofs.ConstantLaws.{value_means}
+use Rattle.source_meaning.proofs.ConstantLaws.{Boxed, value_means}
 use Rattle.vp_sets.specs.Positions.{coordinate}
 use Rattle.fields_follow.specs.Fragment.{IsEverywhere, IsPromoted, IsPure, IsScalarName}
 use Rattle.cstar_base.specs.declared.elem.Elem.{Elem}
@@ -146,6 +146,15 @@ module _ (scope : Scope) (active : Active) where
   promoted_means set (T.Brackets' ty p inner) st is = promoted_means set inner st is.1
   promoted_means set _ st is = absurd is
 
+  -- an operator that never fails on two operands that change nothing
+  pub binary_means : (set : ℕ) (ty : ValueType) (place : Place) (op : Op) (p q : Boxed) (left right : TExpr) (v w : ℕ → ℕ) (st : State) → ty.shape ≡ Some set → divides op ≡ false → evaluated scope left active st ≡ Gives (Parallel v) st → evaluated scope right active st ≡ Gives (Parallel w) st
+      → evaluated scope (T.Binary' ty place op p left q right) active st ≡ Gives (Parallel (λ x. outcome op 32 (not (type_of left).elem.signed) (v x) (w x))) st
+  unfolding evaluated then_do at
+  binary_means set ty place op p q left right v w st shaped no_check one other =
+      ap (λ (o : Outcome Value). then_do o (λ x between. then_do (evaluated scope right active between) (λ y after. operated scope active ty place op (not (type_of left).elem.signed) x y after))) one
+      ∙ ap (λ (o : Outcome Value). then_do o (λ y after. operated scope active ty place op (not (type_of left).elem.signed) (Parallel v) y after)) other
+      ∙ operated_is ty set place op (not (type_of left).elem.signed) (Parallel v) (Parallel w) st shaped no_check
+
   pub pure_means : (set : ℕ) (e : TExpr) (st : State) → IsPure set e → evaluated scope e active st ≡ Gives (Parallel (λ q. value_in (scope.extents set) st e q)) st
   unfolding IsPure evaluated value_in then_do at convert_to each own_coordinate
   pure_means set (T.Variable ty (V.File k)) st is = ap (λ (v : Value). Gives v st) (read_is ty set k st is.0)
@@ -154,14 +163,8 @@ module _ (scope : Scope) (active : Active) where
       ap (λ (o : Outcome Value). then_do o (λ v after. Gives (mapped ty (unary_of op) v) after)) (pure_means set operand st is.2)
       ∙ ap (λ (v : Value). Gives v st) (mapped_is ty set (unary_of op) (Parallel (λ q. value_in (scope.extents set) st operand q)) is.0.0)
   pure_means set (T.Binary' ty place op p left q right) st is =
-      both (λ q. value_in (scope.extents set) st left q) (λ q. value_in (scope.extents set) st right q) (either (λ h. pure_means set left st h) (λ h. promoted_means set left st h) (left_of set left right is.2)) (either (λ h. pure_means set right st h) (λ h. promoted_means set right st h) (right_of set left right is.2))
-    where
-      both : (v w : ℕ → ℕ) → evaluated scope left active st ≡ Gives (Parallel v) st → evaluated scope right active st ≡ Gives (Parallel w) st
-          → then_do (evaluated scope left active st) (λ x between. then_do (evaluated scope right active between) (λ y after. operated scope active ty place op (not (type_of left).elem.signed) x y after)) ≡ Gives (Parallel (λ q. outcome op 32 (not (type_of left).elem.signed) (v q) (w q))) st
-      both v w one other =
-          ap (λ (o : Outcome Value). then_do o (λ x between. then_do (evaluated scope right active between) (λ y after. operated scope active ty place op (not (type_of left).elem.signed) x y after))) one
-          ∙ ap (λ (o : Outcome Value). then_do o (λ y after. operated scope active ty place op (not (type_of left).elem.signed) (Parallel v) y after)) other
-          ∙ operated_is ty set place op (not (type_of left).elem.signed) (Parallel v) (Parallel w) st is.0.0 is.1.1
+      binary_means set ty place op p q left right (λ q. value_in (scope.extents set) st left q) (λ q. value_in (scope.extents set) st right q) st is.0.0 is.1.1
+      (either (λ h. pure_means set left st h) (λ h. promoted_means set left st h) (left_of set left right is.2)) (either (λ h. pure_means set right st h) (λ h. promoted_means set right st h) (right_of set left right is.2))
   pure_means set (T.Convert' ty p operand) st is =
       ap (λ (o : Outcome Value). then_do o (λ v after. Gives (convert_to ty (type_of operand).elem v) after)) (pure_means set operand st is.1)
       ∙ ap (λ (y : ValueType). Gives (convert_to y (type_of operand).elem (Parallel (λ q. value_in (scope.extents set) st operand q))) st) (as_shaped ty set is.0.0)

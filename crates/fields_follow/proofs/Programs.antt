@@ -1,5 +1,5 @@
 -- The run of a program with parallel variables: what its memory holds from the first instruction to the end.
-use Rattle.std.proofs.Common.{◌≡◌, ◌∙◌, ℕ, ◌<◌, ◌^◌, ◌⊎◌, inl, inr, true, List, slice_get, Option, Some, None, refl, sym, ap, subst}
+use Rattle.std.proofs.Common.{◌≡◌, ◌∙◌, ℕ, ◌<◌, ◌^◌, ◌⊎◌, inl, inr, true, List, [], slice_get, Option, Some, None, refl, sym, ap, subst}
 use Rattle.std.proofs.lemmas.Nat.{pow_pos}
 use Rattle.cstar_base.specs.declared.operators.Winner.{Winner}
 use Rattle.cstar_compile.specs.Compiled.{IsCompiled}
@@ -46,9 +46,8 @@ abbrev pub everywhere : Active
 everywhere = λ set p. true
 
 -- the code of a pure parallel expression leaves its numbers in a field
-operands_follow : (g : Setting) (has : HasRegisters g) (scope : Scope) (places : PlacesFields g) (fields : HoldsTheFields g) (full : (set p : ℕ) → fields.active set p ≡ true) (alive : Variable → Type 0) → (n : ℕ) → ((d : Draft) → IsReady g.typed g.instance (layout g) n d)
-    → OperandsStand g has scope places fields full alive n
-operands_follow g has scope places fields full alive n ready set e is c d s st here sim =
+operands_follow : (g : Setting) (has : HasRegisters g) (places : PlacesFields g) (fields : HoldsTheFields g) (alive : Variable → Type 0) → (n : ℕ) → ((d : Draft) → IsReady g.typed g.instance (layout g) n d) → OperandsStand g alive n
+operands_follow g has places fields alive n ready set e is c d s st here sim =
     operand_after g has alive n ready places fields set e true is c.code.names (pure_after g has alive n ready places fields set e is c) d s st here sim
 
 -- what is known of a unit of such a program where everything is active
@@ -56,7 +55,6 @@ record KnowsFields (g : Setting) (scope : Scope) (a : Active) : Type 1 where
   pub places : PlacesFields g
   pub fields : HoldsTheFields g
   pub is_active : fields.active ≡ a
-  pub full : (set q : ℕ) → fields.active set q ≡ true
   pub same_extents : SameExtents g scope
   pub effects : (e : TExpr) → g.may.beside.effects e → IsUpdate e
   pub folds : (e : TExpr) → g.may.beside.folds e → IsFold e
@@ -69,7 +67,7 @@ besides g scope a k has = record {
   expressions = subst (λ (active : Active). ExpressionsFollow g has scope active) k.is_active (record {
     effects = λ alive files n ready e h among c d s st free here sim. updates_follow g has alive n ready k.places k.fields scope k.same_extents e (k.effects e h) (record { code = c; among = among }) d s st here sim;
     folds = λ alive files n ready e h among c d s st R r free here sim dest.
-        folds_follow g has scope k.places k.fields k.full alive n (operands_follow g has scope k.places k.fields k.full alive n ready) k.same_extents e (k.folds e h) (record { code = c; among = among }) d s st R r free.regs here sim dest;
+        folds_follow g alive scope k.places k.fields n (operands_follow g has k.places k.fields alive n ready) k.same_extents has e (k.folds e h) (record { code = c; among = among }) d s st R r here sim dest;
   });
   wheres = λ alive files n ready shape test p first second h. absurd (k.conditions shape test h);
   widenings = λ alive files n ready shape p body h. absurd (k.widens shape h);
@@ -98,7 +96,6 @@ module _ (t : Typed) (image : Image) (p : IsParallelProgram t) (codable : IsCoda
     places = places number i is opens most;
     fields = record { active = everywhere; opens = λ st m h. h; closes = λ st m h. h };
     is_active = refl;
-    full = λ set q. refl;
     same_extents = same_extents number i is opens most;
     effects = λ e h. h;
     folds = λ e h. h;

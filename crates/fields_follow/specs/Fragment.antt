@@ -1,6 +1,7 @@
 -- The programs with parallel variables of which it is said so far that their code means them. Their parallel
 -- expressions are pure ones of 32 bits, of variables of the file, own coordinates and promoted scalars, which change
--- nothing and never fail; they are assigned to such variables, and folded into numbers. Everything is active.
+-- nothing and never fail; they are assigned to such variables, also under `where` and `everywhere`, and folded into
+-- numbers where everything is active.
 use Rattle.std.specs.Prelude.{ℕ, ◌≡◌, ◌<◌, ◌^◌, ◌⊎◌, [], false, IfSome, Some, None}
 use Rattle.cstar_base.specs.declared.operators.Op.{Op}
 use Rattle.cstar_base.specs.Operators.{divides}
@@ -116,7 +117,7 @@ abbrev pub IsParallelVariable : VarInfo → Type 0
 IsParallelVariable info = (set : ℕ) × ((info.shape ≡ Some set) × (info.array ≡ None) × (info.elem.bits ≡ 32))
 
 -- A program of functions on scalars, without recursion, and of parallel variables of the file: such updates are
--- statements, also within `with`, and such folds stand within scalar expressions.
+-- statements, also within `with` and under contexts, and such folds stand within scalar expressions.
 abbrev pub fields_beside : Beside
 fields_beside = record { effects = IsUpdate; folds = IsFold; conditions = λ set e. ⊥; widens = λ set. ⊥; variables = IsParallelVariable }
 
