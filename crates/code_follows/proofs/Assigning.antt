@@ -1,6 +1,6 @@
 -- The code of assignments to scalar variables, and of steps.
 use Rattle.std.specs.List.{All}
-use Rattle.std.proofs.Common.{◌≡◌, ◌∙◌, ℕ, ◌+◌, ◌<◌, ◌≤◌, ◌^◌, ◌&&◌, Bool, true, not, inl, inr, length-append, Vec, Global, length, slice_index, Option, Some, None, refl, sym, ap, subst, if◌then◌else◌, arith}
+use Rattle.std.proofs.Common.{◌≡◌, ◌∙◌, ℕ, ◌+◌, ◌<◌, ◌^◌, ◌&&◌, Bool, true, not, inl, inr, length-append, Vec, Global, length, slice_index, Option, Some, None, refl, sym, ap, subst, if◌then◌else◌, arith}
 use Rattle.std.specs.Prelude.{IfSome, is_none, ◌||◌, ◌==◌}
 use Rattle.cstar_base.specs.declared.elem.Elem.{Elem}
 use Rattle.cstar_base.specs.declared.operators.Op.{Op}
@@ -56,7 +56,7 @@ use Rattle.code_follows.proofs.Callees.{CallsFollow, MayCall, TakesThese}
 use Rattle.code_follows.proofs.Passing.{call_follows, call_runs}
 use Rattle.code_follows.proofs.Following.{Arrives, Extends, Follows, HasRegisters, IsScalar, Ran, Sim, follows_other, follows_same, keeps_all, keeps_less, then_follows, then_gives, then_silent}
 use Rattle.code_follows.proofs.Putting.{Put, put_follows}
-use Rattle.code_follows.proofs.Settings.{At, Begun, Setting, layout, stay}
+use Rattle.code_follows.proofs.Settings.{At, Begun, Setting, layout, stay, begun_later}
 use Rattle.code_follows.proofs.Standing.{some_same}
 use Rattle.code_follows.proofs.Targets.{TargetIs, assign_means, step_means, target_type, variable_in}
 use Rattle.code_follows.proofs.Values.{fresh_dest, with_reg, Value_of, HasWord, extends_in_register, word_follows}
@@ -281,7 +281,7 @@ module _ (g : Setting) (has : HasRegisters g) (alive : Variable → Type 0) (n :
           let regs = x.regs in
           let same : length begun.code ≡ length d.code = let more = length-append d.code x.more in let none = x.long in omega (arith, ap length x.code, more, none) in
           follows_other g (λ v u out e. Ran g alive begun s u e) (λ v u out e. Ran g alive d s u e) s (evaluated scope (T.Call' ty index p row) active st) (code dest begun)
-          (call_runs g has alive files scope active calls_follow m row done known.1 is dest begun s st (omega (arith, free, regs)) (let there = here in omega (arith, there, same)) sim)
+          (call_runs g has alive files scope active calls_follow m row done known.1 is dest begun s st (begun_later g d begun 0 x free) (let there = here in omega (arith, there, same)) sim)
           (λ v u out e r. record { grown = (0 + r.grown.0, extended d begun e 0 r.grown.0 x r.grown.1); t = r.t; go = r.go; at = r.at; sim = r.sim; keeps = keeps_less g d begun s r.t regs r.keeps })
 
       no_shape : (info : VarInfo) → m.callee.callee.result ≡ Some info → ty.shape ≡ None

@@ -1,6 +1,6 @@
 -- Parallel expressions and statements under contexts beside scalar ones: what is known of the code of those that a
 -- program may have.
-use Rattle.std.proofs.Common.{◌≡◌, ℕ, ◌+◌, List, [], ◌∷◌, ◌++◌, length}
+use Rattle.std.proofs.Common.{◌≡◌, ℕ, List, [], ◌∷◌, ◌++◌, length}
 use Rattle.cstar_tree.specs.declared.typed.TExpr.{TExpr}
 use Rattle.cstar_tree.specs.declared.typed.TStmt.{TStmt, Held-TStmt-If-2, Some'}
 use Rattle.cstar_tree.specs.declared.typed.TStmt as S
@@ -50,13 +50,13 @@ module _ (g : Setting) (scope : Scope) where
       → Follows g (λ leaving u m e. (leaving ≡ Onward) × Ran g alive d t u e) t (executed scope s n active st) (statement_of g.typed (layout g) s f contexts n d)
 
 -- the same unit under contexts, where this is held of the memory and what is said of the code holds between these
--- places
-abbrev pub under_held : Setting → Held → ℕ → ℕ → Setting
-under_held g held from upto = record g { may = under_contexts g.may; held = held; from = from; upto = upto }
+-- places, with so many entries at the first
+abbrev pub under_held : Setting → Held → ℕ → ℕ → ℕ → Setting
+under_held g held from entries upto = record g { may = under_contexts g.may; held = held; from = from; entries = entries; upto = upto }
 
 -- it has the same registers
-pub registers_under : (g : Setting) (held : Held) (from upto : ℕ) → HasRegisters g → HasRegisters (under_held g held from upto)
-registers_under g held from upto h = record {
+pub registers_under : (g : Setting) (held : Held) (from entries upto : ℕ) → HasRegisters g → HasRegisters (under_held g held from entries upto)
+registers_under g held from entries upto h = record {
   below = h.below;
   free = h.free;
   behind_files = h.behind_files;
@@ -74,9 +74,9 @@ module _ (Known : Setting → Scope → Active → Type 1) (g : Setting) (scope 
   -- a part under contexts: its code is made, and wherever fields are known it comes to its end as the source does
   pub record Part (alive : Variable → Type 0) (m : ℕ) (run : Active → State → Outcome Leaving) (code : Draft → Made ℕ) : Type 1 where
     pub made : (d : Draft) → d.homes ≡ [] → (e : Draft) × ((code d ≡ Makes m e) × ((k : ℕ) × Extended d k e) × (e.homes ≡ []))
-    pub follows : (held : Held) (from upto : ℕ) (a : Active) → Known (under_held g held from upto) scope a
-        → (d : Draft) (t : CodeState) (st : State) → d.homes ≡ [] → Begun (under_held g held from upto) d → At g t (length d.code) → Sim (under_held g held from upto) alive st t
-        → Follows (under_held g held from upto) (λ leaving u m' e. (leaving ≡ Onward) × Ran (under_held g held from upto) alive d t u e) t (run a st) (code d)
+    pub follows : (held : Held) (from entries upto : ℕ) (a : Active) → Known (under_held g held from entries upto) scope a
+        → (d : Draft) (t : CodeState) (st : State) → d.homes ≡ [] → Begun (under_held g held from entries upto) d → At g t (length d.code) → Sim (under_held g held from entries upto) alive st t
+        → Follows (under_held g held from entries upto) (λ leaving u m' e. (leaving ≡ Onward) × Ran (under_held g held from entries upto) alive d t u e) t (run a st) (code d)
 
   -- a statement under one context more, where so many variables are declared before
   abbrev pub StatementPart : (Variable → Type 0) → TStmt → ℕ → Frame → List Field → Type 1

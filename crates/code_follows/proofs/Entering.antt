@@ -273,7 +273,7 @@ module _ (t : Typed) (image : Image) {beside : Beside} (p : IsProgramBeside besi
           let runs : Follows inner (Left inner OfFileOrParam f begin s) s (executed where_it_is body 0 active opening_state) (body_of t (layout_of t (words t image p codable compiled holding) number) f body begin) =
           subst (λ (made : Made ℕ). Follows inner (Left inner OfFileOrParam f begin s) s (executed where_it_is body 0 active opening_state) made) (sym (as_block locals q row))
           (statement_follows where_it_is (λ g. besides.follows g where_it_is) inner active [] around OfFileOrParam (λ k. tt) 0 before_all body isin.0 f begin s opening_state
-          (framed t image p codable compiled holding number b is open_calls m) (record { among = among_none; jumps = inl (let none = among_none.loop in omega (arith, none)) }) (blank_homes t image (scalars t image p codable compiled holding) codable compiled number b) (record { regs = let regs = blank_regs t image (scalars t image p codable compiled holding) codable compiled number b in omega (arith, regs); code = omega arith }) stands sim c) in
+          (framed t image p codable compiled holding number b is open_calls m) (record { among = among_none; jumps = inl (let none = among_none.loop in omega (arith, none)) }) (blank_homes t image (scalars t image p codable compiled holding) codable compiled number b) (record { regs = let regs = blank_regs t image (scalars t image p codable compiled holding) codable compiled number b in omega (arith, regs); code = omega arith; fields = omega arith }) stands sim c) in
           let made = body_made t image p codable compiled holding number b is open_calls m (body_of t (layout_of t (words t image p codable compiled holding) number) f body begin) (made_so body body_is) in
           let never : ends_in_return b.body ≡ true → NeverOnward (executed where_it_is body 0 active opening_state) =
           λ ends. never_second (initialised where_it_is active 0 locals.items _) _ (λ u. body_never where_it_is active locals q row (sym (ap (λ (x : TStmt). ends_in_return x) body_is) ∙ ends) (0 + length locals.items) u) in

@@ -111,7 +111,7 @@ module _ (g : Setting) where
     pub turns : t.turns ≡ st.turns
     pub output : t.output ≡ st.output
     pub input : t.input ≡ input_of st
-    pub memory : g.held.holds st t.memory
+    pub memory : g.held.ends st t.memory
 
   pub finishes_later : (early : Early) (st : State) (s t : CodeState) → Reaches g s t → Finishes early st t → Finishes early st s
   finishes_later early st s t go f = record { t = f.t; ends = ends_later g s t f.t (end_of early) go f.ends; turns = f.turns; output = f.output; input = f.input; memory = f.memory }

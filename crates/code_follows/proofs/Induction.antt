@@ -1,5 +1,5 @@
 -- Every statement of the fragment, under whatever contexts it stands.
-use Rattle.std.proofs.Common.{◌≡◌, ℕ, ◌+◌, ◌≤◌, List, [], ◌∷◌, ◌++◌, map, length, sym, subst, refl, inl, inr, None, Some, ◌⊎◌, ap}
+use Rattle.std.proofs.Common.{◌≡◌, ℕ, ◌+◌, ◌≤◌, List, [], ◌∷◌, ◌++◌, map, length, sym, subst, refl, inl, inr, ◌⊎◌, ap}
 use mathlib.Core.Former.{Count}
 use Rattle.cstar_tree.specs.declared.typed.TStmt.{TStmt, Row_of-TStmt, end_of-TStmt, more_of-TStmt, Held-TStmt-If-2, None', Some'}
 use Rattle.cstar_tree.specs.declared.typed.Variable.{Variable}
@@ -23,7 +23,7 @@ use Rattle.source_meaning.specs.Values.{Active, Scope}
 use Rattle.source_meaning.proofs.ConstantLaws.{Boxed}
 use Rattle.source_meaning.specs.State as Source
 use Rattle.code_follows.proofs.Declaring.{AreBefore, among_before, declared_later}
-use Rattle.code_follows.specs.Fragment.{AreInStatements, IsInElse, IsInStatement, IsTested, OrAmong, naming, AreClosed, IsClosed, under_contexts}
+use Rattle.code_follows.specs.Fragment.{AreInStatements, IsInElse, IsInStatement, IsTested, OrAmong, naming, AreClosed, IsClosed}
 use Rattle.code_follows.proofs.Choices.{Agrees, if_alone, if_else}
 use Rattle.code_follows.proofs.Executing.{Left, RanOn, no_break, no_continue, no_return}
 use Rattle.code_follows.proofs.ForLoops.{do_agrees, for_agrees, while_agrees}
@@ -94,9 +94,9 @@ module _ (g : Setting) where
 
 module _ {Known : Setting → Scope → Active → Type 1} (scope : Scope) (besides : (g : Setting) (a : Active) → Known g scope a → (has : HasRegisters g) → BesideFollows Known g has scope a) where
   -- under one context more, where this is known
-  around_part : (g : Setting) (active : Active) (contexts : List Field) → Around Known g scope active contexts → (held : Held) (from upto : ℕ) (a : Active) → Known (under_held g held from upto) scope a → (inner : List Field) → Around Known (under_held g held from upto) scope a inner
-  around_part g active contexts r held from upto a known inner = record {
-    has = registers_under g held from upto r.has;
+  around_part : (g : Setting) (active : Active) (contexts : List Field) → Around Known g scope active contexts → (held : Held) (from entries upto : ℕ) (a : Active) → Known (under_held g held from entries upto) scope a → (inner : List Field) → Around Known (under_held g held from entries upto) scope a inner
+  around_part g active contexts r held from entries upto a known inner = record {
+    has = registers_under g held from entries upto r.has;
     numbers = r.numbers;
     ready = r.ready;
     declares = r.declares;
@@ -105,7 +105,7 @@ module _ {Known : Setting → Scope → Active → Type 1} (scope : Scope) (besi
       value = λ elem index given h. absurd h;
       effect = λ index given h. absurd h;
       returns = r.calls_follow.returns;
-      beside = λ has. (besides (under_held g held from upto) a known has).expressions;
+      beside = λ has. (besides (under_held g held from entries upto) a known has).expressions;
     };
     falls = r.falls;
     known = known;
@@ -115,9 +115,9 @@ module _ {Known : Setting → Scope → Active → Type 1} (scope : Scope) (besi
   -- wherever this is known of a unit under contexts, a statement follows
   abbrev FollowsWherever : (g : Setting) (active : Active) (contexts : List Field) → Around Known g scope active contexts → (alive : Variable → Type 0) → ((k : ℕ) → alive (V.File k)) → ℕ → TStmt → Type 1
   FollowsWherever g active contexts r alive files n s =
-      (held : Held) (from upto : ℕ) (a : Active) (known : Known (under_held g held from upto) scope a) (inner : List Field)
-      → let part = around_part g active contexts r held from upto a known inner in
-      Agrees (under_held g held from upto) part.has alive files part.numbers part.ready part.declares scope a part.calls_follow inner n s
+      (held : Held) (from entries upto : ℕ) (a : Active) (known : Known (under_held g held from entries upto) scope a) (inner : List Field)
+      → let part = around_part g active contexts r held from entries upto a known inner in
+      Agrees (under_held g held from entries upto) part.has alive files part.numbers part.ready part.declares scope a part.calls_follow inner n s
 
   -- a statement under one context more
   part_follows : (g : Setting) (active : Active) (contexts : List Field) (r : Around Known g scope active contexts) (alive : Variable → Type 0) (files : (k : ℕ) → alive (V.File k)) (n : ℕ) (s : TStmt) → IsClosed s
@@ -128,9 +128,9 @@ module _ {Known : Setting → Scope → Active → Type 1} (scope : Scope) (besi
       let framed_so : StandsIn g (in_context f) = in_context_too g f framed in
       record {
         made = λ d none. let made = statement_made g r.numbers r.declares s (in_context f) inner n d framed_so deep c none in (made.e, (made.is, (_, made.extended), made.homes));
-        follows = λ held from upto a known d t st none free at sim.
-            goes_on (under_held g held from upto) alive (in_context f) d t _ _ (closed scope s closed_so n a st) (λ h. h)
-            (follows held from upto a known inner (in_context f) d t st (record { outcome = framed_so.outcome; main = framed_so.main; scalar = framed_so.scalar }) (record { among = deep; jumps = inr closed_so }) none free at sim c);
+        follows = λ held from entries upto a known d t st none free at sim.
+            goes_on (under_held g held from entries upto) alive (in_context f) d t _ _ (closed scope s closed_so n a st) (λ h. h)
+            (follows held from entries upto a known inner (in_context f) d t st (record { outcome = framed_so.outcome; main = framed_so.main; scalar = framed_so.scalar }) (record { among = deep; jumps = inr closed_so }) none free at sim c);
       }
 
   mutual
@@ -174,21 +174,21 @@ module _ {Known : Setting → Scope → Active → Type 1} (scope : Scope) (besi
         ran_on g alive f d s0 _ _
         ((besides g active r.known r.has).widenings alive files n (r.ready n) shape p body h.0 c f contexts
         (part_follows g active contexts r alive files n body h.2 f framed stands.among (everywhere_body g r.numbers r.declares n shape p body c)
-        (λ held from upto a known inner. statement_follows (under_held g held from upto) a inner (around_part g active contexts r held from upto a known inner) alive files n before body h.1)) d s0 st none free at sim)
+        (λ held from entries upto a known inner. statement_follows (under_held g held from entries upto) a inner (around_part g active contexts r held from entries upto a known inner) alive files n before body h.1)) d s0 st none free at sim)
     statement_follows g active contexts r alive files n before (S.Where' shape test p first None') h f d s0 st framed stands none free at sim c =
         ran_on g alive f d s0 _ _
         ((besides g active r.known r.has).wheres alive files n (r.ready n) shape test p first None' h.0 h.1 c f contexts
         (part_follows g active contexts r alive files n first h.3 f framed stands.among (where_first g r.numbers r.declares n shape test p first None' c)
-        (λ held from upto a known inner. statement_follows (under_held g held from upto) a inner (around_part g active contexts r held from upto a known inner) alive files n before first h.2))
+        (λ held from entries upto a known inner. statement_follows (under_held g held from entries upto) a inner (around_part g active contexts r held from entries upto a known inner) alive files n before first h.2))
         (λ q s is. cc) d s0 st none free at sim)
     statement_follows g active contexts r alive files n before (S.Where' shape test p first (Some' q second)) h f d s0 st framed stands none free at sim c =
         ran_on g alive f d s0 _ _
         ((besides g active r.known r.has).wheres alive files n (r.ready n) shape test p first (Some' q second) h.0 h.1 c f contexts
         (part_follows g active contexts r alive files n first h.3 f framed stands.among (where_first g r.numbers r.declares n shape test p first (Some' q second) c)
-        (λ held from upto a known inner. statement_follows (under_held g held from upto) a inner (around_part g active contexts r held from upto a known inner) alive files n before first h.2))
+        (λ held from entries upto a known inner. statement_follows (under_held g held from entries upto) a inner (around_part g active contexts r held from entries upto a known inner) alive files n before first h.2))
         (λ q' s is. subst (λ (s' : TStmt). StatementPart Known g scope alive s' (behind n first) f contexts) (the_same second s is)
         (part_follows g active contexts r alive files (behind n first) second h.5 f framed stands.among (where_second g r.numbers r.declares n shape test p first q second c)
-        (λ held from upto a known inner. statement_follows (under_held g held from upto) a inner (around_part g active contexts r held from upto a known inner) alive files (behind n first) (behind_too alive n first before) second h.4))) d s0 st none free at sim)
+        (λ held from entries upto a known inner. statement_follows (under_held g held from entries upto) a inner (around_part g active contexts r held from entries upto a known inner) alive files (behind n first) (behind_too alive n first before) second h.4))) d s0 st none free at sim)
 
     pub row_follows : {k : Count} (g : Setting) (active : Active) (contexts : List Field) (r : Around Known g scope active contexts) (alive : Variable → Type 0) (files : (k : ℕ) → alive (V.File k)) (n : ℕ) → AreBefore alive n → (row : Row_of-TStmt k) → AreInStatements (naming g.may alive) n row
         → (f : Frame) (d : Draft) (s0 : CodeState) (st : State) → StandsIn g f → StandsAmong f contexts → (f.saved.in_loop ≡ 0) ⊎ AreClosed row → d.homes ≡ [] → Begun g d → At g s0 (length d.code) → Sim g alive st s0

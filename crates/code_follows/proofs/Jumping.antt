@@ -73,7 +73,7 @@ module _ (g : Setting) (alive : Variable → Type 0) where
         turns = sim.turns;
         output = sim.output;
         input = sim.input;
-        memory = sim.memory;
+        memory = g.held.finally st s.memory sim.memory;
       }
 
   -- the state behind a turn

@@ -62,11 +62,11 @@ use Rattle.paris_code.specs.declared.program.Unit.{Unit as CodeUnit}
 -- the code comes to the end of a run, and the memory then holds what is held of its final state
 pub record Comes (holding : Held) (image : Image) (s : CodeState) (run : Run) : Type 0 where
   pub to : ComesTo image s run
-  pub memory : holding.holds run.final to.last.memory
+  pub memory : holding.ends run.final to.last.memory
 
 -- what holds of every memory
 abbrev pub nothing_held : Held
-nothing_held = record { holds = λ st m. Unit {0}; still = λ st u m fields winner h. tt }
+nothing_held = record { holds = λ st m. Unit {0}; ends = λ st m. Unit {0}; finally = λ st m h. tt; still = λ st u m fields winner h. tt }
 
 pub starts_at_zero : (us : List CodeUnit) → start_in us 0 0 ≡ 0
 unfolding start_in
@@ -201,7 +201,7 @@ module _ (t : Typed) (image : Image) {beside : Beside} (p : IsProgramBeside besi
   comes s (Source.Gives leaving u) go r =
       let ends : EndsIn main_setting s Machine.Done r.t = ends_later main_setting s r.t r.t Machine.Done r.go (ends_now main_setting r.t r.t Machine.Done r.leaves) in
       let x = ends_later main_setting opened s r.t Machine.Done go ends in
-      record { to = record { steps = x.steps; last = r.t; ends = x.is; turns = r.sim.turns; output = r.sim.output }; memory = holding.still u (left first_state u) r.t.memory (λ k e p. refl) refl r.sim.memory }
+      record { to = record { steps = x.steps; last = r.t; ends = x.is; turns = r.sim.turns; output = r.sim.output }; memory = holding.finally (left first_state u) r.t.memory (holding.still u (left first_state u) r.t.memory (λ k e p. refl) refl r.sim.memory) }
   comes s (Source.Ends early u) go h =
       let x = ends_later main_setting opened s h.t (end_of early) go h.ends in
       record { to = record { steps = x.steps; last = h.t; ends = x.is; turns = h.turns; output = h.output }; memory = h.memory }
@@ -271,7 +271,7 @@ module _ (t : Typed) (image : Image) {beside : Beside} (p : IsProgramBeside besi
       (runs_function t image p codable compiled holding 0 p.main p.is_main [] turns begun_there made.e made.n opens.there whole ends closed
       (subst (λ (m : Made ℕ). Follows main_setting (Left main_setting OfFileOrParam f begun_there opens.there) opens.there whole m) made.is_made
       (follows_fewer main_setting wide OfFileOrParam (λ x living. inl living) f begun_there opens.there whole code
-      (begun_follows main_setting has_it wide one numbers is_ready declared here active main_calls (never_rises active) [] locals.items row f 0 begun_there opens.there (begun_body locals.items row) h.0.0 stand settled initial own_row framed_so among_so homes (record { regs = omega (arith, regs); code = omega arith }) opens.at sim
+      (begun_follows main_setting has_it wide one numbers is_ready declared here active main_calls (never_rises active) [] locals.items row f 0 begun_there opens.there (begun_body locals.items row) h.0.0 stand settled initial own_row framed_so among_so homes (record { regs = omega (arith, regs); code = omega arith; fields = omega arith }) opens.at sim
       (λ e there u none free at sim_there. row_follows here (λ g. besides.follows g here) main_setting active [] around wide one (0 + length locals.items) (among_before OfFileOrParam 0 (length locals.items) before_all) row h.0.2 f e there u framed_so among_so (inl (let none = among_so.loop in omega (arith, none))) none free at sim_there own_row))))))
   runs _ is h = absurd h
 

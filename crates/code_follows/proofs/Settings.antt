@@ -23,9 +23,12 @@ use Rattle.source_meaning.specs.State.{State}
 use Rattle.code_follows.specs.Fragment.{May}
 use Rattle.code_follows.proofs.Standing.{stands, start_in}
 
--- what a memory holds of the source's state; it speaks of the file's parallel variables and of the winner alone
+-- what a memory holds of the source's state, and what of it still where the run ends; it speaks of the file's parallel
+-- variables and of the winner alone
 pub record Held : Type 1 where
   pub holds : State → BitMemory → Type 0
+  pub ends : State → BitMemory → Type 0
+  pub finally : (st : State) (m : BitMemory) → holds st m → ends st m
   pub still : (st u : State) (m : BitMemory) → ((k e p : ℕ) → u.parallel (V.File k) e p ≡ st.parallel (V.File k) e p) → u.winner ≡ st.winner → holds st m → holds u m
 
 pub record Setting : Type 1 where
@@ -43,7 +46,7 @@ pub record Setting : Type 1 where
   -- whether it is `main`, the registers of its own values, those that its code leaves as they are until it
   -- returns, where the calls that are open go on, and how many turns are left at most, and
   -- which functions may be called, and what the memory holds; what is said of the code holds between these places of
-  -- the unit
+  -- the unit, where there are so many entries at the first of them
   pub is_main : Bool
   pub begins : ℕ
   pub ends : ℕ
@@ -53,6 +56,7 @@ pub record Setting : Type 1 where
   pub may : May
   pub held : Held
   pub from : ℕ
+  pub entries : ℕ
   pub upto : ℕ
 
 module _ (g : Setting) where
@@ -90,13 +94,19 @@ module _ (g : Setting) where
     upto = omega (arith, longer d e n x, w.upto);
   }
 
-  -- the code of a draft has begun: it stands behind the place, and its values behind the registers before them
+  -- and has no fewer entries
+  more_entries : (d e : Draft) (n : ℕ) → Extended d n e → length d.fields ≤ length e.fields
+  more_entries d e n x = let both = ap (λ (entries : List Virtual). length entries) x.fields ∙ length-append d.fields x.entries in omega (arith, both)
+
+  -- the code of a draft has begun: it stands behind the place, its values behind the registers before them, and its
+  -- entries behind those that there are
   pub record Begun (d : Draft) : Type 0 where
     pub regs : g.begins ≤ d.regs
     pub code : g.from ≤ length d.code
+    pub fields : g.entries ≤ length d.fields
 
   pub begun_later : (d e : Draft) (n : ℕ) → Extended d n e → Begun d → Begun e
-  begun_later d e n x b = record { regs = omega (arith, x.regs, b.regs); code = omega (arith, longer d e n x, b.code) }
+  begun_later d e n x b = record { regs = omega (arith, x.regs, b.regs); code = omega (arith, longer d e n x, b.code); fields = omega (arith, more_entries d e n x, b.fields) }
 
   -- the code stands at a place of the unit
   abbrev pub At : CodeState → ℕ → Type 0

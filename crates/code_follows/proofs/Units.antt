@@ -398,6 +398,7 @@ module _ (t : Typed) (image : Image) (p : HasScalarInstances t) (codable : IsCod
     may = may;
     held = holding;
     from = 0;
+    entries = 0;
     upto = length (own_unit number i is).unit.code;
   }
 

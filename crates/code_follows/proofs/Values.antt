@@ -306,7 +306,7 @@ module _ (g : Setting) (has : HasRegisters g) (alive : Variable → Type 0) wher
             turns = sim.turns;
             output = sim.output;
             input = sim.input;
-            memory = sim.memory;
+            memory = g.held.finally st s.memory sim.memory;
           })
       by true false is_c is_z = λ within.
           let checks : Draft = with_instr (I.FrontCheckDivisor place b) e in
