@@ -1,353 +1,445 @@
--- A statement in which contexts say which positions are active follows.
-use Rattle.std.proofs.Common.{◌≡◌, ◌∙◌, ℕ, ◌+◌, ◌<◌, ◌≤◌, ◌==◌, ◌&&◌, ◌||◌, Bool, true, List, [], ◌∷◌, ◌++◌, length, slice_index, Some, refl, sym, ap, subst, arith, if◌then◌else◌}
-use Rattle.std.specs.Prelude.{nat_le, nat_lt}
-use Rattle.std.proofs.lemmas.Bool.Decides.{nat_tests}
-use mathlib.Core.Former.{Count}
-use Rattle.cstar_tree.specs.declared.typed.LocalVar.{LocalVar}
+-- `where` and `everywhere` follow where what stands under them does.
+use Rattle.std.proofs.Common.{◌≡◌, ◌∙◌, ℕ, ◌+◌, ◌<◌, ◌≤◌, true, List, [], ◌∷◌, ◌++◌, length, slice_index, refl, sym, ap, subst, arith}
 use Rattle.cstar_tree.specs.declared.typed.TExpr.{TExpr}
-use Rattle.cstar_tree.specs.declared.typed.TStmt.{TStmt, Row_of-TStmt, end_of-TStmt, more_of-TStmt, Held-TStmt-If-2, None', Some'}
+use Rattle.cstar_tree.specs.declared.typed.TStmt.{TStmt, Held-TStmt-If-2, None', Some'}
 use Rattle.cstar_tree.specs.declared.typed.TStmt as S
 use Rattle.cstar_tree.specs.declared.typed.Variable.{Variable}
-use Rattle.cstar_tree.specs.declared.typed.Variable.TheVariants as V
-use Rattle.code_lengths.specs.Growth.{Extended}
+use Rattle.code_lengths.specs.Growth.{Extended, Grows}
 use Rattle.code_lengths.specs.Lowerable.{InField}
-use Rattle.code_lengths.specs.Ready.{HasStatementCode, IsReady}
+use Rattle.code_lengths.specs.LowerableStatements.{IsLowerableStatement}
+use Rattle.code_lengths.specs.NamingStatements.{StatementNamesVariables, behind}
+use Rattle.code_lengths.specs.Ready.{HasCode, HasStatementCode, IsReady}
+use Rattle.code_lengths.specs.ShapedStatements.{IsShapedStatement}
+use Rattle.code_lengths.proofs.Agreeing.{expressions}
 use Rattle.code_lengths.proofs.Drafting.{and_instr, as_it_was, extended}
-use Rattle.lower_base.specs.declared.emit.Out.{Out}
 use Rattle.lower_base.specs.Drafts.{Draft, Fails, Made, Makes, an_entry, step as step_of, then_make, with_instr}
-use Rattle.lower_expr.specs.Effects.{effect_of}
 use Rattle.lower_expr.specs.Values.{tested}
 use Rattle.lower_stmt.specs.declared.statement.Frame.{Frame}
 use Rattle.lower_stmt.specs.Frames.{in_context}
-use Rattle.lower_stmt.specs.Statements.{closing, kept_for, narrowed, otherwise_of, part_of, statement_of, statements_of, turned, widened, with_kept}
+use Rattle.lower_stmt.specs.Statements.{closing, kept_for, narrowed, otherwise_of, statement_of, turned, widened, with_kept}
 use Rattle.paris_code.specs.declared.instr.Instr.TheVariants as I
 use Rattle.paris_code.specs.declared.operands.Field.{Field}
 use Rattle.paris_code.specs.declared.program.Owner.TheVariants as W
 use Rattle.paris_code.specs.Code.{CodeState}
+use Rattle.paris_code.specs.Memory.{BitMemory}
+use Rattle.paris_code.specs.Spans.{IsNamedAt}
 use Rattle.source_meaning.specs.Expressions.{evaluated}
 use Rattle.source_meaning.specs.Narrowing.{where_nonzero, where_zero, widened as all_active}
-use Rattle.source_meaning.specs.State.{Ends, Gives, Outcome, State, is_among, then_do, zeroed}
-use Rattle.source_meaning.specs.Statements.{Leaving, Onward, all_executed, declared, done, else_executed, executed, initialised, then_go}
-use Rattle.source_meaning.specs.Values.{Active, Parallel, Scope, Value}
+use Rattle.source_meaning.specs.State.{Gives, Outcome, State, then_do}
+use Rattle.source_meaning.specs.Statements.{Leaving, Onward, declared, else_executed, executed, then_go}
+use Rattle.source_meaning.specs.Values.{Active, Parallel, Scope, Value, nonzero}
 use Rattle.source_meaning.proofs.ConstantLaws.{Boxed}
-use Rattle.code_follows.proofs.Following.{Extends, Follows, HasRegisters, Ran, Sim, nothing_said, extends_made, extends_then}
-use Rattle.code_follows.proofs.Settings.{At, Setting, Within, and_one, code_more, earlier, layout}
-use Rattle.fields_follow.specs.Fragment.{IsCondition, IsSelective, IsUpdate}
-use Rattle.fields_follow.proofs.Assigning.{updates_leave}
-use Rattle.fields_follow.proofs.Courses.{Course, course_of, course_on, leaves_of, no_course}
-use Rattle.fields_follow.proofs.Flags.{set_context, store_context}
+use Rattle.code_follows.proofs.Besides.{ComesOn, Part, StatementPart}
+use Rattle.code_follows.proofs.Following.{Extends, HasRegisters, Sim, at_once, follows_same}
+use Rattle.code_follows.proofs.Settings.{At, Begun, Setting, Within, and_one, code_more, earlier, layout}
+use Rattle.code_follows.specs.Fragment.{ScalarsAmong}
+use Rattle.fields_follow.specs.Fragment.{IsCondition}
 use Rattle.fields_follow.proofs.Forms.{HasItsCode}
-use Rattle.fields_follow.proofs.Instructions.{SameExtents, extents, shapes}
-use Rattle.fields_follow.proofs.Leaving.{Leaves, UpdateLeaves, fields_under, places_under, registers_under, under, within_again, within_under}
+use Rattle.fields_follow.proofs.Instructions.{extents}
+use Rattle.fields_follow.proofs.Knowing.{KnowsFields, Lasts, flags_last, kept_open, lasts_both, sim_open}
+use Rattle.fields_follow.proofs.Saving.{Arrives, Kept, arrives, arrives_now, kept_lasts, own_below, part_closed, test_below}
+use Rattle.fields_follow.proofs.Leading.{HasTests, Led, TestsAre, keeps_tests, led_entry, led_nowhere, led_weaker, loads_tests, named_next, narrows, saves_context, then_leads, turns, widens}
+use Rattle.fields_follow.proofs.Leaving.{EndsBelow, fields_under, places_under, reaches_again, registers_under, under, within_under}
 use Rattle.fields_follow.proofs.Meaning.{value_in}
-use Rattle.fields_follow.proofs.Narrowing.{Begins, among, narrowed_alone, narrowed_keeping, narrows, narrows_alone, others, turned_else, turned_on, turns}
-use Rattle.fields_follow.proofs.Passing.{After, Behind, after_same, after_weaker, code_longer, fields_longer, made_after, then_after}
-use Rattle.fields_follow.proofs.Places.{IsOwnField, PlacesFields, stands_here}
-use Rattle.fields_follow.proofs.Saving.{Closes, Runs, after_again, after_itself, after_there, after_within, closed, closes, named_next, saved_next, then_later}
-use Rattle.fields_follow.proofs.Selective.{AllSelect, ElseSelects, Selects, selective_selects, closing_grows, nothing_declared, otherwise_grows, row_grows, statement_grows}
+use Rattle.fields_follow.proofs.Narrowing.{among, among_beside, others, others_beside, widened_beside}
+use Rattle.fields_follow.proofs.Passing.{After, code_longer, fields_longer}
+use Rattle.fields_follow.proofs.Places.{IsOwnField}
 use Rattle.fields_follow.proofs.TestFlags.{LeavesTests}
 use Rattle.fields_follow.proofs.Testing.{condition_means, condition_tested}
 use Rattle.fields_follow.proofs.Values.{and_entry, next_field, one_more, taken, with_entry}
 
--- no variables become zero
-zeroed_nothing : (k : ℕ) (st : State) → zeroed k 0 st ≡ st
-unfolding zeroed is_among
-zeroed_nothing k st = λ j. record st { scalar = λ y. scalars y j; parallel = λ y e p. numbers y e p j }
-  where
-    none : (n old : ℕ) → (if nat_le k n && nat_lt n (k + 0) then 0 else old) ≡ old
-    none n old = grind (arith, nat_tests)
+-- code that is made where it grows
+grown_made : {A : Type 0} (d : Draft) (n : ℕ) (P : A → Type 0) (made : Made A) → Grows d n P made → (x : A) × ((e : Draft) × ((made ≡ Makes x e) × ((k : ℕ) × Extended d k e)))
+unfolding Grows
+grown_made d n P (Makes x e) grows = (x, (e, (refl, (n, grows.1))))
+grown_made d n P Fails grows = absurd grows
 
-    scalars : (y : Variable) → (if is_among k 0 y then 0 else st.scalar y) ≡ st.scalar y
-    scalars (V.Local n) = none n (st.scalar (V.Local n))
-    scalars _ = refl
+where_means : (scope : Scope) (a : Active) (shape : ℕ) (test : TExpr) (p : Boxed) (first : TStmt) (second : Held-TStmt-If-2) (k : ℕ) (v : ℕ → ℕ) (st : State) → evaluated scope test a st ≡ Gives (Parallel v) st
+    → executed scope (S.Where' shape test p first second) k a st ≡ then_go (executed scope first k (among shape v a) st) (else_executed scope second (k + declared first) (others shape v a))
+unfolding executed then_do
+where_means scope a shape test p first second k v st is =
+    ap (λ (o : Outcome Value). then_do o (λ x after. then_go (executed scope first k (where_nonzero shape x a) after) (else_executed scope second (k + declared first) (where_zero shape x a)))) is
 
-    numbers : (y : Variable) (e p : ℕ) → (if is_among k 0 y then 0 else st.parallel y e p) ≡ st.parallel y e p
-    numbers (V.Local n) e p = none n (st.parallel (V.Local n) e p)
-    numbers _ e p = refl
+module _ (g : Setting) (has : HasRegisters g) (scope : Scope) (active : Active) (known : KnowsFields g scope active) (alive : Variable → Type 0) (n : ℕ) (ready : (d : Draft) → IsReady g.typed g.instance (layout g) n d) where
+  -- ---- everywhere
 
-module _ (scope : Scope) (a : Active) where
-  -- a block without variables does what its statements do
-  block_means : {c : Count} (locals : List LocalVar) (row : Row_of-TStmt c) (k : ℕ) (st : State) → locals ≡ []
-      → then_go (initialised scope a k locals (zeroed k (length locals) st)) (all_executed scope row (k + length locals) a) ≡ all_executed scope row (k + length locals) a st
-  unfolding initialised then_go
-  block_means [] row k st none = ap (λ (s : State). all_executed scope row (k + 0) a s) (zeroed_nothing k st)
-  block_means (x ∷ xs) row k st none = cc
-
-  update_means : (e : TExpr) (v : Value) (st u : State) → evaluated scope e a st ≡ Gives v u → done scope a (Some e) st ≡ Gives Onward u
-  unfolding done then_do
-  update_means e v st u is = ap (λ (o : Outcome Value). then_do o (λ x after. Gives Onward after)) is
-
-  row_means : (first : Outcome Leaving) (next : State → Outcome Leaving) (u v : State) → first ≡ Gives Onward u → next u ≡ Gives Onward v → then_go first next ≡ Gives Onward v
-  unfolding then_go
-  row_means first next u v one two = ap (λ (o : Outcome Leaving). then_go o next) one ∙ two
-
-  where_means : (shape : ℕ) (test : TExpr) (p : Boxed) (first : TStmt) (second : Held-TStmt-If-2) (k : ℕ) (v : ℕ → ℕ) (st : State) → evaluated scope test a st ≡ Gives (Parallel v) st
-      → executed scope (S.Where' shape test p first second) k a st ≡ then_go (executed scope first k (among shape v a) st) (else_executed scope second (k + declared first) (others shape v a))
-  unfolding executed then_do
-  where_means shape test p first second k v st is =
-      ap (λ (o : Outcome Value). then_do o (λ x after. then_go (executed scope first k (where_nonzero shape x a) after) (else_executed scope second (k + declared first) (where_zero shape x a)))) is
-
--- where all positions of a set are active
-all_there : (set : ℕ) (a : Active) (p : ℕ) → all_active set a set p ≡ true
-unfolding all_active
-all_there set a p = by (a set p)
-  where
-    by : (x : Bool) → (x || set == set) ≡ true
-    by x = grind (arith, nat_tests)
-
-all_beside : (set : ℕ) (a : Active) (q p : ℕ) → (q ≡ set → ⊥) → all_active set a q p ≡ a q p
-unfolding all_active
-all_beside set a q p differ = by (a q p)
-  where
-    by : (x : Bool) → (x || q == set) ≡ x
-    by x = grind (arith, nat_tests, differ)
-
--- the two entries of a condition are no code
-both_entries : (shape : ℕ) (d : Draft) → Extended d 0 (with_entry shape 1 W.Own (with_entry shape 1 W.Own d))
-both_entries shape d = extended d (with_entry shape 1 W.Own d) (with_entry shape 1 W.Own (with_entry shape 1 W.Own d)) 0 0 (and_entry shape 1 W.Own d) (and_entry shape 1 W.Own (with_entry shape 1 W.Own d))
-
-makes_same : {A : Type 0} (g : Setting) (x : A) (e : Draft) → Extends g e (Makes x e)
-unfolding Extends
-makes_same g x e = (0, as_it_was e)
-
-module _ (g : Setting) (has : HasRegisters g) (alive : Variable → Type 0) (n : ℕ) (ready : (d : Draft) → IsReady g.typed g.instance (layout g) n d) (places : PlacesFields g) (scope : Scope) (same_extents : SameExtents g scope) where
-  -- what a statement does, its code does
-  abbrev RunsSo : Active → Draft → CodeState → Outcome Leaving → Made ℕ → Type 0
-  RunsSo a d s o made = After g (λ m e. Runs g alive a d s o m e) made
-
-  abbrev Agrees : TStmt → Type 0
-  Agrees t = (a : Active) (k m : ℕ) (f : Frame) (contexts : List Field) (d : Draft) (s : CodeState) (st : State) → At g s (length d.code) → Sim (under g a) alive st s → RunsSo a d s (executed scope t k a st) (statement_of g.typed (layout g) t f contexts m d)
-
-  same_runs : (a : Active) (d : Draft) (s : CodeState) (o other : Outcome Leaving) (made : Made ℕ) → o ≡ other → RunsSo a d s other made → RunsSo a d s o made
-  same_runs a d s o other made is h = subst (λ (x : Outcome Leaving). RunsSo a d s x made) (sym is) h
-
-  nothing_runs : (a : Active) (d : Draft) (s : CodeState) (st : State) (m : ℕ) → At g s (length d.code) → Sim (under g a) alive st s → RunsSo a d s (Gives Onward st) (Makes m d)
-  nothing_runs a d s st m here sim = made_after g (λ k e. Runs g alive a d s (Gives Onward st) k e) m d (λ w. (st, (refl, leaves_of g alive a d d s s st (no_course g alive (length d.fields) a d s st here sim))))
-
-  update_runs : (a : Active) (e : TExpr) (d : Draft) (s : CodeState) (st : State) (m : ℕ) → IsUpdate e → HasItsCode g.typed g.instance alive n e → At g s (length d.code) → Sim (under g a) alive st s
-      → RunsSo a d s (done scope a (Some e) st) (then_make (part_of g.typed (layout g) (Some e) d) (λ u after. Makes m after))
-  unfolding part_of After then_make
-  update_runs a e d s st m is c here sim =
-      by (effect_of g.typed (layout g) e d) (after_again g a (λ out f. Leaves (under g a) alive d f s h.1.0) (effect_of g.typed (layout g) e d) h.1.1.1)
+  pub widening_follows : (shape : ℕ) (p : Boxed) (body : TStmt) (f : Frame) (contexts : List Field) → StatementPart KnowsFields g scope alive body n f contexts → ComesOn g scope alive active (S.Everywhere' shape p body) n f contexts
+  unfolding executed statement_of an_entry then_make widened closing step_of
+  widening_follows shape p body f contexts parts d s st none begun at sim =
+      follows_same g (Arrives g scope active known alive d s) s refl (ap (λ (made : Made ℕ). closing saved made) made.1.0)
+      (at_once g (Arrives g scope active known alive d s) s o (behind n body) (with_instr (I.LoadContext saved) e) (λ w.
+      let w_e : Within g e = earlier g e (with_instr (I.LoadContext saved) e) 1 (and_one g (I.LoadContext saved) e) w in
+      let w_inner : Within g inner = earlier g inner e longer.0 longer.1 w_e in
+      let w_stores : Within g stores = earlier g stores inner 1 (and_one g (I.SetContext shape) stores) w_inner in
+      let below = own_below g scope active known alive saved start w_stores in
+      let own : IsOwnField g saved = taken g shape 1 W.Own d stores 1 w_stores (and_one g (I.StoreContext saved) start) in
+      let first : IsNamedAt g.unit saved.offset (length start.code) = named_next g (I.StoreContext saved) saved start w_stores refl refl in
+      let last : IsNamedAt g.unit saved.offset (length e.code) = named_next g (I.LoadContext saved) saved e w refl refl in
+      let counts : length start.fields ≡ length d.fields + 1 = one_more shape 1 W.Own d in
+      let stored : length stores.code ≡ length start.code + 1 = code_more g (I.StoreContext saved) start in
+      let set : length inner.code ≡ length stores.code + 1 = code_more g (I.SetContext shape) stores in
+      let fields : length start.fields ≤ length inner.fields = fields_longer start inner 2 inner_more in
+      let long : length inner.code ≤ length e.code = code_longer inner e longer.0 longer.1 in
+      let lasts : Lasts g (length inner.code) (length inner.fields) (length e.code) (λ m. Kept g scope active known alive saved m) =
+      kept_lasts g scope active known alive saved d (length start.code) (length e.code) (length inner.code) (length inner.fields) (length e.code) begun (omega (arith, stored, set)) (omega (arith, counts, fields)) w_e.upto own below.1 (omega (arith, counts, fields)) first (omega (arith, stored, set)) last (omega arith) in
+      let led_start : Led g scope active known alive active (λ m. known.kept m × Unit {0}) d start s st =
+      led_entry g scope active known alive active (λ m. known.kept m × Unit {0}) shape 1 W.Own d d s st (led_weaker g scope active known alive active known.kept (λ m. known.kept m × Unit {0}) d d s st (λ m kept. (kept, tt)) (led_nowhere g scope active known alive d s st at sim)) in
+      let led_stores : Led g scope active known alive active (λ m. Kept g scope active known alive saved m × Unit {0}) d stores s st =
+      saves_context g scope active known alive active known.kept g.from g.entries g.upto known.lasts d start s st (λ m. Unit {0}) saved (length e.code) begun.code begun.fields (let up = w_stores.upto in omega (arith, up, stored)) own refl last (omega (arith, stored, set, long)) (λ m other same kept. kept) w_stores led_start in
+      let led_inner : Led g scope active known alive (all_active shape active) (λ m. Kept g scope active known alive saved m) d inner s st =
+      widens g scope active known alive active (λ m. Kept g scope active known alive saved m) (length inner.code) (length inner.fields) (length e.code) lasts d stores s st shape w_inner (led_weaker g scope active known alive active (λ m. Kept g scope active known alive saved m × Unit {0}) (λ m. Kept g scope active known alive saved m) d stores s st (λ m kept. kept.0) led_stores) in
+      arrives g scope active known alive (λ m. Kept g scope active known alive saved m) d s o (Makes (behind n body) (with_instr (I.LoadContext saved) e)) (λ m kept. kept.0)
+      (part_closed g scope active known alive (all_active shape active) saved (λ m. Kept g scope active known alive saved m) d inner e s st longer.0 (behind n body) (λ a u. executed scope body n a u) code part made.1.0 inner_homes begun lasts (λ m kept. kept.1) (λ q x differ. sym (widened_beside shape active q x differ)) longer.1 led_inner)))
     where
-      h : UpdateLeaves (under g a) alive (fields_under g a) scope e d s st
-      h = updates_leave (under g a) (registers_under g a has) alive n ready (places_under g a places) (fields_under g a) scope same_extents e is c d s st here sim
-
-      means : done scope a (Some e) st ≡ Gives Onward h.1.0
-      means = update_means scope a e h.0 st h.1.0 h.1.1.0
-
-      by : (made : Made Out) → After g (λ out f. Leaves (under g a) alive d f s h.1.0) made → RunsSo a d s (done scope a (Some e) st) (then_make (then_make made (λ out after. Makes (tt {0}) after)) (λ u after. Makes m after))
-      by (Makes out f) leaves = λ w. (h.1.0, (means, leaves w))
-      by Fails leaves = tt
-
-  -- one part, and then another where the same positions are active
-  row_runs : (a : Active) (d : Draft) (s : CodeState) (o : Outcome Leaving) (next : State → Outcome Leaving) (made : Made ℕ) (rest : ℕ → Draft → Made ℕ) → RunsSo a d s o made → ((m : ℕ) (e : Draft) → Extends g e (rest m e))
-      → ((m : ℕ) (e : Draft) (t : CodeState) (u : State) → At g t (length e.code) → Sim (under g a) alive u t → RunsSo a e t (next u) (rest m e)) → RunsSo a d s (then_go o next) (then_make made rest)
-  row_runs a d s o next made rest first grows behind =
-      then_after g (λ m e. Runs g alive a d s o m e) (λ m e. Runs g alive a d s (then_go o next) m e) made rest first grows (λ m e one.
-      let u : State = one.0 in
-      let x : Course g alive (length d.fields) a d e s one.1.1.t u = course_of g alive a d e s u one.1.1 in
-      after_weaker g (λ k f. Runs g alive a e one.1.1.t (next u) k f) (λ k f. Runs g alive a d s (then_go o next) k f) (rest m e) (λ k f two. (
-        two.0,
-        (
-          row_means scope a o next u two.0 one.1.0 two.1.0,
-          leaves_of g alive a d f s two.1.1.t two.0
-              (course_on g alive (length d.fields) (length e.fields) a a d e f s one.1.1.t two.1.1.t u two.0 (fields_longer d e x.grown.0 x.grown.1) x (course_of g alive a e f one.1.1.t two.0 two.1.1)),
-        ),
-      )) (behind m e one.1.1.t u x.at x.sim))
-
-  -- a part behind which nothing is done
-  alone_runs : (a : Active) (d : Draft) (s : CodeState) (o : Outcome Leaving) (next : State → Outcome Leaving) (made : Made ℕ) → ((u : State) → next u ≡ Gives Onward u) → RunsSo a d s o made → RunsSo a d s (then_go o next) (then_make made (λ m e. Makes m e))
-  unfolding After then_make
-  alone_runs a d s o next (Makes m e) silent h = λ w. let r = h w in (r.0, (row_means scope a o next r.0 r.0 r.1.0 (silent r.0), r.1.1))
-  alone_runs a d s o next Fails silent h = tt
-
-  everywhere_agrees : (shape : ℕ) (p : Boxed) (body : TStmt) → Selects g alive n body → Agrees body → Agrees (S.Everywhere' shape p body)
-  unfolding executed statement_of an_entry then_make widened step_of
-  everywhere_agrees shape p body is agrees a k m f contexts d s st here sim =
-      let begun : Draft = with_entry shape 1 W.Own d in
-      let saved : Field = next_field shape 1 d in
-      let stores : Draft = with_instr (I.StoreContext saved) begun in
-      let inner : Draft = with_instr (I.SetContext shape) stores in
-      let b : Active = all_active shape a in
-      let o : Outcome Leaving = executed scope body k b st in
-      let made : Made ℕ = statement_of g.typed (layout g) body (in_context f) (contexts ++ saved ∷ []) m inner in
-      after_within g (λ m e. Runs g alive a d s o m e) inner (closing saved made) (closing_grows g alive n has ready saved inner made (statement_grows g alive n has ready body is (in_context f) (contexts ++ saved ∷ []) m inner)) (λ w.
-      let w_stores : Within g stores = earlier g stores inner 1 (and_one g (I.SetContext shape) stores) w in
-      let own : IsOwnField g saved = taken g shape 1 W.Own d stores 1 w_stores (and_one g (I.StoreContext saved) begun) in
-      let stored = store_context g places alive a shape saved begun s st own refl refl w_stores here sim in
-      let more : length begun.fields ≡ length d.fields + 1 = one_more shape 1 W.Own d in
-      let begins : Begins g alive places (Unit {0}) a a saved d begun stores s stored.t st = record {
-        here = stored.at;
-        sim = stored.sim;
-        saved = saved_next g alive places (length d.fields) a saved begun begun s s st (omega arith) (omega (arith, more)) own w_stores (no_course g alive (length d.fields) a begun s st here sim) stored;
-      } in
-      let sets = set_context g places alive a shape stores stored.t st b (λ p below. all_there shape a p) (λ q p differ. all_beside shape a q p differ) w stored.at stored.sim in
-      let x : Begins g alive places (Unit {0}) a b saved d begun inner s sets.t st = turned_on g alive places (Unit {0}) a a b saved d begun stores (I.SetContext shape) s stored.t st (let i = begins.saved.inside in omega (arith, i)) (λ q p differ. sym (all_beside shape a q p differ)) begins sets in
-      closed g alive places (Unit {0}) a b saved d begun inner s sets.t st o made tt (let i = x.saved.inside in omega (arith, i)) (and_entry shape 1 W.Own d) x.saved (agrees b k m (in_context f) (contexts ++ saved ∷ []) inner sets.t st x.here x.sim))
-
-  -- Behind a condition the context is saved. Where it is, the condition has left the test flags.
-  where_by : (shape : ℕ) (test : TExpr) → IsCondition shape test → InField g.typed test → HasItsCode g.typed g.instance alive n test → (a : Active) (d : Draft) (s : CodeState) (st : State) → At g s (length d.code) → Sim (under g a) alive st s
-      → (saved : Field) → saved.set ≡ shape → (Q : ℕ → Draft → Type 0) (next : Draft → Made ℕ) → ((known : Draft) → Extends g (with_instr (I.StoreContext saved) known) (next known))
-      → ((v : ℕ → ℕ) → evaluated scope test a st ≡ Gives (Parallel v) st → (known : Draft) → Within g (with_instr (I.StoreContext saved) known) → LeavesTests (under g a) alive (fields_under g a) d s shape st v known → After g Q (next known))
-      → After g Q (then_make (tested g.typed (layout g) test d) (λ u known. next known))
-  unfolding step_of
-  where_by shape test is field c a d s st here sim saved of_set Q next grows f =
-      then_later g (λ u known. tested g.typed (layout g) test d ≡ Makes u known) Q (λ known. with_instr (I.StoreContext saved) known) (tested g.typed (layout g) test d) (λ u known. next known) (after_itself g (tested g.typed (layout g) test d))
-      (λ known. (1, and_one g (I.StoreContext saved) known)) (λ u known. grows known) (λ u known made w.
-      let within : Within g known = earlier g known (with_instr (I.StoreContext saved) known) 1 (and_one g (I.StoreContext saved) known) w in
-      let exists = subst (λ (q : ℕ). q < length (shapes g)) of_set (places.ends (length known.code) (I.StoreContext saved) saved [] (stands_here g (I.StoreContext saved) known w refl) refl tt refl).0 in
-      let v : ℕ → ℕ = λ q. value_in (extents g shape) st test q in
-      f v (condition_means g scope same_extents a shape test st is exists) known w
-      (after_there (under g a) (λ u e. LeavesTests (under g a) alive (fields_under g a) d s shape st v e) u known made
-      (condition_tested (under g a) (registers_under g a has) alive n ready (places_under g a places) (fields_under g a) shape test is c d s st here sim) (within_under g a within)))
-
-  -- where nothing is behind `else`
-  where_alone : (shape : ℕ) (test : TExpr) (p : Boxed) (first : TStmt) → Selects g alive n (S.Where' shape test p first None') → Agrees first → Agrees (S.Where' shape test p first None')
-  unfolding Selects statement_of an_entry then_make narrowed with_kept kept_for otherwise_of else_executed
-  where_alone shape test p first is agrees a k m f contexts d s st here sim =
-      let begun : Draft = with_entry shape 1 W.Own d in
-      let for_test : Draft = with_entry shape 1 W.Own begun in
-      let saved : Field = next_field shape 1 d in
-      let inner : Draft → Draft = λ known. with_instr (I.LogandContextWithTest shape) (with_instr (I.StoreContext saved) known) in
-      let made : Draft → Made ℕ = λ known. statement_of g.typed (layout g) first (in_context f) (contexts ++ saved ∷ []) m (inner known) in
-      let next : Draft → Made ℕ = λ known. then_make (closing saved (made known)) (λ j behind. Makes j behind) in
-      let Q : ℕ → Draft → Type 0 = λ j e. Runs g alive a d s (executed scope (S.Where' shape test p first None') k a st) j e in
-      let grows : (known : Draft) → Extends g (inner known) (next known) = λ known. extends_then g (inner known) (closing saved (made known)) (λ j behind. Makes j behind)
-      (closing_grows g alive n has ready saved (inner known) (made known) (statement_grows g alive n has ready first is.3 (in_context f) (contexts ++ saved ∷ []) m (inner known))) (λ j behind. makes_same g j behind) in
-      where_by shape test is.0 is.1 is.2 a for_test s st here sim saved refl Q next (λ known. extends_made g (with_instr (I.StoreContext saved) known) (inner known) 1 (next known) (and_one g (I.LogandContextWithTest shape) (with_instr (I.StoreContext saved) known)) (grows known)) (λ v is_value known w x.
-      after_within g Q (inner known) (next known) (grows known) (λ w_inner.
-      let b : Active = among shape v a in
-      let begins : Begins g alive places (Unit {0}) a b saved d for_test (inner known) s (narrows_alone g alive places a shape v d known s st w x w_inner).t st = narrowed_alone g alive places a shape v d known s st w x w_inner in
-      same_runs a d s (executed scope (S.Where' shape test p first None') k a st) (then_go (executed scope first k b st) (else_executed scope None' (k + declared first) (others shape v a))) (next known) (where_means scope a shape test p first None' k v st is_value)
-      (alone_runs a d s (executed scope first k b st) (else_executed scope None' (k + declared first) (others shape v a)) (closing saved (made known)) (λ u. refl)
-      (closed g alive places (Unit {0}) a b saved d for_test (inner known) s (narrows_alone g alive places a shape v d known s st w x w_inner).t st (executed scope first k b st) (made known) tt (let i = begins.saved.inside in omega (arith, i)) (both_entries shape d) begins.saved
-      (agrees b k m (in_context f) (contexts ++ saved ∷ []) (inner known) (narrows_alone g alive places a shape v d known s st w x w_inner).t st begins.here begins.sim)))))
-
-  -- where something is
-  where_else : (shape : ℕ) (test : TExpr) (p q : Boxed) (first second : TStmt) → Selects g alive n (S.Where' shape test p first (Some' q second)) → Agrees first → Agrees second → Agrees (S.Where' shape test p first (Some' q second))
-  unfolding Selects ElseSelects statement_of an_entry then_make narrowed with_kept kept_for otherwise_of turned else_executed closing After step_of
-  where_else shape test p q first second is agrees otherwise a k m f contexts d s st here sim =
-      where_by shape test is.0 is.1 is.2 a for_test s st here sim saved refl Q next
-      (λ known. extends_made g (with_instr (I.StoreContext saved) known) (inner known) 2 (next known) (and_instr (I.LogandContextWithTest shape) (with_instr (I.StoreContext saved) known) (keeps known) 1 (and_one g (I.StoreTest holds) (with_instr (I.StoreContext saved) known))) (grows known))
-      (λ v is_value known w x. after_within g Q (inner known) (next known) (grows known) (λ w_inner. by v is_value known w x w_inner (made known)
-      (agrees (among shape v a) k m (in_context f) (contexts ++ saved ∷ []) (inner known) (narrows g alive places a shape v d known s st w x w_inner).t st
-      (narrowed_keeping g alive places a shape v d known s st w x w_inner).here (narrowed_keeping g alive places a shape v d known s st w x w_inner).sim)))
-    where
-      begun : Draft
-      begun = with_entry shape 1 W.Own d
-
-      for_test : Draft
-      for_test = with_entry shape 1 W.Own begun
+      start : Draft
+      start = with_entry shape 1 W.Own d
 
       saved : Field
       saved = next_field shape 1 d
 
-      holds : Field
-      holds = next_field shape 1 begun
+      stores : Draft
+      stores = with_instr (I.StoreContext saved) start
 
-      keeps : Draft → Draft
-      keeps known = with_instr (I.StoreTest holds) (with_instr (I.StoreContext saved) known)
+      inner : Draft
+      inner = with_instr (I.SetContext shape) stores
 
-      inner : Draft → Draft
-      inner known = with_instr (I.LogandContextWithTest shape) (keeps known)
+      inner_more : Extended start 2 inner
+      inner_more = and_instr (I.SetContext shape) start stores 1 (and_one g (I.StoreContext saved) start)
 
-      made : Draft → Made ℕ
-      made known = statement_of g.typed (layout g) first (in_context f) (contexts ++ saved ∷ []) m (inner known)
+      inner_homes : inner.homes ≡ []
+      inner_homes = inner_more.homes ∙ none
 
-      turns_back : Draft → Draft
-      turns_back behind = with_instr (I.LogandcContextWithTest shape) (with_instr (I.LoadTest holds) behind)
+      code : Draft → Made ℕ
+      code after = statement_of g.typed (layout g) body (in_context f) (contexts ++ saved ∷ []) n after
 
-      made_else : ℕ → Draft → Made ℕ
-      made_else j behind = statement_of g.typed (layout g) second (in_context f) (contexts ++ saved ∷ []) j (turns_back behind)
+      part : Part KnowsFields g scope alive (behind n body) (λ a u. executed scope body n a u) code
+      part = parts saved
 
-      rest : ℕ → Draft → Made ℕ
-      rest j behind = otherwise_of g.typed (layout g) (Some' q second) f contexts shape saved holds j behind
+      made : (e : Draft) × ((code inner ≡ Makes (behind n body) e) × ((k : ℕ) × Extended inner k e) × (e.homes ≡ []))
+      made = part.made inner inner_homes
 
-      next : Draft → Made ℕ
-      next known = then_make (closing saved (made known)) rest
+      e : Draft
+      e = made.0
+
+      longer : (k : ℕ) × Extended inner k e
+      longer = made.1.1
 
       o : Outcome Leaving
-      o = executed scope (S.Where' shape test p first (Some' q second)) k a st
+      o = executed scope body n (all_active shape active) st
 
-      Q : ℕ → Draft → Type 0
-      Q j e = Runs g alive a d s o j e
+  -- ---- where
 
-      grows : (known : Draft) → Extends g (inner known) (next known)
-      grows known =
-          extends_then g (inner known) (closing saved (made known)) rest (closing_grows g alive n has ready saved (inner known) (made known) (statement_grows g alive n has ready first is.3 (in_context f) (contexts ++ saved ∷ []) m (inner known)))
-          (λ j behind. otherwise_grows g alive n has ready (Some' q second) is.4 f contexts shape saved holds j behind)
+  after_there : {A : Type 0} (R : A → Draft → Type 0) {made : Made A} (x : A) (e : Draft) → made ≡ Makes x e → After (under g active) R made → Within g e → R x e
+  unfolding After
+  after_there R x e is h w = subst (λ (m : Made _). After (under g active) R m) is h (within_under g active w)
 
-      by : (v : ℕ → ℕ) → evaluated scope test a st ≡ Gives (Parallel v) st → (known : Draft) (w : Within g (with_instr (I.StoreContext saved) known)) (x : LeavesTests (under g a) alive (fields_under g a) for_test s shape st v known) (w_inner : Within g (inner known)) (made : Made ℕ)
-          → RunsSo (among shape v a) (inner known) (narrows g alive places a shape v d known s st w x w_inner).t (executed scope first k (among shape v a) st) made → After g Q (then_make (closing saved made) rest)
-      by v is_value known w x w_inner Fails part = tt
-      by v is_value known w x w_inner (Makes j h) part =
-          let b : Active = among shape v a in
-          let z : Active = others shape v a in
-          let one : Outcome Leaving = executed scope first k b st in
-          let two : State → Outcome Leaving = else_executed scope (Some' q second) (k + declared first) z in
-          let t : CodeState = (narrows g alive places a shape v d known s st w x w_inner).t in
-          let begins : Begins g alive places (Behind g holds (keeps known)) a b saved d for_test (inner known) s t st = narrowed_keeping g alive places a shape v d known s st w x w_inner in
-          let behind : Draft = with_instr (I.LoadContext saved) h in
-          let loads : Draft = with_instr (I.LoadTest holds) behind in
-          let made_two : Made ℕ = made_else j behind in
-          after_within g Q (turns_back behind) (closing saved made_two) (closing_grows g alive n has ready saved (turns_back behind) made_two (statement_grows g alive n has ready second is.4 (in_context f) (contexts ++ saved ∷ []) j (turns_back behind))) (λ w_turned.
-          let w_loads : Within g loads = earlier g loads (turns_back behind) 1 (and_one g (I.LogandcContextWithTest shape) loads) w_turned in
-          let w_behind : Within g behind = earlier g behind loads 1 (and_one g (I.LoadTest holds) behind) w_loads in
-          let w_h : Within g h = earlier g h behind 1 (and_one g (I.LoadContext saved) h) w_behind in
-          let runs : Runs g alive b (inner known) t one j h = part w_h in
-          let long : length (keeps known).code ≤ length behind.code =
-          let l = code_longer (inner known) h runs.1.1.grown.0 runs.1.1.grown.1 in let m = code_more g (I.LogandContextWithTest shape) (keeps known) in let n = code_more g (I.LoadContext saved) h in omega (arith, l, m, n) in
-          let c : Closes g alive a (inner known) behind t one = closes g alive places (Behind g holds (keeps known)) (length d.fields) a b saved for_test (inner known) h s t st one j (length behind.code, (named_next g (I.LoadTest holds) holds behind w_loads refl refl, long)) begins.saved w_behind runs in
-          let r : CodeState = (turns g alive places a shape v d known s st w x w_inner behind c.t c.u c.course w_turned).t in
-          let back : Begins g alive places (Unit {0}) a z saved d for_test (turns_back behind) s r c.u = turned_else g alive places a shape v d known s st w x w_inner behind c.t c.u c.course w_turned in
-          after_weaker g (λ i e. Runs g alive a d s (two c.u) i e) Q (closing saved made_two)
-          (λ i e last. (last.0, (where_means scope a shape test p first (Some' q second) k v st is_value ∙ row_means scope a one two c.u last.0 c.is last.1.0, last.1.1)))
-          (closed g alive places (Unit {0}) a z saved d for_test (turns_back behind) s r c.u (two c.u) made_two tt (let i = back.saved.inside in omega (arith, i)) (both_entries shape d) back.saved
-          (otherwise z (k + declared first) j (in_context f) (contexts ++ saved ∷ []) (turns_back behind) r c.u back.here back.sim)))
+  where_test : (shape : ℕ) (test : TExpr) (p : Boxed) (first : TStmt) (second : Held-TStmt-If-2) → HasStatementCode g.typed g.instance n (S.Where' shape test p first second) → InField g.typed test × HasCode g.typed g.instance n test
+  unfolding IsShapedStatement IsLowerableStatement StatementNamesVariables
+  where_test shape test p first second c = (c.lowerable.0, record { shaped = c.shaped.0; lowerable = c.lowerable.1; names = c.names.0 })
 
-  mutual
-    unfolding Selects AllSelect ElseSelects executed all_executed statement_of statements_of
+  module _ (shape : ℕ) (d : Draft) where
+    abbrev entered : Draft
+    entered = with_entry shape 1 W.Own d
 
-    pub selective_leaves : (t : TStmt) → Selects g alive n t → Agrees t
-    selective_leaves (S.Block' locals p statements) is a k m f contexts d s st here sim =
-        same_runs a d s (executed scope (S.Block' locals p statements) k a st) (all_executed scope statements (k + length locals.items) a st) (statement_of g.typed (layout g) (S.Block' locals p statements) f contexts m d) (block_means scope a locals.items statements k st is.0)
-        (after_same g (λ j e. Runs g alive a d s (all_executed scope statements (k + length locals.items) a st) j e) (nothing_declared g alive n locals.items (λ j after. statements_of g.typed (layout g) statements f contexts j after) m d is.0)
-        (row_leaves statements is.1 a (k + length locals.items) (m + length locals.items) f contexts d s st here sim))
-    selective_leaves (S.Expression e) is a k m f contexts d s st here sim = update_runs a e d s st m is.0 is.1 here sim
-    selective_leaves S.Empty is a k m f contexts d s st here sim = nothing_runs a d s st m here sim
-    selective_leaves (S.With' shape p body) is a k m f contexts d s st here sim = selective_leaves body is a k m f contexts d s st here sim
-    selective_leaves (S.Everywhere' shape p body) is a k m f contexts d s st here sim = everywhere_agrees shape p body is (selective_leaves body is) a k m f contexts d s st here sim
-    selective_leaves (S.Where' shape test p first None') is a k m f contexts d s st here sim = where_alone shape test p first is (selective_leaves first is.3) a k m f contexts d s st here sim
-    selective_leaves (S.Where' shape test p first (Some' q second)) is a k m f contexts d s st here sim =
-        where_else shape test p q first second is (selective_leaves first is.3) (selective_leaves second is.4) a k m f contexts d s st here sim
-    selective_leaves _ is a k m f contexts d s st here sim = absurd is
+    abbrev saved : Field
+    saved = next_field shape 1 d
 
-    row_leaves : {c : Count} (row : Row_of-TStmt c) → AllSelect g alive n row → (a : Active) (k m : ℕ) (f : Frame) (contexts : List Field) (d : Draft) (s : CodeState) (st : State) → At g s (length d.code) → Sim (under g a) alive st s
-        → RunsSo a d s (all_executed scope row k a st) (statements_of g.typed (layout g) row f contexts m d)
-    row_leaves end_of-TStmt is a k m f contexts d s st here sim = nothing_runs a d s st m here sim
-    row_leaves (more_of-TStmt t rest) is a k m f contexts d s st here sim =
-        row_runs a d s (executed scope t k a st) (all_executed scope rest (k + declared t) a) (statement_of g.typed (layout g) t f contexts m d) (λ j after. statements_of g.typed (layout g) rest f contexts j after)
-        (selective_leaves t is.0 a k m f contexts d s st here sim) (λ j e. row_grows g alive n has ready rest is.1 f contexts j e) (λ j e r u at_e sim_e. row_leaves rest is.1 a (k + declared t) j f contexts e r u at_e sim_e)
+    abbrev holds : Field
+    holds = next_field shape 1 entered
 
-  -- so it follows, and goes on
-  abbrev Arrives : Active → Draft → CodeState → Leaving → State → ℕ → Draft → Type 0
-  Arrives a d s leaving u m e = (leaving ≡ Onward) × Ran (under g a) alive d s u e
+    abbrev for_test : Draft
+    for_test = with_entry shape 1 W.Own entered
 
-  runs_follow : (a : Active) (d : Draft) (s : CodeState) (o : Outcome Leaving) (made : Made ℕ) → RunsSo a d s o made → Follows (under g a) (Arrives a d s) s o made
-  unfolding After Follows
-  runs_follow a d s (Gives leaving u) (Makes m e) h = λ w.
-      let r = h (within_again g a w) in
-      let x = r.1.1 in
-      let left : leaving ≡ Onward = let is = r.1.0 in cc in
-      let state : u ≡ r.0 = let is = r.1.0 in cc in (
-        left,
-        record { grown = x.grown; t = x.t; go = x.go; at = x.at; sim = subst (λ (v : State). Sim (under g a) alive v x.t) (sym state) x.sim; keeps = λ q kept. ap (λ (registers : List ℕ). slice_index registers q) x.registers },
-      )
-  runs_follow a d s (Ends early u) (Makes m e) h = λ w. let r = h (within_again g a w) in let is = r.1.0 in cc
-  runs_follow a d s o Fails h = nothing_said (under g a) (Arrives a d s) s o
+    both_entries : Extended d 0 for_test
+    both_entries = extended d entered for_test 0 0 (and_entry shape 1 W.Own d) (and_entry shape 1 W.Own entered)
 
-  pub selective_follows : (t : TStmt) → IsSelective alive t → HasStatementCode g.typed g.instance n t → (a : Active) (k m : ℕ) (f : Frame) (contexts : List Field) (d : Draft) (s : CodeState) (st : State) → At g s (length d.code) → Sim (under g a) alive st s
-      → Follows (under g a) (λ leaving u j e. (leaving ≡ Onward) × Ran (under g a) alive d s u e) s (executed scope t k a st) (statement_of g.typed (layout g) t f contexts m d)
-  selective_follows t is c a k m f contexts d s st here sim =
-      runs_follow a d s (executed scope t k a st) (statement_of g.typed (layout g) t f contexts m d) (selective_leaves t (selective_selects g alive n t is c) a k m f contexts d s st here sim)
+    -- the condition's code has been made
+    module _ (after : Draft) (k : ℕ) (longer : Extended for_test k after) where
+      abbrev saves : Draft
+      saves = with_instr (I.StoreContext saved) after
+
+      saved_own : Within g after → IsOwnField g saved
+      saved_own w = taken g shape 1 W.Own d after (0 + k) w (extended entered for_test after 0 k (and_entry shape 1 W.Own entered) longer)
+
+      holds_own : Within g after → IsOwnField g holds
+      holds_own w = taken g shape 1 W.Own entered after k w longer
+
+      -- there are the two entries more
+      entries_more : (length entered.fields ≡ length d.fields + 1) × (length d.fields + 1 + 1 ≤ length after.fields)
+      entries_more = let one = one_more shape 1 W.Own d in let two = one_more shape 1 W.Own entered in let more = fields_longer for_test after k longer in (one, omega (arith, one, two, more))
+
+      code_more_by : length d.code ≤ length after.code
+      code_more_by = code_longer for_test after k longer
+
+      module _ (begun : Begun g d) (s : CodeState) (st : State) where
+        -- it has run
+        condition_leads : (test : TExpr) → IsCondition shape test → HasItsCode g.typed g.instance alive n test → (x : Unit {0}) → At g s (length d.code) → Sim g alive st s → tested g.typed (layout g) test for_test ≡ Makes x after → Within g after
+            → Led g scope active known alive active (λ m. known.kept m × TestsAre g shape active (λ q. value_in (extents g shape) st test q) m) d after s st
+        condition_leads test condition c x at sim is w =
+            let l = after_there (λ u f. LeavesTests (under g active) alive (fields_under g active) for_test s shape st (λ q. value_in (extents g shape) st test q) f) x after is
+            (condition_tested (under g active) (registers_under g active has) alive n ready (places_under g active known.places) (fields_under g active) shape test condition c for_test s st at (sim_open g scope active known alive st s sim)) w in
+            record {
+              grown = (0 + l.leaves.grown.0, extended d for_test after 0 l.leaves.grown.0 both_entries l.leaves.grown.1);
+              t = l.leaves.t;
+              go = reaches_again g active l.leaves.go;
+              at = l.leaves.at;
+              sim = l.leaves.sim;
+              has = (
+                known.lasts s.memory l.leaves.t.memory (λ h first last q inside own ends before early named late.
+                    l.leaves.stays h first last q (let b = begun.fields in let one = one_more shape 1 W.Own d in let two = one_more shape 1 W.Own entered in omega (arith, inside, b, one, two)) own ends before (let b = begun.code in omega (arith, early, b)) named (let up = w.upto in omega (arith, late, up)))
+                    (kept_open g scope active known alive st s sim),
+                l.flags,
+              );
+              keeps = λ r kept. ap (λ (registers : List ℕ). slice_index registers r) l.leaves.registers;
+            }
+
+        -- the context is saved behind it
+        led_saves : (v : ℕ → ℕ) (later : ℕ) → Within g saves → IsNamedAt g.unit saved.offset later → length after.code < later → Led g scope active known alive active (λ m. known.kept m × TestsAre g shape active v m) d after s st
+            → Led g scope active known alive active (λ m. Kept g scope active known alive saved m × TestsAre g shape active v m) d saves s st
+        led_saves v later w named behind_it led =
+            let w_after : Within g after = earlier g after saves 1 (and_one g (I.StoreContext saved) after) w in
+            saves_context g scope active known alive active known.kept g.from g.entries g.upto known.lasts d after s st (λ m. TestsAre g shape active v m) saved later (let b = begun.code in let l = code_more_by in omega (arith, b, l)) begun.fields
+            (let up = w.upto in let one = code_more g (I.StoreContext saved) after in omega (arith, up, one)) (saved_own w_after) refl named behind_it (λ m other same tests p below on. same shape p ∙ tests p below on) w led
+
+  -- where nothing is behind `else`
+  where_alone : (shape : ℕ) (test : TExpr) (p : Boxed) (first : TStmt) → IsCondition shape test → InField g.typed test → HasItsCode g.typed g.instance alive n test → (f : Frame) (contexts : List Field) → StatementPart KnowsFields g scope alive first n f contexts
+      → ComesOn g scope alive active (S.Where' shape test p first None') n f contexts
+  unfolding else_executed statement_of an_entry then_make closing narrowed with_kept kept_for otherwise_of step_of Extends
+  where_alone shape test p first condition field c f contexts parts d s st none begun at sim =
+      follows_same g (Arrives g scope active known alive d s) s refl
+      (ap (λ (made : Made (Unit {0})). then_make made (λ u known. then_make (closing (saved shape d) (code (inner_of known))) (λ m behind. otherwise_of g.typed (layout g) None' f contexts shape (saved shape d) (holds shape d) m behind))) tests.1.1.0
+      ∙ ap (λ (made : Made ℕ). then_make (closing (saved shape d) made) (λ m behind. otherwise_of g.typed (layout g) None' f contexts shape (saved shape d) (holds shape d) m behind)) made.1.0)
+      (at_once g (Arrives g scope active known alive d s) s o (behind n first) last (λ w.
+      let w_e : Within g e = earlier g e last 1 (and_one g (I.LoadContext (saved shape d)) e) w in
+      let w_inner : Within g inner = earlier g inner e longer.0 longer.1 w_e in
+      let w_saves : Within g save = earlier g save inner 1 (and_one g (I.LogandContextWithTest shape) save) w_inner in
+      let w_after : Within g after = earlier g after save 1 (and_one g (I.StoreContext (saved shape d)) after) w_saves in
+      let below = own_below g scope active known alive (saved shape d) after w_saves in
+      let own : IsOwnField g (saved shape d) = saved_own shape d after tests.1.1.1.0 tests.1.1.1.1 w_after in
+      let stored : IsNamedAt g.unit (saved shape d).offset (length after.code) = named_next g (I.StoreContext (saved shape d)) (saved shape d) after w_saves refl refl in
+      let loaded : IsNamedAt g.unit (saved shape d).offset (length e.code) = named_next g (I.LoadContext (saved shape d)) (saved shape d) e w refl refl in
+      let counts = entries_more shape d after tests.1.1.1.0 tests.1.1.1.1 in
+      let low : length d.code ≤ length after.code = code_more_by shape d after tests.1.1.1.0 tests.1.1.1.1 in
+      let one : length save.code ≡ length after.code + 1 = code_more g (I.StoreContext (saved shape d)) after in
+      let two : length inner.code ≡ length save.code + 1 = code_more g (I.LogandContextWithTest shape) save in
+      let fields : length after.fields ≤ length inner.fields = fields_longer after inner 2 inner_more in
+      let long : length inner.code ≤ length e.code = code_longer inner e longer.0 longer.1 in
+      let lasts : Lasts g (length inner.code) (length inner.fields) (length e.code) (λ m. Kept g scope active known alive (saved shape d) m) =
+      kept_lasts g scope active known alive (saved shape d) d (length after.code) (length e.code) (length inner.code) (length inner.fields) (length e.code) begun (omega (arith, low, one, two)) (omega (arith, counts.1, fields)) w_e.upto own below.1 (omega (arith, counts.1, fields)) stored (omega (arith, one, two)) loaded (omega arith) in
+      let led_after : Led g scope active known alive active (λ m. known.kept m × TestsAre g shape active v m) d after s st = condition_leads shape d after tests.1.1.1.0 tests.1.1.1.1 begun s st test condition c tests.0 at sim tests.1.1.0 w_after in
+      let led_save : Led g scope active known alive active (λ m. Kept g scope active known alive (saved shape d) m × TestsAre g shape active v m) d save s st =
+      led_saves shape d after tests.1.1.1.0 tests.1.1.1.1 begun s st v (length e.code) w_saves loaded (omega (arith, one, two, long)) led_after in
+      let led_inner : Led g scope active known alive (among shape v active) (λ m. Kept g scope active known alive (saved shape d) m) d inner s st =
+      narrows g scope active known alive active (λ m. Kept g scope active known alive (saved shape d) m) (length inner.code) (length inner.fields) (length e.code) lasts d save s st shape v w_inner led_save in
+      follows_same g (Arrives g scope active known alive d s) s (where_means scope active shape test p first None' n v st (condition_means g scope known.same_extents active shape test st condition below.0)) refl
+      (then_leads g scope active known alive active (λ m. Kept g scope active known alive (saved shape d) m) (Arrives g scope active known alive d s) d last s (behind n first) (executed scope first n (among shape v active) st) (λ u. Gives Onward u) (Makes (behind n first) last)
+      (part_closed g scope active known alive (among shape v active) (saved shape d) (λ m. Kept g scope active known alive (saved shape d) m) d inner e s st longer.0 (behind n first) (λ a u. executed scope first n a u) code part made.1.0 inner_homes begun lasts (λ m kept. kept.1)
+      (λ q x differ. sym (among_beside shape v active q x differ)) longer.1 led_inner) (0, as_it_was last)
+      (λ u led. arrives_now g scope active known alive (λ m. Kept g scope active known alive (saved shape d) m) d s u (behind n first) last (λ m kept. kept.0) led))))
+    where
+      v : ℕ → ℕ
+      v = λ q. value_in (extents g shape) st test q
+
+      o : Outcome Leaving
+      o = executed scope (S.Where' shape test p first None') n active st
+
+      tests : (x : Unit {0}) × ((after : Draft) × ((tested g.typed (layout g) test (for_test shape d) ≡ Makes x after) × ((k : ℕ) × Extended (for_test shape d) k after)))
+      tests = grown_made (for_test shape d) _ _ _ ((expressions g.typed g.instance (layout g)).test n test (for_test shape d) c.code field (ready (for_test shape d)))
+
+      after : Draft
+      after = tests.1.0
+
+      save : Draft
+      save = with_instr (I.StoreContext (saved shape d)) after
+
+      inner_of : Draft → Draft
+      inner_of known = with_instr (I.LogandContextWithTest shape) (with_instr (I.StoreContext (saved shape d)) known)
+
+      inner : Draft
+      inner = inner_of after
+
+      inner_more : Extended after 2 inner
+      inner_more = and_instr (I.LogandContextWithTest shape) after save 1 (and_one g (I.StoreContext (saved shape d)) after)
+
+      inner_homes : inner.homes ≡ []
+      inner_homes = inner_more.homes ∙ tests.1.1.1.1.homes ∙ none
+
+      code : Draft → Made ℕ
+      code begin = statement_of g.typed (layout g) first (in_context f) (contexts ++ saved shape d ∷ []) n begin
+
+      part : Part KnowsFields g scope alive (behind n first) (λ a u. executed scope first n a u) code
+      part = parts (saved shape d)
+
+      made : (e : Draft) × ((code inner ≡ Makes (behind n first) e) × ((k : ℕ) × Extended inner k e) × (e.homes ≡ []))
+      made = part.made inner inner_homes
+
+      e : Draft
+      e = made.0
+
+      longer : (k : ℕ) × Extended inner k e
+      longer = made.1.1
+
+      last : Draft
+      last = with_instr (I.LoadContext (saved shape d)) e
+
+  -- where something is
+  where_else : (shape : ℕ) (test : TExpr) (p q : Boxed) (first second : TStmt) → IsCondition shape test → InField g.typed test → HasItsCode g.typed g.instance alive n test → (f : Frame) (contexts : List Field) → StatementPart KnowsFields g scope alive first n f contexts
+      → StatementPart KnowsFields g scope alive second (behind n first) f contexts → ComesOn g scope alive active (S.Where' shape test p first (Some' q second)) n f contexts
+  unfolding declared else_executed statement_of an_entry then_make closing narrowed with_kept kept_for otherwise_of turned step_of Extends
+  where_else shape test p q first second condition field c f contexts parts other_parts d s st none begun at sim =
+      follows_same g (Arrives g scope active known alive d s) s refl
+      (ap (λ (made : Made (Unit {0})). then_make made (λ u known. then_make (closing saved_in (code (inner_of known))) rest)) tests.1.1.0
+      ∙ ap (λ (made : Made ℕ). then_make (closing saved_in made) rest) made.1.0 ∙ ap (λ (made : Made ℕ). closing saved_in made) other_made.1.0)
+      (at_once g (Arrives g scope active known alive d s) s (executed scope (S.Where' shape test p first (Some' q second)) n active st) m last (λ w.
+      let w_f : Within g h = earlier g h last 1 (and_one g (I.LoadContext saved_in) h) w in
+      let w_turns : Within g turns_back = earlier g turns_back h far.0 far.1 w_f in
+      let w_loads : Within g loads = earlier g loads turns_back 1 (and_one g (I.LogandcContextWithTest shape) loads) w_turns in
+      let w_back : Within g back = earlier g back loads 1 (and_one g (I.LoadTest holds_in) back) w_loads in
+      let w_e : Within g e = earlier g e back 1 (and_one g (I.LoadContext saved_in) e) w_back in
+      let w_inner : Within g inner = earlier g inner e longer.0 longer.1 w_e in
+      let w_keep : Within g keep = earlier g keep inner 1 (and_one g (I.LogandContextWithTest shape) keep) w_inner in
+      let w_save : Within g save = earlier g save keep 1 (and_one g (I.StoreTest holds_in) save) w_keep in
+      let w_after : Within g after = earlier g after save 1 (and_one g (I.StoreContext saved_in) after) w_save in
+      let below = own_below g scope active known alive saved_in after w_save in
+      let below_test : EndsBelow g holds_in = test_below g scope active known alive holds_in save w_keep in
+      let own : IsOwnField g saved_in = saved_own shape d after tests.1.1.1.0 tests.1.1.1.1 w_after in
+      let own_test : IsOwnField g holds_in = holds_own shape d after tests.1.1.1.0 tests.1.1.1.1 w_after in
+      let stored : IsNamedAt g.unit saved_in.offset (length after.code) = named_next g (I.StoreContext saved_in) saved_in after w_save refl refl in
+      let stored_test : IsNamedAt g.unit holds_in.offset (length save.code) = named_next g (I.StoreTest holds_in) holds_in save w_keep refl refl in
+      let loaded : IsNamedAt g.unit saved_in.offset (length e.code) = named_next g (I.LoadContext saved_in) saved_in e w_back refl refl in
+      let loaded_test : IsNamedAt g.unit holds_in.offset (length back.code) = named_next g (I.LoadTest holds_in) holds_in back w_loads refl refl in
+      let loaded_last : IsNamedAt g.unit saved_in.offset (length h.code) = named_next g (I.LoadContext saved_in) saved_in h w refl refl in
+      let counts = entries_more shape d after tests.1.1.1.0 tests.1.1.1.1 in
+      let low : length d.code ≤ length after.code = code_more_by shape d after tests.1.1.1.0 tests.1.1.1.1 in
+      let one : length save.code ≡ length after.code + 1 = code_more g (I.StoreContext saved_in) after in
+      let two : length keep.code ≡ length save.code + 1 = code_more g (I.StoreTest holds_in) save in
+      let three : length inner.code ≡ length keep.code + 1 = code_more g (I.LogandContextWithTest shape) keep in
+      let long : length inner.code ≤ length e.code = code_longer inner e longer.0 longer.1 in
+      let four : length back.code ≡ length e.code + 1 = code_more g (I.LoadContext saved_in) e in
+      let five : length turns_back.code ≡ length back.code + 2 = let x = code_more g (I.LoadTest holds_in) back in let y = code_more g (I.LogandcContextWithTest shape) loads in omega (arith, x, y) in
+      let last_long : length turns_back.code ≤ length h.code = code_longer turns_back h far.0 far.1 in
+      let fields : length after.fields ≤ length inner.fields = fields_longer after inner 3 inner_more in
+      let more_fields : length inner.fields ≤ length turns_back.fields = fields_longer inner turns_back (longer.0 + 3) back_more in
+      let up = w_keep.upto in
+      let lasts_early : Lasts g (length save.code) (length (entered shape d).fields) (length keep.code) (λ m. Kept g scope active known alive saved_in m) =
+      kept_lasts g scope active known alive saved_in d (length after.code) (length e.code) (length save.code) (length (entered shape d).fields) (length keep.code) begun (omega (arith, low, one)) (omega (arith, counts.0)) up own below.1 (omega (arith, counts.0)) stored (omega (arith, one)) loaded (omega (arith, three, long)) in
+      let lasts : Lasts g (length inner.code) (length inner.fields) (length e.code) (λ m. KeptTests m) =
+      lasts_both g (length inner.code) (length inner.fields) (length e.code) (λ m. Kept g scope active known alive saved_in m) (λ m. HasTests g active v holds_in m)
+      (kept_lasts g scope active known alive saved_in d (length after.code) (length e.code) (length inner.code) (length inner.fields) (length e.code) begun (omega (arith, low, one, two, three)) (omega (arith, counts.1, fields)) w_e.upto own below.1 (omega (arith, counts.1, fields)) stored (omega (arith, one, two, three)) loaded (omega arith))
+      (flags_last g holds_in (λ x. active shape x ≡ true) (λ x. nonzero (v x)) (length save.code) (length back.code) (length inner.code) (length inner.fields) (length e.code) own_test below_test (omega (arith, counts.0, counts.1, fields)) stored_test (omega (arith, two, three)) loaded_test (omega (arith, four))) in
+      let lasts_late : Lasts g (length turns_back.code) (length turns_back.fields) (length h.code) (λ m. Kept g scope active known alive saved_in m) =
+      kept_lasts g scope active known alive saved_in d (length after.code) (length h.code) (length turns_back.code) (length turns_back.fields) (length h.code) begun (omega (arith, low, one, two, three, long, four, five)) (omega (arith, counts.1, fields, more_fields)) w_f.upto own below.1 (omega (arith, counts.1, fields, more_fields)) stored
+      (omega (arith, one, two, three, long, four, five)) loaded_last (omega arith) in
+      let led_after : Led g scope active known alive active (λ m. known.kept m × TestsAre g shape active v m) d after s st = condition_leads shape d after tests.1.1.1.0 tests.1.1.1.1 begun s st test condition c tests.0 at sim tests.1.1.0 w_after in
+      let led_save : Led g scope active known alive active (λ m. Kept g scope active known alive saved_in m × TestsAre g shape active v m) d save s st =
+      led_saves shape d after tests.1.1.1.0 tests.1.1.1.1 begun s st v (length e.code) w_save loaded (omega (arith, one, two, three, long)) led_after in
+      let led_keep : Led g scope active known alive active (λ m. KeptTests m × TestsAre g shape active v m) d keep s st =
+      keeps_tests g scope active known alive active (λ m. Kept g scope active known alive saved_in m) (length save.code) (length (entered shape d).fields) (length keep.code) lasts_early d save s st v holds_in (length back.code) (omega arith) (omega arith) (omega (arith, two)) own_test refl loaded_test (omega (arith, two, three, long, four)) w_keep led_save in
+      let led_inner : Led g scope active known alive (among shape v active) (λ m. KeptTests m) d inner s st = narrows g scope active known alive active (λ m. KeptTests m) (length inner.code) (length inner.fields) (length e.code) lasts d keep s st shape v w_inner led_keep in
+      follows_same g (Arrives g scope active known alive d s) s (where_means scope active shape test p first (Some' q second) n v st (condition_means g scope known.same_extents active shape test st condition below.0)) refl
+      (then_leads g scope active known alive active (λ m. KeptTests m) (Arrives g scope active known alive d s) d back s (behind n first) (executed scope first n (among shape v active) st) (executed scope second (behind n first) (others shape v active)) (Makes m last)
+      (part_closed g scope active known alive (among shape v active) saved_in (λ m. KeptTests m) d inner e s st longer.0 (behind n first) (λ a u. executed scope first n a u) code (parts saved_in) made.1.0 inner_homes begun lasts (λ m kept. kept.0.1) (λ y x differ. sym (among_beside shape v active y x differ)) longer.1 led_inner)
+      (2 + (far.0 + 1), last_more)
+      (λ u led.
+      let led_loads : Led g scope active known alive active (λ m. KeptTests m × TestsAre g shape active v m) d loads s u = loads_tests g scope active known alive active (λ m. KeptTests m) (length inner.code) (length inner.fields) (length e.code) lasts d back s u v holds_in (λ m kept. kept.1) w_loads led in
+      let led_turns : Led g scope active known alive (others shape v active) (λ m. KeptTests m) d turns_back s u = turns g scope active known alive active (λ m. KeptTests m) (length inner.code) (length inner.fields) (length e.code) lasts d loads s u shape v w_turns led_loads in
+      arrives g scope active known alive (λ m. Kept g scope active known alive saved_in m) d s (executed scope second (behind n first) (others shape v active) u) (Makes m last) (λ m kept. kept.0)
+      (part_closed g scope active known alive (others shape v active) saved_in (λ m. Kept g scope active known alive saved_in m) d turns_back h s u far.0 m (λ a x. executed scope second (behind n first) a x) other_code (other_parts saved_in) other_made.1.0 back_homes begun lasts_late (λ m kept. kept.1) (λ y x differ. sym (others_beside shape v active y x differ)) far.1
+      (led_weaker g scope active known alive (others shape v active) (λ m. KeptTests m) (λ m. Kept g scope active known alive saved_in m) d turns_back s u (λ m kept. kept.0) led_turns))))))
+    where
+      v : ℕ → ℕ
+      v = λ x. value_in (extents g shape) st test x
+
+      m : ℕ
+      m = behind (behind n first) second
+
+      saved_in : Field
+      saved_in = saved shape d
+
+      holds_in : Field
+      holds_in = holds shape d
+
+      KeptTests : BitMemory → Type 0
+      KeptTests memory = Kept g scope active known alive saved_in memory × HasTests g active v holds_in memory
+
+      tests : (x : Unit {0}) × ((after : Draft) × ((tested g.typed (layout g) test (for_test shape d) ≡ Makes x after) × ((k : ℕ) × Extended (for_test shape d) k after)))
+      tests = grown_made (for_test shape d) _ _ _ ((expressions g.typed g.instance (layout g)).test n test (for_test shape d) c.code field (ready (for_test shape d)))
+
+      after : Draft
+      after = tests.1.0
+
+      save : Draft
+      save = with_instr (I.StoreContext saved_in) after
+
+      keep : Draft
+      keep = with_instr (I.StoreTest holds_in) save
+
+      inner_of : Draft → Draft
+      inner_of known = with_instr (I.LogandContextWithTest shape) (with_instr (I.StoreTest holds_in) (with_instr (I.StoreContext saved_in) known))
+
+      inner : Draft
+      inner = inner_of after
+
+      inner_more : Extended after 3 inner
+      inner_more = and_instr (I.LogandContextWithTest shape) after keep 2 (and_instr (I.StoreTest holds_in) after save 1 (and_one g (I.StoreContext saved_in) after))
+
+      inner_homes : inner.homes ≡ []
+      inner_homes = inner_more.homes ∙ tests.1.1.1.1.homes ∙ none
+
+      code : Draft → Made ℕ
+      code begin = statement_of g.typed (layout g) first (in_context f) (contexts ++ saved_in ∷ []) n begin
+
+      made : (e : Draft) × ((code inner ≡ Makes (behind n first) e) × ((k : ℕ) × Extended inner k e) × (e.homes ≡ []))
+      made = (parts saved_in).made inner inner_homes
+
+      e : Draft
+      e = made.0
+
+      longer : (k : ℕ) × Extended inner k e
+      longer = made.1.1
+
+      back : Draft
+      back = with_instr (I.LoadContext saved_in) e
+
+      loads : Draft
+      loads = with_instr (I.LoadTest holds_in) back
+
+      turns_back : Draft
+      turns_back = with_instr (I.LogandcContextWithTest shape) loads
+
+      from_back : Extended back 2 turns_back
+      from_back = and_instr (I.LogandcContextWithTest shape) back loads 1 (and_one g (I.LoadTest holds_in) back)
+
+      back_more : Extended inner (longer.0 + 3) turns_back
+      back_more = extended inner e turns_back longer.0 3 longer.1 (extended e back turns_back 1 2 (and_one g (I.LoadContext saved_in) e) from_back)
+
+      back_homes : turns_back.homes ≡ []
+      back_homes = back_more.homes ∙ inner_homes
+
+      other_code : Draft → Made ℕ
+      other_code begin = statement_of g.typed (layout g) second (in_context f) (contexts ++ saved_in ∷ []) (behind n first) begin
+
+      rest : ℕ → Draft → Made ℕ
+      rest k begin = otherwise_of g.typed (layout g) (Some' q second) f contexts shape saved_in holds_in k begin
+
+      other_made : (h : Draft) × ((other_code turns_back ≡ Makes m h) × ((k : ℕ) × Extended turns_back k h) × (h.homes ≡ []))
+      other_made = (other_parts saved_in).made turns_back back_homes
+
+      h : Draft
+      h = other_made.0
+
+      far : (k : ℕ) × Extended turns_back k h
+      far = other_made.1.1
+
+      last : Draft
+      last = with_instr (I.LoadContext saved_in) h
+
+      last_more : Extended back (2 + (far.0 + 1)) last
+      last_more = extended back turns_back last 2 (far.0 + 1) from_back (extended turns_back h last far.0 1 far.1 (and_one g (I.LoadContext saved_in) h))
+
+  pub where_follows : (shape : ℕ) (test : TExpr) (p : Boxed) (first : TStmt) (second : Held-TStmt-If-2) → IsCondition shape test → ScalarsAmong alive test → HasStatementCode g.typed g.instance n (S.Where' shape test p first second) → (f : Frame) (contexts : List Field)
+      → StatementPart KnowsFields g scope alive first n f contexts → ((q : Boxed) (s : TStmt) → second ≡ Some' q s → StatementPart KnowsFields g scope alive s (behind n first) f contexts) → ComesOn g scope alive active (S.Where' shape test p first second) n f contexts
+  where_follows shape test p first None' condition among_so c f contexts parts other_parts =
+      let (field, code) = where_test shape test p first None' c in where_alone shape test p first condition field (record { code = code; among = among_so }) f contexts parts
+  where_follows shape test p first (Some' q second) condition among_so c f contexts parts other_parts =
+      let (field, code) = where_test shape test p first (Some' q second) c in where_else shape test p q first second condition field (record { code = code; among = among_so }) f contexts parts (other_parts q second refl)

@@ -19,11 +19,17 @@ pub record HoldsFields (t : Typed) (image : Image) (active : Active) (st : State
   pub flags : (set p : ℕ) → set < length (shapes_of image) → p < processors (shapes_of image) set → is_active (shapes_of image) m set p ≡ active set p
   pub winner : m.winner ≡ st.winner
 
+-- the numbers alone, wherever a run ends
+abbrev pub HoldsNumbers : Typed → Image → State → BitMemory → Type 0
+HoldsNumbers t image st m = (k element set p : ℕ) (info : VarInfo) → IsElement t k info set element → p < processors (shapes_of image) set → field_number m (file_field t image k element) p ≡ st.parallel (V.File k) element p
+
 -- the memory keeps the numbers of the file's parallel variables, and which positions are active, through every scalar
 -- part of the program
 abbrev pub fields_held : Typed → Image → Active → Held
 fields_held t image active = record {
   holds = HoldsFields t image active;
+  ends = HoldsNumbers t image;
+  finally = λ st m h. h.numbers;
   still = λ st u m same winner h. record {
     numbers = λ k e set p info is below. h.numbers k e set p info is below ∙ sym (same k e p);
     small = λ k e set p info is below. subst (λ (n : ℕ). n < 2 ^ info.elem.bits) (sym (same k e p)) (h.small k e set p info is below);

@@ -1,7 +1,7 @@
 pub mod Assigning
+pub mod Besides
 pub mod Bits
 pub mod Contexts
-pub mod Courses
 pub mod Effects
 pub mod Example
 pub mod Expressions
@@ -12,6 +12,8 @@ pub mod Folds
 pub mod Forms
 pub mod Instructions
 pub mod Joining
+pub mod Knowing
+pub mod Leading
 pub mod Leaving
 pub mod Meaning
 pub mod Named
@@ -26,7 +28,6 @@ pub mod Reducing
 pub mod Reductions
 pub mod Relations
 pub mod Saving
-pub mod Selective
 pub mod TestFlags
 pub mod Testing
 pub mod Updates

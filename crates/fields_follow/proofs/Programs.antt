@@ -1,17 +1,14 @@
 -- The run of a program with parallel variables: what its memory holds from the first instruction to the end.
-use Rattle.std.proofs.Common.{◌≡◌, ◌∙◌, ℕ, ◌<◌, ◌^◌, ◌⊎◌, inl, inr, true, List, [], slice_get, Option, Some, None, refl, sym, ap, subst}
+use Rattle.std.proofs.Common.{◌≡◌, ◌∙◌, ℕ, ◌<◌, ◌^◌, ◌⊎◌, inl, inr, true, List, slice_get, Option, Some, None, sym, ap, subst}
 use Rattle.std.proofs.lemmas.Nat.{pow_pos}
 use Rattle.cstar_base.specs.declared.operators.Winner.{Winner}
 use Rattle.cstar_compile.specs.Compiled.{IsCompiled}
 use Rattle.cstar_tree.specs.declared.typed.Instance.{Instance}
-use Rattle.cstar_tree.specs.declared.typed.TExpr.{TExpr}
 use Rattle.cstar_tree.specs.declared.typed.Typed.{Typed}
 use Rattle.cstar_tree.specs.declared.typed.VarInfo.{VarInfo}
-use Rattle.cstar_tree.specs.declared.typed.Variable.{Variable}
 use Rattle.cstar_tree.specs.declared.typed.Variable.TheVariants as V
-use Rattle.code_lengths.specs.Ready.{IsCodable, IsReady}
+use Rattle.code_lengths.specs.Ready.{IsCodable}
 use Rattle.code_lengths.proofs.Declaring.{all_at}
-use Rattle.lower_base.specs.Drafts.{Draft}
 use Rattle.paris_code.specs.declared.program.Image.{Image}
 use Rattle.paris_code.specs.Code.{opening}
 use Rattle.paris_code.specs.Memory.{BitMemory}
@@ -24,54 +21,22 @@ use Rattle.source_meaning.specs.Values.{Active, Scope}
 use Rattle.code_follows.specs.Agreement.{AreBytes, mark_of}
 use Rattle.code_follows.specs.Fragment.{IsFileVariable}
 use Rattle.code_follows.proofs.Activations.{activation}
-use Rattle.code_follows.proofs.Besides.{BesideFollows, ExpressionsFollow}
 use Rattle.code_follows.proofs.Entering.{AllBeside}
-use Rattle.code_follows.proofs.Following.{HasRegisters}
 use Rattle.code_follows.proofs.Programs.{Comes, program_follows}
-use Rattle.code_follows.proofs.Settings.{Setting, layout}
-use Rattle.fields_follow.specs.Fragment.{IsFold, IsParallelProgram, IsUpdate, fields_beside}
+use Rattle.code_follows.proofs.Settings.{Setting}
+use Rattle.fields_follow.specs.Fragment.{IsParallelProgram, fields_beside}
 use Rattle.fields_follow.specs.Laws.{ComesToAll, HasTheNumbers, IsNew, ParallelCodeMeansSource}
-use Rattle.fields_follow.proofs.Assigning.{updates_follow}
-use Rattle.fields_follow.proofs.Expressions.{pure_after}
-use Rattle.fields_follow.proofs.Fields.{HoldsFields, fields_held}
+use Rattle.fields_follow.proofs.Besides.{besides}
+use Rattle.fields_follow.proofs.Fields.{HoldsFields, HoldsNumbers, fields_held}
 use Rattle.fields_follow.proofs.FileFields.{IsTranslated, extents_are, file_exists, fresh_active, fresh_file, processors_of, translated}
 use Rattle.fields_follow.proofs.Instructions.{SameExtents}
 use Rattle.fields_follow.proofs.Joining.{places_fields}
-use Rattle.fields_follow.proofs.Places.{HoldsTheFields, PlacesFields}
-use Rattle.fields_follow.proofs.Reductions.{OperandsStand, folds_follow}
-use Rattle.fields_follow.proofs.Values.{operand_after}
+use Rattle.fields_follow.proofs.Knowing.{KnowsFields}
+use Rattle.fields_follow.proofs.Places.{PlacesFields}
 
 -- everything is active
 abbrev pub everywhere : Active
 everywhere = λ set p. true
-
--- the code of a pure parallel expression leaves its numbers in a field
-operands_follow : (g : Setting) (has : HasRegisters g) (places : PlacesFields g) (fields : HoldsTheFields g) (alive : Variable → Type 0) → (n : ℕ) → ((d : Draft) → IsReady g.typed g.instance (layout g) n d) → OperandsStand g alive n
-operands_follow g has places fields alive n ready set e is c d s st here sim =
-    operand_after g has alive n ready places fields set e true is c.code.names (pure_after g has alive n ready places fields set e is c) d s st here sim
-
--- what is known of a unit of such a program where everything is active
-record KnowsFields (g : Setting) (scope : Scope) (a : Active) : Type 1 where
-  pub places : PlacesFields g
-  pub fields : HoldsTheFields g
-  pub is_active : fields.active ≡ a
-  pub same_extents : SameExtents g scope
-  pub effects : (e : TExpr) → g.may.beside.effects e → IsUpdate e
-  pub folds : (e : TExpr) → g.may.beside.folds e → IsFold e
-  pub conditions : (set : ℕ) (e : TExpr) → g.may.beside.conditions set e → ⊥
-  pub widens : (set : ℕ) → g.may.beside.widens set → ⊥
-
--- every update and every fold of it follows
-besides : (g : Setting) (scope : Scope) (a : Active) → KnowsFields g scope a → (has : HasRegisters g) → BesideFollows KnowsFields g has scope a
-besides g scope a k has = record {
-  expressions = subst (λ (active : Active). ExpressionsFollow g has scope active) k.is_active (record {
-    effects = λ alive files n ready e h among c d s st free here sim. updates_follow g has alive n ready k.places k.fields scope k.same_extents e (k.effects e h) (record { code = c; among = among }) d s st here sim;
-    folds = λ alive files n ready e h among c d s st R r free here sim dest.
-        folds_follow g alive scope k.places k.fields n (operands_follow g has k.places k.fields alive n ready) k.same_extents has e (k.folds e h) (record { code = c; among = among }) d s st R r here sim dest;
-  });
-  wheres = λ alive files n ready shape test p first second h. absurd (k.conditions shape test h);
-  widenings = λ alive files n ready shape p body h. absurd (k.widens shape h);
-}
 
 module _ (t : Typed) (image : Image) (p : IsParallelProgram t) (codable : IsCodable t) (compiled : IsCompiled t image) (sound : IsSound image) where
   made : IsTranslated t compiled.lowered.words compiled.before compiled.after image
@@ -94,13 +59,15 @@ module _ (t : Typed) (image : Image) (p : IsParallelProgram t) (codable : IsCoda
   known : (number : ℕ) (i : Instance) (is : slice_get t.instances.items number ≡ Some i) (opens : List ℕ) (most : ℕ) → KnowsFields (g number i is opens most) (scope number i is opens most) everywhere
   known number i is opens most = record {
     places = places number i is opens most;
-    fields = record { active = everywhere; opens = λ st m h. h; closes = λ st m h. h };
-    is_active = refl;
     same_extents = same_extents number i is opens most;
     effects = λ e h. h;
     folds = λ e h. h;
     conditions = λ set e h. h;
-    widens = λ set h. h;
+    kept = λ m. Unit {0};
+    lasts = λ m other stays h. tt;
+    opens = λ st m h. (h, tt);
+    closes = λ st m h kept. h;
+    ends = λ st m h. h;
   }
 
   all_beside : AllBeside t image p codable compiled (fields_held t image everywhere) everywhere KnowsFields
@@ -126,9 +93,9 @@ module _ (t : Typed) (image : Image) (p : IsParallelProgram t) (codable : IsCoda
   }
 
   -- what it holds of the state at the end, at the positions of the source
-  numbers_at_last : (st : State) (m : BitMemory) → HoldsFields t image everywhere st m → HasTheNumbers t image st m
+  numbers_at_last : (st : State) (m : BitMemory) → HoldsNumbers t image st m → HasTheNumbers t image st m
   numbers_at_last st m h k e set q info is below =
-      h.numbers k e set q info is (subst (λ (n : ℕ). q < n) (sym (processors_of t compiled.lowered.words compiled.before compiled.after image made set (file_exists t compiled.lowered.words compiled.before compiled.after image made k info set e is))) below)
+      h k e set q info is (subst (λ (n : ℕ). q < n) (sym (processors_of t compiled.lowered.words compiled.before compiled.after image made set (file_exists t compiled.lowered.words compiled.before compiled.after image made k info set e is))) below)
 
   comes_to_all : (memory : BitMemory) (input : List ℕ) (rest : Source.Rest) (turns : ℕ) (winner : Winner) → AreBytes input → IsNew image winner memory
       → ComesToAll t image (opening image memory turns (record { bytes = input; mark = mark_of rest })) (meaning t input rest turns winner)

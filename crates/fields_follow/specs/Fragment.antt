@@ -1,24 +1,22 @@
 -- The programs with parallel variables of which it is said so far that their code means them. Their parallel
 -- expressions are pure ones of 32 bits, of variables of the file, own coordinates and promoted scalars, which change
--- nothing and never fail; they are assigned to such variables, also under `where` and `everywhere`, and folded into
--- numbers where everything is active.
-use Rattle.std.specs.Prelude.{ℕ, ◌≡◌, ◌<◌, ◌^◌, ◌⊎◌, [], false, IfSome, Some, None}
+-- nothing and never fail; they are assigned to such variables and folded into numbers, and they are the conditions of
+-- `where`. Under `where` and `everywhere` stand the statements of scalar programs with these, but for calls, `return` and
+-- jumps that lead out of them.
+use Rattle.std.specs.Prelude.{ℕ, ◌≡◌, ◌<◌, ◌^◌, ◌⊎◌, false, IfSome, Some, None}
 use Rattle.cstar_base.specs.declared.operators.Op.{Op}
 use Rattle.cstar_base.specs.Operators.{divides}
 use Rattle.cstar_tree.specs.declared.syntax.AssignOp.{AssignOp}
 use Rattle.cstar_tree.specs.declared.typed.TExpr.{TExpr}
 use Rattle.cstar_tree.specs.declared.typed.TExpr as T
-use Rattle.cstar_tree.specs.declared.typed.TStmt.{TStmt, Row_of-TStmt, end_of-TStmt, more_of-TStmt, Held-TStmt-If-2, None', Some'}
-use Rattle.cstar_tree.specs.declared.typed.TStmt as S
 use Rattle.cstar_tree.specs.declared.typed.Typed.{Typed}
 use Rattle.cstar_tree.specs.declared.typed.ValueType.{ValueType}
 use Rattle.cstar_tree.specs.declared.typed.VarInfo.{VarInfo}
-use Rattle.cstar_tree.specs.declared.typed.Variable.{Variable}
 use Rattle.cstar_tree.specs.declared.typed.Variable.TheVariants as V
 use Rattle.cstar_tree.specs.Typed.{type_of}
 use Rattle.lower_base.specs.Operators.{assign_op_of, negates, relates}
 use Rattle.source_meaning.specs.Constants.{constant_of}
-use Rattle.code_follows.specs.Fragment.{Beside, IsProgramBeside, IsWord, ScalarsAmong}
+use Rattle.code_follows.specs.Fragment.{Beside, IsProgramBeside, IsWord}
 
 -- a type of 32 bits of a shape
 abbrev pub IsWide : ℕ → ValueType → Type 0
@@ -92,34 +90,15 @@ IsCondition set (T.Binary' ty place op p left q right) =
     IsWide set ty × (divides op ≡ false) × ((IsPure set left × (IsPure set right ⊎ IsPromoted set right)) ⊎ (IsPromoted set left × IsPure set right))
 IsCondition set e = IsPure set e
 
--- A statement of such updates, in which `where` and `everywhere` say which positions are active. The scalar variables
--- that it names are among these.
-unfoldable mutual
-  pub IsSelective : (Variable → Type 0) → TStmt → Type 0
-  IsSelective names (S.Block' locals p statements) = (locals.items ≡ []) × AreSelective names statements
-  IsSelective names (S.Expression e) = IsUpdate e × ScalarsAmong names e
-  IsSelective names S.Empty = Unit {0}
-  IsSelective names (S.With' shape p body) = IsSelective names body
-  IsSelective names (S.Everywhere' shape p body) = IsSelective names body
-  IsSelective names (S.Where' shape test p first second) = IsCondition shape test × ScalarsAmong names test × IsSelective names first × IsSelectiveElse names second
-  IsSelective names _ = ⊥
-
-  pub AreSelective : {k : _} → (Variable → Type 0) → Row_of-TStmt k → Type 0
-  AreSelective names end_of-TStmt = Unit {0}
-  AreSelective names (more_of-TStmt s rest) = IsSelective names s × AreSelective names rest
-
-  pub IsSelectiveElse : (Variable → Type 0) → Held-TStmt-If-2 → Type 0
-  IsSelectiveElse names None' = Unit {0}
-  IsSelectiveElse names (Some' p s) = IsSelective names s
-
 -- a parallel variable of 32 bits, which is no array
 abbrev pub IsParallelVariable : VarInfo → Type 0
 IsParallelVariable info = (set : ℕ) × ((info.shape ≡ Some set) × (info.array ≡ None) × (info.elem.bits ≡ 32))
 
 -- A program of functions on scalars, without recursion, and of parallel variables of the file: such updates are
--- statements, also within `with` and under contexts, and such folds stand within scalar expressions.
+-- statements, also within `with` and under contexts, such folds stand within scalar expressions, and such conditions
+-- narrow which positions are active.
 abbrev pub fields_beside : Beside
-fields_beside = record { effects = IsUpdate; folds = IsFold; conditions = λ set e. ⊥; widens = λ set. ⊥; variables = IsParallelVariable }
+fields_beside = record { effects = IsUpdate; folds = IsFold; conditions = IsCondition; widens = λ set. Unit {0}; variables = IsParallelVariable }
 
 abbrev pub IsParallelProgram : Typed → Type 0
 IsParallelProgram t = IsProgramBeside fields_beside t

@@ -1,0 +1,107 @@
+-- What is known of the code of parallel expressions and of contexts, wherever fields are known.
+use Rattle.std.proofs.Common.{ℕ, true, length, slice_index, List, ap, arith, sym, subst}
+use Rattle.cstar_tree.specs.declared.typed.TExpr.{TExpr}
+use Rattle.cstar_tree.specs.declared.typed.Variable.{Variable}
+use Rattle.cstar_tree.specs.Typed.{type_of}
+use Rattle.code_lengths.specs.Ready.{IsReady}
+use Rattle.lower_base.specs.declared.emit.Out.{Out}
+use Rattle.lower_base.specs.declared.emit.Out.TheVariants as O
+use Rattle.lower_base.specs.Drafts.{Draft, Fails, Made, Makes}
+use Rattle.lower_expr.specs.Effects.{computed_to, effect_of}
+use Rattle.paris_code.specs.Code.{CodeState}
+use Rattle.source_meaning.specs.Expressions.{evaluated}
+use Rattle.source_meaning.specs.State.{Gives, Outcome, State}
+use Rattle.source_meaning.specs.Values.{Active, Scalar, Scope, Value}
+use Rattle.code_follows.proofs.Besides.{BesideFollows}
+use Rattle.code_follows.proofs.Following.{Follows, HasRegisters, Ran, Sim}
+use Rattle.code_follows.proofs.Settings.{At, Begun, Setting, Within, layout}
+use Rattle.code_follows.proofs.Values.{Dest}
+use Rattle.fields_follow.specs.Fragment.{IsFold, IsUpdate}
+use Rattle.fields_follow.proofs.Assigning.{updates_leave}
+use Rattle.fields_follow.proofs.Contexts.{where_follows, widening_follows}
+use Rattle.fields_follow.proofs.Expressions.{pure_after}
+use Rattle.fields_follow.proofs.Forms.{HasItsCode}
+use Rattle.fields_follow.proofs.Knowing.{KnowsFields, kept_open, sim_close, sim_open}
+use Rattle.fields_follow.proofs.Leaving.{Leaves, UpdateLeaves, fields_under, places_under, reaches_again, registers_under, under, within_under}
+use Rattle.fields_follow.proofs.Passing.{After, code_longer}
+use Rattle.fields_follow.proofs.Reducing.{GivesNumber, number_to}
+use Rattle.fields_follow.proofs.Reductions.{GivesRegister, OperandsStand, fold_type, folds_give}
+use Rattle.fields_follow.proofs.Values.{operand_after}
+
+module _ (g : Setting) (scope : Scope) (active : Active) (known : KnowsFields g scope active) (has : HasRegisters g) where
+  module _ (alive : Variable → Type 0) (n : ℕ) (ready : (d : Draft) → IsReady g.typed g.instance (layout g) n d) (e : TExpr) (c : HasItsCode g.typed g.instance alive n e) (d : Draft) (s : CodeState) (st : State) (begun : Begun g d) (here : At g s (length d.code)) (sim : Sim g alive st s) where
+    -- what code leaves that is of an update, the unit's code follows
+    leaves_ran : (f : Draft) (u : State) → Within g f → Leaves (under g active) alive d f s u → Ran g alive d s u f
+    leaves_ran f u within l = record {
+      grown = l.grown;
+      t = l.t;
+      go = reaches_again g active l.go;
+      at = l.at;
+      sim = sim_close g scope active known alive u l.t l.sim (known.lasts s.memory l.t.memory (λ h first last p inside own ends before early after late.
+          l.stays h first last p (let b = begun.fields in omega (arith, inside, b)) own ends before (let b = begun.code in omega (arith, early, b)) after (let up = within.upto in omega (arith, late, up)))
+          (kept_open g scope active known alive st s sim));
+      keeps = λ r kept. ap (λ (registers : List ℕ). slice_index registers r) l.registers;
+    }
+
+    pub update_follows : IsUpdate e → Follows g (λ v u out f. Ran g alive d s u f) s (evaluated scope e active st) (effect_of g.typed (layout g) e d)
+    unfolding After Follows
+    update_follows is =
+        let leaves : UpdateLeaves (under g active) alive (fields_under g active) scope e d s st =
+        updates_leave (under g active) (registers_under g active has) alive n ready (places_under g active known.places) (fields_under g active) scope known.same_extents e is c d s st here (sim_open g scope active known alive st s sim) in
+        let (v, (u, (means, after))) = leaves in
+        subst (λ (o : Outcome Value). Follows g (λ v u out f. Ran g alive d s u f) s o (effect_of g.typed (layout g) e d)) (sym means) (by v u (effect_of g.typed (layout g) e d) after)
+      where
+        by : (v : Value) (u : State) (made : Made Out) → After (under g active) (λ out f. Leaves (under g active) alive d f s u) made → Follows g (λ v u out f. Ran g alive d s u f) s (Gives v u) made
+        by v u (Makes out f) h = λ within. leaves_ran f u within (h (within_under g active within))
+        by v u Fails h = tt
+
+    -- the code of a pure parallel expression leaves its numbers in a field
+    operands_stand : OperandsStand (under g active) alive n
+    operands_stand set o is code d0 s0 st0 at_o sim_o =
+        let there : Setting = under g active in
+        operand_after there (registers_under g active has) alive n ready (places_under g active known.places) (fields_under g active) set o true is code.code.names
+        (pure_after there (registers_under g active has) alive n ready (places_under g active known.places) (fields_under g active) set o is code) d0 s0 st0 at_o sim_o
+
+    number_again : (r w : ℕ) (f : Draft) → Within g f → GivesNumber (under g active) alive d s st r w f → GivesNumber g alive d s st r w f
+    number_again r w f within given =
+        let p = given.passes in
+        let longer = code_longer given.middle f given.puts.more.0 given.puts.more.1 in
+        record {
+          middle = given.middle;
+          passes = record {
+            grown = p.grown;
+            t = p.t;
+            go = reaches_again g active p.go;
+            at = p.at;
+            registers = p.registers;
+            sim = sim_close g scope active known alive st p.t p.sim (known.lasts s.memory p.t.memory (λ h first last q inside own ends before early after late.
+                p.stays tt h first last q (let b = begun.fields in omega (arith, inside, b)) own before (let b = begun.code in omega (arith, early, b)) after (let up = within.upto in omega (arith, late, up, longer)))
+                (kept_open g scope active known alive st s sim));
+            stays = p.stays;
+          };
+          puts = record { more = given.puts.more; place = given.puts.place; go = reaches_again g active given.puts.go; at = given.puts.at; few = given.puts.few };
+        }
+
+    -- a fold puts its number where it is to be
+    pub fold_follows : IsFold e → (R : Value → State → Out → Draft → Type 0) (r : ℕ) → Dest g has alive (type_of e).elem d s R r → Follows g R s (evaluated scope e active st) (computed_to g.typed (layout g) (O.Scalar r) e d)
+    unfolding After Follows
+    fold_follows is R r dest =
+        let (w, (means, after)) = folds_give (under g active) alive scope (places_under g active known.places) (fields_under g active) n operands_stand known.same_extents e is c d s st r here (sim_open g scope active known alive st s sim) in
+        subst (λ (o : Outcome Value). Follows g R s o (computed_to g.typed (layout g) (O.Scalar r) e d)) (sym means) (by w (computed_to g.typed (layout g) (O.Scalar r) e d) after)
+      where
+        by : (w : ℕ) (made : Made Out) → After (under g active) (GivesRegister (under g active) alive r w d s st) made → Follows g R s (Gives (Scalar w) st) made
+        by w (Makes out f) h = λ within.
+            let given = h (within_under g active within) in
+            subst (λ (o : Out). R (Scalar w) st o f) (sym given.0) (number_to g alive has (type_of e).elem d s st R r w f (fold_type e is) dest (number_again r w f within given.1) within)
+        by w Fails h = tt
+
+-- every update, every fold and every context of it follows
+pub besides : (g : Setting) (scope : Scope) (active : Active) → KnowsFields g scope active → (has : HasRegisters g) → BesideFollows KnowsFields g has scope active
+besides g scope active known has = record {
+  expressions = record {
+    effects = λ alive files n ready e h among c d s st free here sim. update_follows g scope active known has alive n ready e (record { code = c; among = among }) d s st free here sim (known.effects e h);
+    folds = λ alive files n ready e h among c d s st R r free here sim dest. fold_follows g scope active known has alive n ready e (record { code = c; among = among }) d s st free here sim (known.folds e h) R r dest;
+  };
+  wheres = λ alive files n ready shape test p first second h among c f contexts one other. where_follows g has scope active known alive n ready shape test p first second (known.conditions shape test h) among c f contexts one other;
+  widenings = λ alive files n ready shape p body h c f contexts part. widening_follows g has scope active known alive n ready shape p body f contexts part;
+}

@@ -1,0 +1,137 @@
+-- What is known of a unit under contexts: which positions are active, and that the memory keeps the contexts that are
+-- saved beside the numbers of the file's variables.
+use Rattle.std.proofs.Common.{◌≡◌, ◌∙◌, ℕ, ◌<◌, ◌≤◌, Bool, length, arith}
+use Rattle.std.specs.Int.{from_bool}
+use Rattle.cstar_tree.specs.declared.typed.TExpr.{TExpr}
+use Rattle.cstar_tree.specs.declared.typed.Variable.{Variable}
+use Rattle.lower_base.specs.Drafts.{Draft}
+use Rattle.paris_code.specs.declared.operands.Field.{Field}
+use Rattle.paris_code.specs.Code.{CodeState}
+use Rattle.paris_code.specs.Memory.{BitMemory, field_number, processors}
+use Rattle.paris_code.specs.Spans.{IsNamedAt}
+use Rattle.source_meaning.specs.State.{Early, State}
+use Rattle.source_meaning.specs.Values.{Active, Scope}
+use Rattle.code_follows.specs.Fragment.{May}
+use Rattle.code_follows.proofs.Besides.{under_held}
+use Rattle.code_follows.proofs.Following.{Finishes, IsKept, Sim}
+use Rattle.code_follows.proofs.Settings.{Held, Setting, Within}
+use Rattle.fields_follow.specs.Fragment.{IsCondition, IsFold, IsUpdate}
+use Rattle.fields_follow.proofs.Fields.{HoldsFields, HoldsNumbers, fields_held}
+use Rattle.fields_follow.proofs.Instructions.{SameExtents, place, shapes}
+use Rattle.fields_follow.proofs.Leaving.{EndsBelow, under}
+use Rattle.fields_follow.proofs.Places.{IsOwnField, PlacesFields}
+
+-- the same unit, of which other things are said
+abbrev saying : Setting → May → Held → ℕ → ℕ → ℕ → Setting
+saying g may held from entries upto = record g { may = may; held = held; from = from; entries = entries; upto = upto }
+
+-- its state agrees too, where the memory holds what is to be held
+sim_saying : (g : Setting) (may other : May) (held more : Held) (from entries upto first fields last : ℕ) (alive : Variable → Type 0) (st : State) (s : CodeState) → more.holds st s.memory → Sim (saying g may held from entries upto) alive st s → Sim (saying g other more first fields last) alive st s
+sim_saying g may other held more from entries upto first fields last alive st s holds h = record {
+  registers = h.registers;
+  scalars = h.scalars;
+  small = h.small;
+  constants = h.constants;
+  turns = h.turns;
+  output = h.output;
+  input = h.input;
+  returns = h.returns;
+  few = h.few;
+  bytes = h.bytes;
+  memory = holds;
+}
+
+module _ (g : Setting) where
+  -- What code leaves that is between these places, where there are so many entries at first: what stands in own entries
+  -- that are named before it and behind it.
+  abbrev pub StaysNamed : ℕ → ℕ → ℕ → BitMemory → BitMemory → Type 0
+  StaysNamed from entries upto m other =
+      (h : Field) (first last p : ℕ) → h.offset < entries → IsOwnField g h → EndsBelow g h → IsNamedAt g.unit h.offset first → first < from → IsNamedAt g.unit h.offset last → upto ≤ last → field_number other (place g h) p ≡ field_number m (place g h) p
+
+  -- so this lasts there
+  abbrev pub Lasts : ℕ → ℕ → ℕ → (BitMemory → Type 0) → Type 0
+  Lasts from entries upto kept = (m other : BitMemory) → StaysNamed from entries upto m other → kept m → kept other
+
+  pub lasts_within : (from entries upto first fields last : ℕ) (kept : BitMemory → Type 0) → from ≤ first → entries ≤ fields → last ≤ upto → Lasts from entries upto kept → Lasts first fields last kept
+  lasts_within from entries upto first fields last kept low more high lasts m other stays =
+      lasts m other (λ h one two p below own ends before early after late. stays h one two p (omega (arith, below, more)) own ends before (omega (arith, early, low)) after (omega (arith, late, high)))
+
+  pub lasts_both : (from entries upto : ℕ) (one two : BitMemory → Type 0) → Lasts from entries upto one → Lasts from entries upto two → Lasts from entries upto (λ m. one m × two m)
+  lasts_both from entries upto one two a b m other stays both = (a m other stays both.0, b m other stays both.1)
+
+  -- a field has flags at some positions
+  abbrev pub HasFlags : Field → (ℕ → Type 0) → (ℕ → Bool) → BitMemory → Type 0
+  HasFlags f takes flags m = (p : ℕ) → p < processors (shapes g) f.set → takes p → field_number m (place g f) p ≡ from_bool (flags p)
+
+  pub flags_last : (f : Field) (takes : ℕ → Type 0) (flags : ℕ → Bool) (first last from entries upto : ℕ) → IsOwnField g f → EndsBelow g f → f.offset < entries → IsNamedAt g.unit f.offset first → first < from → IsNamedAt g.unit f.offset last → upto ≤ last → Lasts from entries upto (HasFlags f takes flags)
+  flags_last f takes flags first last from entries upto own ends inside before low after high m other stays has p below taken = stays f first last p inside own ends before low after high ∙ has p below taken
+
+  -- where these positions are active, the memory holds the numbers of the file's variables, and this is kept of it
+  abbrev pub held_under : Active → (kept : BitMemory → Type 0) → Held
+  held_under a kept = record {
+    holds = λ st m. HoldsFields g.typed g.image a st m × kept m;
+    ends = HoldsNumbers g.typed g.image;
+    finally = λ st m h. h.0.numbers;
+    still = λ st u m same winner h. ((fields_held g.typed g.image a).still st u m same winner h.0, h.1);
+  }
+
+-- What is known of a unit of such a program, where these positions are active: what is kept of the memory beside the
+-- fields of the file lasts as long as the code of which the setting speaks.
+pub record KnowsFields (g : Setting) (scope : Scope) (a : Active) : Type 1 where
+  pub places : PlacesFields g
+  pub same_extents : SameExtents g scope
+  pub effects : (e : TExpr) → g.may.beside.effects e → IsUpdate e
+  pub folds : (e : TExpr) → g.may.beside.folds e → IsFold e
+  pub conditions : (set : ℕ) (e : TExpr) → g.may.beside.conditions set e → IsCondition set e
+  pub kept : BitMemory → Type 0
+  pub lasts : Lasts g g.from g.entries g.upto kept
+  pub opens : (st : State) (m : BitMemory) → g.held.holds st m → HoldsFields g.typed g.image a st m × kept m
+  pub closes : (st : State) (m : BitMemory) → HoldsFields g.typed g.image a st m → kept m → g.held.holds st m
+  pub ends : (st : State) (m : BitMemory) → HoldsNumbers g.typed g.image st m → g.held.ends st m
+
+module _ (g : Setting) (scope : Scope) (a : Active) (k : KnowsFields g scope a) where
+  -- the state agrees with the source where the memory has these fields, and keeps what is kept
+  pub sim_open : (alive : Variable → Type 0) (st : State) (s : CodeState) → Sim g alive st s → Sim (under g a) alive st s
+  sim_open alive st s h = sim_saying g g.may g.may g.held (fields_held g.typed g.image a) g.from g.entries g.upto g.from g.entries g.upto alive st s (k.opens st s.memory h.memory).0 h
+
+  pub kept_open : (alive : Variable → Type 0) (st : State) (s : CodeState) → Sim g alive st s → k.kept s.memory
+  kept_open alive st s h = (k.opens st s.memory h.memory).1
+
+  pub sim_close : (alive : Variable → Type 0) (st : State) (s : CodeState) → Sim (under g a) alive st s → k.kept s.memory → Sim g alive st s
+  sim_close alive st s h kept = sim_saying g g.may g.may (fields_held g.typed g.image a) g.held g.from g.entries g.upto g.from g.entries g.upto alive st s (k.closes st s.memory h.memory kept) h
+
+  -- ---- a part under one context more
+
+  module _ (b : Active) (kept : BitMemory → Type 0) (from entries upto : ℕ) where
+    abbrev pub inner : Setting
+    inner = under_held g (held_under g b kept) from entries upto
+
+    pub knows_inner : Lasts g from entries upto kept → KnowsFields inner scope b
+    knows_inner lasts = record {
+      places = let p = k.places in record { ends = p.ends; exists = p.exists; files_end = p.files_end; file = p.file; files_apart = p.files_apart; own_file = p.own_file; owns_apart = p.owns_apart; few = p.few };
+      same_extents = k.same_extents;
+      effects = k.effects;
+      folds = k.folds;
+      conditions = k.conditions;
+      kept = kept;
+      lasts = lasts;
+      opens = λ st m h. h;
+      closes = λ st m holds has. (holds, has);
+      ends = λ st m h. h;
+    }
+
+    pub within_inner : (e : Draft) → length e.code ≤ upto → Within g e → Within inner e
+    within_inner e high w = record { more = w.more; code = w.code; entries = w.entries; fields = w.fields; regs = w.regs; own = w.own; upto = high }
+
+    pub sim_inner : (alive : Variable → Type 0) (st : State) (s : CodeState) → Sim (under g b) alive st s → kept s.memory → Sim inner alive st s
+    sim_inner alive st s h has = sim_saying g g.may inner.may (fields_held g.typed g.image b) (held_under g b kept) g.from g.entries g.upto from entries upto alive st s (h.memory, has) h
+
+    pub sim_outer : (alive : Variable → Type 0) (st : State) (s : CodeState) → Sim inner alive st s → Sim (under g b) alive st s
+    sim_outer alive st s h = sim_saying g inner.may g.may (held_under g b kept) (fields_held g.typed g.image b) from entries upto g.from g.entries g.upto alive st s h.memory.0 h
+
+    pub finishes_outer : (early : Early) (st : State) (s : CodeState) → Finishes inner early st s → Finishes g early st s
+    finishes_outer early st s f = record { t = f.t; ends = record { steps = f.ends.steps; is = f.ends.is }; turns = f.turns; output = f.output; input = f.input; memory = k.ends st f.t.memory f.memory }
+
+    pub kept_inner : (d : Draft) (r : ℕ) → IsKept g d r → IsKept inner d r
+    unfolding IsKept
+    kept_inner d r h = h
