@@ -1,5 +1,5 @@
 -- Assignments to parallel variables and steps of them follow.
-use Rattle.std.proofs.Common.{◌≡◌, ◌∙◌, ℕ, ◌+◌, ◌<◌, ◌^◌, ◌==◌, ◌&&◌, ◌||◌, Bool, true, false, not, List, length, slice_index, Option, Some, None, refl, sym, ap, subst, arith, inl, inr, if◌then◌else◌}
+use Rattle.std.proofs.Common.{◌≡◌, ◌∙◌, ℕ, ◌+◌, ◌<◌, ◌^◌, ◌==◌, ◌&&◌, ◌||◌, Bool, true, false, not, List, length, Option, Some, None, refl, ap, subst, arith, inl, inr, if◌then◌else◌}
 use Rattle.std.specs.Prelude.{IfSome, is_none}
 use Rattle.cstar_base.specs.declared.elem.Elem.{Elem}
 use Rattle.cstar_base.specs.declared.operators.Op.{Op}
@@ -26,7 +26,7 @@ use Rattle.code_lengths.specs.Shaped.{IsShaped}
 use Rattle.code_lengths.proofs.Drafting.{extended}
 use Rattle.lower_base.specs.declared.emit.Out.{Out}
 use Rattle.lower_base.specs.declared.emit.Out.TheVariants as O
-use Rattle.lower_base.specs.Drafts.{Draft, Fails, Made, Makes, an_entry, first_bits, then_make, with_instr}
+use Rattle.lower_base.specs.Drafts.{Draft, Made, Makes, an_entry, first_bits, then_make, with_instr}
 use Rattle.lower_base.specs.Kinds.{bits_of, is_bitwise, kind_of}
 use Rattle.lower_base.specs.Operators.{assign_op_of, operation_of, relates}
 use Rattle.lower_expr.specs.declared.operands.Own.{Own}
@@ -45,11 +45,11 @@ use Rattle.paris_code.specs.Memory.{processors}
 use Rattle.paris_code.specs.Proper.{IsEntry}
 use Rattle.source_meaning.specs.Expressions.{evaluated}
 use Rattle.source_meaning.specs.Reductions.{promoted, updated}
-use Rattle.source_meaning.specs.State.{Gives, Outcome, State, with_positions}
+use Rattle.source_meaning.specs.State.{Gives, State, with_positions}
 use Rattle.source_meaning.specs.Targets.{step_op}
 use Rattle.source_meaning.specs.Values.{Parallel, Scope, Value}
 use Rattle.source_meaning.proofs.ConstantLaws.{Boxed}
-use Rattle.code_follows.proofs.Following.{Follows, HasRegisters, Ran, Sim}
+use Rattle.code_follows.proofs.Following.{HasRegisters, Sim}
 use Rattle.code_follows.proofs.Settings.{At, Setting, Within, and_one, code_more, layout, onto}
 use Rattle.fields_follow.specs.Fragment.{HasOperation, IsOperand, IsOperation, IsTarget, IsUpdate}
 use Rattle.fields_follow.specs.Fields.{IsElement, file_number}
@@ -67,12 +67,6 @@ use Rattle.fields_follow.proofs.Expressions.{operand_type}
 use Rattle.code_follows.specs.Fragment.{ScalarsAmong}
 
 module _ (g : Setting) (has : HasRegisters g) (alive : Variable → Type 0) (n : ℕ) (ready : (d : Draft) → IsReady g.typed g.instance (layout g) n d) (places : PlacesFields g) (fields : HoldsTheFields g) where
-  -- code that leaves a state has run, which follows the source's part that gives a value
-  follows_after : (d : Draft) (s : CodeState) (v : Value) (u : State) (made : Made Out) → After g (λ out e. Leaves g alive d e s u) made → Follows g (λ v u out e. Ran g alive d s u e) s (Gives v u) made
-  unfolding After Follows
-  follows_after d s v u (Makes out e) h = λ within. let l = h within in record { grown = l.grown; t = l.t; go = l.go; at = l.at; sim = l.sim; keeps = λ r kept. ap (λ (registers : List ℕ). slice_index registers r) l.registers }
-  follows_after d s v u Fails h = tt
-
   -- The last instruction writes the variable where it is active: with the entry for it before, the code leaves a state
   -- that has what the source stores.
   module _ (set k : ℕ) (info : VarInfo) (is : IsElement g.typed k info set 0) (word : info.elem.bits ≡ 32) (d : Draft) (s : CodeState) (st : State) where
@@ -302,10 +296,3 @@ module _ (g : Setting) (has : HasRegisters g) (alive : Variable → Type 0) (n :
         set_of = is.0
     updates_leave (T.Step' ty op order p target) is c = steps ty op order p target is.0 is.1.0 is.1.1 c.code.names
     updates_leave _ is c = absurd is
-
-    -- so it follows
-    pub updates_follow : (e : TExpr) → IsUpdate e → HasItsCode g.typed g.instance alive n e → (d : Draft) (s : CodeState) (st : State) → At g s (length d.code) → Sim g alive st s
-        → Follows g (λ v u out f. Ran g alive d s u f) s (evaluated scope e fields.active st) (effect_of g.typed (layout g) e d)
-    updates_follow e is c d s st here sim =
-        let (v, (u, (means, after))) = updates_leave e is c d s st here sim in
-        subst (λ (o : Outcome Value). Follows g (λ v u out f. Ran g alive d s u f) s o (effect_of g.typed (layout g) e d)) (sym means) (follows_after d s v u (effect_of g.typed (layout g) e d) after)

@@ -18,7 +18,8 @@ use Rattle.code_follows.proofs.Settings.{At, Begun, Setting, Within, layout}
 use Rattle.code_follows.proofs.Values.{Dest}
 use Rattle.fields_follow.specs.Fragment.{IsFold, IsUpdate}
 use Rattle.fields_follow.proofs.Assigning.{updates_leave}
-use Rattle.fields_follow.proofs.Contexts.{where_follows, widening_follows}
+use Rattle.fields_follow.proofs.Contexts.{where_follows}
+use Rattle.fields_follow.proofs.Widening.{widening_follows}
 use Rattle.fields_follow.proofs.Expressions.{pure_after}
 use Rattle.fields_follow.proofs.Forms.{HasItsCode}
 use Rattle.fields_follow.proofs.Knowing.{KnowsFields, kept_open, sim_close, sim_open}
@@ -103,5 +104,5 @@ besides g scope active known has = record {
     folds = λ alive files n ready e h among c d s st R r free here sim dest. fold_follows g scope active known has alive n ready e (record { code = c; among = among }) d s st free here sim (known.folds e h) R r dest;
   };
   wheres = λ alive files n ready shape test p first second h among c f contexts one other. where_follows g has scope active known alive n ready shape test p first second (known.conditions shape test h) among c f contexts one other;
-  widenings = λ alive files n ready shape p body h c f contexts part. widening_follows g has scope active known alive n ready shape p body f contexts part;
+  widenings = λ alive files n ready shape p body h c f contexts part. widening_follows g scope active known alive n shape p body f contexts part;
 }

@@ -1,4 +1,4 @@
--- `where` and `everywhere` follow where what stands under them does.
+-- `where` follows where what stands under it does.
 use Rattle.std.proofs.Common.{◌≡◌, ◌∙◌, ℕ, ◌+◌, ◌<◌, ◌≤◌, true, List, [], ◌∷◌, ◌++◌, length, slice_index, refl, sym, ap, subst, arith}
 use Rattle.cstar_tree.specs.declared.typed.TExpr.{TExpr}
 use Rattle.cstar_tree.specs.declared.typed.TStmt.{TStmt, Held-TStmt-If-2, None', Some'}
@@ -16,7 +16,7 @@ use Rattle.lower_base.specs.Drafts.{Draft, Fails, Made, Makes, an_entry, step as
 use Rattle.lower_expr.specs.Values.{tested}
 use Rattle.lower_stmt.specs.declared.statement.Frame.{Frame}
 use Rattle.lower_stmt.specs.Frames.{in_context}
-use Rattle.lower_stmt.specs.Statements.{closing, kept_for, narrowed, otherwise_of, statement_of, turned, widened, with_kept}
+use Rattle.lower_stmt.specs.Statements.{closing, kept_for, narrowed, otherwise_of, statement_of, turned, with_kept}
 use Rattle.paris_code.specs.declared.instr.Instr.TheVariants as I
 use Rattle.paris_code.specs.declared.operands.Field.{Field}
 use Rattle.paris_code.specs.declared.program.Owner.TheVariants as W
@@ -24,7 +24,7 @@ use Rattle.paris_code.specs.Code.{CodeState}
 use Rattle.paris_code.specs.Memory.{BitMemory}
 use Rattle.paris_code.specs.Spans.{IsNamedAt}
 use Rattle.source_meaning.specs.Expressions.{evaluated}
-use Rattle.source_meaning.specs.Narrowing.{where_nonzero, where_zero, widened as all_active}
+use Rattle.source_meaning.specs.Narrowing.{where_nonzero, where_zero}
 use Rattle.source_meaning.specs.State.{Gives, Outcome, State, then_do}
 use Rattle.source_meaning.specs.Statements.{Leaving, Onward, declared, else_executed, executed, then_go}
 use Rattle.source_meaning.specs.Values.{Active, Parallel, Scope, Value, nonzero}
@@ -38,10 +38,10 @@ use Rattle.fields_follow.proofs.Forms.{HasItsCode}
 use Rattle.fields_follow.proofs.Instructions.{extents}
 use Rattle.fields_follow.proofs.Knowing.{KnowsFields, Lasts, flags_last, kept_open, lasts_both, sim_open}
 use Rattle.fields_follow.proofs.Saving.{Arrives, Kept, arrives, arrives_now, kept_lasts, own_below, part_closed, test_below}
-use Rattle.fields_follow.proofs.Leading.{HasTests, Led, TestsAre, keeps_tests, led_entry, led_nowhere, led_weaker, loads_tests, named_next, narrows, saves_context, then_leads, turns, widens}
+use Rattle.fields_follow.proofs.Leading.{HasTests, Led, TestsAre, keeps_tests, led_weaker, loads_tests, named_next, narrows, saves_context, then_leads, turns}
 use Rattle.fields_follow.proofs.Leaving.{EndsBelow, fields_under, places_under, reaches_again, registers_under, under, within_under}
 use Rattle.fields_follow.proofs.Meaning.{value_in}
-use Rattle.fields_follow.proofs.Narrowing.{among, among_beside, others, others_beside, widened_beside}
+use Rattle.fields_follow.proofs.Narrowing.{among, among_beside, others, others_beside}
 use Rattle.fields_follow.proofs.Passing.{After, code_longer, fields_longer}
 use Rattle.fields_follow.proofs.Places.{IsOwnField}
 use Rattle.fields_follow.proofs.TestFlags.{LeavesTests}
@@ -54,6 +54,7 @@ unfolding Grows
 grown_made d n P (Makes x e) grows = (x, (e, (refl, (n, grows.1))))
 grown_made d n P Fails grows = absurd grows
 
+-- where the condition gives numbers, the source goes on where they are not zero, and then where they are
 where_means : (scope : Scope) (a : Active) (shape : ℕ) (test : TExpr) (p : Boxed) (first : TStmt) (second : Held-TStmt-If-2) (k : ℕ) (v : ℕ → ℕ) (st : State) → evaluated scope test a st ≡ Gives (Parallel v) st
     → executed scope (S.Where' shape test p first second) k a st ≡ then_go (executed scope first k (among shape v a) st) (else_executed scope second (k + declared first) (others shape v a))
 unfolding executed then_do
@@ -61,82 +62,17 @@ where_means scope a shape test p first second k v st is =
     ap (λ (o : Outcome Value). then_do o (λ x after. then_go (executed scope first k (where_nonzero shape x a) after) (else_executed scope second (k + declared first) (where_zero shape x a)))) is
 
 module _ (g : Setting) (has : HasRegisters g) (scope : Scope) (active : Active) (known : KnowsFields g scope active) (alive : Variable → Type 0) (n : ℕ) (ready : (d : Draft) → IsReady g.typed g.instance (layout g) n d) where
-  -- ---- everywhere
-
-  pub widening_follows : (shape : ℕ) (p : Boxed) (body : TStmt) (f : Frame) (contexts : List Field) → StatementPart KnowsFields g scope alive body n f contexts → ComesOn g scope alive active (S.Everywhere' shape p body) n f contexts
-  unfolding executed statement_of an_entry then_make widened closing step_of
-  widening_follows shape p body f contexts parts d s st none begun at sim =
-      follows_same g (Arrives g scope active known alive d s) s refl (ap (λ (made : Made ℕ). closing saved made) made.1.0)
-      (at_once g (Arrives g scope active known alive d s) s o (behind n body) (with_instr (I.LoadContext saved) e) (λ w.
-      let w_e : Within g e = earlier g e (with_instr (I.LoadContext saved) e) 1 (and_one g (I.LoadContext saved) e) w in
-      let w_inner : Within g inner = earlier g inner e longer.0 longer.1 w_e in
-      let w_stores : Within g stores = earlier g stores inner 1 (and_one g (I.SetContext shape) stores) w_inner in
-      let below = own_below g scope active known alive saved start w_stores in
-      let own : IsOwnField g saved = taken g shape 1 W.Own d stores 1 w_stores (and_one g (I.StoreContext saved) start) in
-      let first : IsNamedAt g.unit saved.offset (length start.code) = named_next g (I.StoreContext saved) saved start w_stores refl refl in
-      let last : IsNamedAt g.unit saved.offset (length e.code) = named_next g (I.LoadContext saved) saved e w refl refl in
-      let counts : length start.fields ≡ length d.fields + 1 = one_more shape 1 W.Own d in
-      let stored : length stores.code ≡ length start.code + 1 = code_more g (I.StoreContext saved) start in
-      let set : length inner.code ≡ length stores.code + 1 = code_more g (I.SetContext shape) stores in
-      let fields : length start.fields ≤ length inner.fields = fields_longer start inner 2 inner_more in
-      let long : length inner.code ≤ length e.code = code_longer inner e longer.0 longer.1 in
-      let lasts : Lasts g (length inner.code) (length inner.fields) (length e.code) (λ m. Kept g scope active known alive saved m) =
-      kept_lasts g scope active known alive saved d (length start.code) (length e.code) (length inner.code) (length inner.fields) (length e.code) begun (omega (arith, stored, set)) (omega (arith, counts, fields)) w_e.upto own below.1 (omega (arith, counts, fields)) first (omega (arith, stored, set)) last (omega arith) in
-      let led_start : Led g scope active known alive active (λ m. known.kept m × Unit {0}) d start s st =
-      led_entry g scope active known alive active (λ m. known.kept m × Unit {0}) shape 1 W.Own d d s st (led_weaker g scope active known alive active known.kept (λ m. known.kept m × Unit {0}) d d s st (λ m kept. (kept, tt)) (led_nowhere g scope active known alive d s st at sim)) in
-      let led_stores : Led g scope active known alive active (λ m. Kept g scope active known alive saved m × Unit {0}) d stores s st =
-      saves_context g scope active known alive active known.kept g.from g.entries g.upto known.lasts d start s st (λ m. Unit {0}) saved (length e.code) begun.code begun.fields (let up = w_stores.upto in omega (arith, up, stored)) own refl last (omega (arith, stored, set, long)) (λ m other same kept. kept) w_stores led_start in
-      let led_inner : Led g scope active known alive (all_active shape active) (λ m. Kept g scope active known alive saved m) d inner s st =
-      widens g scope active known alive active (λ m. Kept g scope active known alive saved m) (length inner.code) (length inner.fields) (length e.code) lasts d stores s st shape w_inner (led_weaker g scope active known alive active (λ m. Kept g scope active known alive saved m × Unit {0}) (λ m. Kept g scope active known alive saved m) d stores s st (λ m kept. kept.0) led_stores) in
-      arrives g scope active known alive (λ m. Kept g scope active known alive saved m) d s o (Makes (behind n body) (with_instr (I.LoadContext saved) e)) (λ m kept. kept.0)
-      (part_closed g scope active known alive (all_active shape active) saved (λ m. Kept g scope active known alive saved m) d inner e s st longer.0 (behind n body) (λ a u. executed scope body n a u) code part made.1.0 inner_homes begun lasts (λ m kept. kept.1) (λ q x differ. sym (widened_beside shape active q x differ)) longer.1 led_inner)))
-    where
-      start : Draft
-      start = with_entry shape 1 W.Own d
-
-      saved : Field
-      saved = next_field shape 1 d
-
-      stores : Draft
-      stores = with_instr (I.StoreContext saved) start
-
-      inner : Draft
-      inner = with_instr (I.SetContext shape) stores
-
-      inner_more : Extended start 2 inner
-      inner_more = and_instr (I.SetContext shape) start stores 1 (and_one g (I.StoreContext saved) start)
-
-      inner_homes : inner.homes ≡ []
-      inner_homes = inner_more.homes ∙ none
-
-      code : Draft → Made ℕ
-      code after = statement_of g.typed (layout g) body (in_context f) (contexts ++ saved ∷ []) n after
-
-      part : Part KnowsFields g scope alive (behind n body) (λ a u. executed scope body n a u) code
-      part = parts saved
-
-      made : (e : Draft) × ((code inner ≡ Makes (behind n body) e) × ((k : ℕ) × Extended inner k e) × (e.homes ≡ []))
-      made = part.made inner inner_homes
-
-      e : Draft
-      e = made.0
-
-      longer : (k : ℕ) × Extended inner k e
-      longer = made.1.1
-
-      o : Outcome Leaving
-      o = executed scope body n (all_active shape active) st
-
-  -- ---- where
-
+  -- what is said of code that was made
   after_there : {A : Type 0} (R : A → Draft → Type 0) {made : Made A} (x : A) (e : Draft) → made ≡ Makes x e → After (under g active) R made → Within g e → R x e
   unfolding After
   after_there R x e is h w = subst (λ (m : Made _). After (under g active) R m) is h (within_under g active w)
 
+  -- what is known of the code of the condition
   where_test : (shape : ℕ) (test : TExpr) (p : Boxed) (first : TStmt) (second : Held-TStmt-If-2) → HasStatementCode g.typed g.instance n (S.Where' shape test p first second) → InField g.typed test × HasCode g.typed g.instance n test
   unfolding IsShapedStatement IsLowerableStatement StatementNamesVariables
   where_test shape test p first second c = (c.lowerable.0, record { shaped = c.shaped.0; lowerable = c.lowerable.1; names = c.names.0 })
 
+  -- the code of `where` takes an entry for the context, and one for the tests
   module _ (shape : ℕ) (d : Draft) where
     abbrev entered : Draft
     entered = with_entry shape 1 W.Own d
@@ -150,6 +86,14 @@ module _ (g : Setting) (has : HasRegisters g) (scope : Scope) (active : Active) 
     abbrev for_test : Draft
     for_test = with_entry shape 1 W.Own entered
 
+    -- the code of a condition is made
+    abbrev TestMade : TExpr → Type 0
+    TestMade test = (x : Unit {0}) × ((after : Draft) × ((tested g.typed (layout g) test for_test ≡ Makes x after) × ((k : ℕ) × Extended for_test k after)))
+
+    test_made : (test : TExpr) → InField g.typed test → HasItsCode g.typed g.instance alive n test → TestMade test
+    test_made test field c = grown_made for_test _ _ _ ((expressions g.typed g.instance (layout g)).test n test for_test c.code field (ready for_test))
+
+    -- the two entries are no code
     both_entries : Extended d 0 for_test
     both_entries = extended d entered for_test 0 0 (and_entry shape 1 W.Own d) (and_entry shape 1 W.Own entered)
 
@@ -243,8 +187,8 @@ module _ (g : Setting) (has : HasRegisters g) (scope : Scope) (active : Active) 
       o : Outcome Leaving
       o = executed scope (S.Where' shape test p first None') n active st
 
-      tests : (x : Unit {0}) × ((after : Draft) × ((tested g.typed (layout g) test (for_test shape d) ≡ Makes x after) × ((k : ℕ) × Extended (for_test shape d) k after)))
-      tests = grown_made (for_test shape d) _ _ _ ((expressions g.typed g.instance (layout g)).test n test (for_test shape d) c.code field (ready (for_test shape d)))
+      tests : TestMade shape d test
+      tests = test_made shape d test field c
 
       after : Draft
       after = tests.1.0
@@ -362,8 +306,8 @@ module _ (g : Setting) (has : HasRegisters g) (scope : Scope) (active : Active) 
       KeptTests : BitMemory → Type 0
       KeptTests memory = Kept g scope active known alive saved_in memory × HasTests g active v holds_in memory
 
-      tests : (x : Unit {0}) × ((after : Draft) × ((tested g.typed (layout g) test (for_test shape d) ≡ Makes x after) × ((k : ℕ) × Extended (for_test shape d) k after)))
-      tests = grown_made (for_test shape d) _ _ _ ((expressions g.typed g.instance (layout g)).test n test (for_test shape d) c.code field (ready (for_test shape d)))
+      tests : TestMade shape d test
+      tests = test_made shape d test field c
 
       after : Draft
       after = tests.1.0
@@ -437,6 +381,7 @@ module _ (g : Setting) (has : HasRegisters g) (scope : Scope) (active : Active) 
       last_more : Extended back (2 + (far.0 + 1)) last
       last_more = extended back turns_back last 2 (far.0 + 1) from_back (extended turns_back h last far.0 1 far.1 (and_one g (I.LoadContext saved_in) h))
 
+  -- so it follows either way
   pub where_follows : (shape : ℕ) (test : TExpr) (p : Boxed) (first : TStmt) (second : Held-TStmt-If-2) → IsCondition shape test → ScalarsAmong alive test → HasStatementCode g.typed g.instance n (S.Where' shape test p first second) → (f : Frame) (contexts : List Field)
       → StatementPart KnowsFields g scope alive first n f contexts → ((q : Boxed) (s : TStmt) → second ≡ Some' q s → StatementPart KnowsFields g scope alive s (behind n first) f contexts) → ComesOn g scope alive active (S.Where' shape test p first second) n f contexts
   where_follows shape test p first None' condition among_so c f contexts parts other_parts =

@@ -138,8 +138,6 @@ module _ (g : Setting) (places : PlacesFields g) (alive : Variable → Type 0) (
     pub at : At g t (length (with_instr i e).code)
     pub registers : t.registers ≡ s.registers
     pub sim : Sim (under g a) alive st t
-    pub exists : set < length (shapes g)
-    pub ends : EndsBelow g d
     pub tests : (q p : ℕ) → is_tested (shapes g) t.memory q p ≡ is_tested (shapes g) s.memory q p
     pub has : (p : ℕ) → p < processors (shapes g) set → takes p → number_in g d t p ≡ v p
     pub stays : (h : Field) (first last later p : ℕ) → (h.offset ≡ d.offset → ⊥) → IsOwnField g h → IsNamedAt g.unit h.offset first → IsNamedAt g.unit h.offset last → first ≤ length e.code → length e.code < last
@@ -186,8 +184,6 @@ module _ (g : Setting) (places : PlacesFields g) (alive : Variable → Type 0) (
         flags = λ q p within_sets below. active_apart (shapes g) write s.memory q p d_ends.1 ∙ sim.memory.flags q p within_sets below;
         winner = winner_still;
       }) sim;
-      exists = set_exists;
-      ends = d_ends.1;
       tests = λ q p. tested_apart (shapes g) write s.memory q p d_ends.1;
       has = λ p below takes_it. let both = taken p (active_here p below) takes_it in field_written write s.memory p both.0 ∙ both.1;
       stays = λ h first last later p other is_own before behind low high again after_it.

@@ -56,12 +56,6 @@ module _ (g : Setting) where
   pub within_under : {d : Draft} (a : Active) → Within g d → Within (under a) d
   within_under a w = record { more = w.more; code = w.code; entries = w.entries; fields = w.fields; regs = w.regs; own = w.own; upto = w.upto }
 
-  pub within_again : {d : Draft} (a : Active) → Within (under a) d → Within g d
-  within_again a w = record { more = w.more; code = w.code; entries = w.entries; fields = w.fields; regs = w.regs; own = w.own; upto = w.upto }
-
-  pub reaches_under : {s t : CodeState} (a : Active) → Reaches g s t → Reaches (under a) s t
-  reaches_under a r = record { by = r.by }
-
   pub reaches_again : {s t : CodeState} (a : Active) → Reaches (under a) s t → Reaches g s t
   reaches_again a r = record { by = r.by }
 

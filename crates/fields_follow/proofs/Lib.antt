@@ -32,4 +32,5 @@ pub mod TestFlags
 pub mod Testing
 pub mod Updates
 pub mod Values
+pub mod Widening
 pub mod Writing

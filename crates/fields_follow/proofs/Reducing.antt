@@ -1,5 +1,5 @@
 -- The code of a fold of a parallel value passes, and then puts its number in the register that is to have it.
-use Rattle.std.proofs.Common.{◌≡◌, ◌∙◌, ℕ, zero, suc, ◌+◌, ◌<◌, ◌≤◌, ◌^◌, Bool, true, not, List, [], ◌∷◌, length, slice_index, Option, None, refl, sym, ap, subst, arith}
+use Rattle.std.proofs.Common.{◌≡◌, ◌∙◌, ℕ, zero, suc, ◌+◌, ◌<◌, ◌^◌, Bool, true, not, List, [], ◌∷◌, length, slice_index, Option, None, refl, sym, ap, subst, arith}
 use Rattle.std.specs.Prelude.{pos, neg_ℤ, slice_set}
 use denote.Hole.Carrier
 use Rattle.cstar_base.specs.declared.elem.Elem.{Elem}
@@ -33,7 +33,6 @@ use Rattle.paris_code.specs.Code.{CodeState, Goes, applied, begun, with_register
 use Rattle.paris_code.specs.Fetching.{global_fold}
 use Rattle.paris_code.specs.Meaning.{after}
 use Rattle.paris_code.specs.Memory.{is_active, processors}
-use Rattle.paris_code.specs.Spans.{IsNamedAt}
 use Rattle.source_meaning.specs.Reductions.{combiner_of, folded, reduced}
 use Rattle.source_meaning.specs.State.{State}
 use Rattle.source_meaning.specs.Values.{Scalar, Value, unary_of}
@@ -45,9 +44,9 @@ use Rattle.code_follows.proofs.Values.{Dest, set_again}
 use Rattle.code_follows.proofs.Words.{below_bits, held_wide}
 use Rattle.fields_follow.specs.Fragment.{IsWide}
 use Rattle.fields_follow.proofs.Folds.{folding, global_is}
-use Rattle.fields_follow.proofs.Instructions.{HasNumbers, number_in, place, shapes}
-use Rattle.fields_follow.proofs.Passing.{After, Behind, GivesField, Passes, after_same, code_longer, flags_of, gives_numbers, made_after, then_after}
-use Rattle.fields_follow.proofs.Places.{HoldsTheFields, IsOwnField, PlacesFields, stands_here}
+use Rattle.fields_follow.proofs.Instructions.{HasNumbers, place, shapes}
+use Rattle.fields_follow.proofs.Passing.{After, Behind, GivesField, Passes, after_same, flags_of, gives_numbers, made_after, then_after}
+use Rattle.fields_follow.proofs.Places.{HoldsTheFields, PlacesFields, stands_here}
 use Rattle.fields_follow.proofs.Writing.{named}
 
 -- what is read of an element behind a write to it, and written there again: where there is none, nothing is
@@ -99,12 +98,6 @@ module _ (g : Setting) (alive : Variable → Type 0) where
     pub middle : Draft
     pub passes : Passes g alive (length d.fields) d middle s st (Unit {0})
     pub puts : PutsNumber middle f passes.t r w
-
-  -- own entries that are named before it and behind it have at the end what they had
-  pub number_stays : (d : Draft) (s : CodeState) (st : State) (r w : ℕ) (f : Draft) → (given : GivesNumber d s st r w f) → (h : Field) (first last p : ℕ) → h.offset < length d.fields → IsOwnField g h → IsNamedAt g.unit h.offset first → first < length d.code
-      → IsNamedAt g.unit h.offset last → length f.code ≤ last → number_in g h (put_at r w given.puts.place given.passes.t) p ≡ number_in g h s p
-  number_stays d s st r w f given h first last p below own before low after high =
-      given.passes.stays tt h first last p below own before low after (let longer = code_longer given.middle f given.puts.more.0 given.puts.more.1 in omega (arith, longer, high))
 
   -- it goes to a register that is to have it
   pub number_to : (has : HasRegisters g) (elem : Elem) (d : Draft) (s : CodeState) (st : State) (R : Value → State → Out → Draft → Type 0) (r w : ℕ) (f : Draft) → elem.bits ≡ 32 → Dest g has alive elem d s R r → GivesNumber d s st r w f → Within g f → R (Scalar w) st (O.Scalar r) f

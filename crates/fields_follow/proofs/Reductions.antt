@@ -1,5 +1,5 @@
 -- Unary reductions of pure parallel expressions follow, where the code of these leaves their numbers in a field.
-use Rattle.std.proofs.Common.{◌≡◌, ◌∙◌, ℕ, Bool, true, false, not, length, Option, Some, None, refl, sym, ap, subst, if◌then◌else◌, List, arith}
+use Rattle.std.proofs.Common.{◌≡◌, ◌∙◌, ℕ, Bool, true, false, not, length, Option, Some, None, refl, sym, ap, if◌then◌else◌, List, arith}
 use Rattle.std.proofs.lemmas.Bool.Decides.{nat_tests}
 use Rattle.cstar_base.specs.declared.elem.Elem.{Elem}
 use Rattle.cstar_tree.specs.declared.syntax.ReduceOp.{ReduceOp}
@@ -14,7 +14,7 @@ use Rattle.code_lengths.specs.Naming.{NamesVariables}
 use Rattle.code_lengths.specs.Shaped.{IsShaped}
 use Rattle.lower_base.specs.declared.emit.Out.{Out}
 use Rattle.lower_base.specs.declared.emit.Out.TheVariants as O
-use Rattle.lower_base.specs.Drafts.{Draft, Fails, Made, Makes}
+use Rattle.lower_base.specs.Drafts.{Draft}
 use Rattle.lower_base.specs.Kinds.{binary_kind, common_kind, converted_kind, fold_by, folded_bits, is_bitwise, kind_of, narrow, truth_type}
 use Rattle.lower_base.specs.Operators.{reduce_op_of}
 use Rattle.lower_expr.specs.Effects.{computed_to}
@@ -29,16 +29,15 @@ use Rattle.source_meaning.specs.State.{Outcome, State, then_do}
 use Rattle.source_meaning.specs.Values.{Parallel, Scalar, Scope, Value, at, positions}
 use Rattle.source_meaning.proofs.ConstantLaws.{Boxed}
 use Rattle.vp_sets.specs.Positions.{position_count}
-use Rattle.code_follows.proofs.Following.{Follows, HasRegisters, Sim}
+use Rattle.code_follows.proofs.Following.{Sim}
 use Rattle.code_follows.proofs.Settings.{At, Setting, layout}
-use Rattle.code_follows.proofs.Values.{Dest}
 use Rattle.fields_follow.specs.Fragment.{IsFold, IsPure}
 use Rattle.fields_follow.proofs.Forms.{HasItsCode, pure_type}
 use Rattle.fields_follow.proofs.Instructions.{SameExtents, extents}
 use Rattle.fields_follow.proofs.Meaning.{either, pure_means, value_in}
 use Rattle.fields_follow.proofs.Passing.{After, GivesField, after_same}
 use Rattle.fields_follow.proofs.Places.{HoldsTheFields, PlacesFields}
-use Rattle.fields_follow.proofs.Reducing.{GivesNumber, fold_passes, number_to}
+use Rattle.fields_follow.proofs.Reducing.{GivesNumber, fold_passes}
 use Rattle.code_follows.specs.Fragment.{ScalarsAmong}
 
 -- a pure expression is of no narrow type
@@ -128,15 +127,3 @@ module _ (g : Setting) (alive : Variable → Type 0) where
       ),
     )
     folds_give _ is c d s st r here sim = absurd is
-
-    -- so it follows, wherever the number is to be
-    pub folds_follow : (has : HasRegisters g) (e : TExpr) → IsFold e → HasItsCode g.typed g.instance alive n e → (d : Draft) (s : CodeState) (st : State) (R : Value → State → Out → Draft → Type 0) (r : ℕ) → At g s (length d.code) → Sim g alive st s
-        → Dest g has alive (type_of e).elem d s R r → Follows g R s (evaluated scope e fields.active st) (computed_to g.typed (layout g) (O.Scalar r) e d)
-    unfolding After Follows
-    folds_follow has e is c d s st R r here sim dest =
-        let (w, (means, after)) = folds_give e is c d s st r here sim in
-        subst (λ (o : Outcome Value). Follows g R s o (computed_to g.typed (layout g) (O.Scalar r) e d)) (sym means) (by w (computed_to g.typed (layout g) (O.Scalar r) e d) after)
-      where
-        by : (w : ℕ) (made : Made Out) → After g (GivesRegister r w d s st) made → Follows g R s (Source.Gives (Scalar w) st) made
-        by w (Makes out x) h = λ within. subst (λ (o : Out). R (Scalar w) st o x) (sym (h within).0) (number_to g alive has (type_of e).elem d s st R r w x (fold_type e is) dest (h within).1 within)
-        by w Fails h = tt

@@ -24,11 +24,12 @@ module _ (g : Setting) (scope : Scope) (active : Active) (known : KnowsFields g 
   abbrev places : PlacesFields g
   places = known.places
 
-  -- the field of a context or of tests: it is an own entry of the unit, which ends below the flags
+  -- the field of a context is of a set that there is, and ends below its flags
   pub own_below : (saved : Field) (e : Draft) → Within g (with_instr (I.StoreContext saved) e) → (saved.set < length (shapes g)) × EndsBelow g saved
   unfolding step_of
   own_below saved e w = places.ends (length e.code) (I.StoreContext saved) saved [] (stands_here g (I.StoreContext saved) e w refl) refl tt refl
 
+  -- that of tests ends there too
   pub test_below : (holds : Field) (e : Draft) → Within g (with_instr (I.StoreTest holds) e) → EndsBelow g holds
   unfolding step_of
   test_below holds e w = (places.ends (length e.code) (I.StoreTest holds) holds [] (stands_here g (I.StoreTest holds) e w refl) refl tt refl).1
@@ -58,9 +59,11 @@ module _ (g : Setting) (scope : Scope) (active : Active) (known : KnowsFields g 
   abbrev pub Arrives : Draft → CodeState → Leaving → State → ℕ → Draft → Type 0
   Arrives d s leaving u m e = (leaving ≡ Onward) × Ran g alive d s u e
 
+  -- so it does where the context is active again
   pub arrives : (kept : BitMemory → Type 0) (d : Draft) (s : CodeState) (o : Outcome Leaving) (made : Made ℕ) → ((m : BitMemory) → kept m → known.kept m) → Follows g (LedOn g scope active known alive active kept d s) s o made → Follows g (Arrives d s) s o made
   arrives kept d s o made weaker h = follows_other g (LedOn g scope active known alive active kept d s) (Arrives d s) s o made h (λ leaving u m e led. (led.0, led_ran g scope active known alive kept d e s u weaker led.1))
 
+  -- or at once
   pub arrives_now : (kept : BitMemory → Type 0) (d : Draft) (s : CodeState) (u : State) (m : ℕ) (e : Draft) → ((m : BitMemory) → kept m → known.kept m) → Led g scope active known alive active kept d e s u → Follows g (Arrives d s) s (Gives Onward u) (Makes m e)
   unfolding Follows
   arrives_now kept d s u m e weaker led = λ w. (refl, led_ran g scope active known alive kept d e s u weaker led)
