@@ -12,7 +12,7 @@ use Rattle.paris_code.specs.Shapes.{bits_at}
 use Rattle.paris_code.specs.Spans.{IsNamedAt}
 use Rattle.source_meaning.specs.Expressions.{evaluated}
 use Rattle.source_meaning.specs.State.{Gives, State}
-use Rattle.source_meaning.specs.Values.{Active, Parallel, Scope, Value, nonzero}
+use Rattle.source_meaning.specs.Values.{Active, Scope, Value, nonzero}
 use Rattle.code_follows.proofs.Following.{HasRegisters, Sim}
 use Rattle.code_follows.proofs.Settings.{At, Reaches, Setting, Within, layout}
 use Rattle.fields_follow.proofs.Fields.{fields_held}
@@ -53,7 +53,7 @@ module _ (g : Setting) where
   under a = record g { held = fields_held g.typed g.image a }
 
   pub places_under : (a : Active) → PlacesFields g → PlacesFields (under a)
-  places_under a p = record { ends = p.ends; exists = p.exists; files_end = p.files_end; file = p.file; files_apart = p.files_apart; own_file = p.own_file; owns_apart = p.owns_apart; few = p.few }
+  places_under a p = record { ends = p.ends; exists = p.exists; files_end = p.files_end; file = p.file; files_apart = p.files_apart; own_file = p.own_file; owns_apart = p.owns_apart; few = p.few; grids = p.grids }
 
   pub within_under : {d : Draft} (a : Active) → Within g d → Within (under a) d
   within_under a w = record { more = w.more; code = w.code; entries = w.entries; fields = w.fields; regs = w.regs; own = w.own }

@@ -74,9 +74,9 @@ module _ (t : Typed) (image : Image) (p : IsParallelProgram t) (codable : IsCoda
     -- every update and every fold of a function follows
     besides : (has : HasRegisters g) → BesideFollows g has scope everywhere
     besides has = record {
-      effects = λ alive files n ready e h among c d s st free here sim. updates_follow g has alive n ready places fields scope same_extents e h (record { code = c; among = among }) d s st here sim;
+      effects = λ alive files n ready e h among c d s st free here sim. updates_follow g has alive n ready places fields scope same_extents e h.0 (record { code = c; among = among; extents = h.1 }) d s st here sim;
       folds = λ alive files n ready e h among c d s st R r free here sim dest.
-          folds_follow g has scope places fields (λ set q. refl) alive n (operands_follow g has scope places fields (λ set q. refl) alive n ready) same_extents e h (record { code = c; among = among }) d s st R r free here sim dest;
+          folds_follow g has scope places fields (λ set q. refl) alive n (operands_follow g has scope places fields (λ set q. refl) alive n ready) same_extents e h.0 (record { code = c; among = among; extents = h.1 }) d s st R r free here sim dest;
       statements = λ alive files n ready s h. absurd h;
     }
 
@@ -86,9 +86,9 @@ module _ (t : Typed) (image : Image) (p : IsParallelProgram t) (codable : IsCoda
   -- a parallel variable of the file begins with 0
   begins_at_zero : (k : ℕ) (info : VarInfo) (set : ℕ) → slice_get t.vars.items k ≡ Some info → info.shape ≡ Some set → start_of t (V.File k) ≡ 0
   unfolding start_of
-  begins_at_zero k info set known parallel = ap (λ (o : Option VarInfo). elim o as (λ _. ℕ) [ None ↦ 0 | Some i ↦ i.start ]) known ∙ by (all_at (IsFileVariable fields_beside) t.vars.items k info p.variables known).0
+  begins_at_zero k info set known parallel = ap (λ (o : Option VarInfo). elim o as (λ _. ℕ) [ None ↦ 0 | Some i ↦ i.start ]) known ∙ by (all_at (IsFileVariable (fields_beside t)) t.vars.items k info p.variables known).0
     where
-      by : (info.shape ≡ None) ⊎ (fields_beside.variables info × (info.start ≡ 0)) → info.start ≡ 0
+      by : (info.shape ≡ None) ⊎ ((fields_beside t).variables info × (info.start ≡ 0)) → info.start ≡ 0
       by (inl none) = let differ : None ≡ Some set = sym none ∙ parallel in cc
       by (inr zero) = zero.1
 

@@ -32,12 +32,13 @@ use Rattle.vp_sets.specs.Positions.{position_count}
 use Rattle.code_follows.proofs.Following.{Follows, HasRegisters, Sim}
 use Rattle.code_follows.proofs.Settings.{At, Setting, layout}
 use Rattle.code_follows.proofs.Values.{Dest}
-use Rattle.fields_follow.specs.Fragment.{IsFold, IsPure}
+use Rattle.fields_follow.specs.Fragment.{IsFold, IsPure, KnowsExtents}
 use Rattle.fields_follow.proofs.Forms.{HasItsCode, pure_type}
 use Rattle.fields_follow.proofs.Instructions.{SameExtents, extents, shapes}
-use Rattle.fields_follow.proofs.Meaning.{either, pure_means, value_in}
+use Rattle.fields_follow.proofs.Meaning.{either, value_in}
 use Rattle.fields_follow.proofs.Passing.{After, GivesField, after_weaker, gives_numbers}
 use Rattle.fields_follow.proofs.Places.{HoldsTheFields, PlacesFields}
+use Rattle.fields_follow.proofs.Pure.{are_grids, pure_means}
 use Rattle.fields_follow.proofs.Reducing.{HasField, fold_follows}
 use Rattle.code_follows.specs.Fragment.{ScalarsAmong}
 
@@ -71,12 +72,13 @@ pure_kind set (T.Binary' ty place op p left q right) is =
     ∙ of_bits (is_bitwise op) (kind_of left) (kind_of right) (either (λ h. common_first (kind_of left) (kind_of right) (pure_kind set left h.0)) (λ h. common_second (kind_of left) (kind_of right) (pure_kind set right h.1)) is.2)
 pure_kind set (T.Convert' ty p operand) is = ap (λ (k : Option Elem). converted_kind ty.elem k) (pure_kind set operand is.1) ∙ wide_kind ty.elem is.0.1
 pure_kind set (T.Pcoord ty axis) is = refl
+pure_kind set (T.LeftIndex' ty place p indexes (V.File k) of) is = wide_kind ty.elem is.0.1
 pure_kind set _ is = absurd is
 
 module _ (g : Setting) where
   operand_code : (alive : Variable → Type 0) (n : ℕ) (ty : ValueType) (op : ReduceOp) (p : Boxed) (operand : TExpr) → HasItsCode g.typed g.instance alive n (T.Reduce' ty op p operand) → HasItsCode g.typed g.instance alive n operand
-  unfolding IsShaped IsLowerable NamesVariables ScalarsAmong
-  operand_code alive n ty op p operand c = record { code = record { shaped = c.code.shaped; lowerable = c.code.lowerable.2; names = c.code.names }; among = c.among }
+  unfolding IsShaped IsLowerable NamesVariables ScalarsAmong KnowsExtents
+  operand_code alive n ty op p operand c = record { code = record { shaped = c.code.shaped; lowerable = c.code.lowerable.2; names = c.code.names }; among = c.among; extents = c.extents }
 
   -- what the code does where the source gives a value
   given_follows : {B : Type 0} (R : Value → State → B → Draft → Type 0) (s : CodeState) (v : Value) (st : State) (made : Made B) → After g (λ out e. R v st out e) made → Follows g R s (Source.Gives v st) made
@@ -118,7 +120,7 @@ module _ (g : Setting) where
       operand_stands : (set : ℕ) (e : TExpr) (d : Draft) (s : CodeState) (st : State) → IsPure set e → HasItsCode g.typed g.instance alive n e → At g s (length d.code) → Sim g alive st s
           → Follows g (λ v u out x. HasField g has scope fields full alive set d s v u out x) s (evaluated scope e fields.active st) (next_of g.typed (layout g) 32 true e d)
       operand_stands set e d s st is c here sim =
-          subst (λ (o : Outcome Value). Follows g (λ v u out x. HasField g has scope fields full alive set d s v u out x) s o (next_of g.typed (layout g) 32 true e d)) (sym (pure_means scope fields.active set e st is))
+          subst (λ (o : Outcome Value). Follows g (λ v u out x. HasField g has scope fields full alive set d s v u out x) s o (next_of g.typed (layout g) 32 true e d)) (sym (pure_means scope fields.active g.typed g.instance n set e st is (are_grids g scope places same_extents set) c.code.names c.extents))
           (given_follows (λ v u out x. HasField g has scope fields full alive set d s v u out x) s (Parallel (λ q. value_in (scope.extents set) st e q)) st (next_of g.typed (layout g) 32 true e d)
           (after_weaker g (λ (out : Out) (x : Draft). (f : Field) × ((out ≡ O.Field f) × GivesField g alive (length d.fields) d s set st (λ q. value_in (extents g set) st e q) f x)) (λ out x. HasField g has scope fields full alive set d s (Parallel (λ q. value_in (scope.extents set) st e q)) st out x) (next_of g.typed (layout g) 32 true e d)
           (λ out x given. subst (λ (o : Out). HasField g has scope fields full alive set d s (Parallel (λ q. value_in (scope.extents set) st e q)) st o x) (sym given.1.0) (meant given.0 x given.1.1)) (stand set e is c d s st here sim)))

@@ -9,8 +9,8 @@ ghost use Rattle.fields_follow.specs.Laws.{ParallelCodeMeansSource};
 /// numbers of these variables at each of their positions, on every input of bytes. The variables have 32 bits and are
 /// no arrays, and all positions are active. They are assigned, also with an operator, and stepped, in statements that
 /// may stand within `with`; and parallel values are folded into numbers by unary reductions. Parallel expressions are
-/// of such variables, of own coordinates, of constants and of scalar variables, signed or not, with the operators
-/// `+ - * & | ^ ~ << >> <? >?`.
+/// of such variables, of gets from neighbours that wrap around, `[(. + 1) %% dimof(S, 0)]x`, of own coordinates, of
+/// constants and of scalar variables, signed or not, with the operators `+ - * & | ^ ~ << >> <? >?`.
 pub fn parallel_code_means_source()
     ensures { ParallelCodeMeansSource }
 {}
