@@ -27,7 +27,7 @@ use Rattle.fields_follow.proofs.Named.{NamesFields}
 use Rattle.fields_follow.proofs.Places.{IsOwnField, PlacesFields, of_file, stands_here}
 
 -- the bit of a truth value
-bit_is : (x : Bool) → (from_bool x % 2 == 1) ≡ x
+pub bit_is : (x : Bool) → (from_bool x % 2 == 1) ≡ x
 bit_is true = refl
 bit_is false = refl
 
@@ -42,7 +42,7 @@ and_second false b e = refl
 -- ---- one bit of a set
 
 -- a write to a run
-abbrev written_to : Field → (ℕ → Bool) → (ℕ → ℕ) → Write
+abbrev pub written_to : Field → (ℕ → Bool) → (ℕ → ℕ) → Write
 written_to run writes value = record { run = run; writes = writes; value = value }
 
 covers_bit : (set index : ℕ) → covers (bit_run set index) set index ≡ true
@@ -84,7 +84,7 @@ module _ (shapes : List SetShape) (set : ℕ) (writes : ℕ → Bool) (value : �
   abbrev to_context : BitMemory
   to_context = written (written_to (context_run shapes set) writes value) m
 
-  abbrev to_test : BitMemory
+  abbrev pub to_test : BitMemory
   to_test = written (written_to (test_run shapes set) writes value) m
 
   context_taken : writes p ≡ true → is_active shapes to_context set p ≡ (value p % 2 == 1)
@@ -99,11 +99,11 @@ module _ (shapes : List SetShape) (set : ℕ) (writes : ℕ → Bool) (value : �
   unfolding is_active
   context_other q differ = ap (λ (n : ℕ). n == 1) (bit_apart (written_to (context_run shapes set) writes value) m q p (bits_at shapes q) (covers_other (context_run shapes set) q (bits_at shapes q) differ))
 
-  test_taken : writes p ≡ true → is_tested shapes to_test set p ≡ (value p % 2 == 1)
+  pub test_taken : writes p ≡ true → is_tested shapes to_test set p ≡ (value p % 2 == 1)
   unfolding is_tested
   test_taken e = ap (λ (n : ℕ). n == 1) (bit_taken set (bits_at shapes set + 1) writes value m p e)
 
-  context_under_test : (q : ℕ) → is_active shapes to_test q p ≡ is_active shapes m q p
+  pub context_under_test : (q : ℕ) → is_active shapes to_test q p ≡ is_active shapes m q p
   unfolding is_active
   context_under_test q = ap (λ (n : ℕ). n == 1) (bit_apart (written_to (test_run shapes set) writes value) m q p (bits_at shapes q) (by (cases_eq q set)))
     where
@@ -224,7 +224,7 @@ module _ (g : Setting) (places : PlacesFields g) (alive : Variable → Type 0) (
     pub stays : (h : Field) (p : ℕ) → EndsBelow g h → number_in g h t p ≡ number_in g h s p
 
   -- a bit above the fields of its set
-  above_fields : (set index : ℕ) (h : Field) → bits_at (shapes g) set ≤ index → h.offset + h.len ≤ bits_at (shapes g) h.set → Apart (bit_run set index) h
+  pub above_fields : (set index : ℕ) (h : Field) → bits_at (shapes g) set ≤ index → h.offset + h.len ≤ bits_at (shapes g) h.set → Apart (bit_run set index) h
   above_fields set index h high ends = by (cases_eq set h.set)
     where
       by : (set ≡ h.set) ⊎ (set ≢ h.set) → Apart (bit_run set index) h

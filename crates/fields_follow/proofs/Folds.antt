@@ -1,4 +1,4 @@
--- The machine's fold of a field of 32 bits, with everything active, is the source's fold of its numbers.
+-- The machine's fold of a field of 32 bits is the source's fold of its numbers at the active positions.
 use Rattle.std.proofs.Common.{◌≡◌, ◌∙◌, ℕ, zero, suc, ◌<◌, ◌^◌, Bool, true, false, not, List, refl, sym, ap, arith}
 use Rattle.std.specs.Prelude.{if◌then◌else◌}
 use Rattle.cstar_base.specs.declared.operators.Combiner.{Combiner}
@@ -22,15 +22,15 @@ use Rattle.source_meaning.specs.Reductions.{folded}
 use Rattle.source_meaning.specs.Reductions as Source
 
 -- a step that goes on where the number passes
-stepped : (one other : ℕ → ℕ → ℕ) (s t : Bool) (a b x y : ℕ) → s ≡ t → (a ≡ b) × (b < 2 ^ 32) → x ≡ y → y < 2 ^ 32 → ((i j : ℕ) → i < 2 ^ 32 → j < 2 ^ 32 → one i j ≡ other i j) → ((i j : ℕ) → i < 2 ^ 32 → j < 2 ^ 32 → other i j < 2 ^ 32)
+stepped : (one other : ℕ → ℕ → ℕ) (s t : Bool) (a b x y : ℕ) → s ≡ t → (a ≡ b) × (b < 2 ^ 32) → (t ≡ true → x ≡ y) → (t ≡ true → y < 2 ^ 32) → ((i j : ℕ) → i < 2 ^ 32 → j < 2 ^ 32 → one i j ≡ other i j) → ((i j : ℕ) → i < 2 ^ 32 → j < 2 ^ 32 → other i j < 2 ^ 32)
     → ((if s then one a x else a) ≡ (if t then other b y else b)) × ((if t then other b y else b) < 2 ^ 32)
-stepped one other true true a b x y e so same few steps below = (ap (λ (i : ℕ). one i x) so.0 ∙ ap (λ (j : ℕ). one b j) same ∙ steps b y so.1 few, below b y so.1 few)
+stepped one other true true a b x y e so same few steps below = (ap (λ (i : ℕ). one i x) so.0 ∙ ap (λ (j : ℕ). one b j) (same refl) ∙ steps b y so.1 (few refl), below b y so.1 (few refl))
 stepped one other false false a b x y e so same few steps below = so
 stepped one other true false a b x y e so same few steps below = cc
 stepped one other false true a b x y e so same few steps below = cc
 
--- two folds are the same, and a word, where their parts are
-fold_same : (one other : ℕ → ℕ → ℕ) (f g : ℕ → Bool) (x y : ℕ → ℕ) (a b n : ℕ) → a ≡ b → b < 2 ^ 32 → ((p : ℕ) → p < n → f p ≡ g p) → ((p : ℕ) → p < n → x p ≡ y p) → ((p : ℕ) → p < n → y p < 2 ^ 32)
+-- two folds are the same, and a word, where what passes is the same, and a word
+fold_same : (one other : ℕ → ℕ → ℕ) (f g : ℕ → Bool) (x y : ℕ → ℕ) (a b n : ℕ) → a ≡ b → b < 2 ^ 32 → ((p : ℕ) → p < n → f p ≡ g p) → ((p : ℕ) → p < n → g p ≡ true → x p ≡ y p) → ((p : ℕ) → p < n → g p ≡ true → y p < 2 ^ 32)
     → ((i j : ℕ) → i < 2 ^ 32 → j < 2 ^ 32 → one i j ≡ other i j) → ((i j : ℕ) → i < 2 ^ 32 → j < 2 ^ 32 → other i j < 2 ^ 32)
     → (fold_below one f x a n ≡ fold_below other g y b n) × (fold_below other g y b n < 2 ^ 32)
 unfolding fold_below
@@ -90,12 +90,12 @@ word_same c m f p w wide is few =
     ∙ residue_of_number 32 (not (combiner_of c).1) w few
 
 -- The fold over a field, where it and the source are active at the same positions, is the source's fold of its
--- numbers; and it is a word.
+-- numbers there; and it is a word.
 pub global_is : (shapes : List SetShape) (m : BitMemory) (op : ReduceOp) (signed : Bool) (f : Field) (active : ℕ → Bool) (h : ℕ → ℕ) → f.len ≡ 32 → ((p : ℕ) → p < processors shapes f.set → is_active shapes m f.set p ≡ active p)
-    → ((p : ℕ) → p < processors shapes f.set → field_number m f p ≡ h p) → ((p : ℕ) → p < processors shapes f.set → h p < 2 ^ 32)
+    → ((p : ℕ) → p < processors shapes f.set → active p ≡ true → field_number m f p ≡ h p) → ((p : ℕ) → p < processors shapes f.set → active p ≡ true → h p < 2 ^ 32)
     → (global_fold shapes m (folding op signed) f ≡ folded (Source.combiner_of op) (not signed) active h (processors shapes f.set)) × (folded (Source.combiner_of op) (not signed) active h (processors shapes f.set) < 2 ^ 32)
 unfolding global_fold folded
 global_is shapes m op signed f active h wide alike are small =
     fold_same _ _ _ _ _ _ _ _ (processors shapes f.set) (identity_same op signed) (identity_below (Source.combiner_of op) (not signed)) alike
-    (λ p below. word_same (folding op signed) m f p (h p) wide (are p below) (small p below)) small
+    (λ p below on. word_same (folding op signed) m f p (h p) wide (are p below on) (small p below on)) small
     (λ i j low high. once_same op signed i j) (λ i j low high. fold_once_below (Source.combiner_of op) (not signed) i j low high)

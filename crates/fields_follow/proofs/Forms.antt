@@ -82,7 +82,7 @@ promoted_kept set (T.Brackets' ty p inner) is = promoted_kept set inner is.1
 promoted_kept set _ is = absurd is
 
 -- none of them is a constant
-pure_constant : (set : ℕ) (e : TExpr) → IsPure set e → is_constant e ≡ false
+pub pure_constant : (set : ℕ) (e : TExpr) → IsPure set e → is_constant e ≡ false
 unfolding IsPure is_constant
 pure_constant set (T.Variable ty (V.File k)) is = refl
 pure_constant set (T.Brackets' ty p inner) is = ap (λ (b : Bool). b && ty.elem.bits == (type_of inner).elem.bits && is_constant inner) (ap (λ (y : ValueType). is_none y.shape) is.0 ∙ shaped (type_of inner).shape set (pure_type set inner is.1).0)
@@ -99,7 +99,7 @@ promoted_constant set (T.Promote' ty p operand) is = refl
 promoted_constant set (T.Brackets' ty p inner) is = ap (λ (b : Bool). b && ty.elem.bits == (type_of inner).elem.bits && is_constant inner) (ap (λ (y : ValueType). is_none y.shape) is.0 ∙ shaped (type_of inner).shape set (promoted_type set inner is.1).0)
 promoted_constant set _ is = absurd is
 
-not_held : (l : Layout) (e : TExpr) → is_constant e ≡ false → held l e ≡ None
+pub not_held : (l : Layout) (e : TExpr) → is_constant e ≡ false → held l e ≡ None
 unfolding held register_word
 not_held l e is = ap (λ (o : Option ℕ). then_value (then_value o (λ v. Some (converted int_type (type_of e).elem v))) (constant_register l)) (no_constant e is)
 

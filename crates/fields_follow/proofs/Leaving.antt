@@ -1,5 +1,5 @@
 -- What code of parallel statements leaves, and the same unit where other positions are active.
-use Rattle.std.proofs.Common.{◌≡◌, ℕ, ◌+◌, ◌<◌, ◌≤◌, length, true}
+use Rattle.std.proofs.Common.{◌≡◌, ℕ, ◌+◌, ◌<◌, ◌≤◌, length}
 use Rattle.cstar_tree.specs.declared.typed.TExpr.{TExpr}
 use Rattle.cstar_tree.specs.declared.typed.Variable.{Variable}
 use Rattle.code_lengths.specs.Growth.{Extended}
@@ -7,17 +7,16 @@ use Rattle.lower_base.specs.Drafts.{Draft}
 use Rattle.lower_expr.specs.Effects.{effect_of}
 use Rattle.paris_code.specs.declared.operands.Field.{Field}
 use Rattle.paris_code.specs.Code.{CodeState}
-use Rattle.paris_code.specs.Memory.{is_tested, processors}
 use Rattle.paris_code.specs.Shapes.{bits_at}
 use Rattle.paris_code.specs.Spans.{IsNamedAt}
 use Rattle.source_meaning.specs.Expressions.{evaluated}
 use Rattle.source_meaning.specs.State.{Gives, State}
-use Rattle.source_meaning.specs.Values.{Active, Scope, Value, nonzero}
+use Rattle.source_meaning.specs.Values.{Active, Scope, Value}
 use Rattle.code_follows.proofs.Following.{HasRegisters, Sim}
 use Rattle.code_follows.proofs.Settings.{At, Reaches, Setting, Within, layout}
 use Rattle.fields_follow.proofs.Fields.{fields_held}
 use Rattle.fields_follow.proofs.Instructions.{number_in, place, shapes}
-use Rattle.fields_follow.proofs.Passing.{After, Passes}
+use Rattle.fields_follow.proofs.Passing.{After}
 use Rattle.fields_follow.proofs.Places.{HoldsTheFields, IsOwnField, PlacesFields}
 
 module _ (g : Setting) where
@@ -43,17 +42,16 @@ module _ (g : Setting) where
       UpdateLeaves scope e d s st =
           (v : Value) × ((u : State) × ((evaluated scope e fields.active st ≡ Gives v u) × After g (λ out f. Leaves d f s u) (effect_of g.typed (layout g) e d)))
 
-      -- the code of a condition leaves in the test flags where these numbers are not zero
-      pub record Tests (bound : ℕ) (d : Draft) (s : CodeState) (set : ℕ) (st : State) (v : ℕ → ℕ) (e : Draft) : Type 0 where
-        pub passes : Passes g alive bound d e s st (Unit {0})
-        pub flags : (p : ℕ) → p < processors (shapes g) set → fields.active set p ≡ true → is_tested (shapes g) passes.t.memory set p ≡ nonzero (v p)
-
   -- the same unit where these positions are active
   abbrev pub under : Active → Setting
   under a = record g { held = fields_held g.typed g.image a }
 
   pub places_under : (a : Active) → PlacesFields g → PlacesFields (under a)
   places_under a p = record { ends = p.ends; exists = p.exists; files_end = p.files_end; file = p.file; files_apart = p.files_apart; own_file = p.own_file; owns_apart = p.owns_apart; few = p.few; grids = p.grids }
+
+  -- what the memory holds of it is the fields' numbers
+  abbrev pub fields_under : (a : Active) → HoldsTheFields (under a)
+  fields_under a = record { active = a; opens = λ st m h. h; closes = λ st m h. h }
 
   pub within_under : {d : Draft} (a : Active) → Within g d → Within (under a) d
   within_under a w = record { more = w.more; code = w.code; entries = w.entries; fields = w.fields; regs = w.regs; own = w.own }

@@ -1,6 +1,7 @@
 pub mod Assigning
 pub mod Bits
 pub mod Contexts
+pub mod Courses
 pub mod Effects
 pub mod Example
 pub mod Expressions
@@ -16,6 +17,7 @@ pub mod Joining
 pub mod Leaving
 pub mod Meaning
 pub mod Named
+pub mod Narrowing
 pub mod Neighbours
 pub mod News
 pub mod Operands
@@ -27,6 +29,10 @@ pub mod Pure
 pub mod Quiet
 pub mod Reducing
 pub mod Reductions
+pub mod Relations
+pub mod Saving
+pub mod Selective
+pub mod TestFlags
 pub mod Testing
 pub mod Updates
 pub mod Values

@@ -17,7 +17,7 @@ use Rattle.source_meaning.specs.Expressions.{evaluated, mapped, operated}
 use Rattle.source_meaning.specs.State.{Gives, Outcome, State, then_do}
 use Rattle.source_meaning.specs.Targets.{read, variable_target}
 use Rattle.source_meaning.specs.Values.{Active, Parallel, Scalar, Scope, Value, at, convert_to, each, failing, positions, unary_of, unless}
-use Rattle.source_meaning.proofs.ConstantLaws.{value_means}
+use Rattle.source_meaning.proofs.ConstantLaws.{Boxed, value_means}
 use Rattle.lower_comm.specs.declared.news.NewsStep.{NewsStep}
 use Rattle.lower_comm.specs.News.{checked_step, step_of}
 use Rattle.vp_sets.specs.Positions.{coordinate, moved, number_at}
@@ -164,3 +164,12 @@ module _ (scope : Scope) (active : Active) where
       ∙ ap (λ (v : Value). Gives v st) (mapped_is ty set (λ w. w) (Scalar (scalar_in st operand)) is.0.0)
   promoted_means set (T.Brackets' ty p inner) st is = promoted_means set inner st is.1
   promoted_means set _ st is = absurd is
+
+  -- an operator that never fails on two operands that change nothing
+  pub binary_means : (set : ℕ) (ty : ValueType) (place : Place) (op : Op) (p q : Boxed) (left right : TExpr) (v w : ℕ → ℕ) (st : State) → ty.shape ≡ Some set → divides op ≡ false → evaluated scope left active st ≡ Gives (Parallel v) st → evaluated scope right active st ≡ Gives (Parallel w) st
+      → evaluated scope (T.Binary' ty place op p left q right) active st ≡ Gives (Parallel (λ x. outcome op 32 (not (type_of left).elem.signed) (v x) (w x))) st
+  unfolding evaluated then_do at
+  binary_means set ty place op p q left right v w st shaped no_check one other =
+      ap (λ (o : Outcome Value). then_do o (λ x between. then_do (evaluated scope right active between) (λ y after. operated scope active ty place op (not (type_of left).elem.signed) x y after))) one
+      ∙ ap (λ (o : Outcome Value). then_do o (λ y after. operated scope active ty place op (not (type_of left).elem.signed) (Parallel v) y after)) other
+      ∙ operated_is ty set place op (not (type_of left).elem.signed) (Parallel v) (Parallel w) st shaped no_check

@@ -38,7 +38,7 @@ use Rattle.fields_follow.specs.Fragment.{IsOperation, IsPromoted, IsPure}
 use Rattle.fields_follow.proofs.Forms.{HasItsCode, HasItsWord, StandsInRegister, promoted_not_held, promoted_stands, pure_word}
 use Rattle.fields_follow.proofs.Instructions.{Puts, extents, operation_is, puts_constant, puts_operate, puts_operate_constant, word_in}
 use Rattle.fields_follow.proofs.Meaning.{AreOperands, left_of, right_of, value_in}
-use Rattle.fields_follow.proofs.Passing.{After, Behind, GivesField, Passes, after_same, code_longer, fields_longer, gives_less, gives_numbers, made_after, names_second, names_third, passes_all, passes_on, puts_own, still_numbers, then_after}
+use Rattle.fields_follow.proofs.Passing.{After, Behind, GivesField, Passes, after_same, after_weaker, code_longer, fields_longer, gives_less, gives_numbers, made_after, names_second, names_third, passes_all, passes_on, puts_own, still_numbers, then_after}
 use Rattle.fields_follow.proofs.Places.{HoldsTheFields, PlacesFields, stands_here}
 use Rattle.fields_follow.proofs.Quiet.{promoted_quiet, pure_quiet}
 use Rattle.fields_follow.proofs.Values.{Gives, Valued, code_of, next_field, one_more, operand_after, operand_of, taken, with_entry}
@@ -118,17 +118,28 @@ module _ (g : Setting) where
         subst (λ (w : ℕ → ℕ). GivesField g alive (length d.fields) d1 s set st w (next_field set 32 d) (with_instr i d1)) same_all
         (puts_own g alive places fields (length d.fields) set i (next_field set 32 d) d1 s st (λ q. word_in g k s) (omega arith) (let one = one_more set 32 W.Own d in omega (arith, one)) (taken g set 32 W.Own d (with_instr i d1) 1 within (and_one g i d1)) refl refl within here sim (puts_constant g set (next_field set 32 d) k s refl few))
 
+    -- a left operand that is not promoted stands in a field, and the fresh one is not used
+    pub pure_left : (set : ℕ) (e : TExpr) (quiet : Bool) → IsPure set e → HasItsCode g.typed g.instance alive n e → Follows set e → (dest : Field) (d : Draft) (s : CodeState) (st : State) → At g s (length d.code) → Sim g alive st s
+        → After g (GivesField g alive (length d.fields) d s set st (λ q. value_in (extents g set) st e q)) (spread_into (operand quiet e) e dest d)
+    unfolding spread_into in_a_field
+    pure_left set e quiet pure c whole dest d s st here sim =
+        after_same g Q (ap (λ (o : Option ℕ). elim o as (λ _. Made Field) [ Some word ↦ Makes dest (with_instr (I.MoveConstant dest (K.Imm word)) d) | None ↦ then_make (operand quiet e d) (λ x after. in_a_field x dest after) ]) (pure_word set e pure))
+        (then_after g (Gives g has alive n ready places fields (length d.fields) d s set st (λ q. value_in (extents g set) st e q)) Q (operand quiet e d) (λ x after. in_a_field x dest after)
+        (operand_after g has alive n ready places fields set e quiet pure c.code.names whole d s st here sim) (λ x after. in_field_extends x dest after)
+        (λ x after (f, (is, gives)). after_same g Q (ap (λ (o : Out). in_a_field o dest after) is) (made_after g Q f after (λ within. gives))))
+      where
+        Q : Field → Draft → Type 0
+        Q = GivesField g alive (length d.fields) d s set st (λ q. value_in (extents g set) st e q)
+
     -- the left operand stands in a field, in the fresh one if it is promoted
     pub left_after : (set : ℕ) (e : TExpr) (quiet : Bool) → (IsPromoted set e → quiet ≡ true) → IsPure set e ⊎ IsPromoted set e → HasItsCode g.typed g.instance alive n e → (IsPure set e → Follows set e) → (d : Draft) (s : CodeState) (st : State) → At g s (length d.code) → Sim g alive st s
         → ((after : Draft) → Extends g after (operand quiet e after))
         → After g (GivesField g alive (length d.fields) (with_entry set 32 W.Own d) s set st (λ q. value_in (extents g set) st e q)) (spread_into (operand quiet e) e (next_field set 32 d) (with_entry set 32 W.Own d))
     unfolding spread_into in_a_field then_make word_in
     left_after set e quiet calm (inl pure) c whole d s st here sim grows =
-        after_same g (GivesField g alive (length d.fields) d1 s set st v) (ap (λ (o : Option ℕ). elim o as (λ _. Made Field) [ Some word ↦ Makes dest (with_instr (I.MoveConstant dest (K.Imm word)) d1) | None ↦ then_make (operand quiet e d1) (λ x after. in_a_field x dest after) ]) (pure_word set e pure))
-        (then_after g (Gives g has alive n ready places fields (length d1.fields) d1 s set st v) (GivesField g alive (length d.fields) d1 s set st v) (operand quiet e d1) (λ x after. in_a_field x dest after)
-        (operand_after g has alive n ready places fields set e quiet pure c.code.names (whole pure) d1 s st here sim) (λ x after. in_field_extends x dest after)
-        (λ x after (f, (is, gives)). after_same g (GivesField g alive (length d.fields) d1 s set st v) (ap (λ (o : Out). in_a_field o dest after) is) (made_after g (GivesField g alive (length d.fields) d1 s set st v) f after (λ within.
-        gives_less g alive (length d.fields) (length d1.fields) d1 after s set st v f (let one = one_more set 32 W.Own d in omega (arith, one)) gives))))
+        after_weaker g (GivesField g alive (length d1.fields) d1 s set st v) (GivesField g alive (length d.fields) d1 s set st v) (spread_into (operand quiet e) e dest d1)
+        (λ f after gives. gives_less g alive (length d.fields) (length d1.fields) d1 after s set st v f (let one = one_more set 32 W.Own d in omega (arith, one)) gives)
+        (pure_left set e quiet pure c (whole pure) dest d1 s st here sim)
       where
         d1 : Draft
         d1 = with_entry set 32 W.Own d
@@ -172,21 +183,34 @@ module _ (g : Setting) where
     GivesRight bound d s set st v right e =
         ((b : Field) × ((right ≡ R.Field b) × GivesField g alive bound d s set st v b e)) ⊎ ((k : Konst) × ((right ≡ R.Word k) × GivesWord bound d s st v k e))
 
-    pub right_after : (set : ℕ) (op : Op) (e : TExpr) → divides op ≡ false → IsPure set e ⊎ IsPromoted set e → HasItsCode g.typed g.instance alive n e → (IsPure set e → Follows set e) → (d : Draft) (s : CodeState) (st : State) → At g s (length d.code) → Sim g alive st s
-        → After g (GivesRight (length d.fields) d s set st (λ q. value_in (extents g set) st e q)) (right_by (operand true e) op e d)
-    unfolding right_by word_taken then_make right_given from word_in Extends
-    right_after set op e no_check (inl pure) c whole d s st here sim =
-        after_same g (GivesRight (length d.fields) d s set st v) (ap (λ (o : Option ℕ). elim (then_value o (λ w. if divides op && w == 0 then None else Some w)) as (λ _. Made Right) [ Some word ↦ Makes (R.Word (K.Imm word)) d | None ↦ then_make (operand true e d) (λ x after. from (right_given x) (λ right. Makes right after)) ]) (pure_word set e pure))
-        (then_after g (Gives g has alive n ready places fields (length d.fields) d s set st v) (GivesRight (length d.fields) d s set st v) (operand true e d) (λ x after. from (right_given x) (λ right. Makes right after))
-        (operand_after g has alive n ready places fields set e true pure c.code.names (whole pure) d s st here sim) (λ x after. given (right_given x) after)
-        (λ x after (f, (is, gives)). after_same g (GivesRight (length d.fields) d s set st v) (ap (λ (o : Out). from (right_given o) (λ right. Makes right after)) is) (made_after g (GivesRight (length d.fields) d s set st v) (R.Field f) after (λ within. inl (f, (refl, gives))))))
+    -- one that is not promoted stands in a field
+    abbrev pub RightField : Draft → CodeState → ℕ → State → (ℕ → ℕ) → Right → Draft → Type 0
+    RightField d s set st v right e = (b : Field) × ((right ≡ R.Field b) × GivesField g alive (length d.fields) d s set st v b e)
+
+    pub pure_right : (set : ℕ) (op : Op) (e : TExpr) → IsPure set e → HasItsCode g.typed g.instance alive n e → Follows set e → (d : Draft) (s : CodeState) (st : State) → At g s (length d.code) → Sim g alive st s
+        → After g (RightField d s set st (λ q. value_in (extents g set) st e q)) (right_by (operand true e) op e d)
+    unfolding right_by word_taken then_make right_given from Extends
+    pure_right set op e pure c whole d s st here sim =
+        after_same g Q (ap (λ (o : Option ℕ). elim (then_value o (λ w. if divides op && w == 0 then None else Some w)) as (λ _. Made Right) [ Some word ↦ Makes (R.Word (K.Imm word)) d | None ↦ then_make (operand true e d) (λ x after. from (right_given x) (λ right. Makes right after)) ]) (pure_word set e pure))
+        (then_after g (Gives g has alive n ready places fields (length d.fields) d s set st (λ q. value_in (extents g set) st e q)) Q (operand true e d) (λ x after. from (right_given x) (λ right. Makes right after))
+        (operand_after g has alive n ready places fields set e true pure c.code.names whole d s st here sim) (λ x after. given (right_given x) after)
+        (λ x after (f, (is, gives)). after_same g Q (ap (λ (o : Out). from (right_given o) (λ right. Makes right after)) is) (made_after g Q (R.Field f) after (λ within. (f, (refl, gives))))))
       where
-        v : ℕ → ℕ
-        v = λ q. value_in (extents g set) st e q
+        Q : Right → Draft → Type 0
+        Q = RightField d s set st (λ q. value_in (extents g set) st e q)
 
         given : (o : Option Right) (after : Draft) → Extends g after (from o (λ right. Makes right after))
         given (Some right) after = (0, as_it_was after)
         given None after = tt
+
+    pub right_after : (set : ℕ) (op : Op) (e : TExpr) → divides op ≡ false → IsPure set e ⊎ IsPromoted set e → HasItsCode g.typed g.instance alive n e → (IsPure set e → Follows set e) → (d : Draft) (s : CodeState) (st : State) → At g s (length d.code) → Sim g alive st s
+        → After g (GivesRight (length d.fields) d s set st (λ q. value_in (extents g set) st e q)) (right_by (operand true e) op e d)
+    unfolding right_by word_taken then_make right_given from word_in Extends
+    right_after set op e no_check (inl pure) c whole d s st here sim =
+        after_weaker g (RightField d s set st v) (GivesRight (length d.fields) d s set st v) (right_by (operand true e) op e d) (λ right after h. inl h) (pure_right set op e pure c (whole pure) d s st here sim)
+      where
+        v : ℕ → ℕ
+        v = λ q. value_in (extents g set) st e q
     right_after set op e no_check (inr promoted) c whole d s st here sim = by (promoted_stands g.typed g.instance alive n set e promoted c.code.names c.among)
       where
         v : ℕ → ℕ

@@ -115,6 +115,18 @@ module _ (g : Setting) where
       stays = λ wanted h first last p below own before low after high. a.stays wanted h first last p below own before (let l = code_longer d e 0 taken in omega (arith, low, l)) after high;
     }
 
+    -- entries below fewer stay too
+    unfoldable pub passes_less : (bound other : ℕ) (d e : Draft) (s : CodeState) (st : State) (used : Type 0) → bound ≤ other → Passes other d e s st used → Passes bound d e s st used
+    passes_less bound other d e s st used less p = record {
+      grown = p.grown;
+      t = p.t;
+      go = p.go;
+      at = p.at;
+      registers = p.registers;
+      sim = p.sim;
+      stays = λ wanted h first last q below. p.stays wanted h first last q (omega (arith, below, less));
+    }
+
     -- a value of numbers stands in an own entry that is new and named by now, or in the field of a variable
     pub record InOwn (bound : ℕ) (e : Draft) (set : ℕ) (f : Field) (t : CodeState) (v : ℕ → ℕ) : Type 0 where
       pub own : IsOwnField g f
@@ -160,20 +172,9 @@ module _ (g : Setting) where
       stands = stands_less bound other f set h gives.passes.t st v less gives.stands;
     }
 
-    -- entries below fewer stay too
     pub gives_less : (bound other : ℕ) (d e : Draft) (s : CodeState) (set : ℕ) (st : State) (v : ℕ → ℕ) (h : Field) → bound ≤ other → GivesField other d s set st v h e → GivesField bound d s set st v h e
-    gives_less bound other d e s set st v h less gives = record {
-      passes = record {
-        grown = gives.passes.grown;
-        t = gives.passes.t;
-        go = gives.passes.go;
-        at = gives.passes.at;
-        registers = gives.passes.registers;
-        sim = gives.passes.sim;
-        stays = λ wanted h first last p below. gives.passes.stays wanted h first last p (omega (arith, below, less));
-      };
-      stands = stands_less bound other e set h gives.passes.t st v less gives.stands;
-    }
+    unfolding passes_less
+    gives_less bound other d e s set st v h less gives = record { passes = passes_less bound other d e s st (Behind h e) less gives.passes; stands = stands_less bound other e set h gives.passes.t st v less gives.stands }
 
     module _ (places : PlacesFields g) (fields : HoldsTheFields g) where
       -- which positions are active

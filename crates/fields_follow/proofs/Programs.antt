@@ -1,5 +1,5 @@
 -- The run of a program with parallel variables: what its memory holds from the first instruction to the end.
-use Rattle.std.proofs.Common.{◌≡◌, ◌∙◌, ℕ, ◌<◌, ◌^◌, ◌⊎◌, inl, inr, true, List, slice_get, Option, Some, None, refl, sym, ap, subst}
+use Rattle.std.proofs.Common.{◌≡◌, ◌∙◌, ℕ, ◌<◌, ◌^◌, ◌⊎◌, inl, inr, true, List, [], slice_get, Option, Some, None, sym, ap, subst}
 use Rattle.std.proofs.lemmas.Nat.{pow_pos}
 use Rattle.cstar_base.specs.declared.operators.Winner.{Winner}
 use Rattle.cstar_compile.specs.Compiled.{IsCompiled}
@@ -31,6 +31,7 @@ use Rattle.code_follows.proofs.Settings.{Setting, layout}
 use Rattle.fields_follow.specs.Fragment.{IsParallelProgram, fields_beside}
 use Rattle.fields_follow.specs.Laws.{ComesToAll, HasTheNumbers, IsNew, ParallelCodeMeansSource}
 use Rattle.fields_follow.proofs.Assigning.{updates_follow}
+use Rattle.fields_follow.proofs.Contexts.{selective_follows}
 use Rattle.fields_follow.proofs.Expressions.{pure_after}
 use Rattle.fields_follow.proofs.Fields.{HoldsFields, fields_held}
 use Rattle.fields_follow.proofs.FileFields.{IsTranslated, extents_are, file_exists, fresh_active, fresh_file, processors_of, translated}
@@ -45,9 +46,8 @@ abbrev pub everywhere : Active
 everywhere = λ set p. true
 
 -- the code of a pure parallel expression leaves its numbers in a field
-operands_follow : (g : Setting) (has : HasRegisters g) (scope : Scope) (places : PlacesFields g) (fields : HoldsTheFields g) (full : (set p : ℕ) → fields.active set p ≡ true) (alive : Variable → Type 0) → (n : ℕ) → ((d : Draft) → IsReady g.typed g.instance (layout g) n d)
-    → OperandsStand g has scope places fields full alive n
-operands_follow g has scope places fields full alive n ready set e is c d s st here sim =
+operands_follow : (g : Setting) (has : HasRegisters g) (places : PlacesFields g) (fields : HoldsTheFields g) (alive : Variable → Type 0) → (n : ℕ) → ((d : Draft) → IsReady g.typed g.instance (layout g) n d) → OperandsStand g alive n
+operands_follow g has places fields alive n ready set e is c d s st here sim =
     operand_after g has alive n ready places fields set e true is c.code.names (pure_after g has alive n ready places fields set e is c) d s st here sim
 
 module _ (t : Typed) (image : Image) (p : IsParallelProgram t) (codable : IsCodable t) (compiled : IsCompiled t image) (sound : IsSound image) where
@@ -76,8 +76,8 @@ module _ (t : Typed) (image : Image) (p : IsParallelProgram t) (codable : IsCoda
     besides has = record {
       effects = λ alive files n ready e h among c d s st free here sim. updates_follow g has alive n ready places fields scope same_extents e h.0 (record { code = c; among = among; extents = h.1 }) d s st here sim;
       folds = λ alive files n ready e h among c d s st R r free here sim dest.
-          folds_follow g has scope places fields (λ set q. refl) alive n (operands_follow g has scope places fields (λ set q. refl) alive n ready) same_extents e h.0 (record { code = c; among = among; extents = h.1 }) d s st R r free here sim dest;
-      statements = λ alive files n ready s h. absurd h;
+          folds_follow g alive scope places fields n (operands_follow g has places fields alive n ready) same_extents has e h.0 (record { code = c; among = among; extents = h.1 }) d s st R r here sim dest;
+      statements = λ alive files n ready s h c f d t st none free here sim. selective_follows g has alive n ready places scope same_extents s h c everywhere n n f [] d t st here sim;
     }
 
   all_beside : AllBeside t image p codable compiled (fields_held t image everywhere) everywhere

@@ -1,6 +1,5 @@
 -- What pure parallel expressions mean: a number at each position, with the state as it was.
-use Rattle.std.proofs.Common.{◌≡◌, ◌∙◌, ℕ, true, not, List, Option, Some, sym, ap, subst}
-use Rattle.cstar_base.specs.Operators.{outcome}
+use Rattle.std.proofs.Common.{◌≡◌, ◌∙◌, ℕ, true, List, Option, Some, sym, ap, subst}
 use Rattle.cstar_tree.specs.declared.typed.Instance.{Instance}
 use Rattle.cstar_tree.specs.declared.typed.TExpr.{TExpr}
 use Rattle.cstar_tree.specs.declared.typed.TExpr as T
@@ -12,12 +11,12 @@ use Rattle.cstar_tree.specs.Conversions.{parallel}
 use Rattle.cstar_tree.specs.StatementTypes.{variable_info}
 use Rattle.cstar_tree.specs.Typed.{type_of}
 use Rattle.code_lengths.specs.Naming.{NamesVariables, plain}
-use Rattle.source_meaning.specs.Expressions.{evaluated, mapped, operated}
+use Rattle.source_meaning.specs.Expressions.{evaluated, mapped}
 use Rattle.source_meaning.specs.State.{Gives, Outcome, State, then_do}
 use Rattle.source_meaning.specs.Values.{Active, Parallel, Scope, Value, at, convert_to, each, own_coordinate, unary_of}
 use Rattle.vp_sets.specs.Positions.{positions_fit}
 use Rattle.fields_follow.specs.Fragment.{IsPure, IsWide, KnowsExtents, NameExtents, extents_in}
-use Rattle.fields_follow.proofs.Meaning.{as_shaped, either, left_of, mapped_is, operated_is, promoted_means, read_is, right_of, value_in}
+use Rattle.fields_follow.proofs.Meaning.{as_shaped, binary_means, either, left_of, mapped_is, promoted_means, read_is, right_of, value_in}
 use Rattle.fields_follow.specs.Fields.{IsElement}
 use Rattle.fields_follow.proofs.Forms.{element_is}
 use Rattle.fields_follow.proofs.Neighbours.{get_means}
@@ -42,14 +41,8 @@ module _ (scope : Scope) (active : Active) (t : Typed) (i : Instance) (n : ℕ) 
       ap (λ (o : Outcome Value). then_do o (λ v after. Gives (mapped ty (unary_of op) v) after)) (pure_means set operand st is.2 grids names knows)
       ∙ ap (λ (v : Value). Gives v st) (mapped_is scope active ty set (unary_of op) (Parallel (λ q. value_in (scope.extents set) st operand q)) is.0.0)
   pure_means set (T.Binary' ty place op p left q right) st is grids names knows =
-      both (λ q. value_in (scope.extents set) st left q) (λ q. value_in (scope.extents set) st right q) (either (λ h. pure_means set left st h grids names.0 knows.0) (λ h. promoted_means scope active set left st h) (left_of set left right is.2)) (either (λ h. pure_means set right st h grids names.1 knows.1) (λ h. promoted_means scope active set right st h) (right_of set left right is.2))
-    where
-      both : (v w : ℕ → ℕ) → evaluated scope left active st ≡ Gives (Parallel v) st → evaluated scope right active st ≡ Gives (Parallel w) st
-          → then_do (evaluated scope left active st) (λ x between. then_do (evaluated scope right active between) (λ y after. operated scope active ty place op (not (type_of left).elem.signed) x y after)) ≡ Gives (Parallel (λ q. outcome op 32 (not (type_of left).elem.signed) (v q) (w q))) st
-      both v w one other =
-          ap (λ (o : Outcome Value). then_do o (λ x between. then_do (evaluated scope right active between) (λ y after. operated scope active ty place op (not (type_of left).elem.signed) x y after))) one
-          ∙ ap (λ (o : Outcome Value). then_do o (λ y after. operated scope active ty place op (not (type_of left).elem.signed) (Parallel v) y after)) other
-          ∙ operated_is scope active ty set place op (not (type_of left).elem.signed) (Parallel v) (Parallel w) st is.0.0 is.1.1
+      binary_means scope active set ty place op p q left right (λ q. value_in (scope.extents set) st left q) (λ q. value_in (scope.extents set) st right q) st is.0.0 is.1.1
+      (either (λ h. pure_means set left st h grids names.0 knows.0) (λ h. promoted_means scope active set left st h) (left_of set left right is.2)) (either (λ h. pure_means set right st h grids names.1 knows.1) (λ h. promoted_means scope active set right st h) (right_of set left right is.2))
   pure_means set (T.Convert' ty p operand) st is grids names knows =
       ap (λ (o : Outcome Value). then_do o (λ v after. Gives (convert_to ty (type_of operand).elem v) after)) (pure_means set operand st is.1 grids names knows)
       ∙ ap (λ (y : ValueType). Gives (convert_to y (type_of operand).elem (Parallel (λ q. value_in (scope.extents set) st operand q))) st) (as_shaped ty set is.0.0)

@@ -1,5 +1,5 @@
--- The code of a fold of a parallel value leaves its number in the register that is to have it.
-use Rattle.std.proofs.Common.{◌≡◌, ◌∙◌, ℕ, zero, suc, ◌+◌, ◌<◌, ◌^◌, Bool, true, not, List, [], ◌∷◌, length, slice_index, Option, Some, None, refl, sym, ap, subst, arith}
+-- The code of a fold of a parallel value passes, and then puts its number in the register that is to have it.
+use Rattle.std.proofs.Common.{◌≡◌, ◌∙◌, ℕ, zero, suc, ◌+◌, ◌<◌, ◌≤◌, ◌^◌, Bool, true, not, List, [], ◌∷◌, length, slice_index, Option, None, refl, sym, ap, subst, arith}
 use Rattle.std.specs.Prelude.{pos, neg_ℤ, slice_set}
 use denote.Hole.Carrier
 use Rattle.cstar_base.specs.declared.elem.Elem.{Elem}
@@ -16,39 +16,39 @@ use Rattle.cstar_tree.specs.declared.typed.Variable.{Variable}
 use Rattle.cstar_tree.specs.Typed.{type_of}
 use Rattle.constant_trees.proofs.Words.{unary_below}
 use Rattle.code_lengths.specs.Growth.{Extended}
-use Rattle.code_lengths.proofs.Drafting.{and_instr}
+use Rattle.code_lengths.proofs.Drafting.{and_instr, as_it_was, extended}
 use Rattle.lower_base.specs.declared.emit.Out.{Out}
 use Rattle.lower_base.specs.declared.emit.Out.TheVariants as O
-use Rattle.lower_base.specs.Drafts.{Draft, Fails, Made, Makes, from, in_field, in_register, step as step_of, then_make, with_instr}
+use Rattle.lower_base.specs.Drafts.{Draft, Fails, Made, Makes, Plain, from, in_field, in_register, step as step_of, then_make, with_instr}
 use Rattle.lower_base.specs.Kinds.{folded_kind, kind_of}
 use Rattle.lower_base.specs.Operators.{fold_of, is_signed, reduce_op_of}
 use Rattle.lower_comm.specs.Messages.{communicated, negated_by, part_field, reduced as reduced_in, with_fold, with_sign}
 use Rattle.lower_expr.specs.Effects.{computed_to, gone_to}
 use Rattle.lower_expr.specs.Kinds.{reduced_bits}
 use Rattle.lower_expr.specs.Values.{message_to, next_of}
+use Rattle.paris_code.specs.declared.instr.Instr.{Instr}
 use Rattle.paris_code.specs.declared.instr.Instr.TheVariants as I
 use Rattle.paris_code.specs.declared.operands.Field.{Field}
-use Rattle.paris_code.specs.declared.operands.Reduction.{Reduction}
 use Rattle.paris_code.specs.Code.{CodeState, Goes, applied, begun, with_register}
 use Rattle.paris_code.specs.Fetching.{global_fold}
 use Rattle.paris_code.specs.Meaning.{after}
 use Rattle.paris_code.specs.Memory.{is_active, processors}
-use Rattle.source_meaning.specs.Expressions.{evaluated, reduction_of}
+use Rattle.paris_code.specs.Spans.{IsNamedAt}
 use Rattle.source_meaning.specs.Reductions.{combiner_of, folded, reduced}
-use Rattle.source_meaning.specs.State as Source
-use Rattle.source_meaning.specs.State.{Outcome, State, then_do}
-use Rattle.source_meaning.specs.Values.{Scalar, Scope, Value, at, positions, unary_of}
+use Rattle.source_meaning.specs.State.{State}
+use Rattle.source_meaning.specs.Values.{Scalar, Value, unary_of}
 use Rattle.source_meaning.proofs.ConstantLaws.{Boxed}
-use Rattle.code_follows.specs.Fragment.{IsWord}
-use Rattle.code_follows.proofs.Following.{Extends, Follows, HasRegisters, Keeps, Sim, then_follows}
+use Rattle.code_follows.proofs.Following.{Extends, HasRegisters, Sim}
 use Rattle.code_follows.proofs.Operators.{minus_same, wide_signed}
-use Rattle.code_follows.proofs.Settings.{At, Reaches, Setting, Within, and_one, layout, placed_instr, stay}
-use Rattle.code_follows.proofs.Values.{Dest, put_by, put_by_two}
+use Rattle.code_follows.proofs.Settings.{At, Reaches, Setting, Within, and_one, at_next, begins_here, earlier, layout, one, onto, placed_instr, start}
+use Rattle.code_follows.proofs.Values.{Dest, set_again}
 use Rattle.code_follows.proofs.Words.{below_bits, held_wide}
 use Rattle.fields_follow.specs.Fragment.{IsWide}
 use Rattle.fields_follow.proofs.Folds.{folding, global_is}
-use Rattle.fields_follow.proofs.Instructions.{HasNumbers, place, shapes}
-use Rattle.fields_follow.proofs.Places.{HoldsTheFields}
+use Rattle.fields_follow.proofs.Instructions.{HasNumbers, number_in, place, shapes}
+use Rattle.fields_follow.proofs.Passing.{After, Behind, GivesField, Passes, after_same, code_longer, flags_of, gives_numbers, made_after, then_after}
+use Rattle.fields_follow.proofs.Places.{HoldsTheFields, IsOwnField, PlacesFields, stands_here}
+use Rattle.fields_follow.proofs.Writing.{named}
 
 -- what is read of an element behind a write to it, and written there again: where there is none, nothing is
 read_back : (f : ℕ → ℕ) (xs : List ℕ) (r a : ℕ) → slice_set (slice_set xs r a) r (f (slice_index (slice_set xs r a) r)) ≡ slice_set (slice_set xs r a) r (f a)
@@ -60,10 +60,6 @@ read_back f (x ∷ xs) (suc r) a = ap (λ (rest : List ℕ). x ∷ rest) (read_b
 negative_same : (unsigned : Bool) (w : ℕ) → w < 2 ^ 32 → unary_of U.Minus w ≡ difference_of 32 unsigned 0 w
 unfolding unary_of
 negative_same unsigned w few = difference_by_residues 32 true 0 w (omega arith) ∙ sym (difference_by_residues 32 unsigned 0 w (omega arith))
-
--- the number of a value at a position
-abbrev pub number_at : Value → ℕ → ℕ
-number_at v p = at v p
 
 -- what a reduction gives by the fold
 unfoldable ended : ReduceOp → Bool → ℕ → ℕ
@@ -85,110 +81,160 @@ unfolding gone_to then_make
 gone_inside dest (Makes v e) next = refl
 gone_inside dest Fails next = refl
 
-module _ (g : Setting) (has : HasRegisters g) (scope : Scope) (fields : HoldsTheFields g) (full : (set p : ℕ) → fields.active set p ≡ true) (alive : Variable → Type 0) where
-  -- Behind the code of a parallel value, a field has its numbers; registers that are kept stay.
-  pub record HasField (set : ℕ) (d : Draft) (s : CodeState) (v : Value) (u : State) (out : Out) (e : Draft) : Type 0 where
-    pub field : Field
-    pub is : out ≡ O.Field field
-    pub grown : (n : ℕ) × Extended d n e
-    pub t : CodeState
-    pub go : Reaches g s t
-    pub at : At g t (length e.code)
-    pub sim : Sim g alive u t
-    pub keeps : Keeps g d s t
-    pub numbers : HasNumbers g set field t (λ p. number_at v p)
+module _ (g : Setting) (alive : Variable → Type 0) where
+  -- the state at another place, where a register has a word
+  abbrev pub put_at : ℕ → ℕ → ℕ → CodeState → CodeState
+  put_at r word at s = record s { at = at; registers = slice_set s.registers r word }
 
-  -- the instructions of a fold
-  global_does : (c : Reduction) (r : ℕ) (f : Field) (t : CodeState) → begun g.image (placed_instr g (I.Global c r f)) t ≡ Goes (with_register r (global_fold (shapes g) t.memory c (place g f)) t)
-  unfolding begun applied after
-  global_does c r f t = refl
+  -- Instructions that write no field put a word in a register, and go on behind a draft.
+  pub record PutsNumber (e f : Draft) (t : CodeState) (r w : ℕ) : Type 0 where
+    pub more : (k : ℕ) × Extended e k f
+    pub place : ℕ
+    pub go : Reaches g t (put_at r w place t)
+    pub at : place ≡ start g + length f.code
+    pub few : w < 2 ^ 32
 
-  negate_does : (r a : ℕ) (t : CodeState) → begun g.image (placed_instr g (I.FrontNegate r r)) (with_register r a t) ≡ Goes (with_register r (unary_of U.Minus a) (with_register r a t))
-  unfolding begun
-  negate_does r a t =
-      ap (λ (registers : List ℕ). Goes (record t { at = t.at + 1 + 1; registers = registers })) (read_back (λ (w : ℕ). residue 32 (neg_ℤ (pos w))) t.registers r a)
-      ∙ ap (λ (w : ℕ). Goes (with_register r w (with_register r a t))) (minus_same a)
+  -- The code from one draft to another passes, and its last instructions put a word in a register.
+  pub record GivesNumber (d : Draft) (s : CodeState) (st : State) (r w : ℕ) (f : Draft) : Type 0 where
+    pub middle : Draft
+    pub passes : Passes g alive (length d.fields) d middle s st (Unit {0})
+    pub puts : PutsNumber middle f passes.t r w
 
-  module _ (ty : ValueType) (op : ReduceOp) (p : Boxed) (operand : TExpr) (set : ℕ) (word : IsWord ty) (wide : IsWide set (type_of operand)) (none : kind_of operand ≡ None) (as_many : set < length (shapes g) → processors (shapes g) set ≡ positions scope set) where
-    abbrev signed : Bool
-    signed = (type_of operand).elem.signed
+  -- own entries that are named before it and behind it have at the end what they had
+  pub number_stays : (d : Draft) (s : CodeState) (st : State) (r w : ℕ) (f : Draft) → (given : GivesNumber d s st r w f) → (h : Field) (first last p : ℕ) → h.offset < length d.fields → IsOwnField g h → IsNamedAt g.unit h.offset first → first < length d.code
+      → IsNamedAt g.unit h.offset last → length f.code ≤ last → number_in g h (put_at r w given.puts.place given.passes.t) p ≡ number_in g h s p
+  number_stays d s st r w f given h first last p below own before low after high =
+      given.passes.stays tt h first last p below own before low after (let longer = code_longer given.middle f given.puts.more.0 given.puts.more.1 in omega (arith, longer, high))
 
-    abbrev whole : Value → ℕ
-    whole v = folded (combiner_of op) (not signed) (fields.active set) (λ q. number_at v q) (positions scope set)
+  -- it goes to a register that is to have it
+  pub number_to : (has : HasRegisters g) (elem : Elem) (d : Draft) (s : CodeState) (st : State) (R : Value → State → Out → Draft → Type 0) (r w : ℕ) (f : Draft) → elem.bits ≡ 32 → Dest g has alive elem d s R r → GivesNumber d s st r w f → Within g f → R (Scalar w) st (O.Scalar r) f
+  number_to has elem d s st R r w f wide dest h within =
+      dest.takes h.middle f h.passes.grown.0 h.puts.more.0 h.passes.t h.puts.place st w h.passes.go h.passes.sim h.passes.grown.1 (λ q kept. ap (λ (registers : List ℕ). slice_index registers q) h.passes.registers) h.puts.more.1 within
+      (subst (λ (n : ℕ). Reaches g h.passes.t (put_at r n h.puts.place h.passes.t)) (sym (held_wide elem w wide h.puts.few)) h.puts.go) h.puts.at (below_bits elem.bits w wide h.puts.few)
 
-    abbrev number : Value → ℕ
-    number v = reduced op (not signed) (fields.active set) (λ q. number_at v q) (positions scope set)
-
-    reduction_is : (v : Value) → reduction_of scope fields.active op (type_of operand) v ≡ Scalar (number v)
-    unfolding reduction_of
-    reduction_is v = ap (λ (o : Option ℕ). elim o as (λ _. Value) [ None ↦ v | Some s ↦ Scalar (reduced op (not signed) (fields.active s) (λ q. number_at v q) (positions scope s)) ]) wide.0
+  module _ (op : ReduceOp) (signed : Bool) where
+    -- the instruction of the fold, and the draft behind it and what follows it
+    abbrev global : ℕ → Field → Instr
+    global r f = I.Global (folding op signed) r f
 
     abbrev made : ℕ → Field → Draft → Draft
-    made r f e = negated_by op r (with_instr (I.Global (folding op signed) r f) e)
+    made r f e = negated_by op r (with_instr (global r f) e)
+
+    made_grows : (r : ℕ) (f : Field) (e : Draft) → (n : ℕ) × Extended e n (made r f e)
+    made_grows r f e = negated_more op r 1 e (with_instr (global r f) e) (and_one g (global r f) e)
+
+    negate_puts : (r a : ℕ) (t : CodeState) → a < 2 ^ 32 → begun g.image (placed_instr g (I.FrontNegate r r)) (with_register r a t) ≡ Goes (put_at r (difference_of 32 (not signed) 0 a) (t.at + 1 + 1) t)
+    unfolding begun
+    negate_puts r a t few =
+        ap (λ (registers : List ℕ). Goes (record t { at = t.at + 1 + 1; registers = registers })) (read_back (λ (w : ℕ). residue 32 (neg_ℤ (pos w))) t.registers r a)
+        ∙ ap (λ (registers : List ℕ). Goes (record t { at = t.at + 1 + 1; registers = registers })) (set_again t.registers r a (residue 32 (neg_ℤ (pos a))))
+        ∙ ap (λ (w : ℕ). Goes (put_at r w (t.at + 1 + 1) t)) (minus_same a ∙ negative_same (not signed) a few)
+
+    -- the instruction that puts the fold there, and what follows it
+    ends : (o : ReduceOp) (i : Instr) (e : Draft) (t : CodeState) (r a : ℕ) → step_of i ≡ Plain i → begun g.image (placed_instr g i) t ≡ Goes (with_register r a t) → a < 2 ^ 32 → At g t (length e.code) → Within g (negated_by o r (with_instr i e))
+        → PutsNumber e (negated_by o r (with_instr i e)) t r (ended o (not signed) a)
+    unfolding negated_by ended step_of
+    ends F.Sub i e t r a plain puts few here within =
+        let between : Draft = with_instr i e in
+        let negate : Instr = I.FrontNegate r r in
+        let middle : CodeState = with_register r a t in
+        let last : CodeState = put_at r (difference_of 32 (not signed) 0 a) (t.at + 1 + 1) t in
+        let early : Within g between = earlier g between (with_instr negate between) 1 (and_one g negate between) within in
+        let there : At g middle (length between.code) = at_next g i e t (t.at + 1) here refl in
+        record {
+          more = (2, extended e between (with_instr negate between) 1 1 (and_one g i e) (and_one g negate between));
+          place = t.at + 1 + 1;
+          go = onto g t middle last (one g t middle (begins_here g i e t early plain here ∙ puts)) (one g middle last (begins_here g negate between middle within refl there ∙ negate_puts r a t few));
+          at = at_next g negate between middle (t.at + 1 + 1) there refl;
+          few = subst (λ (n : ℕ). n < 2 ^ 32) (negative_same (not signed) a few) (unary_below U.Minus a few);
+        }
+    ends _ i e t r a plain puts few here within = record {
+      more = (1, and_one g i e);
+      place = t.at + 1;
+      go = one g t (with_register r a t) (begins_here g i e t within plain here ∙ puts);
+      at = at_next g i e t (t.at + 1) here refl;
+      few = few;
+    }
+
+    module _ (places : PlacesFields g) (fields : HoldsTheFields g) (set : ℕ) (v : ℕ → ℕ) where
+      abbrev whole : ℕ
+      whole = folded (combiner_of op) (not signed) (fields.active set) v (processors (shapes g) set)
+
+      -- the number that the reduction gives of these
+      abbrev pub number : ℕ
+      number = reduced op (not signed) (fields.active set) v (processors (shapes g) set)
+
+      -- the fold of a field that has these is theirs, and a word
+      whole_is : (f : Field) (t : CodeState) (st : State) → HasNumbers g set f t v → Sim g alive st t → (global_fold (shapes g) t.memory (folding op signed) (place g f) ≡ whole) × (whole < 2 ^ 32)
+      whole_is f t st h sim =
+          subst (λ (n : ℕ). (global_fold (shapes g) t.memory (folding op signed) (place g f) ≡ folded (combiner_of op) (not signed) (fields.active set) v n) × (folded (combiner_of op) (not signed) (fields.active set) v n < 2 ^ 32))
+          (ap (λ (k : ℕ). processors (shapes g) k) h.of_set)
+          (global_is (shapes g) t.memory op signed (place g f) (fields.active set) v h.len (λ q below. ap (λ (k : ℕ). is_active (shapes g) t.memory k q) h.of_set ∙ alike q (inside q below)) (λ q below on. h.are q (inside q below) (alike q (inside q below) ∙ on)) (λ q below on. h.small q (inside q below) (alike q (inside q below) ∙ on)))
+        where
+          inside : (q : ℕ) → q < processors (shapes g) f.set → q < processors (shapes g) set
+          inside q below = subst (λ (k : ℕ). q < processors (shapes g) k) h.of_set below
+
+          alike : (q : ℕ) → q < processors (shapes g) set → is_active (shapes g) t.memory set q ≡ fields.active set q
+          alike q below = flags_of g alive places fields st t set q sim h.exists below
+
+      global_puts : (r : ℕ) (f : Field) (t : CodeState) (st : State) → HasNumbers g set f t v → Sim g alive st t → begun g.image (placed_instr g (global r f)) t ≡ Goes (with_register r whole t)
+      unfolding begun applied after
+      global_puts r f t st h sim = ap (λ (w : ℕ). Goes (with_register r w t)) (whole_is f t st h sim).0
+
+      -- the fold behind the code that gives the field
+      reduces : (d e : Draft) (s : CodeState) (st : State) (r w : ℕ) (f : Field) → (set < length (shapes g) → number ≡ w) → GivesField g alive (length d.fields) d s set st v f e → Within g (made r f e) → GivesNumber d s st r w (made r f e)
+      unfolding step_of
+      reduces d e s st r w f is h within = record {
+        middle = e;
+        passes = record { grown = h.passes.grown; t = h.passes.t; go = h.passes.go; at = h.passes.at; registers = h.passes.registers; sim = h.passes.sim; stays = λ used. h.passes.stays behind };
+        puts = subst (λ (n : ℕ). PutsNumber e (made r f e) h.passes.t r n) (sym (reduced_is op (not signed) (fields.active set) v (processors (shapes g) set)) ∙ is has.exists)
+            (ends op (global r f) e h.passes.t r whole refl (global_puts r f h.passes.t st has h.passes.sim) (whole_is f h.passes.t st has h.passes.sim).1 h.passes.at within);
+      }
+        where
+          has : HasNumbers g set f h.passes.t v
+          has = gives_numbers g alive places fields (length d.fields) d s set st v f e h
+
+          after_fold : Within g (with_instr (global r f) e)
+          after_fold = let x = negated_more op r 0 (with_instr (global r f) e) (with_instr (global r f) e) (as_it_was (with_instr (global r f) e)) in earlier g (with_instr (global r f) e) (made r f e) x.0 x.1 within
+
+          behind : Behind g f e
+          behind = (length e.code, (named g places fields alive (global r f) f [] (length e.code) (stands_here g (global r f) e after_fold refl) refl, omega arith))
+
+  module _ (places : PlacesFields g) (fields : HoldsTheFields g) (ty : ValueType) (op : ReduceOp) (p : Boxed) (operand : TExpr) (set : ℕ) (wide : IsWide set (type_of operand)) (none : kind_of operand ≡ None) where
+    abbrev signed_operand : Bool
+    signed_operand = (type_of operand).elem.signed
 
     abbrev next : ℕ → Out → Draft → Made Out
     next r v e = gone_to (O.Scalar r) (communicated g.typed (layout g) (T.Reduce' ty op p operand) O.Nothing (v ∷ []) (O.Scalar r) e)
 
-    made_is : (r : ℕ) (f : Field) (e : Draft) → next r (O.Field f) e ≡ Makes (O.Scalar r) (made r f e)
+    made_is : (r : ℕ) (f : Field) (e : Draft) → next r (O.Field f) e ≡ Makes (O.Scalar r) (made op signed_operand r f e)
     unfolding gone_to then_make communicated reduced_in part_field from in_field in_register out-TExpr Carrier.out with_fold with_sign folded_kind
     made_is r f e =
         ap (λ (k : Option Elem). Makes (O.Scalar r) (negated_by op r (with_sign (folded_kind (fold_of (reduce_op_of op) (is_signed (type_of operand).elem)) k) r (with_instr (I.Global (fold_of (reduce_op_of op) (is_signed (type_of operand).elem)) r f) e)))) none
         ∙ ap (λ (b : Bool). Makes (O.Scalar r) (negated_by op r (with_instr (I.Global (fold_of (reduce_op_of op) b) r f) e))) (wide_signed (type_of operand).elem wide.1)
 
-    made_grows : (r : ℕ) (f : Field) (e : Draft) → (n : ℕ) × Extended e n (made r f e)
-    made_grows r f e = negated_more op r 1 e (with_instr (I.Global (folding op signed) r f) e) (and_one g (I.Global (folding op signed) r f) e)
-
     next_grows : (r : ℕ) (v : Out) (e : Draft) → Extends g e (next r v e)
     unfolding Extends gone_to then_make communicated reduced_in part_field from in_field out-TExpr Carrier.out
-    next_grows r (O.Field f) e = subst (λ (m : Made Out). Extends g e m) (sym (made_is r f e)) (made_grows r f e)
+    next_grows r (O.Field f) e = subst (λ (m : Made Out). Extends g e m) (sym (made_is r f e)) (made_grows op signed_operand r f e)
     next_grows r (O.Scalar q) e = tt
     next_grows r O.Nothing e = tt
 
-    module _ (d : Draft) (s : CodeState) (R : Value → State → Out → Draft → Type 0) (r : ℕ) (dest : Dest g has alive ty.elem d s R r) where
-      -- the fold of the field's numbers
-      module _ (v : Value) (u : State) (out : Out) (e : Draft) (h : HasField set d s v u out e) where
-        alike : (q : ℕ) → q < processors (shapes g) set → is_active (shapes g) h.t.memory set q ≡ fields.active set q
-        alike q below = (fields.opens u h.t.memory h.sim.memory).flags set q h.numbers.exists below
+    module _ (d : Draft) (s : CodeState) (st : State) (v : ℕ → ℕ) (r w : ℕ) (number_is : set < length (shapes g) → number op signed_operand places fields set v ≡ w) where
+      abbrev Given : Out → Draft → Type 0
+      Given out x = (f : Field) × ((out ≡ O.Field f) × GivesField g alive (length d.fields) d s set st v f x)
 
-        whole_is : (global_fold (shapes g) h.t.memory (folding op signed) (place g h.field) ≡ whole v) × (whole v < 2 ^ 32)
-        whole_is =
-            subst (λ (n : ℕ). (global_fold (shapes g) h.t.memory (folding op signed) (place g h.field) ≡ folded (combiner_of op) (not signed) (fields.active set) (λ q. number_at v q) n) × (folded (combiner_of op) (not signed) (fields.active set) (λ q. number_at v q) n < 2 ^ 32))
-            (ap (λ (k : ℕ). processors (shapes g) k) h.numbers.of_set ∙ as_many h.numbers.exists)
-            (global_is (shapes g) h.t.memory op signed (place g h.field) (fields.active set) (λ q. number_at v q) h.numbers.len (λ q below. ap (λ (k : ℕ). is_active (shapes g) h.t.memory k q) h.numbers.of_set ∙ alike q (inside q below)) (λ q below. h.numbers.are q (inside q below) (on q (inside q below))) (λ q below. h.numbers.small q (inside q below) (on q (inside q below))))
-          where
-            inside : (q : ℕ) → q < processors (shapes g) h.field.set → q < processors (shapes g) set
-            inside q below = subst (λ (k : ℕ). q < processors (shapes g) k) h.numbers.of_set below
+      abbrev Reduced : Out → Draft → Type 0
+      Reduced out x = (out ≡ O.Scalar r) × GivesNumber d s st r w x
 
-            on : (q : ℕ) → q < processors (shapes g) set → is_active (shapes g) h.t.memory set q ≡ true
-            on q below = alike q below ∙ full set q
+      reduced_next : (out : Out) (x : Draft) (f : Field) → out ≡ O.Field f → GivesField g alive (length d.fields) d s set st v f x → After g Reduced (next r out x)
+      reduced_next out x f is h =
+          after_same g Reduced (ap (λ (o : Out). next r o x) is ∙ made_is r f x)
+          (made_after g Reduced (O.Scalar r) (made op signed_operand r f x) (λ within. (refl, reduces op signed_operand places fields set v d x s st r w f number_is h within)))
 
-        global_puts : begun g.image (placed_instr g (I.Global (folding op signed) r h.field)) h.t ≡ Goes (with_register r (whole v) h.t)
-        global_puts = global_does (folding op signed) r h.field h.t ∙ ap (λ (w : ℕ). Goes (with_register r w h.t)) whole_is.0
-
-        ends : (o : ReduceOp) (w : ℕ) → begun g.image (placed_instr g (I.Global (folding op signed) r h.field)) h.t ≡ Goes (with_register r w h.t) → w < 2 ^ 32 → Within g (negated_by o r (with_instr (I.Global (folding op signed) r h.field) e))
-            → R (Scalar (ended o (not signed) w)) u (O.Scalar r) (negated_by o r (with_instr (I.Global (folding op signed) r h.field) e))
-        unfolding negated_by ended step_of
-        ends F.Sub w puts few within =
-            let negative : ℕ = difference_of 32 (not signed) 0 w in
-            let small : negative < 2 ^ 32 = subst (λ (n : ℕ). n < 2 ^ 32) (negative_same (not signed) w few) (unary_below U.Minus w few) in
-            put_by_two g has alive dest e h.grown.0 (I.Global (folding op signed) r h.field) (I.FrontNegate r r) h.t u w negative h.go h.at h.sim h.grown.1 h.keeps within refl refl puts
-            (negate_does r w h.t ∙ ap (λ (n : ℕ). Goes (with_register r n (with_register r w h.t))) (negative_same (not signed) w few ∙ sym (held_wide ty.elem negative word.1 small))) (below_bits ty.elem.bits negative word.1 small)
-        ends _ w puts few within =
-            put_by g has alive dest e h.grown.0 (I.Global (folding op signed) r h.field) h.t u w h.go h.at h.sim h.grown.1 h.keeps within refl
-            (puts ∙ ap (λ (n : ℕ). Goes (with_register r n h.t)) (sym (held_wide ty.elem w word.1 few))) (below_bits ty.elem.bits w word.1 few)
-
-        folds_so : Follows g R s (Source.Gives (reduction_of scope fields.active op (type_of operand) v) u) (next r out e)
-        unfolding Follows
-        folds_so =
-            subst (λ (w : Value). Follows g R s (Source.Gives w u) (next r out e)) (sym (reduction_is v))
-            (subst (λ (o : Out). Follows g R s (Source.Gives (Scalar (number v)) u) (next r o e)) (sym h.is)
-            (subst (λ (m : Made Out). Follows g R s (Source.Gives (Scalar (number v)) u) m) (sym (made_is r h.field e)) (λ within. subst (λ (w : ℕ). R (Scalar w) u (O.Scalar r) (made r h.field e)) (sym (reduced_is op (not signed) (fields.active set) (λ q. number_at v q) (positions scope set))) (ends op (whole v) global_puts whole_is.1 within))))
-
-      -- the code of the fold, behind that of its operand
-      pub fold_follows : (st : State) → At g s (length d.code) → Sim g alive st s → Follows g (λ v u out e. HasField set d s v u out e) s (evaluated scope operand fields.active st) (next_of g.typed (layout g) (reduced_bits op operand) true operand d)
-          → Follows g R s (evaluated scope (T.Reduce' ty op p operand) fields.active st) (computed_to g.typed (layout g) (O.Scalar r) (T.Reduce' ty op p operand) d)
-      unfolding computed_to evaluated message_to
-      fold_follows st here sim does =
-          subst (λ (m : Made Out). Follows g R s (evaluated scope (T.Reduce' ty op p operand) fields.active st) m) (sym (gone_inside (O.Scalar r) (next_of g.typed (layout g) (reduced_bits op operand) true operand d) (λ v after. communicated g.typed (layout g) (T.Reduce' ty op p operand) O.Nothing (v ∷ []) (O.Scalar r) after)))
-          (then_follows g (λ v u out e. HasField set d s v u out e) R s s (evaluated scope operand fields.active st) (λ v after. Source.Gives (reduction_of scope fields.active op (type_of operand) v) after) (next_of g.typed (layout g) (reduced_bits op operand) true operand d) (λ v after. next r v after)
-          (stay g s) does (λ v after. next_grows r v after) (λ v u out e h. folds_so v u out e h))
+      -- The code of a fold, where that of its operand gives a field: it passes, and its last instructions put the number
+      -- of the reduction in the register that is to have it.
+      pub fold_passes : After g Given (next_of g.typed (layout g) (reduced_bits op operand) true operand d) → After g Reduced (computed_to g.typed (layout g) (O.Scalar r) (T.Reduce' ty op p operand) d)
+      unfolding computed_to message_to
+      fold_passes gives =
+          after_same g Reduced (gone_inside (O.Scalar r) (next_of g.typed (layout g) (reduced_bits op operand) true operand d) (λ u after. communicated g.typed (layout g) (T.Reduce' ty op p operand) O.Nothing (u ∷ []) (O.Scalar r) after))
+          (then_after g Given Reduced (next_of g.typed (layout g) (reduced_bits op operand) true operand d) (λ u after. next r u after) gives (λ u after. next_grows r u after) (λ out x h. reduced_next out x h.0 h.1.0 h.1.1))

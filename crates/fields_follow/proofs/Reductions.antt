@@ -1,5 +1,5 @@
 -- Unary reductions of pure parallel expressions follow, where the code of these leaves their numbers in a field.
-use Rattle.std.proofs.Common.{◌≡◌, ◌∙◌, ℕ, ◌<◌, ◌≤◌, Bool, true, false, length, slice_index, Option, Some, None, refl, sym, ap, subst, if◌then◌else◌, List, arith}
+use Rattle.std.proofs.Common.{◌≡◌, ◌∙◌, ℕ, Bool, true, false, not, length, Option, Some, None, refl, sym, ap, subst, if◌then◌else◌, List, arith}
 use Rattle.std.proofs.lemmas.Bool.Decides.{nat_tests}
 use Rattle.cstar_base.specs.declared.elem.Elem.{Elem}
 use Rattle.cstar_tree.specs.declared.syntax.ReduceOp.{ReduceOp}
@@ -22,11 +22,11 @@ use Rattle.lower_expr.specs.Kinds.{reduced_bits}
 use Rattle.lower_expr.specs.Values.{next_of}
 use Rattle.paris_code.specs.declared.operands.Field.{Field}
 use Rattle.paris_code.specs.Code.{CodeState}
-use Rattle.paris_code.specs.Memory.{processors}
-use Rattle.source_meaning.specs.Expressions.{evaluated}
+use Rattle.source_meaning.specs.Expressions.{evaluated, reduction_of}
+use Rattle.source_meaning.specs.Reductions.{reduced}
 use Rattle.source_meaning.specs.State as Source
-use Rattle.source_meaning.specs.State.{Outcome, State}
-use Rattle.source_meaning.specs.Values.{Parallel, Scope, Value, at, positions}
+use Rattle.source_meaning.specs.State.{Outcome, State, then_do}
+use Rattle.source_meaning.specs.Values.{Parallel, Scalar, Scope, Value, at, positions}
 use Rattle.source_meaning.proofs.ConstantLaws.{Boxed}
 use Rattle.vp_sets.specs.Positions.{position_count}
 use Rattle.code_follows.proofs.Following.{Follows, HasRegisters, Sim}
@@ -34,12 +34,12 @@ use Rattle.code_follows.proofs.Settings.{At, Setting, layout}
 use Rattle.code_follows.proofs.Values.{Dest}
 use Rattle.fields_follow.specs.Fragment.{IsFold, IsPure, KnowsExtents}
 use Rattle.fields_follow.proofs.Forms.{HasItsCode, pure_type}
-use Rattle.fields_follow.proofs.Instructions.{SameExtents, extents, shapes}
+use Rattle.fields_follow.proofs.Instructions.{SameExtents, extents}
 use Rattle.fields_follow.proofs.Meaning.{either, value_in}
-use Rattle.fields_follow.proofs.Passing.{After, GivesField, after_weaker, gives_numbers}
+use Rattle.fields_follow.proofs.Passing.{After, GivesField, after_same}
 use Rattle.fields_follow.proofs.Places.{HoldsTheFields, PlacesFields}
 use Rattle.fields_follow.proofs.Pure.{are_grids, pure_means}
-use Rattle.fields_follow.proofs.Reducing.{HasField, fold_follows}
+use Rattle.fields_follow.proofs.Reducing.{GivesNumber, fold_passes, number_to}
 use Rattle.code_follows.specs.Fragment.{ScalarsAmong}
 
 -- a pure expression is of no narrow type
@@ -75,67 +75,70 @@ pure_kind set (T.Pcoord ty axis) is = refl
 pure_kind set (T.LeftIndex' ty place p indexes (V.File k) of) is = wide_kind ty.elem is.0.1
 pure_kind set _ is = absurd is
 
-module _ (g : Setting) where
-  operand_code : (alive : Variable → Type 0) (n : ℕ) (ty : ValueType) (op : ReduceOp) (p : Boxed) (operand : TExpr) → HasItsCode g.typed g.instance alive n (T.Reduce' ty op p operand) → HasItsCode g.typed g.instance alive n operand
-  unfolding IsShaped IsLowerable NamesVariables ScalarsAmong KnowsExtents
-  operand_code alive n ty op p operand c = record { code = record { shaped = c.code.shaped; lowerable = c.code.lowerable.2; names = c.code.names }; among = c.among; extents = c.extents }
+-- the number of a fold is a word
+pub fold_type : (e : TExpr) → IsFold e → (type_of e).elem.bits ≡ 32
+unfolding IsFold
+fold_type (T.Reduce' ty op p operand) is = is.0.1
+fold_type _ is = absurd is
 
-  -- what the code does where the source gives a value
-  given_follows : {B : Type 0} (R : Value → State → B → Draft → Type 0) (s : CodeState) (v : Value) (st : State) (made : Made B) → After g (λ out e. R v st out e) made → Follows g R s (Source.Gives v st) made
-  unfolding After Follows
-  given_follows R s v st (Makes out e) h = h
-  given_follows R s v st Fails h = tt
+module _ (g : Setting) (alive : Variable → Type 0) where
+  operand_code : (n : ℕ) (ty : ValueType) (op : ReduceOp) (p : Boxed) (operand : TExpr) → HasItsCode g.typed g.instance alive n (T.Reduce' ty op p operand) → HasItsCode g.typed g.instance alive n operand
+  unfolding IsShaped IsLowerable NamesVariables ScalarsAmong KnowsExtents
+  operand_code n ty op p operand c = record { code = record { shaped = c.code.shaped; lowerable = c.code.lowerable.2; names = c.code.names }; among = c.among; extents = c.extents }
 
   -- the operand of a reduction has its 32 bits
-  operand_bits : (n : ℕ) (op : ReduceOp) (operand : TExpr) (d : Draft) → kind_of operand ≡ None → next_of g.typed (layout g) (reduced_bits op operand) true operand d ≡ next_of g.typed (layout g) 32 true operand d
+  operand_bits : (op : ReduceOp) (operand : TExpr) (d : Draft) → kind_of operand ≡ None → next_of g.typed (layout g) (reduced_bits op operand) true operand d ≡ next_of g.typed (layout g) 32 true operand d
   unfolding folded_bits
-  operand_bits n op operand d none = ap (λ (k : Option Elem). next_of g.typed (layout g) (folded_bits (fold_by (reduce_op_of op) operand) k) true operand d) none
+  operand_bits op operand d none = ap (λ (k : Option Elem). next_of g.typed (layout g) (folded_bits (fold_by (reduce_op_of op) operand) k) true operand d) none
 
-  module _ (has : HasRegisters g) (scope : Scope) (places : PlacesFields g) (fields : HoldsTheFields g) (full : (set p : ℕ) → fields.active set p ≡ true) (alive : Variable → Type 0) where
-    -- a field that code gives is that of the value
-    pub field_given : (bound : ℕ) (d : Draft) (s : CodeState) (set : ℕ) (st : State) (v : ℕ → ℕ) (f : Field) (e : Draft) → GivesField g alive bound d s set st v f e → HasField g has scope fields full alive set d s (Parallel v) st (O.Field f) e
-    unfolding at
-    field_given bound d s set st v f e h = record {
-      field = f;
-      is = refl;
-      grown = h.passes.grown;
-      t = h.passes.t;
-      go = h.passes.go;
-      at = h.passes.at;
-      sim = h.passes.sim;
-      keeps = λ r kept. ap (λ (registers : List ℕ). slice_index registers r) h.passes.registers;
-      numbers = gives_numbers g alive places fields bound d s set st v f e h;
-    }
+  -- a pure parallel expression's code gives a field
+  abbrev pub GivesPure : ℕ → TExpr → Draft → CodeState → State → Out → Draft → Type 0
+  GivesPure set e d s st out x = (f : Field) × ((out ≡ O.Field f) × GivesField g alive (length d.fields) d s set st (λ q. value_in (extents g set) st e q) f x)
 
-    -- what the code of pure parallel expressions does
-    abbrev pub OperandsStand : ℕ → Type 0
-    OperandsStand n = (set : ℕ) (e : TExpr) → IsPure set e → HasItsCode g.typed g.instance alive n e → (d : Draft) (s : CodeState) (st : State) → At g s (length d.code) → Sim g alive st s
-        → After g (λ (out : Out) (x : Draft). (f : Field) × ((out ≡ O.Field f) × GivesField g alive (length d.fields) d s set st (λ q. value_in (extents g set) st e q) f x)) (next_of g.typed (layout g) 32 true e d)
+  -- what the code of pure parallel expressions does
+  abbrev pub OperandsStand : ℕ → Type 0
+  OperandsStand n = (set : ℕ) (e : TExpr) → IsPure set e → HasItsCode g.typed g.instance alive n e → (d : Draft) (s : CodeState) (st : State) → At g s (length d.code) → Sim g alive st s
+      → After g (GivesPure set e d s st) (next_of g.typed (layout g) 32 true e d)
 
-    module _ (n : ℕ) (stand : OperandsStand n) (same_extents : SameExtents g scope) where
-      as_many : (set : ℕ) → set < length (shapes g) → processors (shapes g) set ≡ positions scope set
-      unfolding positions
-      as_many set exists = ap position_count (sym (same_extents set exists))
+  -- the number stands in a register, by code that passes up to its last instructions
+  abbrev pub GivesRegister : ℕ → ℕ → Draft → CodeState → State → Out → Draft → Type 0
+  GivesRegister r w d s st out x = (out ≡ O.Scalar r) × GivesNumber g alive d s st r w x
 
-      operand_stands : (set : ℕ) (e : TExpr) (d : Draft) (s : CodeState) (st : State) → IsPure set e → HasItsCode g.typed g.instance alive n e → At g s (length d.code) → Sim g alive st s
-          → Follows g (λ v u out x. HasField g has scope fields full alive set d s v u out x) s (evaluated scope e fields.active st) (next_of g.typed (layout g) 32 true e d)
-      operand_stands set e d s st is c here sim =
-          subst (λ (o : Outcome Value). Follows g (λ v u out x. HasField g has scope fields full alive set d s v u out x) s o (next_of g.typed (layout g) 32 true e d)) (sym (pure_means scope fields.active g.typed g.instance n set e st is (are_grids g scope places same_extents set) c.code.names c.extents))
-          (given_follows (λ v u out x. HasField g has scope fields full alive set d s v u out x) s (Parallel (λ q. value_in (scope.extents set) st e q)) st (next_of g.typed (layout g) 32 true e d)
-          (after_weaker g (λ (out : Out) (x : Draft). (f : Field) × ((out ≡ O.Field f) × GivesField g alive (length d.fields) d s set st (λ q. value_in (extents g set) st e q) f x)) (λ out x. HasField g has scope fields full alive set d s (Parallel (λ q. value_in (scope.extents set) st e q)) st out x) (next_of g.typed (layout g) 32 true e d)
-          (λ out x given. subst (λ (o : Out). HasField g has scope fields full alive set d s (Parallel (λ q. value_in (scope.extents set) st e q)) st o x) (sym given.1.0) (meant given.0 x given.1.1)) (stand set e is c d s st here sim)))
-        where
-          meant : (f : Field) (x : Draft) → GivesField g alive (length d.fields) d s set st (λ q. value_in (extents g set) st e q) f x → HasField g has scope fields full alive set d s (Parallel (λ q. value_in (scope.extents set) st e q)) st (O.Field f) x
-          meant f x gives =
-              let h = field_given (length d.fields) d s set st (λ q. value_in (extents g set) st e q) f x gives in
-              subst (λ (xs : List ℕ). HasField g has scope fields full alive set d s (Parallel (λ q. value_in xs st e q)) st (O.Field f) x) (sym (same_extents set h.numbers.exists)) h
+  module _ (scope : Scope) (places : PlacesFields g) (fields : HoldsTheFields g) (n : ℕ) (stand : OperandsStand n) (same_extents : SameExtents g scope) where
+    -- the number of a reduction over these extents
+    abbrev reduction : ReduceOp → TExpr → ℕ → State → List ℕ → ℕ
+    reduction op operand set st xs = reduced op (not (type_of operand).elem.signed) (fields.active set) (λ q. value_in xs st operand q) (position_count xs)
 
-      -- so that of their folds leaves the number where it is to be
-      pub folds_follow : (e : TExpr) → IsFold e → HasItsCode g.typed g.instance alive n e → (d : Draft) (s : CodeState) (st : State) (R : Value → State → Out → Draft → Type 0) (r : ℕ) → g.begins ≤ d.regs → At g s (length d.code) → Sim g alive st s
-          → Dest g has alive (type_of e).elem d s R r → Follows g R s (evaluated scope e fields.active st) (computed_to g.typed (layout g) (O.Scalar r) e d)
-      unfolding IsFold
-      folds_follow (T.Reduce' ty op p operand) (word, (set, is)) c d s st R r free here sim dest =
-          let code = operand_code alive n ty op p operand c in
-          fold_follows g has scope fields full alive ty op p operand set word (pure_type set operand is) (pure_kind set operand is) (as_many set) d s R r dest st here sim
-          (subst (λ (m : Made Out). Follows g (λ v u out x. HasField g has scope fields full alive set d s v u out x) s (evaluated scope operand fields.active st) m) (sym (operand_bits n op operand d (pure_kind set operand is))) (operand_stands set operand d s st is code here sim))
-      folds_follow _ is c d s st R r free here sim dest = absurd is
+    reduction_means : (ty : ValueType) (op : ReduceOp) (p : Boxed) (operand : TExpr) (set : ℕ) (st : State) → IsPure set operand → HasItsCode g.typed g.instance alive n operand → evaluated scope (T.Reduce' ty op p operand) fields.active st ≡ Source.Gives (Scalar (reduction op operand set st (scope.extents set))) st
+    unfolding evaluated reduction_of then_do at positions
+    reduction_means ty op p operand set st is c =
+        ap (λ (o : Outcome Value). then_do o (λ v after. Source.Gives (reduction_of scope fields.active op (type_of operand) v) after)) (pure_means scope fields.active g.typed g.instance n set operand st is (are_grids g scope places same_extents set) c.code.names c.extents)
+        ∙ ap (λ (o : Option ℕ). Source.Gives (elim o as (λ _. Value) [ None ↦ Parallel (λ q. value_in (scope.extents set) st operand q) | Some s ↦ Scalar (reduced op (not (type_of operand).elem.signed) (fields.active s) (λ q. value_in (scope.extents set) st operand q) (positions scope s)) ]) st) (pure_type set operand is).0
+
+    -- A fold gives a number in the source and changes nothing; its code passes, and its last instructions put that number
+    -- in the register that is to have it.
+    pub folds_give : (e : TExpr) → IsFold e → HasItsCode g.typed g.instance alive n e → (d : Draft) (s : CodeState) (st : State) (r : ℕ) → At g s (length d.code) → Sim g alive st s
+        → (w : ℕ) × ((evaluated scope e fields.active st ≡ Source.Gives (Scalar w) st) × After g (GivesRegister r w d s st) (computed_to g.typed (layout g) (O.Scalar r) e d))
+    unfolding IsFold
+    folds_give (T.Reduce' ty op p operand) (word, (set, is)) c d s st r here sim = (
+      reduction op operand set st (scope.extents set),
+      (
+        reduction_means ty op p operand set st is (operand_code n ty op p operand c),
+        (fold_passes g alive places fields ty op p operand set (pure_type set operand is) (pure_kind set operand is) d s st (λ q. value_in (extents g set) st operand q) r (reduction op operand set st (scope.extents set))
+            (λ exists. ap (λ (xs : List ℕ). reduction op operand set st xs) (sym (same_extents set exists)))
+            (after_same g (GivesPure set operand d s st) (operand_bits op operand d (pure_kind set operand is)) (stand set operand is (operand_code n ty op p operand c) d s st here sim))),
+      ),
+    )
+    folds_give _ is c d s st r here sim = absurd is
+
+    -- so it follows, wherever the number is to be
+    pub folds_follow : (has : HasRegisters g) (e : TExpr) → IsFold e → HasItsCode g.typed g.instance alive n e → (d : Draft) (s : CodeState) (st : State) (R : Value → State → Out → Draft → Type 0) (r : ℕ) → At g s (length d.code) → Sim g alive st s
+        → Dest g has alive (type_of e).elem d s R r → Follows g R s (evaluated scope e fields.active st) (computed_to g.typed (layout g) (O.Scalar r) e d)
+    unfolding After Follows
+    folds_follow has e is c d s st R r here sim dest =
+        let (w, (means, after)) = folds_give e is c d s st r here sim in
+        subst (λ (o : Outcome Value). Follows g R s o (computed_to g.typed (layout g) (O.Scalar r) e d)) (sym means) (by w (computed_to g.typed (layout g) (O.Scalar r) e d) after)
+      where
+        by : (w : ℕ) (made : Made Out) → After g (GivesRegister r w d s st) made → Follows g R s (Source.Gives (Scalar w) st) made
+        by w (Makes out x) h = λ within. subst (λ (o : Out). R (Scalar w) st o x) (sym (h within).0) (number_to g alive has (type_of e).elem d s st R r w x (fold_type e is) dest (h within).1 within)
+        by w Fails h = tt

@@ -1,7 +1,7 @@
 -- The programs with parallel variables of which it is said so far that their code means them. Their parallel
 -- expressions are pure ones of 32 bits, of variables of the file, gets from neighbours round the ends of the grid, own
--- coordinates and promoted scalars, which change nothing and never fail; they are assigned to such variables, and
--- folded into numbers. Everything is active.
+-- coordinates and promoted scalars, which change nothing and never fail; they are assigned to such variables, also
+-- under `where` and `everywhere`, and folded into numbers where everything is active.
 use Rattle.std.specs.Prelude.{ℕ, ◌≡◌, ◌<◌, ◌+◌, ◌^◌, ◌⊎◌, List, [], ◌∷◌, true, false, slice_get, IfSome, Some, None}
 use Rattle.cstar_base.specs.declared.operators.Op.{Op}
 use Rattle.cstar_base.specs.Operators.{divides}
@@ -150,24 +150,24 @@ IsCondition set (T.Binary' ty place op p left q right) =
 IsCondition set e = IsPure set e
 
 -- A statement of such updates, in which `where` and `everywhere` say which positions are active. The scalar variables
--- that it names are among these.
+-- that it names are among these, and its gets are of shapes with these extents.
 unfoldable mutual
-  pub IsSelective : (Variable → Type 0) → TStmt → Type 0
-  IsSelective names (S.Block' locals p statements) = (locals.items ≡ []) × AreSelective names statements
-  IsSelective names (S.Expression e) = IsUpdate e × ScalarsAmong names e
-  IsSelective names S.Empty = Unit {0}
-  IsSelective names (S.With' shape p body) = IsSelective names body
-  IsSelective names (S.Everywhere' shape p body) = IsSelective names body
-  IsSelective names (S.Where' shape test p first second) = IsCondition shape test × ScalarsAmong names test × IsSelective names first × IsSelectiveElse names second
-  IsSelective names _ = ⊥
+  pub IsSelective : (ℕ → List ℕ) → (Variable → Type 0) → TStmt → Type 0
+  IsSelective extents names (S.Block' locals p statements) = (locals.items ≡ []) × AreSelective extents names statements
+  IsSelective extents names (S.Expression e) = IsUpdate e × ScalarsAmong names e × KnowsExtents extents e
+  IsSelective extents names S.Empty = Unit {0}
+  IsSelective extents names (S.With' shape p body) = IsSelective extents names body
+  IsSelective extents names (S.Everywhere' shape p body) = IsSelective extents names body
+  IsSelective extents names (S.Where' shape test p first second) = IsCondition shape test × ScalarsAmong names test × KnowsExtents extents test × IsSelective extents names first × IsSelectiveElse extents names second
+  IsSelective extents names _ = ⊥
 
-  pub AreSelective : {k : _} → (Variable → Type 0) → Row_of-TStmt k → Type 0
-  AreSelective names end_of-TStmt = Unit {0}
-  AreSelective names (more_of-TStmt s rest) = IsSelective names s × AreSelective names rest
+  pub AreSelective : {k : _} → (ℕ → List ℕ) → (Variable → Type 0) → Row_of-TStmt k → Type 0
+  AreSelective extents names end_of-TStmt = Unit {0}
+  AreSelective extents names (more_of-TStmt s rest) = IsSelective extents names s × AreSelective extents names rest
 
-  pub IsSelectiveElse : (Variable → Type 0) → Held-TStmt-If-2 → Type 0
-  IsSelectiveElse names None' = Unit {0}
-  IsSelectiveElse names (Some' p s) = IsSelective names s
+  pub IsSelectiveElse : (ℕ → List ℕ) → (Variable → Type 0) → Held-TStmt-If-2 → Type 0
+  IsSelectiveElse extents names None' = Unit {0}
+  IsSelectiveElse extents names (Some' p s) = IsSelective extents names s
 
 -- a parallel variable of 32 bits, which is no array
 abbrev pub IsParallelVariable : VarInfo → Type 0
@@ -178,9 +178,9 @@ abbrev pub extents_in : Typed → ℕ → List ℕ
 extents_in t set = extents_of (slice_get t.shapes.items set)
 
 -- A program of functions on scalars, without recursion, and of parallel variables of the file: such updates are
--- statements, also within `with`, and such folds stand within scalar expressions.
+-- statements, also within `with` and under contexts, and such folds stand within scalar expressions.
 abbrev pub fields_beside : Typed → Beside
-fields_beside t = record { effects = λ e. IsUpdate e × KnowsExtents (extents_in t) e; folds = λ e. IsFold e × KnowsExtents (extents_in t) e; statements = λ names s. ⊥; variables = IsParallelVariable }
+fields_beside t = record { effects = λ e. IsUpdate e × KnowsExtents (extents_in t) e; folds = λ e. IsFold e × KnowsExtents (extents_in t) e; statements = IsSelective (extents_in t); variables = IsParallelVariable }
 
 abbrev pub IsParallelProgram : Typed → Type 0
 IsParallelProgram t = IsProgramBeside (fields_beside t) t
