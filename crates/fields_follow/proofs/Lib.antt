@@ -1,5 +1,7 @@
 pub mod Assigning
 pub mod Bits
+pub mod ConditionCode
+pub mod Conditions
 pub mod Contexts
 pub mod Effects
 pub mod Example
@@ -16,6 +18,7 @@ pub mod Meaning
 pub mod Named
 pub mod Operands
 pub mod Passing
+pub mod PassingTests
 pub mod Places
 pub mod Placing
 pub mod Programs
@@ -25,6 +28,7 @@ pub mod Reductions
 pub mod Relations
 pub mod TestFlags
 pub mod Testing
+pub mod Truths
 pub mod Updates
 pub mod Values
 pub mod Writing

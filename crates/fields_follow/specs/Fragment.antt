@@ -1,7 +1,7 @@
 -- The programs with parallel variables of which it is said so far that their code means them. Their parallel
 -- expressions are pure ones of 32 bits, of variables of the file, own coordinates and promoted scalars, which change
 -- nothing and never fail; they are assigned to such variables, and folded into numbers. Everything is active.
-use Rattle.std.specs.Prelude.{ℕ, ◌≡◌, ◌<◌, ◌^◌, ◌⊎◌, [], false, IfSome, Some, None}
+use Rattle.std.specs.Prelude.{ℕ, ◌≡◌, ◌<◌, ◌^◌, ◌⊎◌, [], true, false, IfSome, Some, None}
 use Rattle.cstar_base.specs.declared.operators.Op.{Op}
 use Rattle.cstar_base.specs.Operators.{divides}
 use Rattle.cstar_tree.specs.declared.syntax.AssignOp.{AssignOp}
@@ -16,6 +16,7 @@ use Rattle.cstar_tree.specs.declared.typed.Variable.{Variable}
 use Rattle.cstar_tree.specs.declared.typed.Variable.TheVariants as V
 use Rattle.cstar_tree.specs.Typed.{type_of}
 use Rattle.lower_base.specs.Operators.{assign_op_of, negates, relates}
+use Rattle.lower_expr.specs.Operands.{ignores_context}
 use Rattle.source_meaning.specs.Constants.{constant_of}
 use Rattle.code_follows.specs.Fragment.{Beside, IsProgramBeside, IsWord, ScalarsAmong}
 
@@ -84,12 +85,24 @@ unfoldable pub IsFold : TExpr → Type 0
 IsFold (T.Reduce' ty op p operand) = IsWord ty × ((set : ℕ) × IsPure set operand)
 IsFold _ = ⊥
 
--- A condition of `where`: a relation of two operands, or a value that is not zero.
+-- A condition of `where`: a relation of two operands, a value that is not zero, `!` of a condition, or two joined by `&&`
+-- or `||`. The right one of these has the same value under every context, which a quotient in it would not say.
 unfoldable pub IsCondition : ℕ → TExpr → Type 0
-IsCondition set (T.Brackets' ty p inner) = IsCondition set inner
+IsCondition set (T.Brackets' ty p inner) = (ty ≡ type_of inner) × IsCondition set inner
+IsCondition set (T.Unary' ty op p operand) = IsWide set ty × (((negates op ≡ true) × IsCondition set operand) ⊎ ((negates op ≡ false) × IsPure set operand))
+IsCondition set (T.LogicalOr' ty p left q right) = IsWide set ty × IsCondition set left × IsCondition set right × (ignores_context right ≡ true)
+IsCondition set (T.LogicalAnd' ty p left q right) = IsWide set ty × IsCondition set left × IsCondition set right × (ignores_context right ≡ true)
 IsCondition set (T.Binary' ty place op p left q right) =
     IsWide set ty × (divides op ≡ false) × ((IsPure set left × (IsPure set right ⊎ IsPromoted set right)) ⊎ (IsPromoted set left × IsPure set right))
 IsCondition set e = IsPure set e
+
+-- the scalar variables that a condition names are among these, also in the operands of `&&` and `||`
+unfoldable pub ConditionAmong : (Variable → Type 0) → TExpr → Type 0
+ConditionAmong names (T.Brackets' ty p inner) = ConditionAmong names inner
+ConditionAmong names (T.Unary' ty op p operand) = ConditionAmong names operand
+ConditionAmong names (T.LogicalOr' ty p left q right) = ConditionAmong names left × ConditionAmong names right
+ConditionAmong names (T.LogicalAnd' ty p left q right) = ConditionAmong names left × ConditionAmong names right
+ConditionAmong names e = ScalarsAmong names e
 
 -- A statement of such updates, in which `where` and `everywhere` say which positions are active. The scalar variables
 -- that it names are among these.
@@ -100,7 +113,7 @@ unfoldable mutual
   IsSelective names S.Empty = Unit {0}
   IsSelective names (S.With' shape p body) = IsSelective names body
   IsSelective names (S.Everywhere' shape p body) = IsSelective names body
-  IsSelective names (S.Where' shape test p first second) = IsCondition shape test × ScalarsAmong names test × IsSelective names first × IsSelectiveElse names second
+  IsSelective names (S.Where' shape test p first second) = IsCondition shape test × ConditionAmong names test × IsSelective names first × IsSelectiveElse names second
   IsSelective names _ = ⊥
 
   pub AreSelective : {k : _} → (Variable → Type 0) → Row_of-TStmt k → Type 0
