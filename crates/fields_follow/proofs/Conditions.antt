@@ -76,11 +76,10 @@ pub record HasConditionCode (t : Typed) (i : Instance) (alive : Variable → Typ
   pub code : HasCode t i n e
   pub among : ConditionAmong alive e
 
--- of two that are joined each has code, whose value stands in a field
+-- of two that are joined each has code, and the value of the right one stands in a field
 pub record HaveConditionCode (t : Typed) (i : Instance) (alive : Variable → Type 0) (n : ℕ) (left right : TExpr) : Type 0 where
   pub left_code : HasConditionCode t i alive n left
   pub right_code : HasConditionCode t i alive n right
-  pub left_field : InField t left
   pub right_field : InField t right
 
 pure_among : (alive : Variable → Type 0) (set : ℕ) (e : TExpr) → IsPure set e → ConditionAmong alive e → ScalarsAmong alive e
@@ -110,20 +109,19 @@ module _ (t : Typed) (i : Instance) (alive : Variable → Type 0) (n : ℕ) wher
   unfolding IsShaped IsLowerable NamesVariables ConditionAmong
   operand_code ty op p operand h = record { code = record { shaped = h.code.shaped.1; lowerable = h.code.lowerable.1; names = h.code.names }; among = h.among }
 
-  pub or_codes : (set : ℕ) (ty : ValueType) (p q : Boxed) (left right : TExpr) → IsCondition set left → IsCondition set right → Has (T.LogicalOr' ty p left q right) → HaveConditionCode t i alive n left right
+  -- the operands of `||` and `&&`
+  pub or_codes : (set : ℕ) (ty : ValueType) (p q : Boxed) (left right : TExpr) → IsCondition set right → Has (T.LogicalOr' ty p left q right) → HaveConditionCode t i alive n left right
   unfolding IsShaped IsLowerable NamesVariables ConditionAmong
-  or_codes set ty p q left right is also h = record {
+  or_codes set ty p q left right is h = record {
     left_code = record { code = record { shaped = h.code.shaped.0; lowerable = h.code.lowerable.1; names = h.code.names.0 }; among = h.among.0 };
     right_code = record { code = record { shaped = h.code.shaped.1; lowerable = h.code.lowerable.2; names = h.code.names.1 }; among = h.among.1 };
-    left_field = (h.code.lowerable.0.left_gives, condition_kept set left is);
-    right_field = (h.code.lowerable.0.right_gives, condition_kept set right also);
+    right_field = (h.code.lowerable.0.right_gives, condition_kept set right is);
   }
 
-  pub and_codes : (set : ℕ) (ty : ValueType) (p q : Boxed) (left right : TExpr) → IsCondition set left → IsCondition set right → Has (T.LogicalAnd' ty p left q right) → HaveConditionCode t i alive n left right
+  pub and_codes : (set : ℕ) (ty : ValueType) (p q : Boxed) (left right : TExpr) → IsCondition set right → Has (T.LogicalAnd' ty p left q right) → HaveConditionCode t i alive n left right
   unfolding IsShaped IsLowerable NamesVariables ConditionAmong
-  and_codes set ty p q left right is also h = record {
+  and_codes set ty p q left right is h = record {
     left_code = record { code = record { shaped = h.code.shaped.0; lowerable = h.code.lowerable.1; names = h.code.names.0 }; among = h.among.0 };
     right_code = record { code = record { shaped = h.code.shaped.1; lowerable = h.code.lowerable.2; names = h.code.names.1 }; among = h.among.1 };
-    left_field = (h.code.lowerable.0.left_gives, condition_kept set left is);
-    right_field = (h.code.lowerable.0.right_gives, condition_kept set right also);
+    right_field = (h.code.lowerable.0.right_gives, condition_kept set right is);
   }

@@ -293,10 +293,10 @@ module _ (g : Setting) (has : HasRegisters g) (alive : Variable → Type 0) (n :
       by U.Minus (inl h) c of_inner = let wrong = h.0 in cc
       by U.Complement (inl h) c of_inner = let wrong = h.0 in cc
   known set (T.LogicalOr' ty p left q right) is c =
-      let codes = or_codes g.typed g.instance alive n set ty p q left right is.1 is.2 c in
+      let codes = or_codes g.typed g.instance alive n set ty p q left right is.2 c in
       bit_known set (T.LogicalOr' ty p left q right) is refl (record { kind = refl; own = refl; value = joined_bit true set ty.shape left right is.0.0 is.1 is.2 is.3 codes (known set left is.1 codes.left_code) (known set right is.2 codes.right_code) })
   known set (T.LogicalAnd' ty p left q right) is c =
-      let codes = and_codes g.typed g.instance alive n set ty p q left right is.1 is.2 c in
+      let codes = and_codes g.typed g.instance alive n set ty p q left right is.2 c in
       bit_known set (T.LogicalAnd' ty p left q right) is refl (record { kind = refl; own = refl; value = joined_bit false set ty.shape left right is.0.0 is.1 is.2 is.3 codes (known set left is.1 codes.left_code) (known set right is.2 codes.right_code) })
   known set (T.Binary' ty place op p left q right) is c = by (relates op) refl
     where
