@@ -86,7 +86,7 @@ IsFold (T.Reduce' ty op p operand) = IsWord ty × ((set : ℕ) × IsPure set ope
 IsFold _ = ⊥
 
 -- A condition of `where`: a relation of two operands, a value that is not zero, `!` of a condition, or two joined by `&&`
--- or `||`. The right one of these has the same value under every context, which a quotient in it would not say.
+-- or `||`. The right one of these ignores the context: it has no quotient, not even one of constants.
 unfoldable pub IsCondition : ℕ → TExpr → Type 0
 IsCondition set (T.Brackets' ty p inner) = (ty ≡ type_of inner) × IsCondition set inner
 IsCondition set (T.Unary' ty op p operand) = IsWide set ty × (((negates op ≡ true) × IsCondition set operand) ⊎ ((negates op ≡ false) × IsPure set operand))
