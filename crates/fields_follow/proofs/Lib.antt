@@ -1,5 +1,7 @@
 pub mod Assigning
 pub mod Bits
+pub mod ConditionCode
+pub mod Conditions
 pub mod Contexts
 pub mod Courses
 pub mod Effects
@@ -22,6 +24,7 @@ pub mod Neighbours
 pub mod News
 pub mod Operands
 pub mod Passing
+pub mod PassingTests
 pub mod Places
 pub mod Placing
 pub mod Programs
@@ -34,6 +37,7 @@ pub mod Saving
 pub mod Selective
 pub mod TestFlags
 pub mod Testing
+pub mod Truths
 pub mod Updates
 pub mod Values
 pub mod Wrapping

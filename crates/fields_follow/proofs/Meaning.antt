@@ -1,6 +1,7 @@
 -- The numbers that pure parallel expressions mean, and what their promoted parts do.
-use Rattle.std.proofs.Common.{◌≡◌, ◌∙◌, ℕ, zero, suc, ◌+◌, Bool, true, false, not, ◌&&◌, ◌==◌, List, [], ◌∷◌, Option, Some, None, refl, sym, ap, subst, inl, inr, if◌then◌else◌, ◌⊎◌, ◌<◌, ◌^◌}
+use Rattle.std.proofs.Common.{◌≡◌, ◌∙◌, ℕ, zero, suc, ◌+◌, Bool, true, false, not, ◌&&◌, ◌||◌, ◌==◌, List, [], ◌∷◌, Option, Some, None, refl, sym, ap, subst, inl, inr, if◌then◌else◌, ◌⊎◌, ◌<◌, ◌^◌}
 use Rattle.std.specs.Prelude.{is_none, slice_index}
+use Rattle.std.specs.Int.{from_bool}
 use Rattle.cstar_base.specs.declared.faults.RunFault.TheVariants.{DivZero}
 use Rattle.cstar_base.specs.declared.operators.Op.{Op}
 use Rattle.cstar_base.specs.declared.operators.Place.{Place}
@@ -8,6 +9,7 @@ use Rattle.cstar_base.specs.Operators.{divides, outcome}
 use Rattle.cstar_base.specs.Orders.{least_below, or_else}
 use Rattle.cstar_tree.specs.declared.typed.TExpr.{TExpr, items-the_row-TExpr}
 use Rattle.cstar_tree.specs.declared.typed.TExpr as T
+use Rattle.cstar_tree.specs.declared.typed.UnaryOp.{UnaryOp}
 use Rattle.cstar_tree.specs.declared.typed.ValueType.{ValueType}
 use Rattle.cstar_tree.specs.declared.typed.Variable.TheVariants as V
 use Rattle.cstar_tree.specs.Typed.{type_of}
@@ -16,7 +18,7 @@ use Rattle.source_meaning.specs.Constants.{constant_of, is_constant}
 use Rattle.source_meaning.specs.Expressions.{evaluated, mapped, operated}
 use Rattle.source_meaning.specs.State.{Gives, Outcome, State, then_do}
 use Rattle.source_meaning.specs.Targets.{read, variable_target}
-use Rattle.source_meaning.specs.Values.{Active, Parallel, Scalar, Scope, Value, at, convert_to, each, failing, positions, unary_of, unless}
+use Rattle.source_meaning.specs.Values.{Active, Parallel, Scalar, Scope, Value, at, convert_to, each, failing, nonzero, positions, unary_of, unless}
 use Rattle.source_meaning.proofs.ConstantLaws.{Boxed, value_means}
 use Rattle.lower_comm.specs.declared.news.NewsStep.{NewsStep}
 use Rattle.lower_comm.specs.News.{checked_step, step_of}
@@ -57,6 +59,8 @@ value_in extents st (T.Brackets' ty p inner) q = value_in extents st inner q
 value_in extents st (T.Promote' ty p operand) q = scalar_in st operand
 value_in extents st (T.Unary' ty op p operand) q = unary_of op (value_in extents st operand q)
 value_in extents st (T.Binary' ty place op p left r right) q = outcome op 32 (not (type_of left).elem.signed) (value_in extents st left q) (value_in extents st right q)
+value_in extents st (T.LogicalOr' ty p left r right) q = from_bool (nonzero (value_in extents st left q) || nonzero (value_in extents st right q))
+value_in extents st (T.LogicalAnd' ty p left r right) q = from_bool (nonzero (value_in extents st left q) && nonzero (value_in extents st right q))
 value_in extents st (T.Convert' ty p operand) q = converted ty.elem (type_of operand).elem (value_in extents st operand q)
 value_in extents st (T.Pcoord ty axis) q = coordinate extents q axis
 value_in extents st (T.LeftIndex' ty place p indexes x of) q = st.parallel x 0 (number_at extents (coordinates_behind extents of 0 (items-the_row-TExpr _ indexes) q))
@@ -173,3 +177,9 @@ module _ (scope : Scope) (active : Active) where
       ap (λ (o : Outcome Value). then_do o (λ x between. then_do (evaluated scope right active between) (λ y after. operated scope active ty place op (not (type_of left).elem.signed) x y after))) one
       ∙ ap (λ (o : Outcome Value). then_do o (λ y after. operated scope active ty place op (not (type_of left).elem.signed) (Parallel v) y after)) other
       ∙ operated_is ty set place op (not (type_of left).elem.signed) (Parallel v) (Parallel w) st shaped no_check
+
+  -- one before an operand that changes nothing
+  pub unary_means : (set : ℕ) (ty : ValueType) (op : UnaryOp) (p : Boxed) (operand : TExpr) (v : ℕ → ℕ) (st : State) → ty.shape ≡ Some set → evaluated scope operand active st ≡ Gives (Parallel v) st
+      → evaluated scope (T.Unary' ty op p operand) active st ≡ Gives (Parallel (λ x. unary_of op (v x))) st
+  unfolding evaluated then_do at
+  unary_means set ty op p operand v st shaped one = ap (λ (o : Outcome Value). then_do o (λ w after. Gives (mapped ty (unary_of op) w) after)) one ∙ ap (λ (w : Value). Gives w st) (mapped_is ty set (unary_of op) (Parallel v) shaped)

@@ -11,12 +11,12 @@ use Rattle.cstar_tree.specs.Conversions.{parallel}
 use Rattle.cstar_tree.specs.StatementTypes.{variable_info}
 use Rattle.cstar_tree.specs.Typed.{type_of}
 use Rattle.code_lengths.specs.Naming.{NamesVariables, plain}
-use Rattle.source_meaning.specs.Expressions.{evaluated, mapped}
+use Rattle.source_meaning.specs.Expressions.{evaluated}
 use Rattle.source_meaning.specs.State.{Gives, Outcome, State, then_do}
-use Rattle.source_meaning.specs.Values.{Active, Parallel, Scope, Value, at, convert_to, each, own_coordinate, unary_of}
+use Rattle.source_meaning.specs.Values.{Active, Parallel, Scope, Value, at, convert_to, each, own_coordinate}
 use Rattle.vp_sets.specs.Positions.{positions_fit}
 use Rattle.fields_follow.specs.Fragment.{IsPure, IsWide, KnowsExtents, NameExtents, extents_in}
-use Rattle.fields_follow.proofs.Meaning.{as_shaped, binary_means, either, left_of, mapped_is, promoted_means, read_is, right_of, value_in}
+use Rattle.fields_follow.proofs.Meaning.{as_shaped, binary_means, either, left_of, promoted_means, read_is, right_of, unary_means, value_in}
 use Rattle.fields_follow.specs.Fields.{IsElement}
 use Rattle.fields_follow.proofs.Forms.{element_is}
 use Rattle.fields_follow.proofs.Neighbours.{get_means}
@@ -37,9 +37,7 @@ module _ (scope : Scope) (active : Active) (t : Typed) (i : Instance) (n : ℕ) 
   unfolding IsPure KnowsExtents NamesVariables evaluated value_in then_do at convert_to each own_coordinate
   pure_means set (T.Variable ty (V.File k)) st is grids names knows = ap (λ (v : Value). Gives v st) (read_is scope active ty set k st is.0)
   pure_means set (T.Brackets' ty p inner) st is grids names knows = pure_means set inner st is.1 grids names knows
-  pure_means set (T.Unary' ty op p operand) st is grids names knows =
-      ap (λ (o : Outcome Value). then_do o (λ v after. Gives (mapped ty (unary_of op) v) after)) (pure_means set operand st is.2 grids names knows)
-      ∙ ap (λ (v : Value). Gives v st) (mapped_is scope active ty set (unary_of op) (Parallel (λ q. value_in (scope.extents set) st operand q)) is.0.0)
+  pure_means set (T.Unary' ty op p operand) st is grids names knows = unary_means scope active set ty op p operand (λ q. value_in (scope.extents set) st operand q) st is.0.0 (pure_means set operand st is.2 grids names knows)
   pure_means set (T.Binary' ty place op p left q right) st is grids names knows =
       binary_means scope active set ty place op p q left right (λ q. value_in (scope.extents set) st left q) (λ q. value_in (scope.extents set) st right q) st is.0.0 is.1.1
       (either (λ h. pure_means set left st h grids names.0 knows.0) (λ h. promoted_means scope active set left st h) (left_of set left right is.2)) (either (λ h. pure_means set right st h grids names.1 knows.1) (λ h. promoted_means scope active set right st h) (right_of set left right is.2))

@@ -19,6 +19,7 @@ use Rattle.cstar_tree.specs.Typed.{type_of}
 use Rattle.lower_base.specs.Operators.{assign_op_of, negates, relates}
 use Rattle.lower_comm.specs.declared.news.NewsStep.{NewsStep}
 use Rattle.lower_comm.specs.News.{step_of}
+use Rattle.lower_expr.specs.Operands.{ignores_context}
 use Rattle.source_meaning.specs.Constants.{constant_of}
 use Rattle.source_meaning.specs.Programs.{extents_of}
 use Rattle.code_follows.specs.Fragment.{Beside, IsProgramBeside, IsWord, ScalarsAmong}
@@ -111,6 +112,8 @@ unfoldable pub KnowsExtents : (ℕ → List ℕ) → TExpr → Type 0
 KnowsExtents extents (T.Brackets' ty p inner) = KnowsExtents extents inner
 KnowsExtents extents (T.Unary' ty op p operand) = KnowsExtents extents operand
 KnowsExtents extents (T.Binary' ty place op p left q right) = KnowsExtents extents left × KnowsExtents extents right
+KnowsExtents extents (T.LogicalOr' ty p left q right) = KnowsExtents extents left × KnowsExtents extents right
+KnowsExtents extents (T.LogicalAnd' ty p left q right) = KnowsExtents extents left × KnowsExtents extents right
 KnowsExtents extents (T.Convert' ty p operand) = KnowsExtents extents operand
 KnowsExtents extents (T.LeftIndex' ty place p indexes x of) = NameExtents (extents of) indexes
 KnowsExtents extents (T.Assign' ty place op p target q value) = KnowsExtents extents value
@@ -142,9 +145,13 @@ unfoldable pub IsFold : TExpr → Type 0
 IsFold (T.Reduce' ty op p operand) = IsWord ty × ((set : ℕ) × IsPure set operand)
 IsFold _ = ⊥
 
--- A condition of `where`: a relation of two operands, or a value that is not zero.
+-- A condition of `where`: a relation of two operands, a value that is not zero, `!` of a condition, or two joined by `&&`
+-- or `||`. The right one of these ignores the context: it has no get and no quotient, not even one of constants.
 unfoldable pub IsCondition : ℕ → TExpr → Type 0
-IsCondition set (T.Brackets' ty p inner) = IsCondition set inner
+IsCondition set (T.Brackets' ty p inner) = (ty ≡ type_of inner) × IsCondition set inner
+IsCondition set (T.Unary' ty op p operand) = IsWide set ty × (((negates op ≡ true) × IsCondition set operand) ⊎ ((negates op ≡ false) × IsPure set operand))
+IsCondition set (T.LogicalOr' ty p left q right) = IsWide set ty × IsCondition set left × IsCondition set right × (ignores_context right ≡ true)
+IsCondition set (T.LogicalAnd' ty p left q right) = IsWide set ty × IsCondition set left × IsCondition set right × (ignores_context right ≡ true)
 IsCondition set (T.Binary' ty place op p left q right) =
     IsWide set ty × (divides op ≡ false) × ((IsPure set left × (IsPure set right ⊎ IsPromoted set right)) ⊎ (IsPromoted set left × IsPure set right))
 IsCondition set e = IsPure set e
