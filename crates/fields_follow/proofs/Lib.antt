@@ -29,6 +29,7 @@ pub mod Saving
 pub mod Selective
 pub mod TestFlags
 pub mod Testing
+pub mod Totals
 pub mod Updates
 pub mod Values
 pub mod Writing

@@ -6,6 +6,9 @@ use Rattle.std.specs.Prelude.{ℕ, ◌≡◌, ◌<◌, ◌^◌, ◌⊎◌, [], f
 use Rattle.cstar_base.specs.declared.operators.Op.{Op}
 use Rattle.cstar_base.specs.Operators.{divides}
 use Rattle.cstar_tree.specs.declared.syntax.AssignOp.{AssignOp}
+use Rattle.cstar_tree.specs.declared.syntax.AssignOp.TheVariants as A
+use Rattle.cstar_tree.specs.declared.syntax.ReduceOp.{ReduceOp}
+use Rattle.cstar_tree.specs.declared.syntax.ReduceOp.TheVariants as R
 use Rattle.cstar_tree.specs.declared.typed.TExpr.{TExpr}
 use Rattle.cstar_tree.specs.declared.typed.TExpr as T
 use Rattle.cstar_tree.specs.declared.typed.TStmt.{TStmt, Row_of-TStmt, end_of-TStmt, more_of-TStmt, Held-TStmt-If-2, None', Some'}
@@ -18,7 +21,7 @@ use Rattle.cstar_tree.specs.declared.typed.Variable.TheVariants as V
 use Rattle.cstar_tree.specs.Typed.{type_of}
 use Rattle.lower_base.specs.Operators.{assign_op_of, negates, relates}
 use Rattle.source_meaning.specs.Constants.{constant_of}
-use Rattle.code_follows.specs.Fragment.{Beside, IsProgramBeside, IsWord, ScalarsAmong}
+use Rattle.code_follows.specs.Fragment.{Beside, IsProgramBeside, IsScalarType, IsWord, ScalarsAmong}
 
 -- a type of 32 bits of a shape
 abbrev pub IsWide : ℕ → ValueType → Type 0
@@ -84,6 +87,27 @@ IsUpdate _ = ⊥
 unfoldable pub IsFold : TExpr → Type 0
 IsFold (T.Reduce' ty op p operand) = IsWord ty × ((set : ℕ) × IsPure set operand)
 IsFold _ = ⊥
+
+-- the assignment with the operator of a reduction
+abbrev pub assignment_of : ReduceOp → AssignOp
+assignment_of R.Add = A.Add
+assignment_of R.Sub = A.Sub
+assignment_of R.And = A.And
+assignment_of R.Xor = A.Xor
+assignment_of R.Or = A.Or
+assignment_of R.Min = A.Min
+assignment_of R.Max = A.Max
+
+-- a scalar variable that is assigned to, maybe in brackets
+unfoldable pub IsScalarTarget : TExpr → Type 0
+IsScalarTarget (T.Variable ty x) = IsScalarType ty
+IsScalarTarget (T.Brackets' ty p inner) = (ty ≡ type_of inner) × IsScalarTarget inner
+IsScalarTarget _ = ⊥
+
+-- the numbers of a value at the active positions are folded onto a scalar variable
+unfoldable pub IsFoldOnto : TExpr → Type 0
+IsFoldOnto (T.Assign' ty place op p target q value) = (ty ≡ type_of target) × IsScalarTarget target × ((reduction : ReduceOp) × (op ≡ assignment_of reduction)) × ((set : ℕ) × IsPure set value)
+IsFoldOnto _ = ⊥
 
 -- A condition of `where`: a relation of two operands, or a value that is not zero.
 unfoldable pub IsCondition : ℕ → TExpr → Type 0
