@@ -16,6 +16,7 @@ pub mod Leaving
 pub mod Meaning
 pub mod Named
 pub mod Narrowing
+pub mod Onto
 pub mod Operands
 pub mod Passing
 pub mod Places

@@ -59,7 +59,7 @@ not_last R.Or is = cc
 not_last R.Min is = cc
 not_last R.Max is = cc
 
-held_below : (elem : Elem) (w : ℕ) → held elem w < 2 ^ 32
+pub held_below : (elem : Elem) (w : ℕ) → held elem w < 2 ^ 32
 held_below elem w = converted_below int_type elem w
 
 -- with the fold of nothing it changes nothing
