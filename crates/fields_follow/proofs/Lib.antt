@@ -8,6 +8,7 @@ pub mod Expressions
 pub mod Fields
 pub mod FileFields
 pub mod Flags
+pub mod FoldingOnto
 pub mod Folds
 pub mod Forms
 pub mod Instructions

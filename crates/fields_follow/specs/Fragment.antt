@@ -1,7 +1,7 @@
 -- The programs with parallel variables of which it is said so far that their code means them. Their parallel
 -- expressions are pure ones of 32 bits, of variables of the file, own coordinates and promoted scalars, which change
--- nothing and never fail; they are assigned to such variables, also under `where` and `everywhere`, and folded into
--- numbers where everything is active.
+-- nothing and never fail; they are assigned to such variables, also under `where` and `everywhere`, and where everything
+-- is active they are folded into numbers and onto scalar variables.
 use Rattle.std.specs.Prelude.{ℕ, ◌≡◌, ◌<◌, ◌^◌, ◌⊎◌, [], false, IfSome, Some, None}
 use Rattle.cstar_base.specs.declared.operators.Op.{Op}
 use Rattle.cstar_base.specs.Operators.{divides}
@@ -109,6 +109,10 @@ unfoldable pub IsFoldOnto : TExpr → Type 0
 IsFoldOnto (T.Assign' ty place op p target q value) = (ty ≡ type_of target) × IsScalarTarget target × ((reduction : ReduceOp) × (op ≡ assignment_of reduction)) × ((set : ℕ) × IsPure set value)
 IsFoldOnto _ = ⊥
 
+-- a parallel expression whose value is not used
+abbrev pub IsParallelEffect : TExpr → Type 0
+IsParallelEffect e = IsUpdate e ⊎ IsFoldOnto e
+
 -- A condition of `where`: a relation of two operands, or a value that is not zero.
 unfoldable pub IsCondition : ℕ → TExpr → Type 0
 IsCondition set (T.Brackets' ty p inner) = IsCondition set inner
@@ -141,9 +145,10 @@ abbrev pub IsParallelVariable : VarInfo → Type 0
 IsParallelVariable info = (set : ℕ) × ((info.shape ≡ Some set) × (info.array ≡ None) × (info.elem.bits ≡ 32))
 
 -- A program of functions on scalars, without recursion, and of parallel variables of the file: such updates are
--- statements, also within `with` and under contexts, and such folds stand within scalar expressions.
+-- statements, also within `with` and under contexts, as such folds onto variables are within `with`, and other such folds
+-- stand within scalar expressions.
 abbrev pub fields_beside : Beside
-fields_beside = record { effects = IsUpdate; folds = IsFold; statements = IsSelective; variables = IsParallelVariable }
+fields_beside = record { effects = IsParallelEffect; folds = IsFold; statements = IsSelective; variables = IsParallelVariable }
 
 abbrev pub IsParallelProgram : Typed → Type 0
 IsParallelProgram t = IsProgramBeside fields_beside t
