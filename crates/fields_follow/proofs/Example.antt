@@ -61,7 +61,7 @@ main_is heap =
           All-nil IsScalarLocal,
           tt,
           (
-            (All-nil IsScalarLocal, tt, (inr (((0, (refl, (refl, refl), tt, inl (refl, refl))), tt), ((λ is. inl (inl tt)), tt)), (inr (((0, (refl, (refl, refl), (refl, refl), inr ((refl, refl), ((refl, refl), inl (1, refl, omega arith))))), tt), ((λ is. inl (inl tt)), tt)), (inl (refl, refl, (refl, inl (inl tt)), ((refl, refl), (((refl, refl), (0, (refl, refl))), tt), (λ is. inl (inl tt))), inl refl), tt)))),
+            (All-nil IsScalarLocal, tt, (inr ((inl (0, (refl, (refl, refl), tt, inl (refl, refl))), tt), ((λ is. inl (inl tt)), tt)), (inr ((inl (0, (refl, (refl, refl), (refl, refl), inr ((refl, refl), ((refl, refl), inl (1, refl, omega arith))))), tt), ((λ is. inl (inl tt)), tt)), (inl (refl, refl, (refl, inl (inl tt)), ((refl, refl), (((refl, refl), (0, (refl, refl))), tt), (λ is. inl (inl tt))), inl refl), tt)))),
             ((((refl, inl tt), tt), All-cons (λ (elem : Elem). elem.bits ≡ 32) number.elem [] refl (All-nil _)), tt),
           ),
         ),

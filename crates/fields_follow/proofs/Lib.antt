@@ -10,6 +10,7 @@ pub mod Expressions
 pub mod Fields
 pub mod FileFields
 pub mod Flags
+pub mod FoldingOnto
 pub mod Folds
 pub mod Forms
 pub mod Gets
@@ -22,6 +23,7 @@ pub mod Named
 pub mod Narrowing
 pub mod Neighbours
 pub mod News
+pub mod Onto
 pub mod Operands
 pub mod Passing
 pub mod PassingTests
@@ -37,6 +39,7 @@ pub mod Saving
 pub mod Selective
 pub mod TestFlags
 pub mod Testing
+pub mod Totals
 pub mod Truths
 pub mod Updates
 pub mod Values

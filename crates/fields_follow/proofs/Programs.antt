@@ -1,9 +1,10 @@
 -- The run of a program with parallel variables: what its memory holds from the first instruction to the end.
-use Rattle.std.proofs.Common.{◌≡◌, ◌∙◌, ℕ, ◌<◌, ◌^◌, ◌⊎◌, inl, inr, true, List, [], slice_get, Option, Some, None, sym, ap, subst}
+use Rattle.std.proofs.Common.{◌≡◌, ◌∙◌, ℕ, ◌<◌, ◌≤◌, ◌^◌, ◌⊎◌, inl, inr, true, List, [], length, slice_get, Option, Some, None, sym, ap, subst}
 use Rattle.std.proofs.lemmas.Nat.{pow_pos}
 use Rattle.cstar_base.specs.declared.operators.Winner.{Winner}
 use Rattle.cstar_compile.specs.Compiled.{IsCompiled}
 use Rattle.cstar_tree.specs.declared.typed.Instance.{Instance}
+use Rattle.cstar_tree.specs.declared.typed.TExpr.{TExpr}
 use Rattle.cstar_tree.specs.declared.typed.Typed.{Typed}
 use Rattle.cstar_tree.specs.declared.typed.VarInfo.{VarInfo}
 use Rattle.cstar_tree.specs.declared.typed.Variable.{Variable}
@@ -11,11 +12,13 @@ use Rattle.cstar_tree.specs.declared.typed.Variable.TheVariants as V
 use Rattle.code_lengths.specs.Ready.{IsCodable, IsReady}
 use Rattle.code_lengths.proofs.Declaring.{all_at}
 use Rattle.lower_base.specs.Drafts.{Draft}
+use Rattle.lower_expr.specs.Effects.{effect_of}
 use Rattle.paris_code.specs.declared.program.Image.{Image}
-use Rattle.paris_code.specs.Code.{opening}
+use Rattle.paris_code.specs.Code.{CodeState, opening}
 use Rattle.paris_code.specs.Memory.{BitMemory}
 use Rattle.paris_code.specs.Shapes.{shapes_of}
 use Rattle.paris_code.specs.Sound.{IsSound}
+use Rattle.source_meaning.specs.Expressions.{evaluated}
 use Rattle.source_meaning.specs.Programs.{calls, meaning, scope_of, start_of, start_state}
 use Rattle.source_meaning.specs.State as Source
 use Rattle.source_meaning.specs.State.{State}
@@ -25,16 +28,18 @@ use Rattle.code_follows.specs.Fragment.{IsFileVariable}
 use Rattle.code_follows.proofs.Activations.{activation}
 use Rattle.code_follows.proofs.Besides.{BesideFollows}
 use Rattle.code_follows.proofs.Entering.{AllBeside}
-use Rattle.code_follows.proofs.Following.{HasRegisters}
+use Rattle.code_follows.proofs.Following.{Follows, HasRegisters, Ran, Sim}
 use Rattle.code_follows.proofs.Programs.{Comes, program_follows}
-use Rattle.code_follows.proofs.Settings.{Setting, layout}
-use Rattle.fields_follow.specs.Fragment.{IsParallelProgram, fields_beside}
+use Rattle.code_follows.proofs.Settings.{At, Setting, layout}
+use Rattle.fields_follow.specs.Fragment.{IsParallelEffect, IsParallelProgram, fields_beside}
 use Rattle.fields_follow.specs.Laws.{ComesToAll, HasTheNumbers, IsNew, ParallelCodeMeansSource}
 use Rattle.fields_follow.proofs.Assigning.{updates_follow}
 use Rattle.fields_follow.proofs.Contexts.{selective_follows}
 use Rattle.fields_follow.proofs.Expressions.{pure_after}
 use Rattle.fields_follow.proofs.Fields.{HoldsFields, fields_held}
 use Rattle.fields_follow.proofs.FileFields.{IsTranslated, extents_are, file_exists, fresh_active, fresh_file, processors_of, translated}
+use Rattle.fields_follow.proofs.FoldingOnto.{onto_follows}
+use Rattle.fields_follow.proofs.Forms.{HasItsCode}
 use Rattle.fields_follow.proofs.Instructions.{SameExtents}
 use Rattle.fields_follow.proofs.Joining.{places_fields}
 use Rattle.fields_follow.proofs.Places.{HoldsTheFields, PlacesFields}
@@ -71,10 +76,16 @@ module _ (t : Typed) (image : Image) (p : IsParallelProgram t) (codable : IsCoda
     unfolding scope_of
     same_extents set exists = sym (extents_are t compiled.lowered.words compiled.before compiled.after image made set exists)
 
+    -- an update, or a fold onto a variable
+    effect_follows : (has : HasRegisters g) (alive : Variable → Type 0) (n : ℕ) → ((d : Draft) → IsReady g.typed g.instance (layout g) n d) → (e : TExpr) → IsParallelEffect e → HasItsCode g.typed g.instance alive n e → (d : Draft) (s : CodeState) (st : State) → g.begins ≤ d.regs → At g s (length d.code) → Sim g alive st s
+        → Follows g (λ v u out f. Ran g alive d s u f) s (evaluated scope e everywhere st) (effect_of g.typed (layout g) e d)
+    effect_follows has alive n ready e (inl h) c d s st free here sim = updates_follow g has alive n ready places fields scope same_extents e h c d s st here sim
+    effect_follows has alive n ready e (inr h) c d s st free here sim = onto_follows g alive n has scope places fields (operands_follow g has places fields alive n ready) same_extents e h c d s st free here sim
+
     -- every update and every fold of a function follows
     besides : (has : HasRegisters g) → BesideFollows g has scope everywhere
     besides has = record {
-      effects = λ alive files n ready e h among c d s st free here sim. updates_follow g has alive n ready places fields scope same_extents e h.0 (record { code = c; among = among; extents = h.1 }) d s st here sim;
+      effects = λ alive files n ready e h among c d s st free here sim. effect_follows has alive n ready e h.0 (record { code = c; among = among; extents = h.1 }) d s st free here sim;
       folds = λ alive files n ready e h among c d s st R r free here sim dest.
           folds_follow g alive scope places fields n (operands_follow g has places fields alive n ready) same_extents has e h.0 (record { code = c; among = among; extents = h.1 }) d s st R r here sim dest;
       statements = λ alive files n ready s h c f d t st none free here sim. selective_follows g has alive n ready places scope same_extents s h c everywhere n n f [] d t st here sim;

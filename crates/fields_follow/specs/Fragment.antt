@@ -1,11 +1,14 @@
 -- The programs with parallel variables of which it is said so far that their code means them. Their parallel
 -- expressions are pure ones of 32 bits, of variables of the file, gets from neighbours round the ends of the grid, own
 -- coordinates and promoted scalars, which change nothing and never fail; they are assigned to such variables, also
--- under `where` and `everywhere`, and folded into numbers where everything is active.
+-- under `where` and `everywhere`, and where everything is active they are folded into numbers and onto scalar variables.
 use Rattle.std.specs.Prelude.{ℕ, ◌≡◌, ◌<◌, ◌+◌, ◌^◌, ◌⊎◌, List, [], ◌∷◌, true, false, slice_get, IfSome, Some, None}
 use Rattle.cstar_base.specs.declared.operators.Op.{Op}
 use Rattle.cstar_base.specs.Operators.{divides}
 use Rattle.cstar_tree.specs.declared.syntax.AssignOp.{AssignOp}
+use Rattle.cstar_tree.specs.declared.syntax.AssignOp.TheVariants as A
+use Rattle.cstar_tree.specs.declared.syntax.ReduceOp.{ReduceOp}
+use Rattle.cstar_tree.specs.declared.syntax.ReduceOp.TheVariants as R
 use Rattle.cstar_tree.specs.declared.typed.TExpr.{TExpr, Row_of-TExpr, end_of-TExpr, more_of-TExpr}
 use Rattle.cstar_tree.specs.declared.typed.TExpr as T
 use Rattle.cstar_tree.specs.declared.typed.TStmt.{TStmt, Row_of-TStmt, end_of-TStmt, more_of-TStmt, Held-TStmt-If-2, None', Some'}
@@ -22,7 +25,7 @@ use Rattle.lower_comm.specs.News.{step_of}
 use Rattle.lower_expr.specs.Operands.{ignores_context}
 use Rattle.source_meaning.specs.Constants.{constant_of}
 use Rattle.source_meaning.specs.Programs.{extents_of}
-use Rattle.code_follows.specs.Fragment.{Beside, IsProgramBeside, IsWord, ScalarsAmong}
+use Rattle.code_follows.specs.Fragment.{Beside, IsProgramBeside, IsScalarType, IsWord, ScalarsAmong}
 
 -- a type of 32 bits of a shape
 abbrev pub IsWide : ℕ → ValueType → Type 0
@@ -145,6 +148,31 @@ unfoldable pub IsFold : TExpr → Type 0
 IsFold (T.Reduce' ty op p operand) = IsWord ty × ((set : ℕ) × IsPure set operand)
 IsFold _ = ⊥
 
+-- the assignment with the operator of a reduction
+abbrev pub assignment_of : ReduceOp → AssignOp
+assignment_of R.Add = A.Add
+assignment_of R.Sub = A.Sub
+assignment_of R.And = A.And
+assignment_of R.Xor = A.Xor
+assignment_of R.Or = A.Or
+assignment_of R.Min = A.Min
+assignment_of R.Max = A.Max
+
+-- a scalar variable that is assigned to, maybe in brackets
+unfoldable pub IsScalarTarget : TExpr → Type 0
+IsScalarTarget (T.Variable ty x) = IsScalarType ty
+IsScalarTarget (T.Brackets' ty p inner) = (ty ≡ type_of inner) × IsScalarTarget inner
+IsScalarTarget _ = ⊥
+
+-- the numbers of a value at the active positions are folded onto a scalar variable
+unfoldable pub IsFoldOnto : TExpr → Type 0
+IsFoldOnto (T.Assign' ty place op p target q value) = (ty ≡ type_of target) × IsScalarTarget target × ((reduction : ReduceOp) × (op ≡ assignment_of reduction)) × ((set : ℕ) × IsPure set value)
+IsFoldOnto _ = ⊥
+
+-- a parallel expression whose value is not used
+abbrev pub IsParallelEffect : TExpr → Type 0
+IsParallelEffect e = IsUpdate e ⊎ IsFoldOnto e
+
 -- A condition of `where`: a relation of two operands, a value that is not zero, `!` of a condition, or two joined by `&&`
 -- or `||`. The right one of these ignores the context: it has no get and no quotient, not even one of constants.
 unfoldable pub IsCondition : ℕ → TExpr → Type 0
@@ -185,9 +213,10 @@ abbrev pub extents_in : Typed → ℕ → List ℕ
 extents_in t set = extents_of (slice_get t.shapes.items set)
 
 -- A program of functions on scalars, without recursion, and of parallel variables of the file: such updates are
--- statements, also within `with` and under contexts, and such folds stand within scalar expressions.
+-- statements, also within `with` and under contexts, as such folds onto variables are within `with`, and other such folds
+-- stand within scalar expressions.
 abbrev pub fields_beside : Typed → Beside
-fields_beside t = record { effects = λ e. IsUpdate e × KnowsExtents (extents_in t) e; folds = λ e. IsFold e × KnowsExtents (extents_in t) e; statements = IsSelective (extents_in t); variables = IsParallelVariable }
+fields_beside t = record { effects = λ e. IsParallelEffect e × KnowsExtents (extents_in t) e; folds = λ e. IsFold e × KnowsExtents (extents_in t) e; statements = IsSelective (extents_in t); variables = IsParallelVariable }
 
 abbrev pub IsParallelProgram : Typed → Type 0
 IsParallelProgram t = IsProgramBeside (fields_beside t) t
