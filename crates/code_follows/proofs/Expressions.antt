@@ -1,5 +1,5 @@
 -- The code of every expression of the fragment gives its value, as a value and as an operand.
-use Rattle.std.proofs.Common.{◌≡◌, ◌∙◌, ℕ, ◌<◌, ◌≤◌, ◌^◌, Bool, true, false, [], ◌∷◌, length, Option, Some, None, refl, sym, ap, subst, if◌then◌else◌, arith, Vec, Global, inl}
+use Rattle.std.proofs.Common.{◌≡◌, ◌∙◌, ℕ, ◌<◌, ◌^◌, Bool, true, false, [], ◌∷◌, length, Option, Some, None, refl, sym, ap, subst, if◌then◌else◌, arith, Vec, Global, inl}
 use Rattle.std.specs.Prelude.{IfSome, is_none, ◌||◌, nat_le}
 use Rattle.cstar_base.specs.declared.elem.Elem.{Elem}
 use Rattle.cstar_base.specs.declared.operators.Op.{Op}

@@ -1,5 +1,5 @@
 -- `printf` on scalar arguments of 32 bits.
-use Rattle.std.proofs.Common.{◌≡◌, ◌∙◌, ℕ, suc, ◌+◌, ◌≤◌, Bool, false, Vec, Global, List, [], ◌∷◌, ◌++◌, length, slice_index, map, refl, sym, ap, subst, append_assoc, arith}
+use Rattle.std.proofs.Common.{◌≡◌, ◌∙◌, ℕ, suc, ◌+◌, Bool, false, Vec, Global, List, [], ◌∷◌, ◌++◌, length, slice_index, map, refl, sym, ap, subst, append_assoc, arith}
 use Rattle.std.specs.List.{All}
 use Rattle.cstar_base.specs.declared.elem.Elem.{Elem}
 use Rattle.std.proofs.lemmas.List.{append-nil}

@@ -1,5 +1,5 @@
 -- An operator on a scalar variable, by which its register is written: of 32 bits at once, else from a fresh one.
-use Rattle.std.proofs.Common.{◌≡◌, ◌∙◌, ◌==◌, inl, ℕ, ◌+◌, ◌<◌, ◌≤◌, ◌^◌, Bool, true, false, not, length, slice_index, refl, sym, ap, subst, if◌then◌else◌, arith, inr}
+use Rattle.std.proofs.Common.{◌≡◌, ◌∙◌, ◌==◌, inl, ℕ, ◌+◌, ◌<◌, ◌^◌, Bool, true, false, not, length, slice_index, refl, sym, ap, subst, if◌then◌else◌, inr}
 use Rattle.cstar_base.specs.declared.elem.Elem.{Elem}
 use Rattle.cstar_base.specs.declared.operators.Op.{Op}
 use Rattle.cstar_base.specs.declared.operators.Place.{Place}

@@ -51,14 +51,15 @@ use Rattle.source_meaning.specs.Values.{Parallel, Scope, Value}
 use Rattle.source_meaning.proofs.ConstantLaws.{Boxed}
 use Rattle.code_follows.proofs.Following.{HasRegisters, Sim}
 use Rattle.code_follows.proofs.Settings.{At, Setting, Within, and_one, code_more, layout, onto}
-use Rattle.fields_follow.specs.Fragment.{HasOperation, IsOperand, IsOperation, IsTarget, IsUpdate}
+use Rattle.fields_follow.specs.Fragment.{HasOperation, IsOperand, IsOperation, IsTarget, IsUpdate, KnowsExtents}
 use Rattle.fields_follow.specs.Fields.{IsElement, file_number}
 use Rattle.fields_follow.proofs.Forms.{HasItsCode, field_is}
 use Rattle.fields_follow.proofs.Instructions.{HasNumbers, Puts, SameExtents, extents, puts_operate_constant, shapes, word_in}
-use Rattle.fields_follow.proofs.Meaning.{promoted_means, pure_means, value_in}
+use Rattle.fields_follow.proofs.Meaning.{promoted_means, value_in}
 use Rattle.fields_follow.proofs.Leaving.{Leaves, UpdateLeaves}
 use Rattle.fields_follow.proofs.Passing.{After, Passes, after_same, code_longer, in_file_has, made_after, passes_all}
 use Rattle.fields_follow.proofs.Places.{HoldsTheFields, IsFileField, PlacesFields}
+use Rattle.fields_follow.proofs.Pure.{are_grids, pure_means}
 use Rattle.fields_follow.proofs.Updates.{IsFileTarget, assign_means, file_target, promoted_wide, step_means, updated_is}
 use Rattle.fields_follow.proofs.Values.{and_entry, next_field, one_more, taken, with_entry}
 use Rattle.fields_follow.proofs.Writing.{few, file_written}
@@ -152,11 +153,11 @@ module _ (g : Setting) (has : HasRegisters g) (alive : Variable → Type 0) (n :
       by (Some x) = ap (λ (b : Bool). if b then Some mine else None) (fits_well x (type_of target).elem value wide)
 
   module _ (scope : Scope) (same_extents : SameExtents g scope) where
-    operand_means : (set : ℕ) (e : TExpr) (st : State) → set < length (shapes g) → IsOperand set e → evaluated scope e fields.active st ≡ Gives (Parallel (λ q. value_in (extents g set) st e q)) st
-    operand_means set e st exists is = by is ∙ ap (λ (xs : List ℕ). Gives (Parallel (λ q. value_in xs st e q)) st) (same_extents set exists)
+    operand_means : (set : ℕ) (e : TExpr) (st : State) → set < length (shapes g) → IsOperand set e → HasItsCode g.typed g.instance alive n e → evaluated scope e fields.active st ≡ Gives (Parallel (λ q. value_in (extents g set) st e q)) st
+    operand_means set e st exists is c = by is ∙ ap (λ (xs : List ℕ). Gives (Parallel (λ q. value_in xs st e q)) st) (same_extents set exists)
       where
         by : IsOperand set e → evaluated scope e fields.active st ≡ Gives (Parallel (λ q. value_in (scope.extents set) st e q)) st
-        by (inl h) = pure_means scope fields.active set e st h
+        by (inl h) = pure_means scope fields.active g.typed g.instance n set e st h (are_grids g scope places same_extents set) c.code.names c.extents
         by (inr h) = promoted_means scope fields.active set e st h
 
     assigns : (ty : ValueType) (place : Place) (op : AssignOp) (p q : Boxed) (target value : TExpr) (set : ℕ) → ty ≡ type_of target → IsTarget set target → HasOperation op → IsOperand set value → NamesVariables g.typed g.instance n target → HasItsCode g.typed g.instance alive n value
@@ -168,7 +169,7 @@ module _ (g : Setting) (has : HasRegisters g) (alive : Variable → Type 0) (n :
       (
         u,
         (
-          assign_means scope fields.active set ty place op p q target value h.k (λ x. value_in (extents g set) st value x) st (ap (λ (y : ValueType). y.shape) same ∙ h.type.0) operates (h.means scope fields.active st) (operand_means set value st (places.exists h.k 0 set h.info h.is) is_operand),
+          assign_means scope fields.active set ty place op p q target value h.k (λ x. value_in (extents g set) st value x) st (ap (λ (y : ValueType). y.shape) same ∙ h.type.0) operates (h.means scope fields.active st) (operand_means set value st (places.exists h.k 0 set h.info h.is) is_operand c),
           (after_same g (λ out e. Leaves g alive d e s u)
               (ap (λ (o : Option Own). elim o as (λ _. Made Out) [ Some own ↦ then_make (whole_of g.typed (layout g) target own d) (λ dest after. variable_assigned g.typed (layout g) op place target value dest after) | None ↦ value_of g.typed (layout g) ty.elem.bits (T.Assign' ty place op p target q value) d ]) (own_is set h.k op target value h.own h.type.1)
               ∙ variable_is set h.k h.info h.is h.wide d s st target (λ dest after. variable_assigned g.typed (layout g) op place target value dest after) h.type.1)
@@ -288,9 +289,9 @@ module _ (g : Setting) (has : HasRegisters g) (alive : Variable → Type 0) (n :
 
     -- an update leaves what it leaves in the source
     pub updates_leave : (e : TExpr) → IsUpdate e → HasItsCode g.typed g.instance alive n e → (d : Draft) (s : CodeState) (st : State) → At g s (length d.code) → Sim g alive st s → UpdateLeaves g alive fields scope e d s st
-    unfolding IsUpdate NamesVariables IsShaped IsLowerable ScalarsAmong
+    unfolding IsUpdate NamesVariables IsShaped IsLowerable ScalarsAmong KnowsExtents
     updates_leave (T.Assign' ty place op p target q value) is c =
-        assigns ty place op p q target value set_of is.1.0 is.1.1 is.1.2 is.1.3 c.code.names.0 (record { code = record { shaped = c.code.shaped.3; lowerable = c.code.lowerable.3; names = c.code.names.1 }; among = c.among.1 })
+        assigns ty place op p q target value set_of is.1.0 is.1.1 is.1.2 is.1.3 c.code.names.0 (record { code = record { shaped = c.code.shaped.3; lowerable = c.code.lowerable.3; names = c.code.names.1 }; among = c.among.1; extents = c.extents })
       where
         set_of : ℕ
         set_of = is.0

@@ -1,9 +1,10 @@
 -- What is known of the code of parallel expressions and of contexts, wherever fields are known.
-use Rattle.std.proofs.Common.{ℕ, true, length, slice_index, List, ap, arith, sym, subst}
+use Rattle.std.proofs.Common.{ℕ, ◌+◌, ◌≡◌, ◌∙◌, inl, inr, true, length, slice_index, List, ap, arith, sym, subst}
 use Rattle.cstar_tree.specs.declared.typed.TExpr.{TExpr}
 use Rattle.cstar_tree.specs.declared.typed.Variable.{Variable}
 use Rattle.cstar_tree.specs.Typed.{type_of}
 use Rattle.code_lengths.specs.Ready.{IsReady}
+use Rattle.code_lengths.proofs.Drafting.{extended}
 use Rattle.lower_base.specs.declared.emit.Out.{Out}
 use Rattle.lower_base.specs.declared.emit.Out.TheVariants as O
 use Rattle.lower_base.specs.Drafts.{Draft, Fails, Made, Makes}
@@ -13,16 +14,18 @@ use Rattle.source_meaning.specs.Expressions.{evaluated}
 use Rattle.source_meaning.specs.State.{Gives, Outcome, State}
 use Rattle.source_meaning.specs.Values.{Active, Scalar, Scope, Value}
 use Rattle.code_follows.proofs.Besides.{BesideFollows}
-use Rattle.code_follows.proofs.Following.{Follows, HasRegisters, Ran, Sim}
-use Rattle.code_follows.proofs.Settings.{At, Begun, Setting, Within, layout}
+use Rattle.code_follows.proofs.Following.{Follows, HasRegisters, IsKept, Ran, Sim}
+use Rattle.code_follows.proofs.Settings.{At, Begun, Setting, Within, layout, onto}
 use Rattle.code_follows.proofs.Values.{Dest}
-use Rattle.fields_follow.specs.Fragment.{IsFold, IsUpdate}
+use Rattle.fields_follow.specs.Fragment.{IsFold, IsParallelEffect}
 use Rattle.fields_follow.proofs.Assigning.{updates_leave}
 use Rattle.fields_follow.proofs.Contexts.{where_follows}
 use Rattle.fields_follow.proofs.Widening.{widening_follows}
 use Rattle.fields_follow.proofs.Expressions.{pure_after}
+use Rattle.fields_follow.proofs.FoldingOnto.{onto_leaves}
+use Rattle.fields_follow.proofs.Onto.{LeavesScalars, scalars_stay}
 use Rattle.fields_follow.proofs.Forms.{HasItsCode}
-use Rattle.fields_follow.proofs.Knowing.{KnowsFields, kept_open, sim_close, sim_open}
+use Rattle.fields_follow.proofs.Knowing.{KnowsFields, StaysNamed, kept_open, lasts_within, sim_close, sim_open}
 use Rattle.fields_follow.proofs.Leaving.{Leaves, UpdateLeaves, fields_under, places_under, reaches_again, registers_under, under, within_under}
 use Rattle.fields_follow.proofs.Passing.{After, code_longer}
 use Rattle.fields_follow.proofs.Reducing.{GivesNumber, number_to}
@@ -31,6 +34,11 @@ use Rattle.fields_follow.proofs.Values.{operand_after}
 
 module _ (g : Setting) (scope : Scope) (active : Active) (known : KnowsFields g scope active) (has : HasRegisters g) where
   module _ (alive : Variable → Type 0) (n : ℕ) (ready : (d : Draft) → IsReady g.typed g.instance (layout g) n d) (e : TExpr) (c : HasItsCode g.typed g.instance alive n e) (d : Draft) (s : CodeState) (st : State) (begun : Begun g d) (here : At g s (length d.code)) (sim : Sim g alive st s) where
+    -- what is kept of the memory lasts over code behind the draft
+    kept_behind : (f : Draft) (t : CodeState) → Within g f → StaysNamed g (length d.code) (length d.fields) (length f.code) s.memory t.memory → known.kept t.memory
+    kept_behind f t within stays =
+        lasts_within g g.from g.entries g.upto (length d.code) (length d.fields) (length f.code) known.kept begun.code begun.fields within.upto known.lasts s.memory t.memory stays (kept_open g scope active known alive st s sim)
+
     -- what code leaves that is of an update, the unit's code follows
     leaves_ran : (f : Draft) (u : State) → Within g f → Leaves (under g active) alive d f s u → Ran g alive d s u f
     leaves_ran f u within l = record {
@@ -38,23 +46,31 @@ module _ (g : Setting) (scope : Scope) (active : Active) (known : KnowsFields g 
       t = l.t;
       go = reaches_again g active l.go;
       at = l.at;
-      sim = sim_close g scope active known alive u l.t l.sim (known.lasts s.memory l.t.memory (λ h first last p inside own ends before early after late.
-          l.stays h first last p (let b = begun.fields in omega (arith, inside, b)) own ends before (let b = begun.code in omega (arith, early, b)) after (let up = within.upto in omega (arith, late, up)))
-          (kept_open g scope active known alive st s sim));
+      sim = sim_close g scope active known alive u l.t l.sim (kept_behind f l.t within l.stays);
       keeps = λ r kept. ap (λ (registers : List ℕ). slice_index registers r) l.registers;
     }
 
-    pub update_follows : IsUpdate e → Follows g (λ v u out f. Ran g alive d s u f) s (evaluated scope e active st) (effect_of g.typed (layout g) e d)
+    -- so it does what a fold onto a variable leaves
+    onto_ran : (f : Draft) (u : State) → Within g f → LeavesScalars (under g active) alive d s st u f → Ran g alive d s u f
+    unfolding IsKept
+    onto_ran f u within l = record {
+      grown = (l.passes.grown.0 + l.more.0, extended d l.middle f l.passes.grown.0 l.more.0 l.passes.grown.1 l.more.1);
+      t = l.t;
+      go = reaches_again g active (onto (under g active) s l.passes.t l.t l.passes.go l.writes.go);
+      at = l.writes.at;
+      sim = sim_close g scope active known alive u l.t l.writes.sim (kept_behind f l.t within (λ h first last p inside own ends before early after late. scalars_stay (under g active) alive d s st u f l h first last p inside own before early after late));
+      keeps = λ r kept. l.writes.keeps r kept ∙ ap (λ (registers : List ℕ). slice_index registers r) l.passes.registers;
+    }
+
+    -- an effect follows whose code leaves what the unit's code follows
+    leaving_follows : (R : Draft → Type 0) (v : Value) (u : State) → ((f : Draft) → Within g f → R f → Ran g alive d s u f) → evaluated scope e active st ≡ Gives v u → After (under g active) (λ out f. R f) (effect_of g.typed (layout g) e d)
+        → Follows g (λ v u out f. Ran g alive d s u f) s (evaluated scope e active st) (effect_of g.typed (layout g) e d)
     unfolding After Follows
-    update_follows is =
-        let leaves : UpdateLeaves (under g active) alive (fields_under g active) scope e d s st =
-        updates_leave (under g active) (registers_under g active has) alive n ready (places_under g active known.places) (fields_under g active) scope known.same_extents e is c d s st here (sim_open g scope active known alive st s sim) in
-        let (v, (u, (means, after))) = leaves in
-        subst (λ (o : Outcome Value). Follows g (λ v u out f. Ran g alive d s u f) s o (effect_of g.typed (layout g) e d)) (sym means) (by v u (effect_of g.typed (layout g) e d) after)
+    leaving_follows R v u ran means after = subst (λ (o : Outcome Value). Follows g (λ v u out f. Ran g alive d s u f) s o (effect_of g.typed (layout g) e d)) (sym means) (by (effect_of g.typed (layout g) e d) after)
       where
-        by : (v : Value) (u : State) (made : Made Out) → After (under g active) (λ out f. Leaves (under g active) alive d f s u) made → Follows g (λ v u out f. Ran g alive d s u f) s (Gives v u) made
-        by v u (Makes out f) h = λ within. leaves_ran f u within (h (within_under g active within))
-        by v u Fails h = tt
+        by : (made : Made Out) → After (under g active) (λ out f. R f) made → Follows g (λ v u out f. Ran g alive d s u f) s (Gives v u) made
+        by (Makes out f) h = λ within. ran f within (h (within_under g active within))
+        by Fails h = tt
 
     -- the code of a pure parallel expression leaves its numbers in a field
     operands_stand : OperandsStand (under g active) alive n
@@ -62,6 +78,16 @@ module _ (g : Setting) (scope : Scope) (active : Active) (known : KnowsFields g 
         let there : Setting = under g active in
         operand_after there (registers_under g active has) alive n ready (places_under g active known.places) (fields_under g active) set o true is code.code.names
         (pure_after there (registers_under g active has) alive n ready (places_under g active known.places) (fields_under g active) set o is code) d0 s0 st0 at_o sim_o
+
+    -- an update, or a fold onto a variable
+    pub effect_follows : IsParallelEffect e → Follows g (λ v u out f. Ran g alive d s u f) s (evaluated scope e active st) (effect_of g.typed (layout g) e d)
+    effect_follows (inl is) =
+        let leaves : UpdateLeaves (under g active) alive (fields_under g active) scope e d s st =
+        updates_leave (under g active) (registers_under g active has) alive n ready (places_under g active known.places) (fields_under g active) scope known.same_extents e is c d s st here (sim_open g scope active known alive st s sim) in
+        leaving_follows (λ f. Leaves (under g active) alive d f s leaves.1.0) leaves.0 leaves.1.0 (λ f. leaves_ran f leaves.1.0) leaves.1.1.0 leaves.1.1.1
+    effect_follows (inr is) =
+        let leaves = onto_leaves (under g active) alive n (registers_under g active has) scope (places_under g active known.places) (fields_under g active) operands_stand known.same_extents e is c d s st begun.regs here (sim_open g scope active known alive st s sim) in
+        leaving_follows (λ f. LeavesScalars (under g active) alive d s st leaves.1.0 f) leaves.0 leaves.1.0 (λ f. onto_ran f leaves.1.0) leaves.1.1.0 leaves.1.1.1
 
     number_again : (r w : ℕ) (f : Draft) → Within g f → GivesNumber (under g active) alive d s st r w f → GivesNumber g alive d s st r w f
     number_again r w f within given =
@@ -75,9 +101,7 @@ module _ (g : Setting) (scope : Scope) (active : Active) (known : KnowsFields g 
             go = reaches_again g active p.go;
             at = p.at;
             registers = p.registers;
-            sim = sim_close g scope active known alive st p.t p.sim (known.lasts s.memory p.t.memory (λ h first last q inside own ends before early after late.
-                p.stays tt h first last q (let b = begun.fields in omega (arith, inside, b)) own before (let b = begun.code in omega (arith, early, b)) after (let up = within.upto in omega (arith, late, up, longer)))
-                (kept_open g scope active known alive st s sim));
+            sim = sim_close g scope active known alive st p.t p.sim (kept_behind f p.t within (λ h first last q inside own ends before early after late. p.stays tt h first last q inside own before early after (omega (arith, late, longer))));
             stays = p.stays;
           };
           puts = record { more = given.puts.more; place = given.puts.place; go = reaches_again g active given.puts.go; at = given.puts.at; few = given.puts.few };
@@ -96,13 +120,13 @@ module _ (g : Setting) (scope : Scope) (active : Active) (known : KnowsFields g 
             subst (λ (o : Out). R (Scalar w) st o f) (sym given.0) (number_to g alive has (type_of e).elem d s st R r w f (fold_type e is) dest (number_again r w f within given.1) within)
         by w Fails h = tt
 
--- every update, every fold and every context of it follows
+-- every effect, every fold and every context of it follows
 pub besides : (g : Setting) (scope : Scope) (active : Active) → KnowsFields g scope active → (has : HasRegisters g) → BesideFollows KnowsFields g has scope active
 besides g scope active known has = record {
   expressions = record {
-    effects = λ alive files n ready e h among c d s st free here sim. update_follows g scope active known has alive n ready e (record { code = c; among = among }) d s st free here sim (known.effects e h);
-    folds = λ alive files n ready e h among c d s st R r free here sim dest. fold_follows g scope active known has alive n ready e (record { code = c; among = among }) d s st free here sim (known.folds e h) R r dest;
+    effects = λ alive files n ready e h among c d s st free here sim. let is = known.effects e h in effect_follows g scope active known has alive n ready e (record { code = c; among = among; extents = is.1 }) d s st free here sim is.0;
+    folds = λ alive files n ready e h among c d s st R r free here sim dest. let is = known.folds e h in fold_follows g scope active known has alive n ready e (record { code = c; among = among; extents = is.1 }) d s st free here sim is.0 R r dest;
   };
-  wheres = λ alive files n ready shape test p first second h among c f contexts one other. where_follows g has scope active known alive n ready shape test p first second (known.conditions shape test h) among c f contexts one other;
+  wheres = λ alive files n ready shape test p first second h among c f contexts one other. let is = known.conditions shape test h in where_follows g has scope active known alive n ready shape test p first second is.0 is.1 among c f contexts one other;
   widenings = λ alive files n ready shape p body h c f contexts part. widening_follows g scope active known alive n shape p body f contexts part;
 }

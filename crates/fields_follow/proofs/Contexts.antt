@@ -33,7 +33,7 @@ use Rattle.code_follows.proofs.Besides.{ComesOn, Part, StatementPart}
 use Rattle.code_follows.proofs.Following.{Extends, HasRegisters, Sim, at_once, follows_same}
 use Rattle.code_follows.proofs.Settings.{At, Begun, Setting, Within, and_one, code_more, earlier, layout}
 use Rattle.code_follows.specs.Fragment.{ScalarsAmong}
-use Rattle.fields_follow.specs.Fragment.{IsCondition}
+use Rattle.fields_follow.specs.Fragment.{IsCondition, KnowsExtents, extents_in}
 use Rattle.fields_follow.proofs.Forms.{HasItsCode}
 use Rattle.fields_follow.proofs.Instructions.{extents}
 use Rattle.fields_follow.proofs.Knowing.{KnowsFields, Lasts, flags_last, kept_open, lasts_both, sim_open}
@@ -175,7 +175,7 @@ module _ (g : Setting) (has : HasRegisters g) (scope : Scope) (active : Active) 
       led_saves shape d after tests.1.1.1.0 tests.1.1.1.1 begun s st v (length e.code) w_saves loaded (omega (arith, one, two, long)) led_after in
       let led_inner : Led g scope active known alive (among shape v active) (λ m. Kept g scope active known alive (saved shape d) m) d inner s st =
       narrows g scope active known alive active (λ m. Kept g scope active known alive (saved shape d) m) (length inner.code) (length inner.fields) (length e.code) lasts d save s st shape v w_inner led_save in
-      follows_same g (Arrives g scope active known alive d s) s (where_means scope active shape test p first None' n v st (condition_means g scope known.same_extents active shape test st condition below.0)) refl
+      follows_same g (Arrives g scope active known alive d s) s (where_means scope active shape test p first None' n v st (condition_means g scope known.places known.same_extents alive n active shape test st condition c below.0)) refl
       (then_leads g scope active known alive active (λ m. Kept g scope active known alive (saved shape d) m) (Arrives g scope active known alive d s) d last s (behind n first) (executed scope first n (among shape v active) st) (λ u. Gives Onward u) (Makes (behind n first) last)
       (part_closed g scope active known alive (among shape v active) (saved shape d) (λ m. Kept g scope active known alive (saved shape d) m) d inner e s st longer.0 (behind n first) (λ a u. executed scope first n a u) code part made.1.0 inner_homes begun lasts (λ m kept. kept.1)
       (λ q x differ. sym (among_beside shape v active q x differ)) longer.1 led_inner) (0, as_it_was last)
@@ -280,7 +280,7 @@ module _ (g : Setting) (has : HasRegisters g) (scope : Scope) (active : Active) 
       let led_keep : Led g scope active known alive active (λ m. KeptTests m × TestsAre g shape active v m) d keep s st =
       keeps_tests g scope active known alive active (λ m. Kept g scope active known alive saved_in m) (length save.code) (length (entered shape d).fields) (length keep.code) lasts_early d save s st v holds_in (length back.code) (omega arith) (omega arith) (omega (arith, two)) own_test refl loaded_test (omega (arith, two, three, long, four)) w_keep led_save in
       let led_inner : Led g scope active known alive (among shape v active) (λ m. KeptTests m) d inner s st = narrows g scope active known alive active (λ m. KeptTests m) (length inner.code) (length inner.fields) (length e.code) lasts d keep s st shape v w_inner led_keep in
-      follows_same g (Arrives g scope active known alive d s) s (where_means scope active shape test p first (Some' q second) n v st (condition_means g scope known.same_extents active shape test st condition below.0)) refl
+      follows_same g (Arrives g scope active known alive d s) s (where_means scope active shape test p first (Some' q second) n v st (condition_means g scope known.places known.same_extents alive n active shape test st condition c below.0)) refl
       (then_leads g scope active known alive active (λ m. KeptTests m) (Arrives g scope active known alive d s) d back s (behind n first) (executed scope first n (among shape v active) st) (executed scope second (behind n first) (others shape v active)) (Makes m last)
       (part_closed g scope active known alive (among shape v active) saved_in (λ m. KeptTests m) d inner e s st longer.0 (behind n first) (λ a u. executed scope first n a u) code (parts saved_in) made.1.0 inner_homes begun lasts (λ m kept. kept.0.1) (λ y x differ. sym (among_beside shape v active y x differ)) longer.1 led_inner)
       (2 + (far.0 + 1), last_more)
@@ -382,9 +382,9 @@ module _ (g : Setting) (has : HasRegisters g) (scope : Scope) (active : Active) 
       last_more = extended back turns_back last 2 (far.0 + 1) from_back (extended turns_back h last far.0 1 far.1 (and_one g (I.LoadContext saved_in) h))
 
   -- so it follows either way
-  pub where_follows : (shape : ℕ) (test : TExpr) (p : Boxed) (first : TStmt) (second : Held-TStmt-If-2) → IsCondition shape test → ScalarsAmong alive test → HasStatementCode g.typed g.instance n (S.Where' shape test p first second) → (f : Frame) (contexts : List Field)
+  pub where_follows : (shape : ℕ) (test : TExpr) (p : Boxed) (first : TStmt) (second : Held-TStmt-If-2) → IsCondition shape test → KnowsExtents (extents_in g.typed) test → ScalarsAmong alive test → HasStatementCode g.typed g.instance n (S.Where' shape test p first second) → (f : Frame) (contexts : List Field)
       → StatementPart KnowsFields g scope alive first n f contexts → ((q : Boxed) (s : TStmt) → second ≡ Some' q s → StatementPart KnowsFields g scope alive s (behind n first) f contexts) → ComesOn g scope alive active (S.Where' shape test p first second) n f contexts
-  where_follows shape test p first None' condition among_so c f contexts parts other_parts =
-      let (field, code) = where_test shape test p first None' c in where_alone shape test p first condition field (record { code = code; among = among_so }) f contexts parts
-  where_follows shape test p first (Some' q second) condition among_so c f contexts parts other_parts =
-      let (field, code) = where_test shape test p first (Some' q second) c in where_else shape test p q first second condition field (record { code = code; among = among_so }) f contexts parts (other_parts q second refl)
+  where_follows shape test p first None' condition extents_so among_so c f contexts parts other_parts =
+      let (field, code) = where_test shape test p first None' c in where_alone shape test p first condition field (record { code = code; among = among_so; extents = extents_so }) f contexts parts
+  where_follows shape test p first (Some' q second) condition extents_so among_so c f contexts parts other_parts =
+      let (field, code) = where_test shape test p first (Some' q second) c in where_else shape test p q first second condition field (record { code = code; among = among_so; extents = extents_so }) f contexts parts (other_parts q second refl)

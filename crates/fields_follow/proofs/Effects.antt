@@ -4,7 +4,7 @@ use Rattle.std.proofs.Common.{◌≡◌, ◌∙◌, ℕ, ◌<◌, ◌^◌, ◌==
 use Rattle.cstar_base.specs.declared.operators.Op.{Op}
 use Rattle.cstar_base.specs.declared.operators.Place.{Place}
 use Rattle.cstar_base.specs.Operators.{outcome}
-use Rattle.cstar_tree.specs.declared.typed.TExpr.{TExpr}
+use Rattle.cstar_tree.specs.declared.typed.TExpr.{TExpr, Row_of-TExpr}
 use Rattle.cstar_tree.specs.declared.typed.TExpr as T
 use Rattle.cstar_tree.specs.declared.typed.UnaryOp.{UnaryOp}
 use Rattle.cstar_tree.specs.declared.typed.UnaryOp.TheVariants as U
@@ -19,10 +19,10 @@ use Rattle.code_lengths.specs.Naming.{HasVariable, NamesVariables, plain}
 use Rattle.code_lengths.specs.Ready.{IsReady}
 use Rattle.lower_base.specs.declared.emit.Out.{Out}
 use Rattle.lower_base.specs.declared.emit.Out.TheVariants as O
-use Rattle.lower_base.specs.Drafts.{Draft, Made, Makes, a_field, an_entry, in_field, then_make, with_instr}
+use Rattle.lower_base.specs.Drafts.{Draft, Fails, Made, Makes, a_field, an_entry, in_field, then_make, with_instr}
 use Rattle.lower_base.specs.Layouts.{register_of}
 use Rattle.lower_base.specs.Operators.{negates}
-use Rattle.lower_expr.specs.Effects.{binary_to, bits_for, computed_to, converted_to, field_binary_to, field_operated, fits_field, goes_unchanged, keeps_bits, moved, put_to}
+use Rattle.lower_expr.specs.Effects.{binary_to, bits_for, computed_to, converted_to, field_binary_to, field_operated, fits_field, goes_unchanged, gone_to, keeps_bits, moved, put_to}
 use Rattle.lower_expr.specs.Kinds.{done_as, operand_bits, operation_bits, reads_signed, unary_bits}
 use Rattle.lower_expr.specs.Operands.{is_plus, is_quiet, operand_by, own_of}
 use Rattle.lower_expr.specs.Spots.{field_loaded, loaded, variable_spot}
@@ -42,11 +42,12 @@ use Rattle.source_meaning.proofs.ConstantLaws.{Boxed}
 use Rattle.vp_sets.specs.Positions.{coordinate}
 use Rattle.code_follows.proofs.Following.{HasRegisters, Sim, extends_then}
 use Rattle.code_follows.proofs.Settings.{At, Setting, Within, and_one, layout}
-use Rattle.fields_follow.specs.Fragment.{IsOperand, IsOperation, IsPromoted, IsPure, IsWide}
+use Rattle.fields_follow.specs.Fragment.{AreWrapping, IsOperand, IsOperation, IsPromoted, IsPure, IsWide, KnowsExtents}
 use Rattle.fields_follow.specs.Fields.{IsElement, file_number}
 use Rattle.fields_follow.proofs.Forms.{HasItsCode, HasItsWord, StandsInRegister, element_is, field_is, promoted_stands, pure_word}
 use Rattle.fields_follow.proofs.Instructions.{HasNumbers, Puts, extents, puts_alike, puts_constant, puts_coordinate, puts_move, word_in}
 use Rattle.fields_follow.proofs.Meaning.{AreOperands, as_shaped, left_of, value_in}
+use Rattle.fields_follow.proofs.News.{get_last}
 use Rattle.fields_follow.proofs.Operands.{GivesRight, fields_after, operated_after, operated_extends, register_has, register_is, right_after, right_extends}
 use Rattle.fields_follow.proofs.Passing.{After, Behind, GivesField, Passes, after_same, fields_longer, in_file_has, made_after, passes_all, passes_from, then_after}
 use Rattle.fields_follow.proofs.Places.{HoldsTheFields, IsFileField, PlacesFields}
@@ -153,6 +154,19 @@ module _ (g : Setting) (has : HasRegisters g) (alive : Variable → Type 0) (n :
       kept : (elem : Elem) → elem.bits ≡ 32 → (nat_le 32 elem.bits && (not (elem.bits == 1) || is_flag inner)) ≡ true
       kept elem wide = ap (λ (bits : ℕ). nat_le 32 bits && (not (bits == 1) || is_flag inner)) wide
 
+  -- a get from neighbours
+  gone_same : (dest : Out) (Q : Out → Draft → Type 0) (made : Made Out) → After g (λ out e. Q dest e) made → After g Q (gone_to dest made)
+  unfolding gone_to After then_make
+  gone_same dest Q (Makes out e) h = h
+  gone_same dest Q Fails h = tt
+
+  get_computed : (set offset : ℕ) (ty : ValueType) (place : Place) (p : _) (indexes : Row_of-TExpr _) (k of : ℕ) → IsWide set ty → of ≡ set → AreWrapping set 0 indexes → HasItsCode g.typed g.instance alive n (T.LeftIndex' ty place p indexes (V.File k) of)
+      → PutsLast set (record { set = set; offset = offset; len = 32 }) (λ st q. value_in (extents g set) st (T.LeftIndex' ty place p indexes (V.File k) of) q) (λ d. computed_to g.typed (layout g) (O.Field (record { set = set; offset = offset; len = 32 })) (T.LeftIndex' ty place p indexes (V.File k) of) d)
+  unfolding computed_to NamesVariables KnowsExtents
+  get_computed set offset ty place p indexes k of wide same are c d s st here sim Q last =
+      gone_same (O.Field (record { set = set; offset = offset; len = 32 })) Q _
+      (get_last g alive n places fields ty place p indexes k of set offset (λ after. spot_of g.typed (layout g) (T.LeftIndex' ty place p indexes (V.File k) of) after) (length d.fields) d s st wide same are c.code.names.0 c.extents (omega arith) here sim (λ out e. Q (O.Field (record { set = set; offset = offset; len = 32 })) e) last)
+
   computed_last : (set offset : ℕ) (e : TExpr) → IsPure set e → HasItsCode g.typed g.instance alive n e → PutsLast set (record { set = set; offset = offset; len = 32 }) (λ st q. value_in (extents g set) st e q) (λ d. computed_to g.typed (layout g) (O.Field (record { set = set; offset = offset; len = 32 })) e d)
   unfolding IsPure computed_to value_in NamesVariables
   computed_last set offset (T.Variable ty (V.File k)) is c = copied_last set k ty (record { set = set; offset = offset; len = 32 }) refl is c.code.names
@@ -167,6 +181,7 @@ module _ (g : Setting) (has : HasRegisters g) (alive : Variable → Type 0) (n :
       let part = convert_part g has alive n ready places fields ty p inner c in
       converted_last set offset ty p inner is.0 is.1 (computed_last set offset inner is.1 part)
   computed_last set offset (T.Pcoord ty axis) is c = coordinate_last set offset axis ty
+  computed_last set offset (T.LeftIndex' ty place p indexes (V.File k) of) is c = get_computed set offset ty place p indexes k of is.0 is.1 is.2 c
   computed_last set offset _ is c = absurd is
 
   -- a promoted variable

@@ -26,7 +26,7 @@ use Rattle.source_meaning.specs.Examples.{number, numbers}
 use Rattle.code_follows.specs.Fragment.{AreClosed, AreIn, AreInitials, AreInStatements, IsBody, IsClosed, IsEffect, IsFileVariable, IsGiven, IsIn, IsInStatement, IsScalarFunction, IsScalarLocal, IsScalarVariable, IsVariable, OfFileOrParam, ScalarsAmong, called_in, may_of}
 use Rattle.code_follows.proofs.Standing.{some_same}
 use Rattle.fields_follow.specs.Example.{ExampleIsParallel, example, main}
-use Rattle.fields_follow.specs.Fragment.{IsFold, IsPromoted, IsPure, IsTarget, IsUpdate, fields_beside}
+use Rattle.fields_follow.specs.Fragment.{IsFold, IsPromoted, IsPure, IsTarget, IsUpdate, KnowsExtents, fields_beside}
 
 -- the calls of what has a list in a row
 abbrev PrintsInRow : T.TExpr → Type 0
@@ -49,8 +49,8 @@ block_in_row locals p row =
     subst BlockInRow (sym (rolls-Block locals _) ∙ S.roll-out-TStmt (S.Block' locals p row))
     (ap calls_within (sym (rolls-Block locals _)) ∙ fold-roll-TStmt (List ℕ) statement_call_step _ ∙ ap (λ (ss : List S.TStmt). concat (map calls_in (concat (map (λ (l : LocalVar). optional l.initial) locals.items))) ++ concat (map calls_within ss)) (sym (S.items_hidden-the_row-TStmt-0 _)))
 
-main_is : (heap : Global) → IsScalarFunction (may_of fields_beside (example heap) (main heap)) (main heap)
-unfolding IsBody IsInStatement IsEffect IsGiven IsIn IsVariable AreIn AreInitials AreInStatements AreClosed IsClosed OfFileOrParam ScalarsAmong IsFold IsPromoted IsPure IsTarget IsUpdate assign_op_of constant_of relates divides is_constant residue value_of row_variables
+main_is : (heap : Global) → IsScalarFunction (may_of (fields_beside (example heap)) (example heap) (main heap)) (main heap)
+unfolding IsBody IsInStatement IsEffect IsGiven IsIn IsVariable AreIn AreInitials AreInStatements AreClosed IsClosed OfFileOrParam ScalarsAmong IsFold IsPromoted IsPure IsTarget IsUpdate KnowsExtents assign_op_of constant_of relates divides is_constant residue value_of row_variables
 main_is heap =
     let no_variables : variables_of (main heap).body ≡ [] = simp (of_block, of_with, of_expression) in
     record {
@@ -61,7 +61,7 @@ main_is heap =
           All-nil IsScalarLocal,
           tt,
           (
-            (All-nil IsScalarLocal, tt, (inr ((0, (refl, (refl, refl), tt, inl (refl, refl))), ((λ is. inl (inl tt)), tt)), (inr ((0, (refl, (refl, refl), (refl, refl), inr ((refl, refl), ((refl, refl), inl (1, refl, omega arith))))), ((λ is. inl (inl tt)), tt)), (inl (refl, refl, (refl, inl (inl tt)), ((refl, refl), ((refl, refl), (0, (refl, refl))), (λ is. inl (inl tt))), inl refl), tt)))),
+            (All-nil IsScalarLocal, tt, (inr ((inl (0, (refl, (refl, refl), tt, inl (refl, refl))), tt), ((λ is. inl (inl tt)), tt)), (inr ((inl (0, (refl, (refl, refl), (refl, refl), inr ((refl, refl), ((refl, refl), inl (1, refl, omega arith))))), tt), ((λ is. inl (inl tt)), tt)), (inl (refl, refl, (refl, inl (inl tt)), ((refl, refl), (((refl, refl), (0, (refl, refl))), tt), (λ is. inl (inl tt))), inl refl), tt)))),
             ((((refl, inl tt), tt), All-cons (λ (elem : Elem). elem.bits ≡ 32) number.elem [] refl (All-nil _)), tt),
           ),
         ),
@@ -87,9 +87,9 @@ is_parallel heap = record {
   main = main heap;
   is_main = refl;
   no_cycle = no_cycle heap;
-  each = λ k i is. subst (λ (x : Instance). IsScalarFunction (may_of fields_beside (example heap) x) x) (only heap k i is).1 (main_is heap);
+  each = λ k i is. subst (λ (x : Instance). IsScalarFunction (may_of (fields_beside (example heap)) (example heap) x) x) (only heap k i is).1 (main_is heap);
   names = λ j k a b is also same. (only heap j a is).0 ∙ sym (only heap k b also).0;
   variables =
-      let P = IsFileVariable fields_beside in
+      let P = IsFileVariable (fields_beside (example heap)) in
       All-cons P (plain_info (112 ∷ []) numbers) (plain_info (115 ∷ []) number ∷ []) (inr ((0, (refl, refl, refl)), refl), omega arith) (All-cons P (plain_info (115 ∷ []) number) [] (inl refl, omega arith) (All-nil P));
 }

@@ -3,7 +3,7 @@ use Rattle.std.proofs.Common.{◌≡◌, ◌∙◌, ℕ, ◌+◌, ◌<◌, ◌^�
 use Rattle.cstar_base.specs.declared.operators.Op.{Op}
 use Rattle.cstar_base.specs.declared.operators.Place.{Place}
 use Rattle.cstar_base.specs.Operators.{outcome}
-use Rattle.cstar_tree.specs.declared.typed.TExpr.{TExpr}
+use Rattle.cstar_tree.specs.declared.typed.TExpr.{TExpr, Row_of-TExpr}
 use Rattle.cstar_tree.specs.declared.typed.TExpr as T
 use Rattle.cstar_tree.specs.declared.typed.UnaryOp.{UnaryOp}
 use Rattle.cstar_tree.specs.declared.typed.UnaryOp.TheVariants as U
@@ -24,9 +24,10 @@ use Rattle.lower_base.specs.Drafts.{Draft, Made, Makes, Plain, a_field, an_entry
 use Rattle.lower_base.specs.Kinds.{bits_of, kind_of}
 use Rattle.lower_base.specs.Operators.{is_signed, negates}
 use Rattle.lower_expr.specs.Kinds.{done_as, operand_bits, operation_bits, reads_signed, relation_kind, result_bits, unary_bits}
-use Rattle.lower_expr.specs.Operands.{is_plus, is_quiet, operand_by}
+use Rattle.lower_expr.specs.Operands.{are_quiet, is_plus, is_quiet, operand_by}
 use Rattle.lower_expr.specs.Steps.{field_negated, is_kept, negated}
-use Rattle.lower_expr.specs.Values.{binary_by, cast_from, coordinate_in, fields_by, lowest, parallel_binary_by, register_cast_by, spare_for, spread_by, spread_into, truth_of, unary_by, value_of}
+use Rattle.lower_expr.specs.declared.spots.Spot.{Spot}
+use Rattle.lower_expr.specs.Values.{binary_by, cast_from, coordinate_in, fields_by, index_read_by, index_read_to, indexed_spot, lowest, parallel_binary_by, register_cast_by, spare_for, spread_by, spread_into, truth_of, unary_by, value_of, values_of}
 use Rattle.paris_code.specs.declared.instr.Instr.{Instr}
 use Rattle.paris_code.specs.declared.instr.Instr.TheVariants as I
 use Rattle.paris_code.specs.declared.operands.Field.{Field}
@@ -42,11 +43,12 @@ use Rattle.code_follows.proofs.Following.{Extends, HasRegisters, Sim}
 use Rattle.code_follows.proofs.Operators.{wide_signed}
 use Rattle.code_follows.proofs.Settings.{At, Setting, Within, and_one, layout}
 use Rattle.code_follows.proofs.Values.{extends_grown}
-use Rattle.fields_follow.specs.Fragment.{IsOperation, IsPromoted, IsPure, IsWide}
+use Rattle.fields_follow.specs.Fragment.{AreWrapping, IsOperation, IsPromoted, IsPure, IsWide, KnowsExtents}
 use Rattle.fields_follow.proofs.FileFields.{coordinate_least}
 use Rattle.fields_follow.proofs.Forms.{HasItsCode, promoted_type, pure_kept, pure_type, wide_cast}
 use Rattle.fields_follow.proofs.Instructions.{HasNumbers, Puts, extents, puts_coordinate, puts_lognot, puts_negate, shapes}
 use Rattle.fields_follow.proofs.Meaning.{AreOperands, left_of, value_in, wide_same}
+use Rattle.fields_follow.proofs.News.{get_last}
 use Rattle.fields_follow.proofs.Operands.{fields_after}
 use Rattle.fields_follow.proofs.Passing.{After, Behind, Passes, after_same, after_weaker, fields_longer, gives_alike, gives_from, gives_numbers, gives_on, made_after, names_second, passes_all, puts_own, then_after}
 use Rattle.fields_follow.proofs.Places.{HoldsTheFields, PlacesFields, stands_here}
@@ -126,16 +128,16 @@ module _ (g : Setting) (has : HasRegisters g) (alive : Variable → Type 0) (n :
 
   -- what has code of its parts
   pub binary_parts : (ty : ValueType) (place : Place) (op : Op) (p q : Boxed) (left right : TExpr) → HasItsCode g.typed g.instance alive n (T.Binary' ty place op p left q right) → HasItsCode g.typed g.instance alive n left × HasItsCode g.typed g.instance alive n right
-  unfolding IsShaped IsLowerable NamesVariables ScalarsAmong
-  binary_parts ty place op p q left right h = (record { code = record { shaped = h.code.shaped.0; lowerable = h.code.lowerable.2; names = h.code.names.0 }; among = h.among.0 }, record { code = record { shaped = h.code.shaped.1; lowerable = h.code.lowerable.3; names = h.code.names.1 }; among = h.among.1 })
+  unfolding IsShaped IsLowerable NamesVariables ScalarsAmong KnowsExtents
+  binary_parts ty place op p q left right h = (record { code = record { shaped = h.code.shaped.0; lowerable = h.code.lowerable.2; names = h.code.names.0 }; among = h.among.0; extents = h.extents.0 }, record { code = record { shaped = h.code.shaped.1; lowerable = h.code.lowerable.3; names = h.code.names.1 }; among = h.among.1; extents = h.extents.1 })
 
   pub unary_part : (ty : ValueType) (op : UnaryOp) (p : Boxed) (inner : TExpr) → HasItsCode g.typed g.instance alive n (T.Unary' ty op p inner) → HasItsCode g.typed g.instance alive n inner
-  unfolding IsShaped IsLowerable NamesVariables ScalarsAmong
-  unary_part ty op p inner h = record { code = record { shaped = h.code.shaped.1; lowerable = h.code.lowerable.1; names = h.code.names }; among = h.among }
+  unfolding IsShaped IsLowerable NamesVariables ScalarsAmong KnowsExtents
+  unary_part ty op p inner h = record { code = record { shaped = h.code.shaped.1; lowerable = h.code.lowerable.1; names = h.code.names }; among = h.among; extents = h.extents }
 
   pub brackets_part : (ty : ValueType) (p : Boxed) (inner : TExpr) → HasItsCode g.typed g.instance alive n (T.Brackets' ty p inner) → HasItsCode g.typed g.instance alive n inner
-  unfolding IsShaped IsLowerable NamesVariables ScalarsAmong
-  brackets_part ty p inner h = record { code = record { shaped = h.code.shaped.1; lowerable = h.code.lowerable; names = h.code.names }; among = h.among }
+  unfolding IsShaped IsLowerable NamesVariables ScalarsAmong KnowsExtents
+  brackets_part ty p inner h = record { code = record { shaped = h.code.shaped.1; lowerable = h.code.lowerable; names = h.code.names }; among = h.among; extents = h.extents }
 
   named : (ty : ValueType) (k : ℕ) → HasItsCode g.typed g.instance alive n (T.Variable ty (V.File k)) → HasVariable g.typed g.instance n (V.File k) (plain ty)
   unfolding NamesVariables
@@ -278,8 +280,8 @@ module _ (g : Setting) (has : HasRegisters g) (alive : Variable → Type 0) (n :
 
   -- a conversion to another type of 32 bits has no code
   pub convert_part : (ty : ValueType) (p : Boxed) (inner : TExpr) → HasItsCode g.typed g.instance alive n (T.Convert' ty p inner) → HasItsCode g.typed g.instance alive n inner
-  unfolding IsShaped IsLowerable NamesVariables ScalarsAmong
-  convert_part ty p inner h = record { code = record { shaped = h.code.shaped.1; lowerable = h.code.lowerable.1; names = h.code.names }; among = h.among }
+  unfolding IsShaped IsLowerable NamesVariables ScalarsAmong KnowsExtents
+  convert_part ty p inner h = record { code = record { shaped = h.code.shaped.1; lowerable = h.code.lowerable.1; names = h.code.names }; among = h.among; extents = h.extents }
 
   convert_code : (ty : ValueType) (p : Boxed) (inner : TExpr) (d : Draft) → ty.elem.bits ≡ 32 → is_kept inner ≡ false → code (T.Convert' ty p inner) d ≡ code inner d
   unfolding value_of cast_from spread_by
@@ -305,6 +307,24 @@ module _ (g : Setting) (has : HasRegisters g) (alive : Variable → Type 0) (n :
       w : ℕ → ℕ
       w = λ q. converted ty.elem (type_of inner).elem (v q)
 
+  -- a get from neighbours
+  get_after : (set : ℕ) (ty : ValueType) (place : Place) (p : _) (indexes : Row_of-TExpr _) (k of : ℕ) → IsWide set ty → of ≡ set → AreWrapping set 0 indexes → HasItsCode g.typed g.instance alive n (T.LeftIndex' ty place p indexes (V.File k) of)
+      → Valued g has alive n ready places fields set (T.LeftIndex' ty place p indexes (V.File k) of) (code (T.LeftIndex' ty place p indexes (V.File k) of))
+  unfolding value_of index_read_by fresh_for then_make an_entry NamesVariables KnowsExtents
+  get_after set ty place p indexes k of wide same are c d s st here sim =
+      after_same g (Answers (length d.fields) d s set st v) (ap (λ (o : Option ℕ). then_make (fresh_for o 32 d) (λ dest begun. index_read_to g.typed (layout g) e spot dest begun)) wide.0)
+      (get_last g alive n places fields ty place p indexes k of set (length d.fields) spot (length d.fields) (with_entry set 32 W.Own d) s st wide same are c.code.names.0 c.extents (let one = one_more set 32 W.Own d in omega (arith, one)) here sim
+      (Answers (length d.fields) d s set st v) (λ e2 i within passes puts. own_result set d e2 s st v i within passes puts))
+    where
+      e : TExpr
+      e = T.LeftIndex' ty place p indexes (V.File k) of
+
+      spot : Draft → Made Spot
+      spot = indexed_spot g.typed (layout g) e (values_of g.typed (layout g) false (are_quiet indexes) indexes)
+
+      v : ℕ → ℕ
+      v = λ q. value_in (extents g set) st e q
+
   -- the code of a pure expression leaves its numbers in a field
   pub pure_after : (set : ℕ) (e : TExpr) → IsPure set e → HasItsCode g.typed g.instance alive n e → Valued g has alive n ready places fields set e (code e)
   unfolding IsPure value_of value_in
@@ -316,4 +336,5 @@ module _ (g : Setting) (has : HasRegisters g) (alive : Variable → Type 0) (n :
       binary_after set ty place op p q left right is.0 is.1 is.2 parts.0 parts.1 (λ pure. pure_after set left pure parts.0) (λ pure. pure_after set right pure parts.1)
   pure_after set (T.Convert' ty p operand) is c = let part = convert_part ty p operand c in convert_after set ty p operand is.0 is.1 (pure_after set operand is.1 part)
   pure_after set (T.Pcoord ty axis) is c = coordinate_after set axis ty is
+  pure_after set (T.LeftIndex' ty place p indexes (V.File k) of) is c = get_after set ty place p indexes k of is.0 is.1 is.2 c
   pure_after set _ is c = absurd is

@@ -28,7 +28,8 @@ use Rattle.paris_code.specs.RuleSet.{FieldExists}
 use Rattle.paris_code.specs.Shapes.{SetShape, bits_at, extents_at, shape_of, shapes_of}
 use Rattle.paris_code.specs.Sound.{IsShape, IsSound, field_of}
 use Rattle.source_meaning.specs.Programs.{extents_of}
-use Rattle.vp_sets.specs.Positions.{coordinate, coordinates, position_count}
+use Rattle.vp_sets.specs.Positions.{coordinate, coordinates, position_count, is_geometry, positions_fit}
+use Rattle.std.proofs.lemmas.Bool.Decides.{nat_tests}
 use Rattle.vp_sets.proofs.PositionLaws.{geometry_parts}
 use Rattle.code_follows.proofs.Standing.{some_same}
 use Rattle.fields_follow.specs.Fields.{IsElement, field_or_none, file_field, file_number, positions_of}
@@ -232,12 +233,22 @@ unfolding field_number
 fresh_zero shapes m f p fresh within ends below =
     zero_run (m.bit f.set p) f.offset f.len (λ j inside. fresh f.set p (f.offset + j) within below (omega arith) ∙ fresh_below shapes f.set p (f.offset + j) (omega arith))
 
+geometry_fits : (xs : List ℕ) → is_geometry xs ≡ true → positions_fit xs ≡ true
+unfolding is_geometry
+geometry_fits xs is = grind (arith, nat_tests, is)
+
 -- a grid has few positions
 few_at : (shapes : List SetShape) (set : ℕ) → All IsShape shapes → processors shapes set ≤ 2 ^ 20
 unfolding position_count
 few_at [] set all = omega arith
 few_at (x ∷ shapes) zero all = (geometry_parts x.extents (all 0 x (omega arith)).0).3
 few_at (x ∷ shapes) (suc set) all = few_at shapes set (λ k d below. all (suc k) d (omega (arith, below)))
+
+-- each shape is a grid of few positions
+fits_at : (shapes : List SetShape) (set : ℕ) → All IsShape shapes → set < length shapes → positions_fit (extents_at shapes set) ≡ true
+fits_at [] set all exists = absurd (omega (arith, exists))
+fits_at (x ∷ shapes) zero all exists = geometry_fits x.extents (all 0 x (omega arith)).0
+fits_at (x ∷ shapes) (suc set) all exists = fits_at shapes set (λ k d below. all (suc k) d (omega (arith, below))) (omega (arith, exists))
 
 -- a coordinate is not above the number of its position
 pub coordinate_least : (xs : List ℕ) (n axis : ℕ) → coordinate xs n axis ≤ n
@@ -268,6 +279,9 @@ module _ (t : Typed) (words : List ℕ) (before after : Program) (image : Image)
 
   pub few_positions : (set : ℕ) → processors (shapes_of image) set ≤ 2 ^ 20
   few_positions set = few_at (shapes_of image) set c.sound.shapes.1
+
+  pub grid_fits : (set : ℕ) → set < length (shapes_of image) → positions_fit (extents_at (shapes_of image) set) ≡ true
+  grid_fits set exists = fits_at (shapes_of image) set c.sound.shapes.1 exists
 
   -- the final of an element
   pub final_there : (k : ℕ) (info : VarInfo) (set e : ℕ) → IsElement t k info set e → HasFinal image.finals.items (file_number t k e) info set

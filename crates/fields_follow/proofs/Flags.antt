@@ -31,7 +31,7 @@ pub bit_is : (x : Bool) → (from_bool x % 2 == 1) ≡ x
 bit_is true = refl
 bit_is false = refl
 
-bit_fits : (x : Bool) (len : ℕ) → len ≡ 1 → from_bool x % 2 ^ len ≡ from_bool x
+pub bit_fits : (x : Bool) (len : ℕ) → len ≡ 1 → from_bool x % 2 ^ len ≡ from_bool x
 bit_fits true len e = ap (λ (n : ℕ). 1 % 2 ^ n) e
 bit_fits false len e = ap (λ (n : ℕ). 0 % 2 ^ n) e
 
@@ -138,13 +138,15 @@ module _ (g : Setting) (places : PlacesFields g) (alive : Variable → Type 0) (
     pub at : At g t (length (with_instr i e).code)
     pub registers : t.registers ≡ s.registers
     pub sim : Sim (under g a) alive st t
+    pub exists : set < length (shapes g)
+    pub ends : EndsBelow g d
     pub tests : (q p : ℕ) → is_tested (shapes g) t.memory q p ≡ is_tested (shapes g) s.memory q p
     pub has : (p : ℕ) → p < processors (shapes g) set → takes p → number_in g d t p ≡ v p
     pub stays : (h : Field) (first last later p : ℕ) → (h.offset ≡ d.offset → ⊥) → IsOwnField g h → IsNamedAt g.unit h.offset first → IsNamedAt g.unit h.offset last → first ≤ length e.code → length e.code < last
         → IsNamedAt g.unit d.offset later → length e.code < later → number_in g h t p ≡ number_in g h s p
 
-  -- an instruction whose one field is an own entry, which it writes
-  module _ (set : ℕ) (d : Field) (i : Instr) (e : Draft) (s : CodeState) (st : State) (writes : ℕ → Bool) (value : ℕ → ℕ) (plain : step_of i ≡ Plain i) (simple : NamesFields i) (names : fields_of i ≡ d ∷ [])
+  -- an instruction whose first field is an own entry, which it writes
+  module _ (set : ℕ) (d : Field) (i : Instr) (others : List Field) (e : Draft) (s : CodeState) (st : State) (writes : ℕ → Bool) (value : ℕ → ℕ) (plain : step_of i ≡ Plain i) (simple : NamesFields i) (names : fields_of i ≡ d ∷ others)
       (goes : begun g.image (placed_instr g i) s ≡ Goes (wrote g (written_to (place g d) writes value) s)) (own : IsOwnField g d) (of_set : d.set ≡ set) (within : Within g (with_instr i e)) (here : At g s (length e.code)) (sim : Sim (under g a) alive st s) where
     abbrev write : Write
     write = written_to (place g d) writes value
@@ -156,7 +158,7 @@ module _ (g : Setting) (places : PlacesFields g) (alive : Variable → Type 0) (
     named_here = (i, there, subst (λ (xs : List Field). Any (λ (f : Field). entry_of f ≡ d.offset) xs) (sym names) (0, d, omega arith, refl, refl))
 
     d_ends : (d.set < length (shapes g)) × EndsBelow g d
-    d_ends = places.ends (length e.code) i d [] there plain simple names
+    d_ends = places.ends (length e.code) i d others there plain simple names
 
     set_exists : set < length (shapes g)
     set_exists = subst (λ (q : ℕ). q < length (shapes g)) of_set d_ends.0
@@ -172,7 +174,7 @@ module _ (g : Setting) (places : PlacesFields g) (alive : Variable → Type 0) (
     unfolding written
     winner_still = sim.memory.winner
 
-    stored : (takes : ℕ → Type 0) (v : ℕ → ℕ) → ((p : ℕ) → is_active (shapes g) s.memory d.set p ≡ a set p → takes p → (writes p ≡ true) × (value p % 2 ^ d.len ≡ v p)) → Stored set d e i s st takes v
+    pub stored : (takes : ℕ → Type 0) (v : ℕ → ℕ) → ((p : ℕ) → is_active (shapes g) s.memory d.set p ≡ a set p → takes p → (writes p ≡ true) × (value p % 2 ^ d.len ≡ v p)) → Stored set d e i s st takes v
     stored takes v taken = record {
       t = wrote g write s;
       go = one g s (wrote g write s) (begins_here g i e s within plain here ∙ goes);
@@ -184,6 +186,8 @@ module _ (g : Setting) (places : PlacesFields g) (alive : Variable → Type 0) (
         flags = λ q p within_sets below. active_apart (shapes g) write s.memory q p d_ends.1 ∙ sim.memory.flags q p within_sets below;
         winner = winner_still;
       }) sim;
+      exists = set_exists;
+      ends = d_ends.1;
       tests = λ q p. tested_apart (shapes g) write s.memory q p d_ends.1;
       has = λ p below takes_it. let both = taken p (active_here p below) takes_it in field_written write s.memory p both.0 ∙ both.1;
       stays = λ h first last later p other is_own before behind low high again after_it.
@@ -195,7 +199,7 @@ module _ (g : Setting) (places : PlacesFields g) (alive : Variable → Type 0) (
       → Stored set saved e (I.StoreContext saved) s st (λ p. Unit {0}) (λ p. from_bool (a set p))
   unfolding begun applied after step_of
   store_context set saved e s st own bit of_set within here sim =
-      stored set saved (I.StoreContext saved) e s st (λ p. true) (λ p. from_bool (is_active (shapes g) s.memory saved.set p)) refl tt refl refl own of_set within here sim (λ p. Unit {0}) (λ p. from_bool (a set p)) (λ p active always. (
+      stored set saved (I.StoreContext saved) [] e s st (λ p. true) (λ p. from_bool (is_active (shapes g) s.memory saved.set p)) refl tt refl refl own of_set within here sim (λ p. Unit {0}) (λ p. from_bool (a set p)) (λ p active always. (
         refl,
         bit_fits (is_active (shapes g) s.memory saved.set p) saved.len bit ∙ ap from_bool active,
       ))
@@ -205,7 +209,7 @@ module _ (g : Setting) (places : PlacesFields g) (alive : Variable → Type 0) (
       → Stored set holds e (I.StoreTest holds) s st (λ p. a set p ≡ true) (λ p. from_bool (is_tested (shapes g) s.memory set p))
   unfolding begun applied after step_of
   store_test set holds e s st own bit of_set within here sim =
-      stored set holds (I.StoreTest holds) e s st (λ p. is_active (shapes g) s.memory holds.set p) (λ p. from_bool (is_tested (shapes g) s.memory holds.set p)) refl tt refl refl own of_set within here sim (λ p. a set p ≡ true)
+      stored set holds (I.StoreTest holds) [] e s st (λ p. is_active (shapes g) s.memory holds.set p) (λ p. from_bool (is_tested (shapes g) s.memory holds.set p)) refl tt refl refl own of_set within here sim (λ p. a set p ≡ true)
       (λ p. from_bool (is_tested (shapes g) s.memory set p)) (λ p active takes. (active ∙ takes, bit_fits (is_tested (shapes g) s.memory holds.set p) holds.len bit ∙ ap (λ (q : ℕ). from_bool (is_tested (shapes g) s.memory q p)) of_set))
 
   -- ---- a flag is written

@@ -72,7 +72,7 @@ identity_same R.Min false = refl
 identity_same R.Max true = refl
 identity_same R.Max false = refl
 
-identity_below : (c : Combiner) (unsigned : Bool) → identity_of c unsigned < 2 ^ 32
+pub identity_below : (c : Combiner) (unsigned : Bool) → identity_of c unsigned < 2 ^ 32
 unfolding identity_of
 identity_below C.Add unsigned = omega arith
 identity_below C.And unsigned = omega arith

@@ -26,7 +26,7 @@ use Rattle.source_meaning.specs.State.{State}
 use Rattle.code_follows.specs.Fragment.{IsWord, ScalarsAmong}
 use Rattle.code_follows.proofs.Settings.{Setting, layout}
 use Rattle.code_follows.proofs.Words.{held_wide}
-use Rattle.fields_follow.specs.Fragment.{IsConstant, IsPromoted, IsPure, IsScalarName, IsWide}
+use Rattle.fields_follow.specs.Fragment.{IsConstant, IsPromoted, IsPure, IsScalarName, IsWide, KnowsExtents, extents_in}
 use Rattle.fields_follow.specs.Fields.{IsElement, file_number}
 use Rattle.fields_follow.proofs.FileFields.{first_there}
 use Rattle.fields_follow.proofs.Meaning.{and_false, no_constant, scalar_in, value_in, variable_in, wide_same}
@@ -45,6 +45,7 @@ pure_type set (T.Unary' ty op p operand) is = is.0
 pure_type set (T.Binary' ty place op p left q right) is = is.0
 pure_type set (T.Convert' ty p operand) is = is.0
 pure_type set (T.Pcoord ty axis) is = is
+pure_type set (T.LeftIndex' ty place p indexes (V.File k) of) is = is.0
 pure_type set _ is = absurd is
 
 pub promoted_type : (set : ℕ) (e : TExpr) → IsPromoted set e → IsWide set (type_of e)
@@ -53,10 +54,11 @@ promoted_type set (T.Promote' ty p operand) is = is.0
 promoted_type set (T.Brackets' ty p inner) is = subst (λ (y : ValueType). IsWide set y) (sym is.0) (promoted_type set inner is.1)
 promoted_type set _ is = absurd is
 
--- An expression has code, and the scalar variables that it names are alive.
+-- An expression has code, the scalar variables that it names are alive, and its gets name the extents of their shapes.
 pub record HasItsCode (t : Typed) (i : Instance) (alive : Variable → Type 0) (n : ℕ) (e : TExpr) : Type 0 where
   pub code : HasCode t i n e
   pub among : ScalarsAmong alive e
+  pub extents : KnowsExtents (extents_in t) e
 
 shaped : (o : Option ℕ) (set : ℕ) → o ≡ Some set → is_none o ≡ false
 shaped o set is = ap is_none is
@@ -70,6 +72,7 @@ pure_kept set (T.Unary' ty op p operand) is = shaped ty.shape set is.0.0
 pure_kept set (T.Binary' ty place op p left q right) is = shaped ty.shape set is.0.0
 pure_kept set (T.Convert' ty p operand) is = pure_kept set operand is.1
 pure_kept set (T.Pcoord ty axis) is = shaped ty.shape set is.0
+pure_kept set (T.LeftIndex' ty place p indexes (V.File k) of) is = shaped ty.shape set is.0.0
 pure_kept set _ is = absurd is
 
 pub promoted_kept : (set : ℕ) (e : TExpr) → IsPromoted set e → is_kept e ≡ true
@@ -87,6 +90,7 @@ pure_constant set (T.Unary' ty op p operand) is = ap (λ (b : Bool). b && ty.ele
 pure_constant set (T.Binary' ty place op p left q right) is = ap (λ (b : Bool). b && ty.elem.bits == 32 && is_constant left && is_constant right) (shaped ty.shape set is.0.0)
 pure_constant set (T.Convert' ty p operand) is = ap (λ (b : Bool). b && is_constant operand) (shaped ty.shape set is.0.0)
 pure_constant set (T.Pcoord ty axis) is = refl
+pure_constant set (T.LeftIndex' ty place p indexes (V.File k) of) is = refl
 pure_constant set _ is = absurd is
 
 promoted_constant : (set : ℕ) (e : TExpr) → IsPromoted set e → is_constant e ≡ false
@@ -114,6 +118,7 @@ pure_word set (T.Unary' ty op p operand) is = refl
 pure_word set (T.Binary' ty place op p left q right) is = refl
 pure_word set (T.Convert' ty p operand) is = refl
 pure_word set (T.Pcoord ty axis) is = refl
+pure_word set (T.LeftIndex' ty place p indexes (V.File k) of) is = refl
 pure_word set _ is = absurd is
 
 -- the variable of the file in whose field the value stands
@@ -179,6 +184,7 @@ pure_own t i n set (T.Convert' ty p operand) is v = by (is_unchanged 32 ty.elem 
     by true e (inr h) = inr h
     by false e (inr h) = cc
 pure_own t i n set (T.Pcoord ty axis) is v = inr refl
+pure_own t i n set (T.LeftIndex' ty place p indexes (V.File k) of) is v = inr refl
 pure_own t i n set _ is v = absurd is
 
 -- a promoted scalar is a constant, whose word is known, or a variable of the file, which stands in its register

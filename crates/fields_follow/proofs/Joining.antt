@@ -12,7 +12,7 @@ use Rattle.paris_code.specs.Spans.{StandsAt, fields_of}
 use Rattle.code_follows.proofs.Settings.{Setting}
 use Rattle.fields_follow.specs.Fields.{file_number}
 use Rattle.fields_follow.proofs.FileFields as Files
-use Rattle.fields_follow.proofs.FileFields.{IsTranslated, apart_back, few_positions, file_ends, file_exists}
+use Rattle.fields_follow.proofs.FileFields.{IsTranslated, apart_back, extents_are, few_positions, file_ends, file_exists, grid_fits}
 use Rattle.fields_follow.proofs.Placing as Placing
 use Rattle.fields_follow.proofs.Placing.{IsThere, at_bits, file_moved, own_and_file, written_apart}
 use Rattle.fields_follow.proofs.Places.{IsOwnField, PlacesFields}
@@ -39,4 +39,5 @@ module _ (g : Setting) (made : IsTranslated g.typed g.words g.before g.after g.i
     owns_apart = λ f h first at last later differ own other exists named again low high here behind more.
         apart_back (at_bits g made h) (at_bits g made f) (written_apart g made at first last later f h (own_field f own) (own_field h other) differ exists named again low high here behind more);
     few = λ set. few_positions g.typed g.words g.before g.after g.image made set;
+    grids = λ set exists. (sym (extents_are g.typed g.words g.before g.after g.image made set exists), grid_fits g.typed g.words g.before g.after g.image made set exists);
   }

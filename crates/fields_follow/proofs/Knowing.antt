@@ -15,7 +15,7 @@ use Rattle.code_follows.specs.Fragment.{May}
 use Rattle.code_follows.proofs.Besides.{under_held}
 use Rattle.code_follows.proofs.Following.{Finishes, IsKept, Sim}
 use Rattle.code_follows.proofs.Settings.{Held, Setting, Within}
-use Rattle.fields_follow.specs.Fragment.{IsCondition, IsFold, IsUpdate}
+use Rattle.fields_follow.specs.Fragment.{IsCondition, IsFold, IsParallelEffect, KnowsExtents, extents_in}
 use Rattle.fields_follow.proofs.Fields.{HoldsFields, HoldsNumbers, fields_held}
 use Rattle.fields_follow.proofs.Instructions.{SameExtents, place, shapes}
 use Rattle.fields_follow.proofs.Leaving.{EndsBelow, under}
@@ -80,9 +80,9 @@ module _ (g : Setting) where
 pub record KnowsFields (g : Setting) (scope : Scope) (a : Active) : Type 1 where
   pub places : PlacesFields g
   pub same_extents : SameExtents g scope
-  pub effects : (e : TExpr) → g.may.beside.effects e → IsUpdate e
-  pub folds : (e : TExpr) → g.may.beside.folds e → IsFold e
-  pub conditions : (set : ℕ) (e : TExpr) → g.may.beside.conditions set e → IsCondition set e
+  pub effects : (e : TExpr) → g.may.beside.effects e → IsParallelEffect e × KnowsExtents (extents_in g.typed) e
+  pub folds : (e : TExpr) → g.may.beside.folds e → IsFold e × KnowsExtents (extents_in g.typed) e
+  pub conditions : (set : ℕ) (e : TExpr) → g.may.beside.conditions set e → IsCondition set e × KnowsExtents (extents_in g.typed) e
   pub kept : BitMemory → Type 0
   pub lasts : Lasts g g.from g.entries g.upto kept
   pub opens : (st : State) (m : BitMemory) → g.held.holds st m → HoldsFields g.typed g.image a st m × kept m
@@ -108,7 +108,7 @@ module _ (g : Setting) (scope : Scope) (a : Active) (k : KnowsFields g scope a) 
 
     pub knows_inner : Lasts g from entries upto kept → KnowsFields inner scope b
     knows_inner lasts = record {
-      places = let p = k.places in record { ends = p.ends; exists = p.exists; files_end = p.files_end; file = p.file; files_apart = p.files_apart; own_file = p.own_file; owns_apart = p.owns_apart; few = p.few };
+      places = let p = k.places in record { ends = p.ends; exists = p.exists; files_end = p.files_end; file = p.file; files_apart = p.files_apart; own_file = p.own_file; owns_apart = p.owns_apart; few = p.few; grids = p.grids };
       same_extents = k.same_extents;
       effects = k.effects;
       folds = k.folds;

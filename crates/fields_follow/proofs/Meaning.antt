@@ -1,13 +1,15 @@
--- What pure parallel expressions mean: a number at each position, with the state as it was.
-use Rattle.std.proofs.Common.{◌≡◌, ◌∙◌, ℕ, zero, suc, Bool, true, false, not, ◌&&◌, ◌==◌, List, Option, Some, None, refl, sym, ap, subst, inl, inr, if◌then◌else◌, ◌⊎◌, ◌<◌, ◌^◌}
-use Rattle.std.specs.Prelude.{is_none}
+-- The numbers that pure parallel expressions mean, and what their promoted parts do.
+use Rattle.std.proofs.Common.{◌≡◌, ◌∙◌, ℕ, zero, suc, ◌+◌, Bool, true, false, not, ◌&&◌, ◌||◌, ◌==◌, List, [], ◌∷◌, Option, Some, None, refl, sym, ap, subst, inl, inr, if◌then◌else◌, ◌⊎◌, ◌<◌, ◌^◌}
+use Rattle.std.specs.Prelude.{is_none, slice_index}
+use Rattle.std.specs.Int.{from_bool}
 use Rattle.cstar_base.specs.declared.faults.RunFault.TheVariants.{DivZero}
 use Rattle.cstar_base.specs.declared.operators.Op.{Op}
 use Rattle.cstar_base.specs.declared.operators.Place.{Place}
 use Rattle.cstar_base.specs.Operators.{divides, outcome}
 use Rattle.cstar_base.specs.Orders.{least_below, or_else}
-use Rattle.cstar_tree.specs.declared.typed.TExpr.{TExpr}
+use Rattle.cstar_tree.specs.declared.typed.TExpr.{TExpr, items-the_row-TExpr}
 use Rattle.cstar_tree.specs.declared.typed.TExpr as T
+use Rattle.cstar_tree.specs.declared.typed.UnaryOp.{UnaryOp}
 use Rattle.cstar_tree.specs.declared.typed.ValueType.{ValueType}
 use Rattle.cstar_tree.specs.declared.typed.Variable.TheVariants as V
 use Rattle.cstar_tree.specs.Typed.{type_of}
@@ -16,12 +18,14 @@ use Rattle.source_meaning.specs.Constants.{constant_of, is_constant}
 use Rattle.source_meaning.specs.Expressions.{evaluated, mapped, operated}
 use Rattle.source_meaning.specs.State.{Gives, Outcome, State, then_do}
 use Rattle.source_meaning.specs.Targets.{read, variable_target}
-use Rattle.source_meaning.specs.Values.{Active, Parallel, Scalar, Scope, Value, at, convert_to, each, failing, own_coordinate, positions, unary_of, unless}
+use Rattle.source_meaning.specs.Values.{Active, Parallel, Scalar, Scope, Value, at, convert_to, each, failing, nonzero, positions, unary_of, unless}
 use Rattle.source_meaning.proofs.ConstantLaws.{Boxed, value_means}
-use Rattle.vp_sets.specs.Positions.{coordinate}
+use Rattle.lower_comm.specs.declared.news.NewsStep.{NewsStep}
+use Rattle.lower_comm.specs.News.{checked_step, step_of}
+use Rattle.vp_sets.specs.Positions.{coordinate, moved, number_at}
 use Rattle.fields_follow.specs.Fragment.{IsEverywhere, IsPromoted, IsPure, IsScalarName}
 use Rattle.cstar_base.specs.declared.elem.Elem.{Elem}
-use Rattle.cstar_base.specs.Numbers.{converted}
+use Rattle.cstar_base.specs.Numbers.{converted, number_of}
 use Rattle.code_follows.proofs.Words.{held_converted, held_wide}
 
 -- a number of 32 bits is one of another such type
@@ -38,6 +42,16 @@ variable_in st _ = 0
 unfoldable pub scalar_in : State → TExpr → ℕ
 scalar_in st e = elim (constant_of e) [ Some word ↦ word | None ↦ variable_in st e ]
 
+-- the coordinate on an axis to which a step leads, round the ends
+unfoldable pub coordinate_behind : List ℕ → ℕ → Option NewsStep → ℕ → ℕ
+coordinate_behind extents axis None q = 0
+coordinate_behind extents axis (Some step) q = moved (slice_index extents axis) (coordinate extents q axis) (number_of 32 true step.by)
+
+-- those to which indexes lead from a position, from this axis on
+unfoldable pub coordinates_behind : List ℕ → ℕ → ℕ → List TExpr → ℕ → List ℕ
+coordinates_behind extents of axis [] q = []
+coordinates_behind extents of axis (index ∷ indexes) q = coordinate_behind extents axis (step_of of axis index) q ∷ coordinates_behind extents of (axis + 1) indexes q
+
 -- the number at a position of a shape with these extents
 unfoldable pub value_in : List ℕ → State → TExpr → ℕ → ℕ
 value_in extents st (T.Variable ty x) q = st.parallel x 0 q
@@ -45,9 +59,18 @@ value_in extents st (T.Brackets' ty p inner) q = value_in extents st inner q
 value_in extents st (T.Promote' ty p operand) q = scalar_in st operand
 value_in extents st (T.Unary' ty op p operand) q = unary_of op (value_in extents st operand q)
 value_in extents st (T.Binary' ty place op p left r right) q = outcome op 32 (not (type_of left).elem.signed) (value_in extents st left q) (value_in extents st right q)
+value_in extents st (T.LogicalOr' ty p left r right) q = from_bool (nonzero (value_in extents st left q) || nonzero (value_in extents st right q))
+value_in extents st (T.LogicalAnd' ty p left r right) q = from_bool (nonzero (value_in extents st left q) && nonzero (value_in extents st right q))
 value_in extents st (T.Convert' ty p operand) q = converted ty.elem (type_of operand).elem (value_in extents st operand q)
 value_in extents st (T.Pcoord ty axis) q = coordinate extents q axis
+value_in extents st (T.LeftIndex' ty place p indexes x of) q = st.parallel x 0 (number_at extents (coordinates_behind extents of 0 (items-the_row-TExpr _ indexes) q))
 value_in extents st _ q = 0
+
+-- an operator other than the remainder leads to a step that is checked
+pub always_checked : (o : Option ℕ) (step : NewsStep) → checked_step o ≡ Some step → step.checked ≡ true
+unfolding checked_step
+always_checked None step is = cc
+always_checked (Some k) step is = ap (λ (o : Option NewsStep). elim o as (λ _. Bool) [ None ↦ true | Some s ↦ s.checked ]) (sym is)
 
 -- a type of a shape, by its parts
 pub as_shaped : (ty : ValueType) (set : ℕ) → ty.shape ≡ Some set → ty ≡ record { elem = ty.elem; shape = Some set }
@@ -91,7 +114,7 @@ either f g (inl x) = f x
 either f g (inr y) = g y
 
 module _ (scope : Scope) (active : Active) where
-  operated_is : (ty : ValueType) (set : ℕ) (place : Place) (op : Op) (unsigned : Bool) (v w : Value) (st : State) → ty.shape ≡ Some set → divides op ≡ false
+  pub operated_is : (ty : ValueType) (set : ℕ) (place : Place) (op : Op) (unsigned : Bool) (v w : Value) (st : State) → ty.shape ≡ Some set → divides op ≡ false
       → operated scope active ty place op unsigned v w st ≡ Gives (Parallel (λ p. outcome op 32 unsigned (at v p) (at w p))) st
   unfolding operated failing unless each
   operated_is ty set place op unsigned v w st shaped no_check =
@@ -99,11 +122,11 @@ module _ (scope : Scope) (active : Active) where
       ∙ ap (λ (b : Bool). unless (failing scope active (Some set) (λ p. b && at w p == 0)) DivZero place st (Gives (Parallel (λ p. outcome op 32 unsigned (at v p) (at w p))) st)) no_check
       ∙ ap (λ (o : Option ℕ). unless (elim o [ None ↦ None | Some p ↦ Some (Some p) ]) DivZero place st (Gives (Parallel (λ p. outcome op 32 unsigned (at v p) (at w p))) st)) (none_fails (active set) (positions scope set))
 
-  mapped_is : (ty : ValueType) (set : ℕ) (f : ℕ → ℕ) (v : Value) → ty.shape ≡ Some set → mapped ty f v ≡ Parallel (λ p. f (at v p))
+  pub mapped_is : (ty : ValueType) (set : ℕ) (f : ℕ → ℕ) (v : Value) → ty.shape ≡ Some set → mapped ty f v ≡ Parallel (λ p. f (at v p))
   unfolding mapped each
   mapped_is ty set f v shaped = ap (λ (y : ValueType). mapped y f v) (as_shaped ty set shaped)
 
-  read_is : (ty : ValueType) (set k : ℕ) (st : State) → ty.shape ≡ Some set → read st (variable_target ty.shape (V.File k) 0) ≡ Parallel (λ p. st.parallel (V.File k) 0 p)
+  pub read_is : (ty : ValueType) (set k : ℕ) (st : State) → ty.shape ≡ Some set → read st (variable_target ty.shape (V.File k) 0) ≡ Parallel (λ p. st.parallel (V.File k) 0 p)
   unfolding read variable_target
   read_is ty set k st shaped = ap (λ (o : Option ℕ). read st (variable_target o (V.File k) 0)) shaped
 
@@ -124,7 +147,7 @@ module _ (scope : Scope) (active : Active) where
       by true o is_c is_o h = subst (λ (o : Option ℕ). Const.IsValueOf e o) (is_o ∙ h) (value_means e is_c) scope active st
       by false o is_c is_o h = cc
 
-  not_constant : (e : TExpr) → IsScalarName e → is_constant e ≡ false
+  pub not_constant : (e : TExpr) → IsScalarName e → is_constant e ≡ false
   unfolding IsScalarName is_constant
   not_constant (T.Variable ty x) is = refl
   not_constant (T.Brackets' ty p inner) is = and_false (is_none ty.shape && ty.elem.bits == (type_of inner).elem.bits) (is_constant inner) (not_constant inner is.1)
@@ -155,18 +178,8 @@ module _ (scope : Scope) (active : Active) where
       ∙ ap (λ (o : Outcome Value). then_do o (λ y after. operated scope active ty place op (not (type_of left).elem.signed) (Parallel v) y after)) other
       ∙ operated_is ty set place op (not (type_of left).elem.signed) (Parallel v) (Parallel w) st shaped no_check
 
-  pub pure_means : (set : ℕ) (e : TExpr) (st : State) → IsPure set e → evaluated scope e active st ≡ Gives (Parallel (λ q. value_in (scope.extents set) st e q)) st
-  unfolding IsPure evaluated value_in then_do at convert_to each own_coordinate
-  pure_means set (T.Variable ty (V.File k)) st is = ap (λ (v : Value). Gives v st) (read_is ty set k st is.0)
-  pure_means set (T.Brackets' ty p inner) st is = pure_means set inner st is.1
-  pure_means set (T.Unary' ty op p operand) st is =
-      ap (λ (o : Outcome Value). then_do o (λ v after. Gives (mapped ty (unary_of op) v) after)) (pure_means set operand st is.2)
-      ∙ ap (λ (v : Value). Gives v st) (mapped_is ty set (unary_of op) (Parallel (λ q. value_in (scope.extents set) st operand q)) is.0.0)
-  pure_means set (T.Binary' ty place op p left q right) st is =
-      binary_means set ty place op p q left right (λ q. value_in (scope.extents set) st left q) (λ q. value_in (scope.extents set) st right q) st is.0.0 is.1.1
-      (either (λ h. pure_means set left st h) (λ h. promoted_means set left st h) (left_of set left right is.2)) (either (λ h. pure_means set right st h) (λ h. promoted_means set right st h) (right_of set left right is.2))
-  pure_means set (T.Convert' ty p operand) st is =
-      ap (λ (o : Outcome Value). then_do o (λ v after. Gives (convert_to ty (type_of operand).elem v) after)) (pure_means set operand st is.1)
-      ∙ ap (λ (y : ValueType). Gives (convert_to y (type_of operand).elem (Parallel (λ q. value_in (scope.extents set) st operand q))) st) (as_shaped ty set is.0.0)
-  pure_means set (T.Pcoord ty axis) st is = ap (λ (o : Option ℕ). Gives (own_coordinate scope o axis) st) is.0
-  pure_means set _ st is = absurd is
+  -- one before an operand that changes nothing
+  pub unary_means : (set : ℕ) (ty : ValueType) (op : UnaryOp) (p : Boxed) (operand : TExpr) (v : ℕ → ℕ) (st : State) → ty.shape ≡ Some set → evaluated scope operand active st ≡ Gives (Parallel v) st
+      → evaluated scope (T.Unary' ty op p operand) active st ≡ Gives (Parallel (λ x. unary_of op (v x))) st
+  unfolding evaluated then_do at
+  unary_means set ty op p operand v st shaped one = ap (λ (o : Outcome Value). then_do o (λ w after. Gives (mapped ty (unary_of op) w) after)) one ∙ ap (λ (w : Value). Gives w st) (mapped_is ty set (unary_of op) (Parallel v) shaped)

@@ -1,5 +1,5 @@
 -- Where the fields of a unit stand in the image, as the code of its expressions relies on it.
-use Rattle.std.proofs.Common.{◌≡◌, ◌∙◌, ℕ, ◌+◌, ◌<◌, ◌≤◌, ◌^◌, List, [], ◌∷◌, ◌++◌, length, slice_get, Some, refl, ap, append_assoc}
+use Rattle.std.proofs.Common.{◌≡◌, ◌∙◌, ℕ, ◌+◌, ◌<◌, ◌≤◌, ◌^◌, true, List, [], ◌∷◌, ◌++◌, length, slice_get, Some, refl, ap, append_assoc}
 use Rattle.cstar_tree.specs.declared.typed.VarInfo.{VarInfo}
 use Rattle.lower_base.specs.Drafts.{Draft, Plain, Step, step as step_of, with_instr, with_step}
 use Rattle.paris_code.specs.declared.instr.Instr.{Instr}
@@ -15,9 +15,11 @@ use Rattle.source_meaning.specs.Values.{Active}
 use Rattle.code_follows.proofs.Settings.{Setting, Within}
 use Rattle.code_follows.proofs.Standing.{stands}
 use Rattle.fields_follow.proofs.Fields.{HoldsFields}
+use Rattle.vp_sets.specs.Positions.{positions_fit}
+use Rattle.fields_follow.specs.Fragment.{extents_in}
 use Rattle.fields_follow.specs.Fields.{IsElement, file_field, file_number}
 use Rattle.fields_follow.proofs.FileFields.{Apart}
-use Rattle.fields_follow.proofs.Instructions.{place, shapes}
+use Rattle.fields_follow.proofs.Instructions.{extents, place, shapes}
 use Rattle.fields_follow.proofs.Named.{NamesFields}
 
 module _ (g : Setting) where
@@ -35,7 +37,7 @@ module _ (g : Setting) where
   -- What is known of the unit's fields in the image: those that instructions name end below the flags; the
   -- entry of an element is at its field, which ends below them too, and is apart from those of other elements and
   -- from own entries; two own entries are apart where each is named at an instruction, or before it, and behind it;
-  -- and the shapes have few positions.
+  -- and the shapes have few positions, and are grids with the extents of the source.
   pub record PlacesFields : Type 0 where
     pub ends : (at : ℕ) (i : Instr) (f : Field) (others : List Field) → StandsAt g.unit at i → step_of i ≡ Plain i → NamesFields i → fields_of i ≡ f ∷ others → (f.set < length (shapes g)) × ((place g f).offset + f.len ≤ bits_at (shapes g) f.set)
     pub exists : (k element set : ℕ) (info : VarInfo) → IsElement g.typed k info set element → set < length (shapes g)
@@ -46,6 +48,7 @@ module _ (g : Setting) where
     pub owns_apart : (f h : Field) (first at last later : ℕ) → (f.offset ≡ h.offset → ⊥) → IsOwnField f → IsOwnField h → h.set < length (shapes g) → IsNamedAt g.unit f.offset first → IsNamedAt g.unit f.offset last → first ≤ at → at < last
         → IsNamedAt g.unit h.offset at → IsNamedAt g.unit h.offset later → at < later → Apart (place g f) (place g h)
     pub few : (set : ℕ) → processors (shapes g) set ≤ 2 ^ 20
+    pub grids : (set : ℕ) → set < length (shapes g) → (extents_in g.typed set ≡ extents g set) × (positions_fit (extents g set) ≡ true)
 
   -- what the memory holds of the source's state is the numbers of the fields, where these positions are active
   pub record HoldsTheFields : Type 0 where

@@ -1,13 +1,16 @@
 -- Pure parallel expressions are quiet.
-use Rattle.std.proofs.Common.{◌≡◌, Bool, true, false, ◌&&◌, ℕ, Option, Some, None, if◌then◌else◌, refl}
-use Rattle.cstar_tree.specs.declared.typed.TExpr.{TExpr}
+use Rattle.std.proofs.Common.{◌≡◌, Bool, true, false, ◌&&◌, ℕ, ◌+◌, Option, Some, None, if◌then◌else◌, refl}
+use Rattle.cstar_base.specs.declared.operators.Op.TheVariants as P
+use Rattle.cstar_tree.specs.declared.typed.TExpr.{TExpr, Row_of-TExpr, end_of-TExpr, more_of-TExpr}
 use Rattle.cstar_tree.specs.declared.typed.TExpr as T
 use Rattle.cstar_tree.specs.declared.typed.Variable.TheVariants as V
-use Rattle.lower_expr.specs.Operands.{is_quiet}
+use Rattle.lower_comm.specs.declared.news.NewsStep.{NewsStep}
+use Rattle.lower_comm.specs.News.{is_extent, offset_of, step_of, wrapped_step}
+use Rattle.lower_expr.specs.Operands.{are_quiet, is_quiet}
 use Rattle.source_meaning.specs.Constants as Const
 use Rattle.source_meaning.specs.Constants.{constant_of, is_constant}
-use Rattle.fields_follow.specs.Fragment.{IsConstant, IsPromoted, IsPure, IsScalarName}
-use Rattle.fields_follow.proofs.Meaning.{either, left_of, right_of}
+use Rattle.fields_follow.specs.Fragment.{AreWrapping, IsConstant, IsDot, IsIndex, IsOffset, IsPromoted, IsPure, IsScalarName}
+use Rattle.fields_follow.proofs.Meaning.{always_checked, either, left_of, right_of}
 
 both : (a b : Bool) → a ≡ true → b ≡ true → (a && b) ≡ true
 both true b e f = f
@@ -65,6 +68,43 @@ promoted_quiet set (T.Promote' ty p operand) is = either (λ (constant : IsConst
 promoted_quiet set (T.Brackets' ty p inner) is = promoted_quiet set inner is.1
 promoted_quiet set _ is = absurd is
 
+-- the indexes of a get
+dot_quiet : (set axis : ℕ) (e : TExpr) → IsDot set axis e → is_quiet e ≡ true
+unfolding IsDot is_quiet
+dot_quiet set axis (T.Brackets' ty p inner) is = dot_quiet set axis inner is
+dot_quiet set axis (T.Dot ty own) is = refl
+dot_quiet set axis _ is = absurd is
+
+offset_quiet : (set axis : ℕ) (e : TExpr) → IsOffset set axis e → is_quiet e ≡ true
+unfolding IsOffset is_quiet
+offset_quiet set axis (T.Brackets' ty p inner) is = offset_quiet set axis inner is
+offset_quiet set axis (T.Binary' ty place op p left q right) is = both (is_quiet left) (is_quiet right) (dot_quiet set axis left is.1) (promoted_quiet set right is.2)
+offset_quiet set axis _ is = absurd is
+
+extent_quiet : (of axis : ℕ) (e : TExpr) → is_extent of axis e ≡ true → is_quiet e ≡ true
+unfolding is_extent is_quiet
+extent_quiet of axis (T.Promote' ty p operand) is = extent_quiet of axis operand is
+extent_quiet of axis (T.Brackets' ty p inner) is = extent_quiet of axis inner is
+extent_quiet of axis (T.DimOf ty shape named value) is = refl
+extent_quiet of axis _ is = cc
+
+index_quiet : (set axis : ℕ) (e : TExpr) (step : NewsStep) → IsIndex set axis e → step_of set axis e ≡ Some step → step.checked ≡ false → is_quiet e ≡ true
+unfolding IsIndex step_of is_quiet
+index_quiet set axis (T.Brackets' ty p inner) step is goes free = index_quiet set axis inner step is.1 goes free
+index_quiet set axis (T.Dot ty own) step is goes free = refl
+index_quiet set axis (T.Binary' ty place P.Mod p left q right) step is goes free = by (is_extent set axis right) refl goes
+  where
+    by : (b : Bool) → is_extent set axis right ≡ b → (if b then wrapped_step (offset_of left) else None) ≡ Some step → (is_quiet left && is_quiet right) ≡ true
+    by true is_b h = both (is_quiet left) (is_quiet right) (offset_quiet set axis left is.2) (extent_quiet set axis right is_b)
+    by false is_b h = cc
+index_quiet set axis (T.Binary' ty place op p left q right) step is goes free = let checked : step.checked ≡ true = always_checked _ step goes in cc
+index_quiet set axis _ step is goes free = absurd is
+
+wrapping_quiet : {k : _} (set axis : ℕ) (indexes : Row_of-TExpr k) → AreWrapping set axis indexes → are_quiet indexes ≡ true
+unfolding AreWrapping are_quiet
+wrapping_quiet set axis end_of-TExpr are = refl
+wrapping_quiet set axis (more_of-TExpr index rest) are = both (is_quiet index) (are_quiet rest) (index_quiet set axis index are.0.1.0 are.0.0 are.0.1.1.0 are.0.1.1.1) (wrapping_quiet set (axis + 1) rest are.1)
+
 pub pure_quiet : (set : ℕ) (e : TExpr) → IsPure set e → is_quiet e ≡ true
 unfolding IsPure is_quiet
 pure_quiet set (T.Variable ty (V.File k)) is = refl
@@ -74,4 +114,5 @@ pure_quiet set (T.Binary' ty place op p left q right) is =
     both (is_quiet left) (is_quiet right) (either (λ h. pure_quiet set left h) (λ h. promoted_quiet set left h) (left_of set left right is.2)) (either (λ h. pure_quiet set right h) (λ h. promoted_quiet set right h) (right_of set left right is.2))
 pure_quiet set (T.Convert' ty p operand) is = pure_quiet set operand is.1
 pure_quiet set (T.Pcoord ty axis) is = refl
+pure_quiet set (T.LeftIndex' ty place p indexes (V.File k) of) is = wrapping_quiet set 0 indexes is.2
 pure_quiet set _ is = absurd is

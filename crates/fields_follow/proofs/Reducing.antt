@@ -150,7 +150,8 @@ module _ (g : Setting) (alive : Variable → Type 0) where
     }
 
     module _ (places : PlacesFields g) (fields : HoldsTheFields g) (set : ℕ) (v : ℕ → ℕ) where
-      abbrev whole : ℕ
+      -- the fold of these numbers by itself
+      abbrev pub whole : ℕ
       whole = folded (combiner_of op) (not signed) (fields.active set) v (processors (shapes g) set)
 
       -- the number that the reduction gives of these
@@ -158,7 +159,7 @@ module _ (g : Setting) (alive : Variable → Type 0) where
       number = reduced op (not signed) (fields.active set) v (processors (shapes g) set)
 
       -- the fold of a field that has these is theirs, and a word
-      whole_is : (f : Field) (t : CodeState) (st : State) → HasNumbers g set f t v → Sim g alive st t → (global_fold (shapes g) t.memory (folding op signed) (place g f) ≡ whole) × (whole < 2 ^ 32)
+      pub whole_is : (f : Field) (t : CodeState) (st : State) → HasNumbers g set f t v → Sim g alive st t → (global_fold (shapes g) t.memory (folding op signed) (place g f) ≡ whole) × (whole < 2 ^ 32)
       whole_is f t st h sim =
           subst (λ (n : ℕ). (global_fold (shapes g) t.memory (folding op signed) (place g f) ≡ folded (combiner_of op) (not signed) (fields.active set) v n) × (folded (combiner_of op) (not signed) (fields.active set) v n < 2 ^ 32))
           (ap (λ (k : ℕ). processors (shapes g) k) h.of_set)

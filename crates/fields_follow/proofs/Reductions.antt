@@ -31,12 +31,13 @@ use Rattle.source_meaning.proofs.ConstantLaws.{Boxed}
 use Rattle.vp_sets.specs.Positions.{position_count}
 use Rattle.code_follows.proofs.Following.{Sim}
 use Rattle.code_follows.proofs.Settings.{At, Setting, layout}
-use Rattle.fields_follow.specs.Fragment.{IsFold, IsPure}
+use Rattle.fields_follow.specs.Fragment.{IsFold, IsPure, KnowsExtents}
 use Rattle.fields_follow.proofs.Forms.{HasItsCode, pure_type}
 use Rattle.fields_follow.proofs.Instructions.{SameExtents, extents}
-use Rattle.fields_follow.proofs.Meaning.{either, pure_means, value_in}
+use Rattle.fields_follow.proofs.Meaning.{either, value_in}
 use Rattle.fields_follow.proofs.Passing.{After, GivesField, after_same}
 use Rattle.fields_follow.proofs.Places.{HoldsTheFields, PlacesFields}
+use Rattle.fields_follow.proofs.Pure.{are_grids, pure_means}
 use Rattle.fields_follow.proofs.Reducing.{GivesNumber, fold_passes}
 use Rattle.code_follows.specs.Fragment.{ScalarsAmong}
 
@@ -70,6 +71,7 @@ pure_kind set (T.Binary' ty place op p left q right) is =
     ∙ of_bits (is_bitwise op) (kind_of left) (kind_of right) (either (λ h. common_first (kind_of left) (kind_of right) (pure_kind set left h.0)) (λ h. common_second (kind_of left) (kind_of right) (pure_kind set right h.1)) is.2)
 pure_kind set (T.Convert' ty p operand) is = ap (λ (k : Option Elem). converted_kind ty.elem k) (pure_kind set operand is.1) ∙ wide_kind ty.elem is.0.1
 pure_kind set (T.Pcoord ty axis) is = refl
+pure_kind set (T.LeftIndex' ty place p indexes (V.File k) of) is = wide_kind ty.elem is.0.1
 pure_kind set _ is = absurd is
 
 -- the number of a fold is a word
@@ -80,8 +82,8 @@ fold_type _ is = absurd is
 
 module _ (g : Setting) (alive : Variable → Type 0) where
   operand_code : (n : ℕ) (ty : ValueType) (op : ReduceOp) (p : Boxed) (operand : TExpr) → HasItsCode g.typed g.instance alive n (T.Reduce' ty op p operand) → HasItsCode g.typed g.instance alive n operand
-  unfolding IsShaped IsLowerable NamesVariables ScalarsAmong
-  operand_code n ty op p operand c = record { code = record { shaped = c.code.shaped; lowerable = c.code.lowerable.2; names = c.code.names }; among = c.among }
+  unfolding IsShaped IsLowerable NamesVariables ScalarsAmong KnowsExtents
+  operand_code n ty op p operand c = record { code = record { shaped = c.code.shaped; lowerable = c.code.lowerable.2; names = c.code.names }; among = c.among; extents = c.extents }
 
   -- the operand of a reduction has its 32 bits
   operand_bits : (op : ReduceOp) (operand : TExpr) (d : Draft) → kind_of operand ≡ None → next_of g.typed (layout g) (reduced_bits op operand) true operand d ≡ next_of g.typed (layout g) 32 true operand d
@@ -106,10 +108,10 @@ module _ (g : Setting) (alive : Variable → Type 0) where
     abbrev reduction : ReduceOp → TExpr → ℕ → State → List ℕ → ℕ
     reduction op operand set st xs = reduced op (not (type_of operand).elem.signed) (fields.active set) (λ q. value_in xs st operand q) (position_count xs)
 
-    reduction_means : (ty : ValueType) (op : ReduceOp) (p : Boxed) (operand : TExpr) (set : ℕ) (st : State) → IsPure set operand → evaluated scope (T.Reduce' ty op p operand) fields.active st ≡ Source.Gives (Scalar (reduction op operand set st (scope.extents set))) st
+    reduction_means : (ty : ValueType) (op : ReduceOp) (p : Boxed) (operand : TExpr) (set : ℕ) (st : State) → IsPure set operand → HasItsCode g.typed g.instance alive n operand → evaluated scope (T.Reduce' ty op p operand) fields.active st ≡ Source.Gives (Scalar (reduction op operand set st (scope.extents set))) st
     unfolding evaluated reduction_of then_do at positions
-    reduction_means ty op p operand set st is =
-        ap (λ (o : Outcome Value). then_do o (λ v after. Source.Gives (reduction_of scope fields.active op (type_of operand) v) after)) (pure_means scope fields.active set operand st is)
+    reduction_means ty op p operand set st is c =
+        ap (λ (o : Outcome Value). then_do o (λ v after. Source.Gives (reduction_of scope fields.active op (type_of operand) v) after)) (pure_means scope fields.active g.typed g.instance n set operand st is (are_grids g scope places same_extents set) c.code.names c.extents)
         ∙ ap (λ (o : Option ℕ). Source.Gives (elim o as (λ _. Value) [ None ↦ Parallel (λ q. value_in (scope.extents set) st operand q) | Some s ↦ Scalar (reduced op (not (type_of operand).elem.signed) (fields.active s) (λ q. value_in (scope.extents set) st operand q) (positions scope s)) ]) st) (pure_type set operand is).0
 
     -- A fold gives a number in the source and changes nothing; its code passes, and its last instructions put that number
@@ -120,7 +122,7 @@ module _ (g : Setting) (alive : Variable → Type 0) where
     folds_give (T.Reduce' ty op p operand) (word, (set, is)) c d s st r here sim = (
       reduction op operand set st (scope.extents set),
       (
-        reduction_means ty op p operand set st is,
+        reduction_means ty op p operand set st is (operand_code n ty op p operand c),
         (fold_passes g alive places fields ty op p operand set (pure_type set operand is) (pure_kind set operand is) d s st (λ q. value_in (extents g set) st operand q) r (reduction op operand set st (scope.extents set))
             (λ exists. ap (λ (xs : List ℕ). reduction op operand set st xs) (sym (same_extents set exists)))
             (after_same g (GivesPure set operand d s st) (operand_bits op operand d (pure_kind set operand is)) (stand set operand is (operand_code n ty op p operand c) d s st here sim))),

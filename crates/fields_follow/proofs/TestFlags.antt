@@ -30,6 +30,7 @@ use Rattle.fields_follow.proofs.Flags.{above_fields, bit_is, context_under_test,
 use Rattle.fields_follow.proofs.Instructions.{HasNumbers, number_in, place, shapes, wrote}
 use Rattle.fields_follow.proofs.Leaving.{Leaves}
 use Rattle.fields_follow.proofs.Passing.{Passes}
+use Rattle.fields_follow.proofs.PassingTests.{PassesTests, tests_passed}
 use Rattle.fields_follow.proofs.Places.{HoldsTheFields, PlacesFields, of_file}
 
 -- a relation of the machine holds where that of the language does
@@ -52,7 +53,7 @@ compares P.Ge true e = record { relation = C.SGe; is = refl; same = λ a b. refl
 compares P.Ge false e = record { relation = C.UGe; is = refl; same = λ a b. refl }
 compares _ signed e = cc
 
-truth_is : (b : Bool) → from_bool b ≡ from_bool (nonzero (from_bool b))
+pub truth_is : (b : Bool) → from_bool b ≡ from_bool (nonzero (from_bool b))
 truth_is true = refl
 truth_is false = refl
 
@@ -89,13 +90,29 @@ module _ (g : Setting) where
     goes = ap (λ (q : ℕ). Goes (wrote g (written_to (test_run (shapes g) q) (λ p. is_active (shapes g) s.memory q p) (λ p. element (shapes g) (I.Compare c.relation (place g a) (place g b)) [] s.memory p)) s)) one.of_set;
   }
 
-  pub puts_nonzero : (set : ℕ) (a : Field) (s : CodeState) (v : ℕ → ℕ) → HasNumbers g set a s v → PutsTest set (I.NeZero a) s v
+  -- a field of a set is zero where these numbers are, at active positions
+  abbrev pub Tells : ℕ → Field → CodeState → (ℕ → ℕ) → Type 0
+  Tells set a s v = (a.set ≡ set) × ((p : ℕ) → p < processors (shapes g) set → is_active (shapes g) s.memory set p ≡ true → (number_in g a s p == 0) ≡ (v p == 0))
+
+  pub numbers_tell : (set : ℕ) (a : Field) (s : CodeState) (v : ℕ → ℕ) → HasNumbers g set a s v → Tells set a s v
+  numbers_tell set a s v has = (has.of_set, λ p below active. ap (λ (n : ℕ). n == 0) (has.are p below active))
+
+  pub puts_nonzero : (set : ℕ) (a : Field) (s : CodeState) (v : ℕ → ℕ) → Tells set a s v → PutsTest set (I.NeZero a) s v
   unfolding begun applied after step_of
-  puts_nonzero set a s v has = record {
+  puts_nonzero set a s v tells = record {
     plain = refl;
     takes = λ p. element (shapes g) (I.NeZero (place g a)) [] s.memory p;
-    value = λ p below active. ap (λ (n : ℕ). from_bool (nonzero n)) (has.are p below active);
-    goes = ap (λ (q : ℕ). Goes (wrote g (written_to (test_run (shapes g) q) (λ p. is_active (shapes g) s.memory q p) (λ p. element (shapes g) (I.NeZero (place g a)) [] s.memory p)) s)) has.of_set;
+    value = λ p below active. ap (λ (b : Bool). from_bool (not b)) (tells.1 p below active);
+    goes = ap (λ (q : ℕ). Goes (wrote g (written_to (test_run (shapes g) q) (λ p. is_active (shapes g) s.memory q p) (λ p. element (shapes g) (I.NeZero (place g a)) [] s.memory p)) s)) tells.0;
+  }
+
+  pub puts_zero : (set : ℕ) (a : Field) (s : CodeState) (v : ℕ → ℕ) → Tells set a s v → PutsTest set (I.EqZero a) s (λ p. from_bool (v p == 0))
+  unfolding begun applied after step_of
+  puts_zero set a s v tells = record {
+    plain = refl;
+    takes = λ p. element (shapes g) (I.EqZero (place g a)) [] s.memory p;
+    value = λ p below active. ap (λ (b : Bool). from_bool b) (tells.1 p below active) ∙ truth_is (v p == 0);
+    goes = ap (λ (q : ℕ). Goes (wrote g (written_to (test_run (shapes g) q) (λ p. is_active (shapes g) s.memory q p) (λ p. element (shapes g) (I.EqZero (place g a)) [] s.memory p)) s)) tells.0;
   }
 
   module _ (alive : Variable → Type 0) (fields : HoldsTheFields g) where
@@ -104,11 +121,10 @@ module _ (g : Setting) where
       pub leaves : Leaves g alive d e s st
       pub flags : (p : ℕ) → p < processors (shapes g) set → fields.active set p ≡ true → is_tested (shapes g) leaves.t.memory set p ≡ nonzero (v p)
 
-    -- code that passes, and an instruction that puts the tests
-    pub tested_last : PlacesFields g → (bound set : ℕ) (d e : Draft) (i : Instr) (s : CodeState) (st : State) (v : ℕ → ℕ) (used : Type 0) → length d.fields ≤ bound → (p : Passes g alive bound d e s st used) → used → set < length (shapes g) → Within g (with_instr i e) → PutsTest set i p.t v
-        → LeavesTests d s set st v (with_instr i e)
+    -- code of conditions that passes, and an instruction that puts the tests
+    pub tested_behind : PlacesFields g → (set : ℕ) (d e : Draft) (i : Instr) (s : CodeState) (st : State) (v : ℕ → ℕ) (used : Type 0) → (p : PassesTests g alive d e s st used) → used → set < length (shapes g) → Within g (with_instr i e) → PutsTest set i p.t v → LeavesTests d s set st v (with_instr i e)
     unfolding written
-    tested_last places bound set d e i s st v used less p wanted exists within puts = record {
+    tested_behind places set d e i s st v used p wanted exists within puts = record {
       leaves = record {
         grown = (p.grown.0 + 1, extended d e (with_instr i e) p.grown.0 1 p.grown.1 (and_one g i e));
         t = wrote g flag p.t;
@@ -135,7 +151,7 @@ module _ (g : Setting) where
         };
         stays = λ h first last q below own ends before low after high.
             still (place g h) q ends
-            ∙ p.stays wanted h first last q (omega (arith, below, less)) own before low after (let l = code_more g i e in omega (arith, high, l));
+            ∙ p.stays wanted h first last q below own ends before low after (let l = code_more g i e in omega (arith, high, l));
       };
       flags = λ q below on.
           let now : is_active (shapes g) p.t.memory set q ≡ true = was.flags set q exists below ∙ on in
@@ -156,3 +172,9 @@ module _ (g : Setting) where
 
         same_winner : (written flag p.t.memory).winner ≡ st.winner
         same_winner = was.winner
+
+    -- code that passes, and such an instruction
+    pub tested_last : PlacesFields g → (bound set : ℕ) (d e : Draft) (i : Instr) (s : CodeState) (st : State) (v : ℕ → ℕ) (used : Type 0) → length d.fields ≤ bound → (p : Passes g alive bound d e s st used) → used → set < length (shapes g) → Within g (with_instr i e) → PutsTest set i p.t v
+        → LeavesTests d s set st v (with_instr i e)
+    unfolding tests_passed
+    tested_last places bound set d e i s st v used less p wanted exists within puts = tested_behind places set d e i s st v used (tests_passed g alive bound d e s st used less p) wanted exists within puts

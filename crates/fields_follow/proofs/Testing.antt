@@ -1,91 +1,127 @@
 -- The code of a condition leaves the test flags.
-use Rattle.std.proofs.Common.{◌≡◌, ◌∙◌, ℕ, ◌<◌, ◌==◌, ◌&&◌, Bool, true, false, List, [], length, Option, Some, None, refl, sym, ap, arith, if◌then◌else◌}
-use Rattle.std.specs.Prelude.{is_none}
+use Rattle.std.proofs.Common.{◌≡◌, ◌∙◌, ℕ, ◌<◌, ◌==◌, ◌&&◌, ◌||◌, ◌⊎◌, inl, inr, Bool, true, false, List, length, Option, Some, None, refl, sym, ap, arith, if◌then◌else◌}
+use Rattle.std.specs.Int.{from_bool}
 use Rattle.cstar_base.specs.declared.elem.Elem.{Elem}
+use Rattle.cstar_base.specs.declared.operators.Op.{Op}
+use Rattle.cstar_base.specs.declared.operators.Place.{Place}
+use Rattle.cstar_base.specs.Operators.{divides}
+use Rattle.cstar_tree.specs.declared.typed.Instance.{Instance}
 use Rattle.cstar_tree.specs.declared.typed.TExpr.{TExpr}
 use Rattle.cstar_tree.specs.declared.typed.TExpr as T
+use Rattle.cstar_tree.specs.declared.typed.Typed.{Typed}
+use Rattle.cstar_tree.specs.declared.typed.UnaryOp.{UnaryOp}
+use Rattle.cstar_tree.specs.declared.typed.UnaryOp.TheVariants as U
 use Rattle.cstar_tree.specs.declared.typed.ValueType.{ValueType}
 use Rattle.cstar_tree.specs.declared.typed.VarInfo.{VarInfo}
 use Rattle.cstar_tree.specs.declared.typed.Variable.{Variable}
 use Rattle.cstar_tree.specs.declared.typed.Variable.TheVariants as V
 use Rattle.cstar_tree.specs.StatementTypes.{variable_info}
 use Rattle.cstar_tree.specs.Typed.{type_of}
+use Rattle.code_lengths.specs.Lowerable.{InField}
 use Rattle.code_lengths.specs.Naming.{HasVariable, NamesVariables, plain}
 use Rattle.code_lengths.specs.Ready.{IsReady}
+use Rattle.code_lengths.proofs.Agreeing.{expressions}
 use Rattle.lower_base.specs.declared.emit.Out.{Out}
 use Rattle.lower_base.specs.declared.emit.Out.TheVariants as O
 use Rattle.lower_base.specs.Drafts.{Draft, Made, Makes, an_entry, in_field, step as step_of, then_make, with_instr}
-use Rattle.lower_base.specs.Kinds.{bits_of, kind_of}
-use Rattle.lower_base.specs.Operators.{relates}
-use Rattle.lower_expr.specs.Operands.{in_place, operand_by, own_of, standing}
+use Rattle.lower_base.specs.Kinds.{binary_kind, bits_of, common_kind, is_bitwise, kind_of, truth_type}
+use Rattle.lower_base.specs.Operators.{negates, relates}
+use Rattle.lower_expr.specs.declared.operands.Own.{Own}
+use Rattle.lower_expr.specs.Joined.{flag_by, is_flag}
+use Rattle.lower_expr.specs.Operands.{ignores_context, in_place, operand_by, own_of, standing}
 use Rattle.lower_expr.specs.Steps.{has_truth}
-use Rattle.lower_expr.specs.Values.{next_of, nonzero_tested, tested, tested_by, truth_of, value_of}
+use Rattle.lower_expr.specs.Values.{condition_by, condition_of, flag_of, logical_by, next_of, nonzero_tested, tested, tested_by, truth_of, value_of, zero_tested}
 use Rattle.paris_code.specs.declared.instr.Instr.TheVariants as I
 use Rattle.paris_code.specs.declared.operands.Field.{Field}
 use Rattle.paris_code.specs.declared.program.Owner.TheVariants as W
 use Rattle.paris_code.specs.Code.{CodeState}
-use Rattle.paris_code.specs.Spans.{StandsAt}
-use Rattle.source_meaning.specs.Constants.{is_constant}
 use Rattle.source_meaning.specs.Expressions.{evaluated}
+use Rattle.source_meaning.specs.Narrowing.{and_then, or_then, where_nonzero, where_zero}
 use Rattle.source_meaning.specs.State as Source
-use Rattle.source_meaning.specs.State.{State}
-use Rattle.source_meaning.specs.Values.{Active, Parallel, Scope}
+use Rattle.source_meaning.specs.State.{Outcome, State, then_do}
+use Rattle.source_meaning.specs.Values.{Active, Parallel, Scope, Value, at, nonzero, unary_of}
 use Rattle.source_meaning.proofs.ConstantLaws.{Boxed}
 use Rattle.code_follows.proofs.Following.{Extends, HasRegisters, Sim}
+use Rattle.code_follows.proofs.Values.{extends_grown}
 use Rattle.code_follows.proofs.Settings.{At, Setting, and_one, layout}
 use Rattle.fields_follow.specs.Fields.{IsElement, file_number}
-use Rattle.fields_follow.specs.Fragment.{IsCondition, IsPure, IsWide}
-use Rattle.fields_follow.proofs.Expressions.{binary_parts, brackets_part, pure_after}
-use Rattle.fields_follow.proofs.Forms.{HasItsCode, element_is, field_is, not_held, pure_constant}
+use Rattle.fields_follow.specs.Fragment.{IsCondition, IsPure, IsWide, KnowsExtents, extents_in}
+use Rattle.fields_follow.proofs.ConditionCode.{Bit, Told, Truth, bit_not_value, bit_taken, flag_after, flag_extends, joined_after, joined_value, nonzero_after, operand_at, relation_value, stored_after, turned_after, word_not_value, zero_after}
+use Rattle.fields_follow.proofs.Conditions.{HaveTheirCode, and_codes, condition_constant, condition_kept, condition_type, conditions_join, or_codes}
+use Rattle.fields_follow.proofs.Expressions.{binary_parts, brackets_part, pure_after, unary_part}
+use Rattle.fields_follow.proofs.Forms.{HasItsCode, element_is, field_is, not_held}
 use Rattle.fields_follow.proofs.Instructions.{HasNumbers, SameExtents, extents, place, shapes}
-use Rattle.fields_follow.proofs.Meaning.{and_false, binary_means, either, left_of, promoted_means, pure_means, right_of, value_in}
-use Rattle.fields_follow.proofs.Passing.{After, Behind, after_same, gives_numbers, in_file_has, made_after, passes_all, passes_from, then_after}
-use Rattle.fields_follow.proofs.Places.{HoldsTheFields, PlacesFields, stands_here}
+use Rattle.fields_follow.proofs.Meaning.{AreOperands, binary_means, either, left_of, promoted_means, right_of, unary_means, value_in}
+use Rattle.fields_follow.proofs.Passing.{After, after_same, after_weaker, in_file_has, made_after, passes_all, passes_from}
+use Rattle.fields_follow.proofs.Places.{HoldsTheFields, PlacesFields}
+use Rattle.fields_follow.proofs.Pure.{AreGrids, are_grids, pure_means}
 use Rattle.fields_follow.proofs.Reductions.{pure_kind}
 use Rattle.fields_follow.proofs.Values.{Gives, and_entry, next_field, operand_after, operand_of, taken, with_entry}
-use Rattle.fields_follow.proofs.Writing.{named}
-use Rattle.fields_follow.proofs.TestFlags.{LeavesTests, puts_nonzero, tested_last}
+use Rattle.fields_follow.proofs.TestFlags.{LeavesTests, numbers_tell, puts_nonzero, tested_last}
+use Rattle.fields_follow.proofs.Truths.{either_or_both, field_told, truth_told}
 use Rattle.fields_follow.proofs.Relations.{relation_after, relation_code}
 
-value_means : (scope : Scope) (active : Active) (set : ℕ) (e : TExpr) (st : State) → IsCondition set e → evaluated scope e active st ≡ Source.Gives (Parallel (λ q. value_in (scope.extents set) st e q)) st
-unfolding IsCondition evaluated value_in
-value_means scope active set (T.Brackets' ty p inner) st is = value_means scope active set inner st is
-value_means scope active set (T.Binary' ty place op p left q right) st is =
+value_means : (scope : Scope) (active : Active) (t : Typed) (i : Instance) (n set : ℕ) (e : TExpr) (st : State) → IsCondition set e → AreGrids scope t set → NamesVariables t i n e → KnowsExtents (extents_in t) e
+    → evaluated scope e active st ≡ Source.Gives (Parallel (λ q. value_in (scope.extents set) st e q)) st
+unfolding IsCondition NamesVariables KnowsExtents evaluated value_in then_do and_then or_then at
+value_means scope active t i n set (T.Brackets' ty p inner) st is grids names knows = value_means scope active t i n set inner st is.1 grids names knows
+value_means scope active t i n set (T.Unary' ty op p operand) st is grids names knows =
+    unary_means scope active set ty op p operand (λ q. value_in (scope.extents set) st operand q) st is.0.0
+    (either (λ (h : (negates op ≡ true) × IsCondition set operand). value_means scope active t i n set operand st h.1 grids names knows) (λ (h : (negates op ≡ false) × IsPure set operand). pure_means scope active t i n set operand st h.1 grids names knows) is.1)
+value_means scope active t i n set (T.LogicalOr' ty p left q right) st is grids names knows =
+    ap (λ (o : Outcome Value). then_do o (λ x after. or_then ty.shape (type_of left).shape x (λ a after. evaluated scope right a after) active after)) (value_means scope active t i n set left st is.1 grids names.0 knows.0)
+    ∙ ap (λ (o : Option ℕ). or_then ty.shape o (Parallel (λ q. value_in (scope.extents set) st left q)) (λ a after. evaluated scope right a after) active st) (condition_type set left is.1).0
+    ∙ ap (λ (o : Outcome Value). then_do o (λ w after. Source.Gives (Parallel (λ q. from_bool (nonzero (value_in (scope.extents set) st left q) || nonzero (at w q)))) after))
+    (value_means scope (where_zero set (Parallel (λ q. value_in (scope.extents set) st left q)) active) t i n set right st is.2 grids names.1 knows.1)
+value_means scope active t i n set (T.LogicalAnd' ty p left q right) st is grids names knows =
+    ap (λ (o : Outcome Value). then_do o (λ x after. and_then ty.shape (type_of left).shape x (λ a after. evaluated scope right a after) active after)) (value_means scope active t i n set left st is.1 grids names.0 knows.0)
+    ∙ ap (λ (o : Option ℕ). and_then ty.shape o (Parallel (λ q. value_in (scope.extents set) st left q)) (λ a after. evaluated scope right a after) active st) (condition_type set left is.1).0
+    ∙ ap (λ (o : Outcome Value). then_do o (λ w after. Source.Gives (Parallel (λ q. from_bool (nonzero (value_in (scope.extents set) st left q) && nonzero (at w q)))) after))
+    (value_means scope (where_nonzero set (Parallel (λ q. value_in (scope.extents set) st left q)) active) t i n set right st is.2 grids names.1 knows.1)
+value_means scope active t i n set (T.Binary' ty place op p left q right) st is grids names knows =
     binary_means scope active set ty place op p q left right (λ x. value_in (scope.extents set) st left x) (λ x. value_in (scope.extents set) st right x) st is.0.0 is.1
-    (either (λ h. pure_means scope active set left st h) (λ h. promoted_means scope active set left st h) (left_of set left right is.2)) (either (λ h. pure_means scope active set right st h) (λ h. promoted_means scope active set right st h) (right_of set left right is.2))
-value_means scope active set e st is = pure_means scope active set e st is
+    (either (λ h. pure_means scope active t i n set left st h grids names.0 knows.0) (λ h. promoted_means scope active set left st h) (left_of set left right is.2)) (either (λ h. pure_means scope active t i n set right st h grids names.1 knows.1) (λ h. promoted_means scope active set right st h) (right_of set left right is.2))
+value_means scope active t i n set e st is grids names knows = pure_means scope active t i n set e st is grids names knows
 
-pub condition_means : (g : Setting) (scope : Scope) → SameExtents g scope → (active : Active) (set : ℕ) (e : TExpr) (st : State) → IsCondition set e → set < length (shapes g) → evaluated scope e active st ≡ Source.Gives (Parallel (λ q. value_in (extents g set) st e q)) st
-condition_means g scope same active set e st is exists = value_means scope active set e st is ∙ ap (λ (xs : List ℕ). Source.Gives (Parallel (λ q. value_in xs st e q)) st) (same set exists)
+pub condition_means : (g : Setting) (scope : Scope) → PlacesFields g → SameExtents g scope → (alive : Variable → Type 0) (n : ℕ) (active : Active) (set : ℕ) (e : TExpr) (st : State) → IsCondition set e → HasItsCode g.typed g.instance alive n e → set < length (shapes g)
+    → evaluated scope e active st ≡ Source.Gives (Parallel (λ q. value_in (extents g set) st e q)) st
+condition_means g scope places same alive n active set e st is c exists =
+    value_means scope active g.typed g.instance n set e st is (are_grids g scope places same set) c.code.names c.extents ∙ ap (λ (xs : List ℕ). Source.Gives (Parallel (λ q. value_in xs st e q)) st) (same set exists)
 
 module _ (g : Setting) (has : HasRegisters g) (alive : Variable → Type 0) (n : ℕ) (ready : (d : Draft) → IsReady g.typed g.instance (layout g) n d) (places : PlacesFields g) (fields : HoldsTheFields g) where
   abbrev operand : Bool → TExpr → Draft → Made Out
   operand quiet e d = operand_of g has alive n ready places fields quiet e d
 
+  abbrev numbers_of : ℕ → TExpr → State → ℕ → ℕ
+  numbers_of set e st = λ q. value_in (extents g set) st e q
+
+  -- what is said of code wherever it begins
+  abbrev Everywhere : (Draft → CodeState → State → Type 0) → Type 0
+  Everywhere said = (d : Draft) (s : CodeState) (st : State) → At g s (length d.code) → Sim g alive st s → said d s st
+
   abbrev Condition : ℕ → TExpr → Draft → CodeState → State → Draft → Type 0
-  Condition set e d s st f = LeavesTests g alive fields d s set st (λ q. value_in (extents g set) st e q) f
+  Condition set e d s st f = LeavesTests g alive fields d s set st (numbers_of set e st) f
 
-  -- a value that is computed
-  nonzero_after : (set : ℕ) (e : TExpr) → IsPure set e → HasItsCode g.typed g.instance alive n e → (d : Draft) (s : CodeState) (st : State) → At g s (length d.code) → Sim g alive st s
-      → After g (λ _ f. Condition set e d s st f) (nonzero_tested (operand true e) d)
-  unfolding nonzero_tested in_field Extends step_of
-  nonzero_after set e pure c d s st here sim =
-      then_after g (Gives g has alive n ready places fields (length d.fields) d s set st (λ q. value_in (extents g set) st e q)) (λ _ f. Condition set e d s st f) (operand true e d) next
-      (operand_after g has alive n ready places fields set e true pure c.code.names (pure_after g has alive n ready places fields set e pure c) d s st here sim) next_extends
-      (λ x e1 (a, (is, gives)). after_same g (λ _ f. Condition set e d s st f) (ap (λ (o : Out). in_field o (λ source. Makes tt (with_instr (I.NeZero source) e1))) is)
-      (made_after g (λ _ f. Condition set e d s st f) tt (with_instr (I.NeZero a) e1) (λ within.
-      let there : StandsAt g.unit (length e1.code) (I.NeZero a) = stands_here g (I.NeZero a) e1 within refl in
-      let numbers = gives_numbers g alive places fields (length d.fields) d s set st (λ q. value_in (extents g set) st e q) a e1 gives in
-      tested_last g alive fields places (length d.fields) set d e1 (I.NeZero a) s st (λ q. value_in (extents g set) st e q) (Behind g a e1) (omega arith) gives.passes (length e1.code, (named g places fields alive (I.NeZero a) a [] (length e1.code) there refl, omega arith)) numbers.exists within
-      (puts_nonzero g set a gives.passes.t (λ q. value_in (extents g set) st e q) numbers))))
-    where
-      next : Out → Draft → Made (Unit {0})
-      next x e1 = in_field x (λ source. Makes tt (with_instr (I.NeZero source) e1))
+  abbrev IsTested : ℕ → TExpr → Type 0
+  IsTested set e = Everywhere (λ d s st. After g (λ _ f. Condition set e d s st f) (tested g.typed (layout g) e d))
 
-      next_extends : (x : Out) (e1 : Draft) → Extends g e1 (next x e1)
-      next_extends (O.Field f) e1 = (1, and_one g (I.NeZero f) e1)
-      next_extends (O.Scalar r) e1 = tt
-      next_extends O.Nothing e1 = tt
+  -- The value of a condition that is no word has one bit.
+  record HasBit (set : ℕ) (e : TExpr) : Type 0 where
+    pub kind : kind_of e ≡ Some truth_type
+    pub own : own_of 1 e ≡ None
+    pub value : Everywhere (λ d s st. After g (Bit g alive places fields d s set st (numbers_of set e st)) (value_of g.typed (layout g) 1 e d))
+
+  -- the code of a condition leaves the test flags, and that of its value a word or a bit
+  abbrev IsKnown : ℕ → TExpr → Type 0
+  IsKnown set e = IsTested set e × (IsPure set e ⊎ HasBit set e)
+
+  -- ---- words
+
+  pure_told : (set : ℕ) (e : TExpr) → IsPure set e → HasItsCode g.typed g.instance alive n e → Everywhere (λ d s st. After g (Told g alive places fields d s set st (numbers_of set e st)) (operand true e d))
+  pure_told set e pure c d s st here sim =
+      after_weaker g (Gives g has alive n ready places fields (length d.fields) d s set st (numbers_of set e st)) (Told g alive places fields d s set st (numbers_of set e st)) (operand true e d)
+      (λ x e1 (a, (is, gives)). (a, (is, field_told g alive places fields d s set st (numbers_of set e st) a e1 gives)))
+      (operand_after g has alive n ready places fields set e true pure c.code.names (pure_after g has alive n ready places fields set e pure c) d s st here sim)
 
   -- a variable of the file, where it stands
   variable_tested : (set k : ℕ) (ty : ValueType) → IsWide set ty → HasVariable g.typed g.instance n (V.File k) (plain ty) → (d : Draft) (s : CodeState) (st : State) → At g s (length d.code) → Sim g alive st s
@@ -105,7 +141,7 @@ module _ (g : Setting) (has : HasRegisters g) (alive : Variable → Type 0) (n :
         same = λ q below. refl;
       }) sim in
       tested_last g alive fields places (length d.fields) set d d1 (I.NeZero source) s st (λ q. st.parallel (V.File k) 0 q) (Unit {0}) (omega arith)
-      (passes_from g alive (length d.fields) d d1 d1 s st (Unit {0}) (and_entry set info.elem.bits (W.File (file_number g.typed k 0)) d) (passes_all g alive (length d.fields) d1 s st (Unit {0}) here sim)) tt numbers.exists within (puts_nonzero g set source s (λ q. st.parallel (V.File k) 0 q) numbers)))
+      (passes_from g alive (length d.fields) d d1 d1 s st (Unit {0}) (and_entry set info.elem.bits (W.File (file_number g.typed k 0)) d) (passes_all g alive (length d.fields) d1 s st (Unit {0}) here sim)) tt numbers.exists within (puts_nonzero g set source s (λ q. st.parallel (V.File k) 0 q) (numbers_tell g set source s (λ q. st.parallel (V.File k) 0 q) numbers))))
     where
       info : VarInfo
       info = variable_info v.word (plain ty) v.start
@@ -119,16 +155,47 @@ module _ (g : Setting) (has : HasRegisters g) (alive : Variable → Type 0) (n :
       d1 : Draft
       d1 = with_entry set info.elem.bits (W.File (file_number g.typed k 0)) d
 
-  -- no condition is a constant, so its brackets are not
-  condition_constant : (set : ℕ) (e : TExpr) → IsCondition set e → is_constant e ≡ false
-  unfolding IsCondition is_constant
-  condition_constant set (T.Brackets' ty p inner) is = and_false (is_none ty.shape && ty.elem.bits == (type_of inner).elem.bits) (is_constant inner) (condition_constant set inner is)
-  condition_constant set (T.Binary' ty place op p left q right) is = ap (λ (o : Option ℕ). is_none o && ty.elem.bits == 32 && is_constant left && is_constant right) is.0.0
-  condition_constant set e is = pure_constant set e is
+  -- a value that the test flag does not tell without it
+  pure_tested : (set : ℕ) (e : TExpr) → IsPure set e → has_truth e ≡ false → HasItsCode g.typed g.instance alive n e → IsTested set e
+  unfolding tested_by bits_of
+  pure_tested set e pure no_truth c d s st here sim =
+      after_same g (λ _ f. Condition set e d s st f)
+      (ap (λ (b : Bool). tested_by b (truth_of g.typed (layout g) e) (next_of g.typed (layout g) (bits_of (kind_of e)) true e) d) no_truth
+      ∙ ap (λ (k : Option Elem). nonzero_tested (next_of g.typed (layout g) (bits_of k) true e) d) (pure_kind set e pure))
+      (nonzero_after g alive places fields set (numbers_of set e st) (operand true e) d s st (pure_told set e pure c d s st here sim))
 
-  brackets_code : (set : ℕ) (ty : ValueType) (p : Boxed) (inner : TExpr) (d : Draft) → IsCondition set inner → tested g.typed (layout g) (T.Brackets' ty p inner) d ≡ tested g.typed (layout g) inner d
-  unfolding IsCondition tested_by has_truth truth_of value_of kind_of own_of operand_by in_place nonzero_tested
-  brackets_code set ty p inner d is = ap made (not_held (layout g) (T.Brackets' ty p inner) (condition_constant set (T.Brackets' ty p inner) is)) ∙ sym (ap made (not_held (layout g) inner (condition_constant set inner is)))
+  -- ---- bits
+
+  -- no condition is a constant, so its value is nowhere yet
+  bit_after : (set : ℕ) (e : TExpr) → IsCondition set e → HasBit set e → Everywhere (λ d s st. After g (Bit g alive places fields d s set st (numbers_of set e st)) (operand_at g 1 e d))
+  unfolding operand_by in_place
+  bit_after set e is bit d s st here sim =
+      after_same g (Bit g alive places fields d s set st (numbers_of set e st))
+      (ap (λ (o : Option ℕ). elim o as (λ _. Made Out) [ Some r ↦ Makes (O.Scalar r) d | None ↦ elim (own_of 1 e) as (λ _. Made Out) [ Some own ↦ standing g.typed (layout g) 1 own d | None ↦ value_of g.typed (layout g) 1 e d ] ]) (not_held (layout g) e (condition_constant set e is))
+      ∙ ap (λ (o : Option Own). elim o as (λ _. Made Out) [ Some own ↦ standing g.typed (layout g) 1 own d | None ↦ value_of g.typed (layout g) 1 e d ]) bit.own)
+      (bit.value d s st here sim)
+
+  bit_told : (set : ℕ) (e : TExpr) → IsCondition set e → HasBit set e → Everywhere (λ d s st. After g (Told g alive places fields d s set st (numbers_of set e st)) (operand_at g 1 e d))
+  bit_told set e is bit d s st here sim =
+      after_weaker g (Bit g alive places fields d s set st (numbers_of set e st)) (Told g alive places fields d s set st (numbers_of set e st)) (operand_at g 1 e d)
+      (λ x e1 (a, (same, gives)). (a, (same, truth_told g alive places fields d s set st (numbers_of set e st) a e1 gives)))
+      (bit_after set e is bit d s st here sim)
+
+  -- a word or a bit tells
+  operand_told : (set : ℕ) (e : TExpr) → IsCondition set e → HasItsCode g.typed g.instance alive n e → IsPure set e ⊎ HasBit set e → Everywhere (λ d s st. After g (Told g alive places fields d s set st (numbers_of set e st)) (operand_at g (bits_of (kind_of e)) e d))
+  unfolding bits_of
+  operand_told set e is c (inl pure) d s st here sim =
+      after_same g (Told g alive places fields d s set st (numbers_of set e st)) (ap (λ (k : Option Elem). operand_at g (bits_of k) e d) (pure_kind set e pure)) (pure_told set e pure c d s st here sim)
+  operand_told set e is c (inr bit) d s st here sim = after_same g (Told g alive places fields d s set st (numbers_of set e st)) (ap (λ (k : Option Elem). operand_at g (bits_of k) e d) bit.kind) (bit_told set e is bit d s st here sim)
+
+  pure_known : (set : ℕ) (e : TExpr) → IsPure set e → has_truth e ≡ false → HasItsCode g.typed g.instance alive n e → IsKnown set e
+  pure_known set e pure no_truth c = (pure_tested set e pure no_truth c, inl pure)
+
+  -- ---- brackets, relations and `!`
+
+  brackets_code : (set : ℕ) (ty : ValueType) (p : Boxed) (inner : TExpr) (d : Draft) → IsCondition set (T.Brackets' ty p inner) → IsCondition set inner → tested g.typed (layout g) (T.Brackets' ty p inner) d ≡ tested g.typed (layout g) inner d
+  unfolding tested_by has_truth truth_of value_of kind_of own_of operand_by in_place nonzero_tested
+  brackets_code set ty p inner d is part = ap made (not_held (layout g) (T.Brackets' ty p inner) (condition_constant set (T.Brackets' ty p inner) is)) ∙ sym (ap made (not_held (layout g) inner (condition_constant set inner part)))
     where
       made : Option ℕ → Made (Unit {0})
       made o =
@@ -136,34 +203,120 @@ module _ (g : Setting) (has : HasRegisters g) (alive : Variable → Type 0) (n :
           else then_make (elim o as (λ _. Made Out) [ Some r ↦ Makes (O.Scalar r) d | None ↦ elim (own_of (bits_of (kind_of inner)) inner) as (λ _. Made Out) [ Some own ↦ standing g.typed (layout g) (bits_of (kind_of inner)) own d | None ↦ value_of g.typed (layout g) (bits_of (kind_of inner)) inner d ] ])
           (λ v after. in_field v (λ source. Makes tt (with_instr (I.NeZero source) after)))
 
-  -- a value that the test flag does not tell without it
-  pure_tested : (set : ℕ) (e : TExpr) → IsPure set e → has_truth e ≡ false → HasItsCode g.typed g.instance alive n e → (d : Draft) (s : CodeState) (st : State) → At g s (length d.code) → Sim g alive st s
-      → After g (λ _ f. Condition set e d s st f) (tested g.typed (layout g) e d)
+  brackets_known : (set : ℕ) (ty : ValueType) (p : Boxed) (inner : TExpr) → IsCondition set (T.Brackets' ty p inner) → ty ≡ type_of inner → IsCondition set inner → IsKnown set inner → IsKnown set (T.Brackets' ty p inner)
+  unfolding IsPure value_in value_of kind_of own_of
+  brackets_known set ty p inner is same part (tests, whole) = (
+    λ d s st here sim. after_same g (λ _ f. Condition set (T.Brackets' ty p inner) d s st f) (brackets_code set ty p inner d is part) (tests d s st here sim),
+    either (λ (pure : IsPure set inner). inl (same, pure)) (λ (bit : HasBit set inner). inr (record { kind = bit.kind; own = bit.own; value = bit.value })) whole,
+  )
+
+  relation_known : (set : ℕ) (ty : ValueType) (place : Place) (op : Op) (p q : Boxed) (left right : TExpr) → IsWide set ty → relates op ≡ true → divides op ≡ false → AreOperands set left right → HasItsCode g.typed g.instance alive n (T.Binary' ty place op p left q right)
+      → IsKnown set (T.Binary' ty place op p left q right)
+  unfolding tested_by has_truth value_in kind_of binary_kind own_of
+  relation_known set ty place op p q left right wide related no_check are c = (
+    λ d s st here sim. after_same g (λ _ f. Condition set whole d s st f) (ap (λ (b : Bool). tested_by b (truth_of g.typed (layout g) whole) (next_of g.typed (layout g) (bits_of (kind_of whole)) true whole) d) related) (truth d s st here sim),
+    inr (record {
+      kind = ap (λ (b : Bool). if b then Some truth_type else if is_bitwise op then common_kind (kind_of left) (kind_of right) else None) related;
+      own = refl;
+      value = λ d s st here sim.
+          after_same g (Bit g alive places fields d s set st (numbers_of set whole st)) (relation_value g set ty place op p q left right d wide.0 related no_check)
+          (stored_after g alive places fields set (numbers_of set whole st) d s st (truth_of g.typed (layout g) whole (with_entry set 1 W.Own d)) (truth (with_entry set 1 W.Own d) s st here sim));
+    }),
+  )
+    where
+      whole : TExpr
+      whole = T.Binary' ty place op p left q right
+
+      truth : Everywhere (λ d s st. After g (λ _ f. Condition set whole d s st f) (truth_of g.typed (layout g) whole d))
+      truth d s st here sim =
+          let parts = binary_parts g has alive n ready places fields ty place op p q left right c in
+          after_same g (λ _ f. Condition set whole d s st f) (relation_code g has alive n ready places fields set op left right related no_check parts.0 parts.1 d s st here sim ty place p q wide.0 are)
+          (relation_after g has alive n ready places fields set op left right related no_check parts.0 parts.1 d s st here sim are)
+
+  not_known : (set : ℕ) (ty : ValueType) (p : Boxed) (inner : TExpr) → IsWide set ty → IsCondition set inner → HasItsCode g.typed g.instance alive n inner → IsPure set inner ⊎ HasBit set inner → IsKnown set (T.Unary' ty U.Not p inner)
+  unfolding tested_by has_truth truth_of value_in unary_of kind_of negates own_of
+  not_known set ty p inner wide is c whole = (
+    λ d s st here sim. zero_after g alive places fields set (numbers_of set inner st) (operand_at g (bits_of (kind_of inner)) inner) d s st (operand_told set inner is c whole d s st here sim),
+    inr (record { kind = refl; own = refl; value = by whole }),
+  )
+    where
+      by : IsPure set inner ⊎ HasBit set inner → Everywhere (λ d s st. After g (Bit g alive places fields d s set st (numbers_of set (T.Unary' ty U.Not p inner) st)) (value_of g.typed (layout g) 1 (T.Unary' ty U.Not p inner) d))
+      by (inl pure) d s st here sim =
+          after_same g (Bit g alive places fields d s set st (numbers_of set (T.Unary' ty U.Not p inner) st)) (word_not_value g set ty p inner d wide.0 (condition_kept set inner is) (pure_kind set inner pure))
+          (stored_after g alive places fields set (numbers_of set (T.Unary' ty U.Not p inner) st) d s st (zero_tested (operand_at g (bits_of (kind_of inner)) inner) (with_entry set 1 W.Own d))
+          (zero_after g alive places fields set (numbers_of set inner st) (operand_at g (bits_of (kind_of inner)) inner) (with_entry set 1 W.Own d) s st (operand_told set inner is c (inl pure) (with_entry set 1 W.Own d) s st here sim)))
+      by (inr bit) d s st here sim =
+          after_same g (Bit g alive places fields d s set st (numbers_of set (T.Unary' ty U.Not p inner) st)) (bit_not_value g set ty p inner d wide.0 (condition_kept set inner is) bit.kind)
+          (turned_after g alive places fields set (numbers_of set inner st) d s st (operand_at g 1 inner (with_entry set 1 W.Own d)) (bit_after set inner is bit (with_entry set 1 W.Own d) s st here sim))
+
+  -- ---- `&&` and `||`
+
+  -- an operand is put in a field of one bit
+  flagged : (set : ℕ) (e : TExpr) → IsCondition set e → IsKnown set e → Everywhere (λ d s st. After g (Truth g alive places fields d s set st (numbers_of set e st)) (flag_of set (condition_of g.typed (layout g) e) d))
+  unfolding flag_of flag_by condition_by bits_of
+  flagged set e is (tests, inl pure) d s st here sim =
+      after_same g (Truth g alive places fields d s set st (numbers_of set e st)) (ap (λ (k : Option Elem). flag_by (bits_of k == 1) set (operand_at g (bits_of (kind_of e)) e) (tested g.typed (layout g) e) d) (pure_kind set e pure))
+      (flag_after g alive places fields set (numbers_of set e st) d s st (tested g.typed (layout g) e d) (tests d s st here sim))
+  flagged set e is (tests, inr bit) d s st here sim =
+      after_same g (Truth g alive places fields d s set st (numbers_of set e st)) (ap (λ (k : Option Elem). flag_by (bits_of k == 1) set (operand_at g (bits_of k) e) (tested g.typed (layout g) e) d) bit.kind)
+      (bit_taken g alive places fields set (numbers_of set e st) d s st (operand_at g 1 e d) (bit_after set e is bit d s st here sim))
+
+  flag_grows : (set : ℕ) (e : TExpr) → HasItsCode g.typed g.instance alive n e → InField g.typed e → (d : Draft) → Extends g d (flag_of set (condition_of g.typed (layout g) e) d)
+  unfolding flag_of condition_by
+  flag_grows set e c field d =
+      flag_extends g (is_flag e) set (operand_at g (bits_of (kind_of e)) e) (tested g.typed (layout g) e) d (extends_grown g has alive _ d _ _ ((expressions g.typed g.instance (layout g)).operand (bits_of (kind_of e)) n true e d c.code (ready d)))
+      (extends_grown g has alive _ d _ _ ((expressions g.typed g.instance (layout g)).test n e d c.code field (ready d)))
+
+  joined_bit : (is_or : Bool) (set : ℕ) (shape : Option ℕ) (left right : TExpr) → shape ≡ Some set → IsCondition set left → IsCondition set right → ignores_context right ≡ true → HaveTheirCode g.typed g.instance alive n left right → IsKnown set left → IsKnown set right
+      → Everywhere (λ d s st. After g (Bit g alive places fields d s set st (λ q. from_bool (either_or_both is_or (nonzero (value_in (extents g set) st left q)) (nonzero (value_in (extents g set) st right q))))) (logical_by is_or shape 1 (condition_of g.typed (layout g) left) (condition_of g.typed (layout g) right) d))
+  unfolding condition_by
+  joined_bit is_or set shape left right shaped is also same codes one two d s st here sim =
+      after_same g (Bit g alive places fields d s set st (λ q. from_bool (either_or_both is_or (nonzero (value_in (extents g set) st left q)) (nonzero (value_in (extents g set) st right q))))) (joined_value g is_or set shape (condition_of g.typed (layout g) left) (condition_of g.typed (layout g) right) d shaped (conditions_join set left right is also same))
+      (joined_after g alive places fields is_or set (numbers_of set left st) (numbers_of set right st) d s st (flag_of set (condition_of g.typed (layout g) left) (with_entry set 1 W.Own d)) (λ e. flag_of set (condition_of g.typed (layout g) right) e)
+      (flagged set left is one (with_entry set 1 W.Own d) s st here sim) (λ e. flag_grows set right codes.right_code codes.right_field e) (λ e t now still. flagged set right also two e t st now still))
+
+  -- a bit that is no test flag is tested
+  bit_known : (set : ℕ) (e : TExpr) → IsCondition set e → has_truth e ≡ false → HasBit set e → IsKnown set e
   unfolding tested_by bits_of
-  pure_tested set e pure no_truth c d s st here sim =
-      after_same g (λ _ f. Condition set e d s st f)
-      (ap (λ (b : Bool). tested_by b (truth_of g.typed (layout g) e) (next_of g.typed (layout g) (bits_of (kind_of e)) true e) d) no_truth
-      ∙ ap (λ (k : Option Elem). nonzero_tested (next_of g.typed (layout g) (bits_of k) true e) d) (pure_kind set e pure))
-      (nonzero_after set e pure c d s st here sim)
+  bit_known set e is no_truth bit = (
+    λ d s st here sim.
+        after_same g (λ _ f. Condition set e d s st f)
+        (ap (λ (b : Bool). tested_by b (truth_of g.typed (layout g) e) (next_of g.typed (layout g) (bits_of (kind_of e)) true e) d) no_truth
+        ∙ ap (λ (k : Option Elem). nonzero_tested (next_of g.typed (layout g) (bits_of k) true e) d) bit.kind)
+        (nonzero_after g alive places fields set (numbers_of set e st) (operand_at g 1 e) d s st (bit_told set e is bit d s st here sim)),
+    inr bit,
+  )
+
+  -- ---- all conditions
+
+  known : (set : ℕ) (e : TExpr) → IsCondition set e → HasItsCode g.typed g.instance alive n e → IsKnown set e
+  unfolding IsCondition IsPure has_truth NamesVariables value_in value_of kind_of own_of negates tested_by
+  known set (T.Brackets' ty p inner) is c = brackets_known set ty p inner is is.0 is.1 (known set inner is.1 (brackets_part g has alive n ready places fields ty p inner c))
+  known set (T.Unary' ty op p inner) is c = by op is.1 c (λ part code. known set inner part code)
+    where
+      by : (op : UnaryOp) → ((negates op ≡ true) × IsCondition set inner) ⊎ ((negates op ≡ false) × IsPure set inner) → HasItsCode g.typed g.instance alive n (T.Unary' ty op p inner)
+          → (IsCondition set inner → HasItsCode g.typed g.instance alive n inner → IsKnown set inner) → IsKnown set (T.Unary' ty op p inner)
+      by op (inr h) c of_inner = pure_known set (T.Unary' ty op p inner) (is.0, h.0, h.1) h.0 c
+      by U.Not (inl h) c of_inner = let code = unary_part g has alive n ready places fields ty U.Not p inner c in not_known set ty p inner is.0 h.1 code (of_inner h.1 code).1
+      by U.Plus (inl h) c of_inner = let wrong = h.0 in cc
+      by U.Minus (inl h) c of_inner = let wrong = h.0 in cc
+      by U.Complement (inl h) c of_inner = let wrong = h.0 in cc
+  known set (T.LogicalOr' ty p left q right) is c =
+      let codes = or_codes g.typed g.instance alive n set ty p q left right is.2 c in
+      bit_known set (T.LogicalOr' ty p left q right) is refl (record { kind = refl; own = refl; value = joined_bit true set ty.shape left right is.0.0 is.1 is.2 is.3 codes (known set left is.1 codes.left_code) (known set right is.2 codes.right_code) })
+  known set (T.LogicalAnd' ty p left q right) is c =
+      let codes = and_codes g.typed g.instance alive n set ty p q left right is.2 c in
+      bit_known set (T.LogicalAnd' ty p left q right) is refl (record { kind = refl; own = refl; value = joined_bit false set ty.shape left right is.0.0 is.1 is.2 is.3 codes (known set left is.1 codes.left_code) (known set right is.2 codes.right_code) })
+  known set (T.Binary' ty place op p left q right) is c = by (relates op) refl
+    where
+      by : (b : Bool) → relates op ≡ b → IsKnown set (T.Binary' ty place op p left q right)
+      by true related = relation_known set ty place op p q left right is.0 related is.1 is.2 c
+      by false plain_one = pure_known set (T.Binary' ty place op p left q right) (is.0, (plain_one, is.1), is.2) plain_one c
+  known set (T.Variable ty (V.File k)) is c = ((λ d s st here sim. variable_tested set k ty is c.code.names d s st here sim), inl is)
+  known set (T.Variable ty x) is c = absurd is
+  known set e is c = pure_known set e is refl c
 
   -- the code of a condition
   pub condition_tested : (set : ℕ) (e : TExpr) → IsCondition set e → HasItsCode g.typed g.instance alive n e → (d : Draft) (s : CodeState) (st : State) → At g s (length d.code) → Sim g alive st s
       → After g (λ _ f. LeavesTests g alive fields d s set st (λ q. value_in (extents g set) st e q) f) (tested g.typed (layout g) e d)
-  unfolding IsCondition IsPure tested_by has_truth value_in NamesVariables
-  condition_tested set (T.Brackets' ty p inner) is c d s st here sim =
-      after_same g (λ _ f. Condition set (T.Brackets' ty p inner) d s st f) (brackets_code set ty p inner d is) (condition_tested set inner is (brackets_part g has alive n ready places fields ty p inner c) d s st here sim)
-  condition_tested set (T.Binary' ty place op p left q right) is c d s st here sim = by (relates op) refl
-    where
-      by : (b : Bool) → relates op ≡ b → After g (λ _ f. Condition set (T.Binary' ty place op p left q right) d s st f) (tested g.typed (layout g) (T.Binary' ty place op p left q right) d)
-      by true related =
-          let parts = binary_parts g has alive n ready places fields ty place op p q left right c in
-          after_same g (λ _ f. Condition set (T.Binary' ty place op p left q right) d s st f)
-          (ap (λ (b : Bool). tested_by b (truth_of g.typed (layout g) (T.Binary' ty place op p left q right)) (next_of g.typed (layout g) (bits_of (kind_of (T.Binary' ty place op p left q right))) true (T.Binary' ty place op p left q right)) d) related
-          ∙ relation_code g has alive n ready places fields set op left right related is.1 parts.0 parts.1 d s st here sim ty place p q is.0.0 is.2)
-          (relation_after g has alive n ready places fields set op left right related is.1 parts.0 parts.1 d s st here sim is.2)
-      by false plain_one = pure_tested set (T.Binary' ty place op p left q right) (is.0, (plain_one, is.1), is.2) plain_one c d s st here sim
-  condition_tested set (T.Variable ty (V.File k)) is c d s st here sim = variable_tested set k ty is c.code.names d s st here sim
-  condition_tested set (T.Unary' ty op p inner) is c d s st here sim = pure_tested set (T.Unary' ty op p inner) is is.1 c d s st here sim
-  condition_tested set (T.Convert' ty p inner) is c d s st here sim = pure_tested set (T.Convert' ty p inner) is refl c d s st here sim
-  condition_tested set (T.Pcoord ty axis) is c d s st here sim = pure_tested set (T.Pcoord ty axis) is refl c d s st here sim
-  condition_tested set _ is c d s st here sim = absurd is
+  condition_tested set e is c = (known set e is c).0

@@ -30,7 +30,7 @@ module _ (g : Setting) (places : PlacesFields g) (fields : HoldsTheFields g) (al
   Opened st m = HoldsFields g.typed g.image fields.active st m
 
   -- the same memory for a state, whatever the parallel variables are in it
-  with_memory : (st u : State) (s : CodeState) (w : Write) → u.scalar ≡ st.scalar → u.turns ≡ st.turns → u.output ≡ st.output → u.input ≡ st.input → u.rest ≡ st.rest → Opened u (written w s.memory) → Sim g alive st s → Sim g alive u (wrote g w s)
+  pub with_memory : (st u : State) (s : CodeState) (w : Write) → u.scalar ≡ st.scalar → u.turns ≡ st.turns → u.output ≡ st.output → u.input ≡ st.input → u.rest ≡ st.rest → Opened u (written w s.memory) → Sim g alive st s → Sim g alive u (wrote g w s)
   with_memory st u s w scalar turns output input rest opened h = record {
     registers = h.registers;
     scalars = λ x info known is. h.scalars x info known is ∙ ap (λ (f : Variable → ℕ). held info.elem (f x)) (sym scalar);

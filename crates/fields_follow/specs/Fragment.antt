@@ -1,13 +1,17 @@
 -- The programs with parallel variables of which it is said so far that their code means them. Their parallel
--- expressions are pure ones of 32 bits, of variables of the file, own coordinates and promoted scalars, which change
--- nothing and never fail; they are assigned to such variables and folded into numbers, and they are the conditions of
--- `where`. Under `where` and `everywhere` stand the statements of scalar programs with these, but for calls, `return` and
--- jumps that lead out of them.
-use Rattle.std.specs.Prelude.{ℕ, ◌≡◌, ◌<◌, ◌^◌, ◌⊎◌, false, IfSome, Some, None}
+-- expressions are pure ones of 32 bits, of variables of the file, gets from neighbours round the ends of the grid, own
+-- coordinates and promoted scalars, which change nothing and never fail; they are assigned to such variables and folded
+-- into numbers and onto scalar variables, and they are the conditions of `where`. Folds are of the active positions.
+-- Under `where` and `everywhere` stand the statements of scalar programs with these, but for calls, `return` and jumps
+-- that lead out of them.
+use Rattle.std.specs.Prelude.{ℕ, ◌≡◌, ◌<◌, ◌+◌, ◌^◌, ◌⊎◌, List, [], ◌∷◌, true, false, slice_get, IfSome, Some, None}
 use Rattle.cstar_base.specs.declared.operators.Op.{Op}
 use Rattle.cstar_base.specs.Operators.{divides}
 use Rattle.cstar_tree.specs.declared.syntax.AssignOp.{AssignOp}
-use Rattle.cstar_tree.specs.declared.typed.TExpr.{TExpr}
+use Rattle.cstar_tree.specs.declared.syntax.AssignOp.TheVariants as A
+use Rattle.cstar_tree.specs.declared.syntax.ReduceOp.{ReduceOp}
+use Rattle.cstar_tree.specs.declared.syntax.ReduceOp.TheVariants as R
+use Rattle.cstar_tree.specs.declared.typed.TExpr.{TExpr, Row_of-TExpr, end_of-TExpr, more_of-TExpr}
 use Rattle.cstar_tree.specs.declared.typed.TExpr as T
 use Rattle.cstar_tree.specs.declared.typed.Typed.{Typed}
 use Rattle.cstar_tree.specs.declared.typed.ValueType.{ValueType}
@@ -15,8 +19,12 @@ use Rattle.cstar_tree.specs.declared.typed.VarInfo.{VarInfo}
 use Rattle.cstar_tree.specs.declared.typed.Variable.TheVariants as V
 use Rattle.cstar_tree.specs.Typed.{type_of}
 use Rattle.lower_base.specs.Operators.{assign_op_of, negates, relates}
+use Rattle.lower_comm.specs.declared.news.NewsStep.{NewsStep}
+use Rattle.lower_comm.specs.News.{step_of}
+use Rattle.lower_expr.specs.Operands.{ignores_context}
 use Rattle.source_meaning.specs.Constants.{constant_of}
-use Rattle.code_follows.specs.Fragment.{Beside, IsProgramBeside, IsWord}
+use Rattle.source_meaning.specs.Programs.{extents_of}
+use Rattle.code_follows.specs.Fragment.{Beside, IsProgramBeside, IsScalarType, IsWord}
 
 -- a type of 32 bits of a shape
 abbrev pub IsWide : ℕ → ValueType → Type 0
@@ -47,6 +55,34 @@ IsPromoted set (T.Promote' ty p operand) = IsWide set ty × IsEverywhere operand
 IsPromoted set (T.Brackets' ty p inner) = (ty ≡ type_of inner) × IsPromoted set inner
 IsPromoted set _ = ⊥
 
+-- the own coordinate on an axis, maybe in brackets
+unfoldable pub IsDot : ℕ → ℕ → TExpr → Type 0
+IsDot set axis (T.Brackets' ty p inner) = IsDot set axis inner
+IsDot set axis (T.Dot ty own) = (ty.shape ≡ Some set) × (own ≡ axis)
+IsDot set axis _ = ⊥
+
+-- an operator on it and a promoted scalar
+unfoldable pub IsOffset : ℕ → ℕ → TExpr → Type 0
+IsOffset set axis (T.Brackets' ty p inner) = IsOffset set axis inner
+IsOffset set axis (T.Binary' ty place op p left q right) = (ty.shape ≡ Some set) × IsDot set axis left × IsPromoted set right
+IsOffset set axis _ = ⊥
+
+-- an index of this axis, with the types that typing gives
+unfoldable pub IsIndex : ℕ → ℕ → TExpr → Type 0
+IsIndex set axis (T.Brackets' ty p inner) = (ty ≡ type_of inner) × IsIndex set axis inner
+IsIndex set axis (T.Dot ty own) = IsWide set ty × (own ≡ axis)
+IsIndex set axis (T.Binary' ty place op p left q right) = IsWide set ty × ((type_of left).elem.signed ≡ true) × IsOffset set axis left
+IsIndex set axis _ = ⊥
+
+-- it goes by NEWS, and never leads out of the grid: `.`, or `(. + k) %% dimof(shape, axis)`
+abbrev pub IsWrapping : ℕ → ℕ → TExpr → Type 0
+IsWrapping set axis index = IsIndex set axis index × ((step : NewsStep) × ((step_of set axis index ≡ Some step) × (step.checked ≡ false)))
+
+-- the indexes of a get, from this axis on
+unfoldable pub AreWrapping : {k : _} → ℕ → ℕ → Row_of-TExpr k → Type 0
+AreWrapping set axis end_of-TExpr = Unit {0}
+AreWrapping set axis (more_of-TExpr index rest) = IsWrapping set axis index × AreWrapping set (axis + 1) rest
+
 -- a parallel expression that is not promoted; of an operator's two operands one may be
 unfoldable pub IsPure : ℕ → TExpr → Type 0
 IsPure set (T.Variable ty (V.File k)) = IsWide set ty
@@ -56,7 +92,35 @@ IsPure set (T.Binary' ty place op p left q right) =
     IsWide set ty × IsOperation op × ((IsPure set left × (IsPure set right ⊎ IsPromoted set right)) ⊎ (IsPromoted set left × IsPure set right))
 IsPure set (T.Convert' ty p operand) = IsWide set ty × IsPure set operand
 IsPure set (T.Pcoord ty axis) = IsWide set ty
+IsPure set (T.LeftIndex' ty place p indexes (V.File k) of) = IsWide set ty × (of ≡ set) × AreWrapping set 0 indexes
 IsPure set _ = ⊥
+
+-- an index names this extent, if any
+unfoldable pub NamesExtent : ℕ → TExpr → Type 0
+NamesExtent extent (T.Brackets' ty p inner) = NamesExtent extent inner
+NamesExtent extent (T.Promote' ty p operand) = NamesExtent extent operand
+NamesExtent extent (T.Binary' ty place op p left q right) = NamesExtent extent right
+NamesExtent extent (T.DimOf ty shape axis value) = value ≡ extent
+NamesExtent extent _ = Unit {0}
+
+-- one index an axis
+unfoldable pub NameExtents : {k : _} → List ℕ → Row_of-TExpr k → Type 0
+NameExtents [] end_of-TExpr = Unit {0}
+NameExtents (extent ∷ extents) (more_of-TExpr index rest) = NamesExtent extent index × NameExtents extents rest
+NameExtents _ _ = ⊥
+
+-- the gets of an expression, or of the value that it assigns, name the extents of their shapes
+unfoldable pub KnowsExtents : (ℕ → List ℕ) → TExpr → Type 0
+KnowsExtents extents (T.Brackets' ty p inner) = KnowsExtents extents inner
+KnowsExtents extents (T.Unary' ty op p operand) = KnowsExtents extents operand
+KnowsExtents extents (T.Binary' ty place op p left q right) = KnowsExtents extents left × KnowsExtents extents right
+KnowsExtents extents (T.LogicalOr' ty p left q right) = KnowsExtents extents left × KnowsExtents extents right
+KnowsExtents extents (T.LogicalAnd' ty p left q right) = KnowsExtents extents left × KnowsExtents extents right
+KnowsExtents extents (T.Convert' ty p operand) = KnowsExtents extents operand
+KnowsExtents extents (T.LeftIndex' ty place p indexes x of) = NameExtents (extents of) indexes
+KnowsExtents extents (T.Assign' ty place op p target q value) = KnowsExtents extents value
+KnowsExtents extents (T.Reduce' ty op p operand) = KnowsExtents extents operand
+KnowsExtents extents _ = Unit {0}
 
 -- an operand, promoted or not
 abbrev pub IsOperand : ℕ → TExpr → Type 0
@@ -83,9 +147,38 @@ unfoldable pub IsFold : TExpr → Type 0
 IsFold (T.Reduce' ty op p operand) = IsWord ty × ((set : ℕ) × IsPure set operand)
 IsFold _ = ⊥
 
--- A condition of `where`: a relation of two operands, or a value that is not zero.
+-- the assignment with the operator of a reduction
+abbrev pub assignment_of : ReduceOp → AssignOp
+assignment_of R.Add = A.Add
+assignment_of R.Sub = A.Sub
+assignment_of R.And = A.And
+assignment_of R.Xor = A.Xor
+assignment_of R.Or = A.Or
+assignment_of R.Min = A.Min
+assignment_of R.Max = A.Max
+
+-- a scalar variable that is assigned to, maybe in brackets
+unfoldable pub IsScalarTarget : TExpr → Type 0
+IsScalarTarget (T.Variable ty x) = IsScalarType ty
+IsScalarTarget (T.Brackets' ty p inner) = (ty ≡ type_of inner) × IsScalarTarget inner
+IsScalarTarget _ = ⊥
+
+-- the numbers of a value at the active positions are folded onto a scalar variable
+unfoldable pub IsFoldOnto : TExpr → Type 0
+IsFoldOnto (T.Assign' ty place op p target q value) = (ty ≡ type_of target) × IsScalarTarget target × ((reduction : ReduceOp) × (op ≡ assignment_of reduction)) × ((set : ℕ) × IsPure set value)
+IsFoldOnto _ = ⊥
+
+-- a parallel expression whose value is not used
+abbrev pub IsParallelEffect : TExpr → Type 0
+IsParallelEffect e = IsUpdate e ⊎ IsFoldOnto e
+
+-- A condition of `where`: a relation of two operands, a value that is not zero, `!` of a condition, or two joined by `&&`
+-- or `||`. The right one of these ignores the context: it has no get and no quotient, not even one of constants.
 unfoldable pub IsCondition : ℕ → TExpr → Type 0
-IsCondition set (T.Brackets' ty p inner) = IsCondition set inner
+IsCondition set (T.Brackets' ty p inner) = (ty ≡ type_of inner) × IsCondition set inner
+IsCondition set (T.Unary' ty op p operand) = IsWide set ty × (((negates op ≡ true) × IsCondition set operand) ⊎ ((negates op ≡ false) × IsPure set operand))
+IsCondition set (T.LogicalOr' ty p left q right) = IsWide set ty × IsCondition set left × IsCondition set right × (ignores_context right ≡ true)
+IsCondition set (T.LogicalAnd' ty p left q right) = IsWide set ty × IsCondition set left × IsCondition set right × (ignores_context right ≡ true)
 IsCondition set (T.Binary' ty place op p left q right) =
     IsWide set ty × (divides op ≡ false) × ((IsPure set left × (IsPure set right ⊎ IsPromoted set right)) ⊎ (IsPromoted set left × IsPure set right))
 IsCondition set e = IsPure set e
@@ -94,11 +187,21 @@ IsCondition set e = IsPure set e
 abbrev pub IsParallelVariable : VarInfo → Type 0
 IsParallelVariable info = (set : ℕ) × ((info.shape ≡ Some set) × (info.array ≡ None) × (info.elem.bits ≡ 32))
 
+-- the extents of a shape of a program
+abbrev pub extents_in : Typed → ℕ → List ℕ
+extents_in t set = extents_of (slice_get t.shapes.items set)
+
 -- A program of functions on scalars, without recursion, and of parallel variables of the file: such updates are
--- statements, also within `with` and under contexts, such folds stand within scalar expressions, and such conditions
--- narrow which positions are active.
-abbrev pub fields_beside : Beside
-fields_beside = record { effects = IsUpdate; folds = IsFold; conditions = IsCondition; widens = λ set. Unit {0}; variables = IsParallelVariable }
+-- statements, also within `with` and under contexts, as such folds onto variables are, other such folds stand within
+-- scalar expressions, and such conditions narrow which positions are active. Gets are of shapes with the program's extents.
+abbrev pub fields_beside : Typed → Beside
+fields_beside t = record {
+  effects = λ e. IsParallelEffect e × KnowsExtents (extents_in t) e;
+  folds = λ e. IsFold e × KnowsExtents (extents_in t) e;
+  conditions = λ set e. IsCondition set e × KnowsExtents (extents_in t) e;
+  widens = λ set. Unit {0};
+  variables = IsParallelVariable;
+}
 
 abbrev pub IsParallelProgram : Typed → Type 0
-IsParallelProgram t = IsProgramBeside fields_beside t
+IsParallelProgram t = IsProgramBeside (fields_beside t) t

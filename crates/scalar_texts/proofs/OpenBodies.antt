@@ -41,6 +41,8 @@ module _ (may : May) (names : Variable → Type 0) (blocks : Open) (fits : Fits 
   scalars_open (T.Promote' ty p operand) n = scalars_open operand n
   scalars_open (T.Unary' ty op p operand) n = scalars_open operand n
   scalars_open (T.Binary' ty place op p left q right) n = (scalars_open left n.0, scalars_open right n.1)
+  scalars_open (T.LogicalOr' ty p left q right) n = (scalars_open left n.0, scalars_open right n.1)
+  scalars_open (T.LogicalAnd' ty p left q right) n = (scalars_open left n.0, scalars_open right n.1)
   scalars_open (T.Assign' ty place op p target q value) n = (scalars_open target n.0, scalars_open value n.1)
   scalars_open (T.Step' ty op order p target) n = scalars_open target n
   scalars_open (T.Reduce' ty op p operand) n = scalars_open operand n

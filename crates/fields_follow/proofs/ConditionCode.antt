@@ -1,0 +1,310 @@
+-- The code by which a condition leaves the test flags, or a bit in a field.
+use Rattle.std.proofs.Common.{◌≡◌, ◌∙◌, ℕ, ◌+◌, ◌<◌, ◌==◌, ◌&&◌, Bool, true, false, not, [], ◌∷◌, length, Option, Some, None, refl, sym, ap, arith, if◌then◌else◌}
+use Rattle.std.specs.Int.{from_bool}
+use Rattle.std.specs.Prelude.{unwrap_or}
+use Rattle.cstar_base.specs.declared.elem.Elem.{Elem}
+use Rattle.cstar_base.specs.declared.operators.Op.{Op}
+use Rattle.cstar_base.specs.declared.operators.Place.{Place}
+use Rattle.cstar_base.specs.Operators.{divides}
+use Rattle.cstar_tree.specs.declared.typed.TExpr.{TExpr}
+use Rattle.cstar_tree.specs.declared.typed.TExpr as T
+use Rattle.cstar_tree.specs.declared.typed.UnaryOp.TheVariants as U
+use Rattle.cstar_tree.specs.declared.typed.ValueType.{ValueType}
+use Rattle.cstar_tree.specs.declared.typed.Variable.{Variable}
+use Rattle.code_lengths.proofs.Drafting.{as_it_was, extended}
+use Rattle.lower_base.specs.declared.emit.Out.{Out}
+use Rattle.lower_base.specs.declared.emit.Out.TheVariants as O
+use Rattle.lower_base.specs.declared.operators.Machine.{Machine}
+use Rattle.lower_base.specs.Drafts.{Draft, Fails, Made, Makes, Plain, a_field, a_flag, an_entry, first_bits, fresh_for, in_field, shortened, step as step_of, then_make, with_instr}
+use Rattle.lower_base.specs.Kinds.{bits_of, kind_of, truth_type}
+use Rattle.lower_base.specs.Operators.{machine_of, negates, relates}
+use Rattle.lower_expr.specs.declared.steps.Right.{Right}
+use Rattle.lower_expr.specs.declared.steps.Right.TheVariants as R
+use Rattle.lower_expr.specs.Joined.{cleared, flag_by, joined, joins, operation_of}
+use Rattle.lower_expr.specs.Kinds.{done_as, operand_bits, operation_bits, reads_signed, relation_kind, result_bits, unary_bits}
+use Rattle.lower_expr.specs.Operands.{is_plus, is_quiet, operand_by}
+use Rattle.lower_expr.specs.Steps.{fields_operated, field_negated, is_kept, negated, on_fields, on_word, put_test, right_operated, with_field_check}
+use Rattle.lower_expr.specs.Values.{Code, Condition, binary_by, compared, fields_by, flag_of, joined_by, logical_by, lowest, narrowing_by, next_of, nonzero_tested, parallel_binary_by, parallel_logical_by, relation_by, right_by, spare_for, spread_into, Test, truth_of, unary_by, value_of, zero_tested}
+use Rattle.paris_code.specs.declared.instr.Instr.{Instr}
+use Rattle.paris_code.specs.declared.instr.Instr.TheVariants as I
+use Rattle.paris_code.specs.declared.operands.Field.{Field}
+use Rattle.paris_code.specs.declared.program.Owner.TheVariants as W
+use Rattle.paris_code.specs.Code.{CodeState}
+use Rattle.paris_code.specs.Spans.{fields_of}
+use Rattle.source_meaning.specs.State.{State}
+use Rattle.source_meaning.specs.Values.{nonzero}
+use Rattle.source_meaning.proofs.ConstantLaws.{Boxed}
+use Rattle.code_follows.proofs.Following.{Extends, Sim, extends_then}
+use Rattle.code_follows.proofs.Settings.{At, Setting, Within, and_one, layout}
+use Rattle.fields_follow.proofs.Passing.{After, Behind, after_same, fields_longer, made_after, then_after}
+use Rattle.fields_follow.proofs.PassingTests.{PassesTests, tests_and_entry, tests_behind_entry, tests_left, tests_on}
+use Rattle.fields_follow.proofs.Places.{HoldsTheFields, IsOwnField, PlacesFields, stands_here}
+use Rattle.fields_follow.proofs.Values.{and_entry, next_field, one_more, taken, with_entry}
+use Rattle.fields_follow.proofs.Writing.{named}
+use Rattle.fields_follow.proofs.TestFlags.{LeavesTests, PutsTest, Tells, compares, puts_nonzero, puts_zero, tested_behind}
+use Rattle.fields_follow.proofs.Truths.{GivesTold, GivesTruth, either_or_both, truth_joined, truth_stored, truth_turned}
+
+-- ---- what the code is
+
+-- behind code of conditions the test flags are stored in an entry that was taken before it
+abbrev pub stored_in : ℕ → Draft → Unit {0} → Draft → Made Out
+stored_in set d _ e = Makes (O.Field (next_field set 1 d)) (with_instr (I.StoreTest (next_field set 1 d)) e)
+
+-- or in one that is taken behind it
+abbrev pub stored_behind : ℕ → Unit {0} → Draft → Made Field
+stored_behind set _ e = then_make (a_flag set e) (λ f after. Makes f (with_instr (I.StoreTest f) after))
+
+one_bit : (set : ℕ) (d : Draft) (made : Made (Unit {0})) → lowest 1 (then_make made (stored_in set d)) ≡ then_make made (stored_in set d)
+unfolding lowest then_make shortened first_bits
+one_bit set d (Makes x e) = refl
+one_bit set d Fails = refl
+
+-- a relation that goes to a field of one bit
+right_stored : (op : Op) (signed : Bool) (place : Place) (set : ℕ) (d : Draft) (a : Field) (b : Right) (spare : Field) (e : Draft) → relates op ≡ true → divides op ≡ false
+    → right_operated op signed place (next_field set 1 d) a b spare e ≡ then_make (compared (machine_of op signed) a b spare e) (stored_in set d)
+unfolding right_operated fields_operated on_fields on_word put_test with_field_check compared then_make
+right_stored op signed place set d a (R.Field b) spare e related no_check =
+    ap (λ (c : Bool). on_fields (machine_of op signed) (next_field set 1 d) a b (if c then with_instr (I.CheckDivisor place b) e else e)) no_check
+    ∙ ap (λ (m : Machine). on_fields m (next_field set 1 d) a b e) (compares op signed related).is ∙ sym (ap (λ (m : Machine). then_make (compared m a (R.Field b) spare e) (stored_in set d)) (compares op signed related).is)
+right_stored op signed place set d a (R.Word k) spare e related no_check =
+    ap (λ (m : Machine). on_word m op place (next_field set 1 d) a k spare e) (compares op signed related).is
+    ∙ ap (λ (c : Bool). put_test (next_field set 1 d) (with_instr (I.Compare (compares op signed related).relation a spare) (if c then with_instr (I.CheckDivisor place spare) (with_instr (I.MoveConstant spare k) e) else with_instr (I.MoveConstant spare k) e))) no_check
+    ∙ sym (ap (λ (m : Machine). then_make (compared m a (R.Word k) spare e) (stored_in set d)) (compares op signed related).is)
+
+-- what is stored behind two pieces
+both_stored : (set : ℕ) (d : Draft) (first : Made Field) (second : Draft → Made Right) (whole : Field → Right → Draft → Made Out) (test : Field → Right → Draft → Made (Unit {0})) → ((a : Field) (b : Right) (e : Draft) → whole a b e ≡ then_make (test a b e) (stored_in set d))
+    → lowest 1 (then_make first (λ a e. then_make (second e) (λ b after. whole a b after))) ≡ then_make (then_make first (λ a e. then_make (second e) (λ b after. test a b after))) (stored_in set d)
+unfolding lowest then_make
+both_stored set d Fails second whole test same = refl
+both_stored set d (Makes a e) second whole test same = by (second e)
+  where
+    by : (made : Made Right) → lowest 1 (then_make made (λ b after. whole a b after)) ≡ then_make (then_make made (λ b after. test a b after)) (stored_in set d)
+    by Fails = refl
+    by (Makes b after) = ap (λ (m : Made Out). lowest 1 m) (same a b after) ∙ one_bit set d (test a b after)
+
+relation_stored : (set : ℕ) (op : Op) (place : Place) (first : Code) (left : TExpr) (second : Code) (right : TExpr) (d : Draft) → relates op ≡ true → divides op ≡ false
+    → parallel_binary_by set 1 op place first left second right d ≡ then_make (relation_by set op first left second right (with_entry set 1 W.Own d)) (stored_in set d)
+unfolding parallel_binary_by relation_by spare_for result_bits operand_bits an_entry fields_by then_make lowest
+relation_stored set op place first left second right d related no_check =
+    ap (λ (c : Bool). then_make (a_field set (if c then 1 else operation_bits 1 op right) d) (λ dest begun. then_make (if c then a_field dest.set (if c then bits_of (relation_kind left right) else operation_bits 1 op right) begun else Makes dest begun) (λ spare between. lowest 1 (fields_by op (reads_signed op left right) place dest spare first left second right between)))) related
+    ∙ both_stored set d (spread_into first left spare d2) (λ e. right_by second op right e) (λ a b e. right_operated op (reads_signed op left right) place (next_field set 1 d) a b spare e) (λ a b e. compared (machine_of op (reads_signed op left right)) a b spare e)
+    (λ a b e. right_stored op (reads_signed op left right) place set d a b spare e related no_check)
+  where
+    spare : Field
+    spare = next_field set (bits_of (relation_kind left right)) (with_entry set 1 W.Own d)
+
+    d2 : Draft
+    d2 = with_entry set (bits_of (relation_kind left right)) W.Own (with_entry set 1 W.Own d)
+
+module _ (g : Setting) where
+  -- so many bits of the value, and the operand of the next instruction
+  abbrev value : ℕ → TExpr → Code
+  value bits e d = value_of g.typed (layout g) bits e d
+
+  abbrev pub operand_at : ℕ → TExpr → Code
+  operand_at bits e d = next_of g.typed (layout g) bits true e d
+
+  pub relation_value : (set : ℕ) (ty : ValueType) (place : Place) (op : Op) (p q : Boxed) (left right : TExpr) (d : Draft) → ty.shape ≡ Some set → relates op ≡ true → divides op ≡ false
+      → value 1 (T.Binary' ty place op p left q right) d ≡ then_make (truth_of g.typed (layout g) (T.Binary' ty place op p left q right) (with_entry set 1 W.Own d)) (stored_in set d)
+  unfolding value_of binary_by truth_of operand_bits
+  relation_value set ty place op p q left right d shaped related no_check =
+      ap (λ (c : Bool). binary_by ty.shape 1 op place (operand_by g.typed (layout g) (if c then bits_of (relation_kind left right) else operation_bits 1 op right) (value_of g.typed (layout g) (if c then bits_of (relation_kind left right) else operation_bits 1 op right) left) (is_quiet right) left) left (operand_by g.typed (layout g) (if c then bits_of (relation_kind left right) else operation_bits 1 op right) (value_of g.typed (layout g) (if c then bits_of (relation_kind left right) else operation_bits 1 op right) right) true right) right d) related
+      ∙ ap (λ (o : Option ℕ). binary_by o 1 op place first left second right d) shaped
+      ∙ relation_stored set op place first left second right d related no_check
+      ∙ sym (ap (λ (o : Option ℕ). then_make (relation_by (unwrap_or o 0) op first left second right (with_entry set 1 W.Own d)) (stored_in set d)) shaped)
+    where
+      first : Code
+      first = operand_by g.typed (layout g) (bits_of (relation_kind left right)) (value_of g.typed (layout g) (bits_of (relation_kind left right)) left) (is_quiet right) left
+
+      second : Code
+      second = operand_by g.typed (layout g) (bits_of (relation_kind left right)) (value_of g.typed (layout g) (bits_of (relation_kind left right)) right) true right
+
+  -- `!` of a word is its test, stored
+  zero_stored : (set : ℕ) (d : Draft) (made : Made Out) → then_make made (λ v after. negated (layout g) U.Not (O.Field (next_field set 1 d)) v after) ≡ then_make (then_make made (λ v after. in_field v (λ source. Makes tt (with_instr (I.EqZero source) after)))) (stored_in set d)
+  unfolding then_make negated in_field field_negated put_test
+  zero_stored set d (Makes (O.Field f) e) = refl
+  zero_stored set d (Makes (O.Scalar r) e) = refl
+  zero_stored set d (Makes O.Nothing e) = refl
+  zero_stored set d Fails = refl
+
+  pub word_not_value : (set : ℕ) (ty : ValueType) (p : Boxed) (operand : TExpr) (d : Draft) → ty.shape ≡ Some set → is_kept operand ≡ false → kind_of operand ≡ None
+      → value 1 (T.Unary' ty U.Not p operand) d ≡ then_make (zero_tested (operand_at (bits_of (kind_of operand)) operand) (with_entry set 1 W.Own d)) (stored_in set d)
+  unfolding value_of unary_by unary_bits done_as negates is_plus fresh_for an_entry then_make zero_tested bits_of
+  word_not_value set ty p operand d shaped fresh none =
+      ap (λ (c : Bool). done (not c && bits_of (kind_of operand) == 1)) fresh ∙ ap (λ (k : Option Elem). done (bits_of k == 1)) none
+      ∙ ap (λ (o : Option ℕ). then_make (fresh_for o 1 d) (λ dest between. then_make (operand_at (bits_of (kind_of operand)) operand between) (λ v after. negated (layout g) U.Not dest v after))) shaped
+      ∙ zero_stored set d (operand_at (bits_of (kind_of operand)) operand (with_entry set 1 W.Own d))
+    where
+      done : Bool → Made Out
+      done c = unary_by (layout g) ty 1 (if c then U.Complement else U.Not) (value 1 operand) (operand_at (bits_of (kind_of operand)) operand) d
+
+  -- that of a bit is its complement
+  abbrev pub turned_in : ℕ → Draft → Out → Draft → Made Out
+  turned_in set d v e = in_field v (λ source. Makes (O.Field (next_field set 1 d)) (with_instr (I.Lognot (next_field set 1 d) source) e))
+
+  pub bit_not_value : (set : ℕ) (ty : ValueType) (p : Boxed) (operand : TExpr) (d : Draft) → ty.shape ≡ Some set → is_kept operand ≡ false → kind_of operand ≡ Some truth_type
+      → value 1 (T.Unary' ty U.Not p operand) d ≡ then_make (operand_at 1 operand (with_entry set 1 W.Own d)) (turned_in set d)
+  unfolding value_of unary_by unary_bits done_as negates is_plus fresh_for an_entry then_make negated field_negated bits_of
+  bit_not_value set ty p operand d shaped fresh truth =
+      ap (λ (c : Bool). unary_by (layout g) ty 1 (if not c && bits_of (kind_of operand) == 1 then U.Complement else U.Not) (value 1 operand) (operand_at (bits_of (kind_of operand)) operand) d) fresh
+      ∙ ap (λ (k : Option Elem). unary_by (layout g) ty 1 (if bits_of k == 1 then U.Complement else U.Not) (value 1 operand) (operand_at (bits_of k) operand) d) truth
+      ∙ ap (λ (o : Option ℕ). then_make (fresh_for o 1 d) (λ dest between. then_make (operand_at 1 operand between) (λ v after. negated (layout g) U.Complement dest v after))) shaped
+
+  -- two conditions are joined by one operation
+  abbrev pub joined_in : Bool → ℕ → Draft → Field → Field → Draft → Made Out
+  joined_in is_or set d f h e = Makes (O.Field (next_field set 1 d)) (with_instr (I.Operate (operation_of is_or) (next_field set 1 d) f h) e)
+
+  pub joined_value : (is_or : Bool) (set : ℕ) (shape : Option ℕ) (left right : Condition) (d : Draft) → shape ≡ Some set → joins left.operand right.operand ≡ true
+      → logical_by is_or shape 1 left right d ≡ then_make (flag_of set left (with_entry set 1 W.Own d)) (λ f between. then_make (flag_of set right between) (λ h after. joined_in is_or set d f h after))
+  unfolding logical_by an_entry then_make parallel_logical_by joined_by joined cleared first_bits
+  joined_value is_or set shape left right d shaped join =
+      ap (λ (o : Option ℕ). logical_by is_or o 1 left right d) shaped ∙ ap (λ (c : Bool). if c then joined_by is_or (next_field set 1 d) left right (with_entry set 1 W.Own d) else narrowing_by is_or (next_field set 1 d) left right (with_entry set 1 W.Own d)) join
+
+  -- both kinds of operands have code
+  pub taken_extends : (x : Out) (e : Draft) → Extends g e (in_field x (λ f. Makes f e))
+  unfolding Extends in_field
+  taken_extends (O.Field f) e = (0, as_it_was e)
+  taken_extends (O.Scalar r) e = tt
+  taken_extends O.Nothing e = tt
+
+  stored_extends : (set : ℕ) (e : Draft) → Extends g e (stored_behind set tt e)
+  unfolding Extends then_make an_entry
+  stored_extends set e = (1, extended e (with_entry set 1 W.Own e) (with_instr (I.StoreTest (next_field set 1 e)) (with_entry set 1 W.Own e)) 0 1 (and_entry set 1 W.Own e) (and_one g (I.StoreTest (next_field set 1 e)) (with_entry set 1 W.Own e)))
+
+  pub flag_extends : (one : Bool) (set : ℕ) (code : Code) (test : Test) (d : Draft) → Extends g d (code d) → Extends g d (test d) → Extends g d (flag_by one set code test d)
+  unfolding flag_by
+  flag_extends true set code test d grows tests = extends_then g d (code d) (λ v e. in_field v (λ f. Makes f e)) grows taken_extends
+  flag_extends false set code test d grows tests = extends_then g d (test d) (stored_behind set) tests (λ x e. stored_extends set e)
+
+-- ---- what it leaves
+
+module _ (g : Setting) (alive : Variable → Type 0) (places : PlacesFields g) (fields : HoldsTheFields g) where
+  abbrev pub Tests : Draft → CodeState → ℕ → State → (ℕ → ℕ) → Draft → Type 0
+  Tests d s set st v e = LeavesTests g alive fields d s set st v e
+
+  abbrev pub Told : Draft → CodeState → ℕ → State → (ℕ → ℕ) → Out → Draft → Type 0
+  Told d s set st v out e = (f : Field) × ((out ≡ O.Field f) × GivesTold g alive places fields d s set st v f e)
+
+  abbrev pub Truth : Draft → CodeState → ℕ → State → (ℕ → ℕ) → Field → Draft → Type 0
+  Truth d s set st v f e = GivesTruth g alive places fields d s set st v f e
+
+  abbrev pub Bit : Draft → CodeState → ℕ → State → (ℕ → ℕ) → Out → Draft → Type 0
+  Bit d s set st v out e = (f : Field) × ((out ≡ O.Field f) × Truth d s set st v f e)
+
+  abbrev put : (Field → Instr) → Out → Draft → Made (Unit {0})
+  put test x e = in_field x (λ source. Makes tt (with_instr (test source) e))
+
+  -- a test of a field that tells
+  tests_after : (test : Field → Instr) (set : ℕ) (v u : ℕ → ℕ) (made : Made Out) (d : Draft) (s : CodeState) (st : State) → ((a : Field) → step_of (test a) ≡ Plain (test a)) → ((a : Field) → fields_of (test a) ≡ a ∷ []) → ((a : Field) (t : CodeState) → Tells g set a t v → PutsTest g set (test a) t u) → After g (Told d s set st v) made
+      → After g (λ _ f. Tests d s set st u f) (then_make made (put test))
+  unfolding in_field Extends
+  tests_after test set v u made d s st plain names puts told =
+      then_after g (Told d s set st v) (λ _ f. Tests d s set st u f) made (put test) told next_extends (λ x e1 (a, (is, gives)).
+      after_same g (λ _ f. Tests d s set st u f) (ap (λ (o : Out). put test o e1) is)
+      (made_after g (λ _ f. Tests d s set st u f) tt (with_instr (test a) e1) (λ within.
+      tested_behind g alive fields places set d e1 (test a) s st u (Behind g a e1) gives.passes (length e1.code, (named g places fields alive (test a) a [] (length e1.code) (stands_here g (test a) e1 within (plain a)) (names a), omega arith)) gives.exists within
+      (puts a gives.passes.t gives.tells))))
+    where
+      next_extends : (x : Out) (e1 : Draft) → Extends g e1 (put test x e1)
+      next_extends (O.Field f) e1 = (1, and_one g (test f) e1)
+      next_extends (O.Scalar r) e1 = tt
+      next_extends O.Nothing e1 = tt
+
+  pub nonzero_after : (set : ℕ) (v : ℕ → ℕ) (code : Code) (d : Draft) (s : CodeState) (st : State) → After g (Told d s set st v) (code d) → After g (λ _ f. Tests d s set st v f) (nonzero_tested code d)
+  unfolding nonzero_tested step_of
+  nonzero_after set v code d s st told = tests_after (λ a. I.NeZero a) set v v (code d) d s st (λ a. refl) (λ a. refl) (λ a t tells. puts_nonzero g set a t v tells) told
+
+  pub zero_after : (set : ℕ) (v : ℕ → ℕ) (code : Code) (d : Draft) (s : CodeState) (st : State) → After g (Told d s set st v) (code d) → After g (λ _ f. Tests d s set st (λ q. from_bool (v q == 0)) f) (zero_tested code d)
+  unfolding zero_tested step_of
+  zero_after set v code d s st told = tests_after (λ a. I.EqZero a) set v (λ q. from_bool (v q == 0)) (code d) d s st (λ a. refl) (λ a. refl) (λ a t tells. puts_zero g set a t v tells) told
+
+  -- the entry that was taken first is the unit's, behind code and one instruction more
+  first_entry : (set : ℕ) (d e : Draft) (s : CodeState) (st : State) (used : Type 0) (i : Instr) → PassesTests g alive (with_entry set 1 W.Own d) e s st used → Within g (with_instr i e) → IsOwnField g (next_field set 1 d)
+  first_entry set d e s st used i p within = taken g set 1 W.Own d (with_instr i e) (p.grown.0 + 1) within (extended (with_entry set 1 W.Own d) e (with_instr i e) p.grown.0 1 p.grown.1 (and_one g i e))
+
+  first_older : (set : ℕ) (d e : Draft) (s : CodeState) (st : State) (used : Type 0) → PassesTests g alive (with_entry set 1 W.Own d) e s st used → length d.fields < length e.fields
+  first_older set d e s st used p = let first = one_more set 1 W.Own d in let longer = fields_longer (with_entry set 1 W.Own d) e p.grown.0 p.grown.1 in omega (arith, first, longer)
+
+  -- the test flags are stored
+  pub stored_after : (set : ℕ) (v : ℕ → ℕ) (d : Draft) (s : CodeState) (st : State) (made : Made (Unit {0})) → After g (λ _ f. Tests (with_entry set 1 W.Own d) s set st v f) made → After g (Bit d s set st v) (then_make made (stored_in set d))
+  unfolding Extends tests_left tests_behind_entry
+  stored_after set v d s st made tests =
+      then_after g (λ _ f. Tests (with_entry set 1 W.Own d) s set st v f) (Bit d s set st v) made (stored_in set d) tests (λ x e. (1, and_one g (I.StoreTest (next_field set 1 d)) e)) (λ x e left.
+      made_after g (Bit d s set st v) (O.Field (next_field set 1 d)) (with_instr (I.StoreTest (next_field set 1 d)) e) (λ within.
+      let p : PassesTests g alive (with_entry set 1 W.Own d) e s st (Unit {0}) = tests_left g alive (with_entry set 1 W.Own d) e s st left.leaves in (
+        next_field set 1 d,
+        (
+          refl,
+          truth_stored g alive places fields set d e (next_field set 1 d) s st v (tests_behind_entry g alive set 1 d e s st (Unit {0}) (tests_left g alive (with_entry set 1 W.Own d) e s st left.leaves)) left.flags (omega arith) (first_older set d e s st (Unit {0}) p)
+              (first_entry set d e s st (Unit {0}) (I.StoreTest (next_field set 1 d)) p within) refl refl within,
+        ),
+      )))
+
+  pub flag_after : (set : ℕ) (v : ℕ → ℕ) (d : Draft) (s : CodeState) (st : State) (made : Made (Unit {0})) → After g (λ _ f. Tests d s set st v f) made → After g (Truth d s set st v) (then_make made (stored_behind set))
+  unfolding Extends tests_left tests_and_entry then_make an_entry
+  flag_after set v d s st made tests =
+      then_after g (λ _ f. Tests d s set st v f) (Truth d s set st v) made (stored_behind set) tests (λ x e. stored_extends g set e) (λ x e left.
+      made_after g (Truth d s set st v) (next_field set 1 e) (with_instr (I.StoreTest (next_field set 1 e)) (with_entry set 1 W.Own e)) (λ within.
+      truth_stored g alive places fields set d (with_entry set 1 W.Own e) (next_field set 1 e) s st v (tests_and_entry g alive set 1 d e s st (Unit {0}) (tests_left g alive d e s st left.leaves)) left.flags (fields_longer d e left.leaves.grown.0 left.leaves.grown.1) (let l = one_more set 1 W.Own e in omega (arith, l))
+      (taken g set 1 W.Own e (with_instr (I.StoreTest (next_field set 1 e)) (with_entry set 1 W.Own e)) 1 within (and_one g (I.StoreTest (next_field set 1 e)) (with_entry set 1 W.Own e))) refl refl within))
+
+  -- a bit that there is
+  abbrev pub as_bit : Out → Draft → Made Field
+  as_bit v e = in_field v (λ f. Makes f e)
+
+  pub bit_taken : (set : ℕ) (v : ℕ → ℕ) (d : Draft) (s : CodeState) (st : State) (made : Made Out) → After g (Bit d s set st v) made → After g (Truth d s set st v) (then_make made as_bit)
+  unfolding in_field
+  bit_taken set v d s st made bit =
+      then_after g (Bit d s set st v) (Truth d s set st v) made as_bit bit (taken_extends g)
+      (λ x e (a, (is, one)). after_same g (Truth d s set st v) (ap (λ (o : Out). as_bit o e) is) (made_after g (Truth d s set st v) a e (λ within. one)))
+
+  -- a bit's complement
+  pub turned_after : (set : ℕ) (v : ℕ → ℕ) (d : Draft) (s : CodeState) (st : State) (made : Made Out) → After g (Bit (with_entry set 1 W.Own d) s set st v) made → After g (Bit d s set st (λ q. from_bool (v q == 0))) (then_make made (turned_in g set d))
+  unfolding Extends in_field
+  turned_after set v d s st made bit =
+      then_after g (Bit (with_entry set 1 W.Own d) s set st v) (Bit d s set st (λ q. from_bool (v q == 0))) made (turned_in g set d) bit next_extends (λ x e (a, (is, one)).
+      after_same g (Bit d s set st (λ q. from_bool (v q == 0))) (ap (λ (o : Out). turned_in g set d o e) is)
+      (made_after g (Bit d s set st (λ q. from_bool (v q == 0))) (O.Field (next_field set 1 d)) (with_instr (I.Lognot (next_field set 1 d) a) e) (λ within. (
+        next_field set 1 d,
+        (
+          refl,
+          truth_turned g alive places fields set d e a (next_field set 1 d) s st v one (omega arith) (first_older set d e s st (Behind g a e) one.passes) (first_entry set d e s st (Behind g a e) (I.Lognot (next_field set 1 d) a) one.passes within) refl refl within,
+        ),
+      ))))
+    where
+      next_extends : (x : Out) (e : Draft) → Extends g e (turned_in g set d x e)
+      next_extends (O.Field f) e = (1, and_one g (I.Lognot (next_field set 1 d) f) e)
+      next_extends (O.Scalar r) e = tt
+      next_extends O.Nothing e = tt
+
+  -- two bits, joined
+  pub joined_after : (is_or : Bool) (set : ℕ) (v w : ℕ → ℕ) (d : Draft) (s : CodeState) (st : State) (first : Made Field) (second : Draft → Made Field) → After g (Truth (with_entry set 1 W.Own d) s set st v) first → ((e : Draft) → Extends g e (second e))
+      → ((e : Draft) (t : CodeState) → At g t (length e.code) → Sim g alive st t → After g (Truth e t set st w) (second e))
+      → After g (Bit d s set st (λ q. from_bool (either_or_both is_or (nonzero (v q)) (nonzero (w q))))) (then_make first (λ f between. then_make (second between) (λ h after. joined_in g is_or set d f h after)))
+  unfolding Extends tests_on
+  joined_after is_or set v w d s st first second one grows two =
+      then_after g (Truth d1 s set st v) (Bit d s set st u) first (λ f e. next f e) one (λ f e. extends_then g e (second e) (λ h after. joined_in g is_or set d f h after) (grows e) (λ h after. (1, and_one g (joins_by f h) after))) (λ f e1 left.
+      then_after g (Truth e1 left.passes.t set st w) (Bit d s set st u) (second e1) (λ h after. joined_in g is_or set d f h after) (two e1 left.passes.t left.passes.at left.passes.sim) (λ h after. (1, and_one g (joins_by f h) after)) (λ h e2 right.
+      made_after g (Bit d s set st u) dest (with_instr (joins_by f h) e2) (λ within.
+      let p : PassesTests g alive d1 e2 s st (Behind g f e1 × Behind g h e2) = tests_on g alive d1 e1 e2 s st (Behind g f e1) (Behind g h e2) (Behind g f e1 × Behind g h e2) left.passes right.passes (λ b. b.0) (λ b. b.1) in (
+        next_field set 1 d,
+        (
+          refl,
+          truth_joined g alive places fields is_or set d e1 e2 f h (next_field set 1 d) s st v w left right (omega arith) (first_older set d e2 s st (Behind g f e1 × Behind g h e2) p) (first_entry set d e2 s st (Behind g f e1 × Behind g h e2) (joins_by f h) p within) refl refl within,
+        ),
+      ))))
+    where
+      d1 : Draft
+      d1 = with_entry set 1 W.Own d
+
+      dest : Out
+      dest = O.Field (next_field set 1 d)
+
+      u : ℕ → ℕ
+      u = λ q. from_bool (either_or_both is_or (nonzero (v q)) (nonzero (w q)))
+
+      joins_by : Field → Field → Instr
+      joins_by f h = I.Operate (operation_of is_or) (next_field set 1 d) f h
+
+      next : Field → Draft → Made Out
+      next f e = then_make (second e) (λ h after. joined_in g is_or set d f h after)

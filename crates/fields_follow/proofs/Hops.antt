@@ -1,0 +1,244 @@
+-- The steps of a get by NEWS: each moves numbers that a field has at every position, active or not, one way along an axis.
+use Rattle.std.proofs.Common.{◌≡◌, ◌∙◌, ℕ, suc, ◌+◌, ◌%◌, ◌<◌, ◌≤◌, ◌^◌, ◌==◌, ◌&&◌, Bool, true, false, not, List, [], ◌∷◌, length, refl, sym, ap, subst, arith, if◌then◌else◌}
+use Rattle.std.specs.Prelude.{nat_lt}
+use Rattle.std.proofs.lemmas.Bool.Decides.{nat_tests}
+use Rattle.std.proofs.Math.Nat.{mod-eq_of_lt}
+use Rattle.cstar_base.specs.declared.elem.Elem.{Elem}
+use Rattle.cstar_base.specs.Numbers.{number_of}
+use Rattle.cstar_tree.specs.declared.typed.Variable.{Variable}
+use Rattle.code_lengths.specs.Growth.{Extended}
+use Rattle.code_lengths.proofs.Drafting.{extended}
+use Rattle.lower_base.specs.Drafts.{Draft, Plain, step as step_of, with_instr}
+use Rattle.lower_comm.specs.declared.gets.Hop.{Hop}
+use Rattle.lower_comm.specs.Messages.{hopped, is_extended, stepwise, with_hop}
+use Rattle.paris_code.specs.declared.instr.Instr.{Instr}
+use Rattle.paris_code.specs.declared.instr.Instr.TheVariants as I
+use Rattle.paris_code.specs.declared.operands.Field.{Field}
+use Rattle.paris_code.specs.declared.operands.GridStep.{GridStep}
+use Rattle.paris_code.specs.declared.operands.Konst.{Konst}
+use Rattle.paris_code.specs.declared.operands.Konst.TheVariants as K
+use Rattle.paris_code.specs.Arguments.{konst_number}
+use Rattle.paris_code.specs.Code.{CodeState, Goes, applied, begun}
+use Rattle.paris_code.specs.Fetching.{at_active, at_all, of_neighbour}
+use Rattle.paris_code.specs.Meaning.{after}
+use Rattle.paris_code.specs.Memory.{field_number, processors}
+use Rattle.paris_code.specs.Shapes.{bits_at}
+use Rattle.paris_code.specs.Spans.{IsNamedAt, StandsAt}
+use Rattle.paris_code.specs.Writes.{Write, written}
+use Rattle.phase_meaning.proofs.Alike.{shifted_below}
+use Rattle.source_meaning.specs.State.{State}
+use Rattle.vp_sets.specs.Positions.{are_positive, shifted}
+use Rattle.code_follows.proofs.Following.{Sim}
+use Rattle.code_follows.proofs.Settings.{At, Setting, Within, and_one, at_next, begins_here, code_more, earlier, one, placed_instr}
+use Rattle.fields_follow.proofs.Bits.{active_apart, field_apart, field_written}
+use Rattle.fields_follow.proofs.Fields.{HoldsFields}
+use Rattle.fields_follow.proofs.FileFields.{apart_back}
+use Rattle.fields_follow.proofs.Instructions.{HasNumbers, Puts, extents, number_in, place, puts_move, shapes, wrote}
+use Rattle.fields_follow.proofs.Passing.{Passes, names_second, passes_all, passes_on}
+use Rattle.fields_follow.proofs.Places.{HoldsTheFields, IsOwnField, PlacesFields, of_file, stands_here}
+use Rattle.fields_follow.proofs.Writing.{named, with_memory}
+
+small_again : (n : ℕ) → n < 2 ^ 32 → n % 2 ^ 32 ≡ n
+small_again n few = mod-eq_of_lt {n = n} {m = 2 ^ 32} few
+
+module _ (g : Setting) where
+  -- a field of 32 bits of a set has these numbers at every position
+  pub record HasEverywhere (set : ℕ) (f : Field) (s : CodeState) (v : ℕ → ℕ) : Type 0 where
+    pub of_set : f.set ≡ set
+    pub exists : set < length (shapes g)
+    pub len : f.len ≡ 32
+    pub are : (p : ℕ) → p < processors (shapes g) set → number_in g f s p ≡ v p
+    pub small : (p : ℕ) → p < processors (shapes g) set → v p < 2 ^ 32
+
+  -- so it has them where it is active
+  somewhere : (set : ℕ) (f : Field) (s : CodeState) (v : ℕ → ℕ) → HasEverywhere set f s v → HasNumbers g set f s v
+  somewhere set f s v h = record { of_set = h.of_set; exists = h.exists; len = h.len; are = λ p below on. h.are p below; small = λ p below on. h.small p below }
+
+  -- the position that is so many steps away
+  abbrev pub neighbour : ℕ → ℕ → ℕ → ℕ → ℕ
+  neighbour set axis k p = shifted (extents g set) p axis (number_of 32 true k)
+
+  -- the shape is a grid with this axis
+  abbrev pub HasAxis : ℕ → ℕ → Type 0
+  HasAxis set axis = (are_positive (extents g set) ≡ true) × (axis < length (extents g set))
+
+  -- the number of a neighbour, as it is fetched
+  fetched : (set axis k : ℕ) (a : Field) (s : CodeState) (v : ℕ → ℕ) → HasAxis set axis → HasEverywhere set a s v → (p : ℕ) → p < processors (shapes g) set
+      → (of_neighbour (shapes g) s.memory (place g a) axis k p ≡ v (neighbour set axis k p)) × (v (neighbour set axis k p) < 2 ^ 32)
+  unfolding of_neighbour
+  fetched set axis k a s v grid h p below =
+      let low = shifted_below (extents g set) p axis (number_of 32 true k) grid.0 below grid.1 in
+      (ap (λ (n : ℕ). field_number s.memory (place g a) (shifted (extents g n) p axis (number_of 32 true k))) h.of_set ∙ h.are (neighbour set axis k p) low, h.small (neighbour set axis k p) low)
+
+  puts_news : (set axis k : ℕ) (d a : Field) (s : CodeState) (v : ℕ → ℕ) → d.len ≡ 32 → HasAxis set axis → HasEverywhere set a s v → Puts g set (I.GetFromNews d a axis (K.Imm k)) d s (λ p. v (neighbour set axis k p))
+  unfolding begun applied after step_of
+  puts_news set axis k d a s v wide grid h = record {
+    plain = refl;
+    simple = tt;
+    others = _;
+    names = refl;
+    write = at_active (shapes g) s.memory (place g d) (λ p. of_neighbour (shapes g) s.memory (place g a) axis k p);
+    run = refl;
+    writes = λ p. refl;
+    value = λ p below on.
+        let got = fetched set axis k a s v grid h p below in
+        ap (λ (n : ℕ). of_neighbour (shapes g) s.memory (place g a) axis k p % 2 ^ n) wide ∙ ap (λ (n : ℕ). n % 2 ^ 32) got.0 ∙ small_again (v (neighbour set axis k p)) got.1;
+    goes = refl;
+  }
+
+  -- steps by given numbers, along axes that there are
+  unfoldable pub AreMoves : ℕ → List GridStep → Type 0
+  AreMoves set [] = Unit {0}
+  AreMoves set (step ∷ steps) = ((k : ℕ) × (step.step ≡ K.Imm k)) × HasAxis set step.axis × AreMoves set steps
+
+  -- the position whose number comes to one by steps: the first of them is the last that is taken on the way there
+  unfoldable pub origin : ℕ → List GridStep → ℕ → ℕ
+  origin set [] q = q
+  origin set (step ∷ steps) q = neighbour set step.axis (konst_number step.step []) (origin set steps q)
+
+  -- the same numbers at the positions that there are
+  pub puts_same : (set : ℕ) (i : Instr) (d : Field) (s : CodeState) (v w : ℕ → ℕ) → ((p : ℕ) → p < processors (shapes g) set → v p ≡ w p) → Puts g set i d s v → Puts g set i d s w
+  puts_same set i d s v w same h = record {
+    plain = h.plain;
+    simple = h.simple;
+    others = h.others;
+    names = h.names;
+    write = h.write;
+    run = h.run;
+    writes = h.writes;
+    value = λ p below on. h.value p below on ∙ same p below;
+    goes = h.goes;
+  }
+
+  module _ (places : PlacesFields g) (fields : HoldsTheFields g) (alive : Variable → Type 0) where
+    -- a step into an own entry that is named later
+    abbrev hop_instr : ℕ → ℕ → Field → Field → Instr
+    hop_instr axis k d a = I.GetFromNewsAlways d a axis (K.Imm k)
+
+    hop_goes : (axis k : ℕ) (d a : Field) (s : CodeState) → begun g.image (placed_instr g (hop_instr axis k d a)) s ≡ Goes (wrote g (at_all (place g d) (λ p. of_neighbour (shapes g) s.memory (place g a) axis k p)) s)
+    unfolding begun applied after
+    hop_goes axis k d a s = refl
+
+    hop_plain : (axis k : ℕ) (d a : Field) → step_of (hop_instr axis k d a) ≡ Plain (hop_instr axis k d a)
+    unfolding step_of
+    hop_plain axis k d a = refl
+
+    hop_passes : (bound set axis k : ℕ) (d a : Field) (e : Draft) (s : CodeState) (st : State) (v : ℕ → ℕ) → bound ≤ d.offset → IsOwnField g d → d.set ≡ set → d.len ≡ 32 → HasAxis set axis → HasEverywhere set a s v
+        → Within g (with_instr (hop_instr axis k d a) e) → IsNamedAt g.unit d.offset (length (with_instr (hop_instr axis k d a) e).code) → At g s (length e.code) → Sim g alive st s
+        → (p : Passes g alive bound e (with_instr (hop_instr axis k d a) e) s st (Unit {0})) × HasEverywhere set d p.t (λ q. v (neighbour set axis k q))
+    unfolding written
+    hop_passes bound set axis k d a e s st v newer own of_set wide grid h within again here sim = (
+      record {
+        grown = (1, and_one g i e);
+        t = wrote g w s;
+        go = one g s (wrote g w s) (begins_here g i e s within (hop_plain axis k d a) here ∙ hop_goes axis k d a s);
+        at = at_next g i e s (s.at + 1) here refl;
+        registers = refl;
+        sim = with_memory g places fields alive st st s w refl refl refl refl refl (record {
+          numbers = λ j element q p info is below. field_apart w s.memory (of_file g j element) p (places.own_file j element q info d is own) ∙ was.numbers j element q p info is below;
+          small = was.small;
+          flags = λ q p exists below. active_apart (shapes g) w s.memory q p ends.1 ∙ was.flags q p exists below;
+          winner = was.winner;
+        }) sim;
+        stays = λ used f first last p below is_own before low after high.
+            field_apart w s.memory (place g f) p
+            (apart_back (place g f) (place g d) (places.owns_apart f d first (length e.code) last (length (with_instr i e).code) (λ same. omega (arith, same, below, newer)) is_own own ends.0 before after (omega (arith, low)) (omega (arith, high, long)) (named g places fields alive i d (a ∷ []) (length e.code) there refl) again (omega (arith, long))));
+      },
+      record {
+        of_set = of_set;
+        exists = h.exists;
+        len = wide;
+        are = λ p below.
+            let got = fetched set axis k a s v grid h p below in
+            field_written w s.memory p refl ∙ ap (λ (n : ℕ). of_neighbour (shapes g) s.memory (place g a) axis k p % 2 ^ n) wide ∙ ap (λ (n : ℕ). n % 2 ^ 32) got.0 ∙ small_again (v (neighbour set axis k p)) got.1;
+        small = λ p below. (fetched set axis k a s v grid h p below).1;
+      },
+    )
+      where
+        i : Instr
+        i = hop_instr axis k d a
+
+        w : Write
+        w = at_all (place g d) (λ p. of_neighbour (shapes g) s.memory (place g a) axis k p)
+
+        there : StandsAt g.unit (length e.code) i
+        there = stands_here g i e within (hop_plain axis k d a)
+
+        long : length (with_instr i e).code ≡ length e.code + 1
+        long = code_more g i e
+
+        ends : (d.set < length (shapes g)) × ((place g d).offset + d.len ≤ bits_at (shapes g) d.set)
+        ends = places.ends (length e.code) i d (a ∷ []) there (hop_plain axis k d a) tt refl
+
+        was : HoldsFields g.typed g.image fields.active st s.memory
+        was = fields.opens st s.memory sim.memory
+
+    -- a fresh field of the set
+    abbrev pub IsFresh : ℕ → ℕ → Field → Type 0
+    IsFresh bound set f = (bound ≤ f.offset) × IsOwnField g f × (f.set ≡ set) × (f.len ≡ 32)
+
+    hop_by : (bound set axis k : ℕ) (c : Konst) (d a : Field) (e : Draft) (s : CodeState) (st : State) (v : ℕ → ℕ) → c ≡ K.Imm k → IsFresh bound set d → HasAxis set axis → HasEverywhere set a s v
+        → Within g (with_instr (I.GetFromNewsAlways d a axis c) e) → IsNamedAt g.unit d.offset (length (with_instr (I.GetFromNewsAlways d a axis c) e).code) → At g s (length e.code) → Sim g alive st s
+        → (p : Passes g alive bound e (with_instr (I.GetFromNewsAlways d a axis c) e) s st (Unit {0})) × HasEverywhere set d p.t (λ q. v (neighbour set axis (konst_number c []) q))
+    hop_by bound set axis k c d a e s st v is fresh grid h within again here sim =
+        subst
+        (λ (c : Konst). Within g (with_instr (I.GetFromNewsAlways d a axis c) e) → IsNamedAt g.unit d.offset (length (with_instr (I.GetFromNewsAlways d a axis c) e).code)
+        → (p : Passes g alive bound e (with_instr (I.GetFromNewsAlways d a axis c) e) s st (Unit {0})) × HasEverywhere set d p.t (λ q. v (neighbour set axis (konst_number c []) q)))
+        (sym is) (λ within again. hop_passes bound set axis k d a e s st v fresh.0 fresh.1 fresh.2 fresh.3 grid h within again here sim) within again
+
+    not_extended : (elem : Elem) (dest : Field) → elem.bits ≡ 32 → dest.len ≡ 32 → not (is_extended elem dest) ≡ true
+    unfolding is_extended
+    not_extended elem dest word wide = ap (λ (n : ℕ). not (nat_lt n dest.len)) word ∙ ap (λ (n : ℕ). not (nat_lt 32 n)) wide
+
+    last_step : (elem : Elem) (dest : Field) (step : GridStep) (hop : Hop) (d : Draft) → elem.bits ≡ 32 → dest.len ≡ 32 → stepwise elem dest (step ∷ []) hop d ≡ with_instr (I.GetFromNews dest hop.source step.axis step.step) d
+    unfolding stepwise
+    last_step elem dest step hop d word wide =
+        ap (λ (b : Bool). if b then with_instr (I.GetFromNews dest hop.source step.axis step.step) d else with_instr (I.Move elem.signed dest (hopped hop).source) (with_hop step hop d)) (not_extended elem dest word wide)
+
+    next_step : (elem : Elem) (dest : Field) (step next : GridStep) (steps : List GridStep) (hop : Hop) (d : Draft) → stepwise elem dest (step ∷ (next ∷ steps)) hop d ≡ stepwise elem dest (next ∷ steps) (hopped hop) (with_hop step hop d)
+    unfolding stepwise
+    next_step elem dest step next steps hop d =
+        ap (λ (last : Bool). if last && not (is_extended elem dest) then with_instr (I.GetFromNews dest hop.source step.axis step.step) d else stepwise elem dest (next ∷ steps) (hopped hop) (with_hop step hop d)) (some (length steps))
+      where
+        some : (n : ℕ) → (suc n == 0) ≡ false
+        some n = grind (arith, nat_tests)
+
+    module _ (elem : Elem) (dest : Field) (word : elem.bits ≡ 32) (wide : dest.len ≡ 32) where
+      pub steps_extend : (steps : List GridStep) (hop : Hop) (d : Draft) → (n : ℕ) × Extended d n (stepwise elem dest steps hop d)
+      unfolding stepwise with_hop
+      steps_extend [] hop d = (1, and_one g _ d)
+      steps_extend (step ∷ []) hop d = subst (λ (e : Draft). (n : ℕ) × Extended d n e) (sym (last_step elem dest step hop d word wide)) (1, and_one g _ d)
+      steps_extend (step ∷ (next ∷ steps)) hop d =
+          let rest = steps_extend (next ∷ steps) (hopped hop) (with_hop step hop d) in
+          subst (λ (e : Draft). (n : ℕ) × Extended d n e) (sym (next_step elem dest step next steps hop d)) (1 + rest.0, extended d (with_hop step hop d) _ 1 rest.0 (and_one g _ d) rest.1)
+
+      -- the first instruction names the source
+      names_source : (steps : List GridStep) (hop : Hop) (d : Draft) → Within g (stepwise elem dest steps hop d) → IsNamedAt g.unit hop.source.offset (length d.code)
+      unfolding stepwise with_hop step_of
+      names_source [] hop d within = names_second g _ dest hop.source [] (length d.code) (stands_here g (I.Move elem.signed dest hop.source) d within refl) refl
+      names_source (step ∷ []) hop d within =
+          names_second g _ dest hop.source [] (length d.code) (stands_here g (I.GetFromNews dest hop.source step.axis step.step) d (subst (λ (e : Draft). Within g e) (last_step elem dest step hop d word wide) within) refl) refl
+      names_source (step ∷ (next ∷ steps)) hop d within =
+          let rest = steps_extend (next ∷ steps) (hopped hop) (with_hop step hop d) in
+          let first : Within g (with_hop step hop d) = earlier g _ _ rest.0 rest.1 (subst (λ (e : Draft). Within g e) (next_step elem dest step next steps hop d) within) in
+          names_second g _ hop.next hop.source [] (length d.code) (stands_here g (I.GetFromNewsAlways hop.next hop.source step.axis step.step) d first refl) refl
+
+      -- the last instruction puts the numbers in the destination
+      abbrev pub MovesLast : ℕ → ℕ → List GridStep → Hop → (ℕ → ℕ) → Draft → CodeState → State → Type 0
+      MovesLast bound set steps hop v d s st = (e2 : Draft) × ((i : Instr) × ((stepwise elem dest steps hop d ≡ with_instr i e2) × ((p : Passes g alive bound d e2 s st (Unit {0})) × Puts g set i dest p.t (λ q. v (origin set steps q)))))
+
+      pub moves_last : (bound set : ℕ) (steps : List GridStep) (hop : Hop) (v : ℕ → ℕ) (d : Draft) (s : CodeState) (st : State) → AreMoves set steps → IsFresh bound set hop.next → IsFresh bound set hop.spare → HasEverywhere set hop.source s v
+          → Within g (stepwise elem dest steps hop d) → At g s (length d.code) → Sim g alive st s → MovesLast bound set steps hop v d s st
+      unfolding AreMoves origin stepwise with_hop hopped passes_on
+      moves_last bound set [] hop v d s st are fresh spare h within here sim =
+          (d, (I.Move elem.signed dest hop.source, (refl, (passes_all g alive bound d s st (Unit {0}) here sim, puts_move g set elem.signed dest hop.source s v wide (somewhere set hop.source s v h)))))
+      moves_last bound set (step ∷ []) hop v d s st are fresh spare h within here sim = by step.step are.0.1
+        where
+          by : (c : Konst) → c ≡ K.Imm are.0.0 → MovesLast bound set (step ∷ []) hop v d s st
+          by c is = (d, (I.GetFromNews dest hop.source step.axis step.step, (last_step elem dest step hop d word wide, (passes_all g alive bound d s st (Unit {0}) here sim, subst (λ (c : Konst). Puts g set (I.GetFromNews dest hop.source step.axis c) dest s (λ q. v (neighbour set step.axis (konst_number c []) q))) (sym are.0.1) (puts_news set step.axis are.0.0 dest hop.source s v wide are.1 h)))))
+      moves_last bound set (step ∷ (next ∷ steps)) hop v d s st are fresh spare h within here sim =
+          let rest = steps_extend (next ∷ steps) (hopped hop) (with_hop step hop d) in
+          let later : Within g (stepwise elem dest (next ∷ steps) (hopped hop) (with_hop step hop d)) = subst (λ (e : Draft). Within g e) (next_step elem dest step next steps hop d) within in
+          let (first, moved) = hop_by bound set step.axis are.0.0 step.step hop.next hop.source d s st v are.0.1 fresh are.1 h (earlier g _ _ rest.0 rest.1 later) (names_source (next ∷ steps) (hopped hop) (with_hop step hop d) later) here sim in
+          let (e2, (i, (same, (passes, puts)))) = moves_last bound set (next ∷ steps) (hopped hop) (λ q. v (neighbour set step.axis (konst_number step.step []) q)) (with_hop step hop d) first.t st are.2 spare fresh moved later first.at first.sim in
+          (e2, (i, (◌∙◌ {b = stepwise elem dest (next ∷ steps) (hopped hop) (with_hop step hop d)} {c = with_instr i e2} (next_step elem dest step next steps hop d) same, (passes_on g alive bound bound d (with_hop step hop d) e2 s st (Unit {0}) (Unit {0}) (Unit {0}) (omega arith) first passes (λ used. tt) (λ used. tt), puts))))

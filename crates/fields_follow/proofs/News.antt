@@ -1,0 +1,207 @@
+-- The code of a get from neighbours round the ends of the grid puts the numbers in a field by its last instruction.
+use denote.Hole.Carrier
+use Rattle.std.proofs.Common.{◌≡◌, ◌∙◌, ℕ, ◌+◌, ◌<◌, ◌≤◌, ◌^◌, ◌&&◌, Bool, true, List, [], length, Option, Some, None, refl, sym, ap, subst, arith, if◌then◌else◌}
+use Rattle.std.specs.Prelude.{is_some, nat_lt}
+use Rattle.cstar_base.specs.declared.operators.Place.{Place}
+use Rattle.cstar_tree.specs.declared.typed.TExpr.{TExpr, Row_of-TExpr, items-the_row-TExpr, items_shown-the_row-TExpr-0, out-TExpr}
+use Rattle.cstar_tree.specs.declared.typed.TExpr as T
+use Rattle.cstar_tree.specs.declared.typed.Typed.{Typed}
+use Rattle.cstar_tree.specs.declared.typed.ValueType.{ValueType}
+use Rattle.cstar_tree.specs.declared.typed.VarInfo.{VarInfo}
+use Rattle.cstar_tree.specs.declared.typed.Variable.{Variable}
+use Rattle.cstar_tree.specs.declared.typed.Variable.TheVariants as V
+use Rattle.cstar_tree.specs.Conversions.{parallel}
+use Rattle.cstar_tree.specs.StatementTypes.{variable_info}
+use Rattle.code_lengths.specs.Growth.{Extended}
+use Rattle.code_lengths.specs.Naming.{HasVariable, plain}
+use Rattle.code_lengths.proofs.Drafting.{extended}
+use Rattle.lower_base.specs.declared.emit.Out.{Out}
+use Rattle.lower_base.specs.declared.emit.Out.TheVariants as O
+use Rattle.lower_base.specs.Layouts.{Layout, field_of}
+use Rattle.lower_base.specs.Drafts.{Draft, Made, Makes, an_entry, first_bits, in_field, then_make, with_instr}
+use Rattle.lower_comm.specs.declared.gets.Hop.{Hop}
+use Rattle.lower_comm.specs.Messages.{bits_read, checked_grid, communicated, gotten_by_steps, grid_steps, is_extended, moving_steps, read_at, stepwise, with_grid_check}
+use Rattle.lower_comm.specs.News.{all_go_by_news, goes_by_news}
+use Rattle.lower_expr.specs.declared.spots.Spot.{Spot}
+use Rattle.lower_expr.specs.Values.{index_read_to, news_to, read_to}
+use Rattle.paris_code.specs.declared.instr.Instr.{Instr}
+use Rattle.paris_code.specs.declared.operands.Field.{Field}
+use Rattle.paris_code.specs.declared.operands.GridStep.{GridStep}
+use Rattle.paris_code.specs.declared.program.Owner.{Owner}
+use Rattle.paris_code.specs.declared.program.Owner.TheVariants as W
+use Rattle.paris_code.specs.Code.{CodeState}
+use Rattle.paris_code.specs.Memory.{field_number, processors}
+use Rattle.paris_code.specs.Proper.{IsEntry}
+use Rattle.source_meaning.specs.State.{State}
+use Rattle.vp_sets.specs.Positions.{are_positive, number_at}
+use Rattle.code_follows.proofs.Following.{Sim}
+use Rattle.code_follows.proofs.Settings.{At, Setting, Within, layout}
+use Rattle.fields_follow.specs.Fragment.{AreWrapping, IsWide, NameExtents, extents_in}
+use Rattle.fields_follow.specs.Fields.{IsElement, file_number}
+use Rattle.fields_follow.proofs.Forms.{element_is, field_is}
+use Rattle.fields_follow.proofs.Gets.{names_long, steps_lead, steps_move, wrapping_goes, wrapping_unchecked}
+use Rattle.fields_follow.proofs.Hops.{HasEverywhere, MovesLast, moves_last, origin, puts_same, steps_extend}
+use Rattle.fields_follow.proofs.Instructions.{Puts, extents, shapes}
+use Rattle.fields_follow.proofs.Meaning.{coordinates_behind, value_in}
+use Rattle.fields_follow.proofs.Neighbours.{fit_positive}
+use Rattle.fields_follow.proofs.Passing.{After, Passes, after_same, made_after, passes_from}
+use Rattle.fields_follow.proofs.Places.{HoldsTheFields, IsFileField, PlacesFields}
+use Rattle.fields_follow.proofs.Values.{and_entry, next_field, one_more, taken, with_entry}
+
+-- such a get goes by NEWS
+goes : (ty : ValueType) (place : Place) (p : _) (indexes : Row_of-TExpr _) (k of set : ℕ) → ty.shape ≡ Some set → of ≡ set → AreWrapping set 0 indexes → goes_by_news (T.LeftIndex' ty place p indexes (V.File k) of) ≡ true
+unfolding goes_by_news out-TExpr Carrier.out
+goes ty place p indexes k of set shaped same are =
+    ap (λ (xs : List TExpr). is_some ty.shape && all_go_by_news of 0 xs) (items_shown-the_row-TExpr-0 p indexes)
+    ∙ ap (λ (n : ℕ). is_some ty.shape && all_go_by_news n 0 (items-the_row-TExpr _ indexes)) same
+    ∙ ap (λ (o : Option ℕ). is_some o && all_go_by_news set 0 (items-the_row-TExpr _ indexes)) shaped
+    ∙ wrapping_goes set 0 indexes are
+
+-- nothing is checked
+grid_is : (ty : ValueType) (place : Place) (p : _) (indexes : Row_of-TExpr _) (k of set : ℕ) (d : Draft) → of ≡ set → AreWrapping set 0 indexes → checked_grid (T.LeftIndex' ty place p indexes (V.File k) of) d ≡ Makes O.Nothing d
+unfolding checked_grid out-TExpr Carrier.out with_grid_check
+grid_is ty place p indexes k of set d same are =
+    ap (λ (xs : List TExpr). Makes O.Nothing (with_grid_check (elim ty.shape as (λ _. ℕ) [ None ↦ of | Some s ↦ s ]) place (grid_steps of 0 xs) d)) (items_shown-the_row-TExpr-0 p indexes)
+    ∙ ap (λ (n : ℕ). Makes O.Nothing (with_grid_check (elim ty.shape as (λ _. ℕ) [ None ↦ of | Some s ↦ s ]) place (grid_steps n 0 (items-the_row-TExpr _ indexes)) d)) same
+    ∙ ap (λ (steps : List GridStep). Makes O.Nothing (with_grid_check (elim ty.shape as (λ _. ℕ) [ None ↦ of | Some s ↦ s ]) place steps d)) (wrapping_unchecked set 0 indexes are)
+
+-- it is read through the field of its variable
+field_read : (t : Typed) (l : Layout) (ty : ValueType) (place : Place) (p : _) (indexes : Row_of-TExpr _) (k of : ℕ) (into : Out) (d : Draft)
+    → communicated t l (T.LeftIndex' ty place p indexes (V.File k) of) O.Nothing [] into d ≡ then_make (field_of t l (V.File k) 0 d) (λ source after. read_at of (items-the_row-TExpr _ indexes) ty.elem source O.Nothing into after)
+unfolding communicated out-TExpr Carrier.out
+field_read t l ty place p indexes k of into d = ap (λ (xs : List TExpr). then_make (field_of t l (V.File k) 0 d) (λ source after. read_at of xs ty.elem source O.Nothing into after)) (items_shown-the_row-TExpr-0 p indexes)
+
+module _ (g : Setting) where
+  -- the entries that it takes: for the variable, and two to go through
+  abbrev owner_of : ℕ → Owner
+  owner_of k = W.File (file_number g.typed k 0)
+
+  abbrev for_variable : ℕ → ℕ → VarInfo → Draft → Draft
+  for_variable set k info d = with_entry set info.elem.bits (owner_of k) d
+
+  abbrev for_hop : ℕ → ℕ → VarInfo → Draft → Draft
+  for_hop set k info d = with_entry set 32 W.Own (for_variable set k info d)
+
+  abbrev for_hops : ℕ → ℕ → VarInfo → Draft → Draft
+  for_hops set k info d = with_entry set 32 W.Own (for_hop set k info d)
+
+  abbrev hop_of : ℕ → ℕ → VarInfo → Draft → Hop
+  hop_of set k info d = record { source = next_field set 32 d; next = next_field set 32 (for_variable set k info d); spare = next_field set 32 (for_hop set k info d) }
+
+  read_is : (ty : ValueType) (k set offset : ℕ) (info : VarInfo) (items : List TExpr) (d : Draft) → ty.elem.bits ≡ 32
+      → gotten_by_steps set items ty.elem (next_field set info.elem.bits d) (record { set = set; offset = offset; len = 32 }) (for_variable set k info d)
+      ≡ Makes (O.Field (record { set = set; offset = offset; len = 32 })) (stepwise ty.elem (record { set = set; offset = offset; len = 32 }) (moving_steps set 0 items) (hop_of set k info d) (for_hops set k info d))
+  unfolding gotten_by_steps bits_read is_extended first_bits then_make an_entry
+  read_is ty k set offset info items d word =
+      ap (λ (bits : ℕ). then_make (an_entry set (if nat_lt bits 32 then next_field set info.elem.bits d else first_bits 32 (next_field set info.elem.bits d)).len W.Own (for_variable set k info d)) (λ one b. then_make (an_entry set (if nat_lt bits 32 then next_field set info.elem.bits d else first_bits 32 (next_field set info.elem.bits d)).len W.Own b) (λ other c.
+      Makes (O.Field (record { set = set; offset = offset; len = 32 })) (stepwise ty.elem (record { set = set; offset = offset; len = 32 }) (moving_steps set 0 items) (record { source = if nat_lt bits 32 then next_field set info.elem.bits d else first_bits 32 (next_field set info.elem.bits d); next = one; spare = other }) c)))) word
+
+  code_is : (ty : ValueType) (place : Place) (p : _) (indexes : Row_of-TExpr _) (k of set offset : ℕ) (info : VarInfo) (spot : Draft → Made Spot) (d : Draft) → IsWide set ty → of ≡ set → AreWrapping set 0 indexes → IsElement g.typed k info set 0
+      → index_read_to g.typed (layout g) (T.LeftIndex' ty place p indexes (V.File k) of) spot (O.Field (record { set = set; offset = offset; len = 32 })) d
+      ≡ Makes (O.Field (record { set = set; offset = offset; len = 32 })) (stepwise ty.elem (record { set = set; offset = offset; len = 32 }) (moving_steps set 0 (items-the_row-TExpr _ indexes)) (hop_of set k info d) (for_hops set k info d))
+  unfolding index_read_to news_to then_make read_at in_field an_entry
+  code_is ty place p indexes k of set offset info spot d wide same are is =
+      ap (λ (b : Bool). if b then news_to g.typed (layout g) e (O.Field f) d else read_to g.typed (layout g) e spot (O.Field f) d) (goes ty place p indexes k of set wide.0 same are)
+      ∙ ap (λ (m : Made Out). then_make m (λ _ after. communicated g.typed (layout g) e O.Nothing [] (O.Field f) after)) (grid_is ty place p indexes k of set d same are)
+      ∙ field_read g.typed (layout g) ty place p indexes k of (O.Field f) d
+      ∙ ap (λ (m : Made Field). then_make m (λ source after. read_at of (items-the_row-TExpr _ indexes) ty.elem source O.Nothing (O.Field f) after)) (field_is g k 0 set info d is)
+      ∙ ap (λ (n : ℕ). gotten_by_steps n (items-the_row-TExpr _ indexes) ty.elem (next_field set info.elem.bits d) f (for_variable set k info d)) same
+      ∙ read_is ty k set offset info (items-the_row-TExpr _ indexes) d wide.1
+    where
+      f : Field
+      f = record { set = set; offset = offset; len = 32 }
+
+      e : TExpr
+      e = T.LeftIndex' ty place p indexes (V.File k) of
+
+  module _ (alive : Variable → Type 0) (n : ℕ) (places : PlacesFields g) (fields : HoldsTheFields g) where
+    -- the variable has its numbers at every position
+    file_everywhere : (set k : ℕ) (info : VarInfo) (f : Field) (s : CodeState) (st : State) → IsElement g.typed k info set 0 → info.elem.bits ≡ 32 → IsFileField g k 0 f → f.set ≡ set → f.len ≡ 32 → Sim g alive st s
+        → HasEverywhere g set f s (λ q. st.parallel (V.File k) 0 q)
+    file_everywhere set k info f s st is word file of_set wide sim = record {
+      of_set = of_set;
+      exists = places.exists k 0 set info is;
+      len = wide;
+      are = λ p below.
+          ap (λ (x : Field). field_number s.memory x p) (places.file k 0 info f (subst (λ (n : ℕ). IsElement g.typed k info n 0) (sym of_set) is) (word ∙ sym wide) file)
+          ∙ (fields.opens st s.memory sim.memory).numbers k 0 set p info is below;
+      small = λ p below. subst (λ (n : ℕ). st.parallel (V.File k) 0 p < 2 ^ n) word ((fields.opens st s.memory sim.memory).small k 0 set p info is below);
+    }
+
+    -- so the last instruction puts those of the neighbours
+    pub get_last : (ty : ValueType) (place : Place) (p : _) (indexes : Row_of-TExpr _) (k of set offset : ℕ) (spot : Draft → Made Spot) (bound : ℕ) (d : Draft) (s : CodeState) (st : State) → IsWide set ty → of ≡ set → AreWrapping set 0 indexes
+        → HasVariable g.typed g.instance n (V.File k) (plain (parallel ty.elem of)) → NameExtents (extents_in g.typed of) indexes → bound ≤ length d.fields → At g s (length d.code) → Sim g alive st s → (Q : Out → Draft → Type 0)
+        → ((e2 : Draft) (i : Instr) → Within g (with_instr i e2) → (passes : Passes g alive bound d e2 s st (Unit {0})) → Puts g set i (record { set = set; offset = offset; len = 32 }) passes.t (λ q. value_in (extents g set) st (T.LeftIndex' ty place p indexes (V.File k) of) q) → Q (O.Field (record { set = set; offset = offset; len = 32 })) (with_instr i e2))
+        → After g Q (index_read_to g.typed (layout g) (T.LeftIndex' ty place p indexes (V.File k) of) spot (O.Field (record { set = set; offset = offset; len = 32 })) d)
+    unfolding passes_from value_in
+    get_last ty place p indexes k of set offset spot bound d s st wide same are v names less here sim Q last =
+        after_same g Q (code_is ty place p indexes k of set offset info spot d wide same are is) (made_after g Q (O.Field f) made (λ within. by within (moves within)))
+      where
+        info : VarInfo
+        info = variable_info v.word (plain (parallel ty.elem of)) v.start
+
+        is : IsElement g.typed k info set 0
+        is = element_is g.typed g.instance n k set (parallel ty.elem of) (ap Some same, wide.1) v
+
+        f : Field
+        f = record { set = set; offset = offset; len = 32 }
+
+        steps : List GridStep
+        steps = moving_steps set 0 (items-the_row-TExpr _ indexes)
+
+        d1 : Draft
+        d1 = for_variable set k info d
+
+        d2 : Draft
+        d2 = for_hop set k info d
+
+        d3 : Draft
+        d3 = for_hops set k info d
+
+        hop : Hop
+        hop = hop_of set k info d
+
+        made : Draft
+        made = stepwise ty.elem f steps hop d3
+
+        more : (n : ℕ) × Extended d3 n made
+        more = steps_extend g places fields alive ty.elem f wide.1 refl steps hop d3
+
+        behind2 : Extended d2 (0 + more.0) made
+        behind2 = extended d2 d3 made 0 more.0 (and_entry set 32 W.Own d2) more.1
+
+        behind1 : Extended d1 (0 + (0 + more.0)) made
+        behind1 = extended d1 d2 made 0 (0 + more.0) (and_entry set 32 W.Own d1) behind2
+
+        numbers : ℕ → ℕ
+        numbers = λ q. st.parallel (V.File k) 0 q
+
+        exists : set < length (shapes g)
+        exists = places.exists k 0 set info is
+
+        positive : are_positive (extents g set) ≡ true
+        positive = fit_positive (extents g set) (places.grids set exists).1
+
+        long : length (items-the_row-TExpr _ indexes) ≡ length (extents g set)
+        long = names_long (extents g set) indexes (subst (λ (xs : List ℕ). NameExtents xs indexes) (ap (extents_in g.typed) same ∙ (places.grids set exists).0) names)
+
+        moves : Within g made → MovesLast g places fields alive ty.elem f wide.1 refl bound set steps hop numbers d3 s st
+        moves within =
+            let file : IsFileField g k 0 (next_field set 32 d) =
+            subst (λ (len : ℕ). IsEntry g.unit (length d.fields) (record { set = set; len = len; owner = owner_of k })) wide.1 (taken g set info.elem.bits (owner_of k) d made (0 + (0 + more.0)) within behind1) in
+            moves_last g places fields alive ty.elem f wide.1 refl bound set steps hop numbers d3 s st (steps_move g set positive indexes are long)
+            (let one = one_more set info.elem.bits (owner_of k) d in omega (arith, less, one), taken g set 32 W.Own d1 made (0 + more.0) within behind2, refl, refl)
+            (let one = one_more set info.elem.bits (owner_of k) d in let two = one_more set 32 W.Own d1 in omega (arith, less, one, two), taken g set 32 W.Own d2 made more.0 within more.1, refl, refl)
+            (file_everywhere set k info (next_field set 32 d) s st is wide.1 file refl refl sim) within here sim
+
+        found : (q : ℕ) → q < processors (shapes g) set → numbers (origin g set steps q) ≡ value_in (extents g set) st (T.LeftIndex' ty place p indexes (V.File k) of) q
+        found q below =
+            ap numbers (steps_lead g set positive indexes q are long below)
+            ∙ ap (λ (m : ℕ). numbers (number_at (extents g set) (coordinates_behind (extents g set) m 0 (items-the_row-TExpr _ indexes) q))) (sym same)
+
+        by : Within g made → MovesLast g places fields alive ty.elem f wide.1 refl bound set steps hop numbers d3 s st → Q (O.Field f) made
+        by within (e2, (i, (is_made, (passes, puts)))) =
+            subst (λ (e : Draft). Q (O.Field f) e) (sym is_made)
+            (last e2 i (subst (λ (e : Draft). Within g e) is_made within)
+            (passes_from g alive bound d d1 e2 s st (Unit {0}) (and_entry set info.elem.bits (owner_of k) d) (passes_from g alive bound d1 d2 e2 s st (Unit {0}) (and_entry set 32 W.Own d1) (passes_from g alive bound d2 d3 e2 s st (Unit {0}) (and_entry set 32 W.Own d2) passes)))
+            (puts_same g set i f passes.t (λ q. numbers (origin g set steps q)) (λ q. value_in (extents g set) st (T.LeftIndex' ty place p indexes (V.File k) of) q) found puts))

@@ -1,0 +1,220 @@
+-- Fields of one bit tell where a condition holds.
+use Rattle.std.proofs.Common.{◌≡◌, ◌∙◌, ℕ, ◌+◌, ◌-◌, ◌%◌, ◌^◌, ◌<◌, ◌≤◌, ◌==◌, Bool, true, false, not, ◌&&◌, ◌||◌, if◌then◌else◌, List, [], ◌∷◌, length, refl, sym, ap, arith}
+use Rattle.std.specs.Int.{from_bool}
+use Rattle.cstar_base.specs.Operators.{outcome}
+use Rattle.cstar_tree.specs.declared.typed.Variable.{Variable}
+use Rattle.code_lengths.proofs.Drafting.{extended}
+use Rattle.lower_base.specs.Drafts.{Draft, Plain, step as step_of, with_instr}
+use Rattle.lower_expr.specs.Joined.{operation_of}
+use Rattle.paris_code.specs.declared.instr.Instr.{Instr}
+use Rattle.paris_code.specs.declared.instr.Instr.TheVariants as I
+use Rattle.paris_code.specs.declared.operands.Field.{Field}
+use Rattle.paris_code.specs.declared.program.Owner.TheVariants as W
+use Rattle.paris_code.specs.Code.{CodeState, Goes, applied, begun}
+use Rattle.paris_code.specs.Elementwise.{element}
+use Rattle.paris_code.specs.Meaning.{after}
+use Rattle.paris_code.specs.Memory.{is_active, is_tested, processors}
+use Rattle.paris_code.specs.Operators.{operator_of}
+use Rattle.paris_code.specs.Spans.{IsNamedAt, StandsAt, fields_of}
+use Rattle.source_meaning.specs.State.{State}
+use Rattle.source_meaning.specs.Values.{nonzero}
+use Rattle.code_follows.proofs.Following.{Sim}
+use Rattle.code_follows.proofs.Settings.{Setting, Within, and_one, code_more, onto, placed_instr}
+use Rattle.fields_follow.proofs.Flags.{Stored, bit_fits, stored, written_to}
+use Rattle.fields_follow.proofs.Instructions.{number_in, place, shapes, wrote}
+use Rattle.fields_follow.proofs.Leaving.{EndsBelow, under}
+use Rattle.fields_follow.proofs.Named.{NamesFields}
+use Rattle.fields_follow.proofs.Passing.{Behind, GivesField, code_longer, fields_longer, flags_of, gives_numbers, names_second, names_third}
+use Rattle.fields_follow.proofs.PassingTests.{PassesTests, tests_behind_entry, tests_on, tests_passed}
+use Rattle.fields_follow.proofs.Places.{HoldsTheFields, IsOwnField, PlacesFields, stands_here}
+use Rattle.fields_follow.proofs.TestFlags.{Tells, numbers_tell}
+use Rattle.fields_follow.proofs.Values.{with_entry}
+use Rattle.fields_follow.proofs.Writing.{named}
+
+zero_bit : (b : Bool) → (from_bool (not b) == 0) ≡ b
+zero_bit true = refl
+zero_bit false = refl
+
+-- the complement of a bit, and two bits joined
+other_bit : (b : Bool) (len n : ℕ) → len ≡ 1 → n ≡ from_bool (not b) → (2 ^ len - 1 - n) % 2 ^ 1 ≡ from_bool (nonzero (from_bool b))
+other_bit true len n wide is = ap (λ (k : ℕ). (2 ^ k - 1 - n) % 2 ^ 1) wide ∙ ap (λ (k : ℕ). (2 ^ 1 - 1 - k) % 2 ^ 1) is
+other_bit false len n wide is = ap (λ (k : ℕ). (2 ^ k - 1 - n) % 2 ^ 1) wide ∙ ap (λ (k : ℕ). (2 ^ 1 - 1 - k) % 2 ^ 1) is
+
+abbrev pub either_or_both : Bool → Bool → Bool → Bool
+either_or_both is_or a b = if is_or then a || b else a && b
+
+joined_bits : (is_or a b : Bool) (len : ℕ) → outcome (operator_of (operation_of is_or)).0 len (operator_of (operation_of is_or)).1 (from_bool a) (from_bool b) % 2 ^ 1 ≡ from_bool (nonzero (from_bool (either_or_both is_or a b)))
+unfolding operation_of outcome
+joined_bits true true true len = refl
+joined_bits true true false len = refl
+joined_bits true false true len = refl
+joined_bits true false false len = refl
+joined_bits false true true len = refl
+joined_bits false true false len = refl
+joined_bits false false true len = refl
+joined_bits false false false len = refl
+
+module _ (g : Setting) (alive : Variable → Type 0) (places : PlacesFields g) (fields : HoldsTheFields g) where
+  -- what the state is for the fields alone
+  fields_sim : (st : State) (s : CodeState) → Sim g alive st s → Sim (under g fields.active) alive st s
+  fields_sim st s h = record {
+    registers = h.registers;
+    scalars = h.scalars;
+    small = h.small;
+    constants = h.constants;
+    turns = h.turns;
+    output = h.output;
+    input = h.input;
+    returns = h.returns;
+    few = h.few;
+    bytes = h.bytes;
+    memory = fields.opens st s.memory h.memory;
+  }
+
+  whole_sim : (st : State) (s : CodeState) → Sim (under g fields.active) alive st s → Sim g alive st s
+  whole_sim st s h = record {
+    registers = h.registers;
+    scalars = h.scalars;
+    small = h.small;
+    constants = h.constants;
+    turns = h.turns;
+    output = h.output;
+    input = h.input;
+    returns = h.returns;
+    few = h.few;
+    bytes = h.bytes;
+    memory = fields.closes st s.memory h.memory;
+  }
+
+  -- Code of conditions gives a field that is zero where these numbers are.
+  pub record GivesTold (d : Draft) (s : CodeState) (set : ℕ) (st : State) (v : ℕ → ℕ) (f : Field) (e : Draft) : Type 0 where
+    pub passes : PassesTests g alive d e s st (Behind g f e)
+    pub exists : set < length (shapes g)
+    pub tells : Tells g set f passes.t v
+
+  -- It gives a new own entry of one bit that is 1 where, at active positions, these numbers are not zero.
+  pub record GivesTruth (d : Draft) (s : CodeState) (set : ℕ) (st : State) (v : ℕ → ℕ) (f : Field) (e : Draft) : Type 0 where
+    pub passes : PassesTests g alive d e s st (Behind g f e)
+    pub own : IsOwnField g f
+    pub of_set : f.set ≡ set
+    pub exists : set < length (shapes g)
+    pub len : f.len ≡ 1
+    pub newer : length d.fields ≤ f.offset
+    pub older : f.offset < length e.fields
+    pub ends : EndsBelow g f
+    pub somewhere : ℕ
+    pub named : IsNamedAt g.unit f.offset somewhere
+    pub before : somewhere < length e.code
+    pub are : (q : ℕ) → q < processors (shapes g) set → fields.active set q ≡ true → number_in g f passes.t q ≡ from_bool (nonzero (v q))
+
+  pub truth_told : (d : Draft) (s : CodeState) (set : ℕ) (st : State) (v : ℕ → ℕ) (f : Field) (e : Draft) → GivesTruth d s set st v f e → GivesTold d s set st v f e
+  truth_told d s set st v f e h = record {
+    passes = h.passes;
+    exists = h.exists;
+    tells = (
+      h.of_set,
+      λ q below on. ap (λ (n : ℕ). n == 0) (h.are q below (sym (flags_of g alive places fields st h.passes.t set q h.passes.sim h.exists below) ∙ on)) ∙ zero_bit (v q == 0),
+    );
+  }
+
+  pub field_told : (d : Draft) (s : CodeState) (set : ℕ) (st : State) (v : ℕ → ℕ) (f : Field) (e : Draft) → GivesField g alive (length d.fields) d s set st v f e → GivesTold d s set st v f e
+  unfolding tests_passed
+  field_told d s set st v f e h =
+      let numbers = gives_numbers g alive places fields (length d.fields) d s set st v f e h in
+      record { passes = tests_passed g alive (length d.fields) d e s st (Behind g f e) (omega arith) h.passes; exists = numbers.exists; tells = numbers_tell g set f h.passes.t v numbers }
+
+  -- behind code of conditions, an instruction by which an own entry that is new takes these bits
+  module _ (set : ℕ) (d e : Draft) (i : Instr) (f : Field) (others : List Field) (s : CodeState) (st : State) (v value : ℕ → ℕ) (used : Type 0) (p : PassesTests g alive d e s st used) (wanted : used) (newer : length d.fields ≤ f.offset) (older : f.offset < length e.fields) (own : IsOwnField g f)
+      (of_set : f.set ≡ set) (len : f.len ≡ 1) (plain : step_of i ≡ Plain i) (simple : NamesFields i) (names : fields_of i ≡ f ∷ others)
+      (goes : begun g.image (placed_instr g i) p.t ≡ Goes (wrote g (written_to (place g f) (λ q. is_active (shapes g) p.t.memory f.set q) value) p.t)) (within : Within g (with_instr i e)) where
+    abbrev Takes : ℕ → Type 0
+    Takes q = (q < processors (shapes g) set) × (fields.active set q ≡ true)
+
+    put_truth : ((q : ℕ) → q < processors (shapes g) set → fields.active set q ≡ true → value q % 2 ^ 1 ≡ from_bool (nonzero (v q))) → GivesTruth d s set st v f (with_instr i e)
+    put_truth bits = record {
+      passes = record {
+        grown = (p.grown.0 + 1, extended d e (with_instr i e) p.grown.0 1 p.grown.1 (and_one g i e));
+        t = w.t;
+        go = onto g s p.t w.t p.go w.go;
+        at = w.at;
+        registers = w.registers ∙ p.registers;
+        sim = whole_sim st w.t w.sim;
+        stays = λ behind h first last q below is_own ends before low after high.
+            w.stays h first last behind.0 q (λ same. omega (arith, same, below, newer)) is_own before after (let l = code_longer d e p.grown.0 p.grown.1 in omega (arith, low, l)) (omega (arith, high, long)) behind.1.0
+            (let b = behind.1.1 in omega (arith, b, long))
+            ∙ p.stays wanted h first last q below is_own ends before low after (omega (arith, high, long));
+      };
+      own = own;
+      of_set = of_set;
+      exists = w.exists;
+      len = len;
+      newer = newer;
+      older = let l = fields_longer e (with_instr i e) 1 (and_one g i e) in omega (arith, older, l);
+      ends = w.ends;
+      somewhere = length e.code;
+      named = named g places fields alive i f others (length e.code) (stands_here g i e within plain) names;
+      before = omega (arith, long);
+      are = λ q below on. w.has q below (below, on);
+    }
+      where
+        long : length (with_instr i e).code ≡ length e.code + 1
+        long = code_more g i e
+
+        w : Stored g places alive fields.active set f e i p.t st Takes (λ q. from_bool (nonzero (v q)))
+        w = stored g places alive fields.active set f i others e p.t st (λ q. is_active (shapes g) p.t.memory f.set q) value plain simple names goes own of_set within p.at (fields_sim st p.t p.sim) Takes (λ q. from_bool (nonzero (v q)))
+            (λ q active takes. (active ∙ takes.1, ap (λ (n : ℕ). value q % 2 ^ n) len ∙ bits q takes.0 takes.1))
+
+  -- the test flags, stored
+  pub truth_stored : (set : ℕ) (d e : Draft) (f : Field) (s : CodeState) (st : State) (v : ℕ → ℕ) (p : PassesTests g alive d e s st (Unit {0})) → ((q : ℕ) → q < processors (shapes g) set → fields.active set q ≡ true → is_tested (shapes g) p.t.memory set q ≡ nonzero (v q))
+      → length d.fields ≤ f.offset → f.offset < length e.fields → IsOwnField g f → f.set ≡ set → f.len ≡ 1 → Within g (with_instr (I.StoreTest f) e) → GivesTruth d s set st v f (with_instr (I.StoreTest f) e)
+  unfolding begun applied after step_of
+  truth_stored set d e f s st v p flags newer older own of_set len within =
+      put_truth set d e (I.StoreTest f) f [] s st v (λ q. from_bool (is_tested (shapes g) p.t.memory f.set q)) (Unit {0}) p tt newer older own of_set len refl tt refl refl within
+      (λ q below on. bit_fits (is_tested (shapes g) p.t.memory f.set q) 1 refl ∙ ap (λ (n : ℕ). from_bool (is_tested (shapes g) p.t.memory n q)) of_set ∙ ap from_bool (flags q below on))
+
+  -- a bit's complement, in an entry that was taken before it
+  pub truth_turned : (set : ℕ) (d e : Draft) (a f : Field) (s : CodeState) (st : State) (v : ℕ → ℕ) → GivesTruth (with_entry set 1 W.Own d) s set st v a e → length d.fields ≤ f.offset → f.offset < length e.fields → IsOwnField g f → f.set ≡ set → f.len ≡ 1 → Within g (with_instr (I.Lognot f a) e)
+      → GivesTruth d s set st (λ q. from_bool (v q == 0)) f (with_instr (I.Lognot f a) e)
+  unfolding begun applied after step_of tests_behind_entry
+  truth_turned set d e a f s st v one newer older own of_set len within =
+      put_truth set d e i f (a ∷ []) s st (λ q. from_bool (v q == 0)) (λ q. element (shapes g) (I.Lognot (place g f) (place g a)) [] one.passes.t.memory q) (Behind g a e) (tests_behind_entry g alive set 1 d e s st (Behind g a e) one.passes)
+      (length e.code, (names_second g i f a [] (length e.code) (stands_here g i e within refl) refl, omega arith)) newer older own of_set len refl tt refl refl within
+      (λ q below on. other_bit (v q == 0) f.len (number_in g a one.passes.t q) len (one.are q below on))
+    where
+      i : Instr
+      i = I.Lognot f a
+
+  -- two bits joined, in an entry that was taken before them
+  pub truth_joined : (is_or : Bool) (set : ℕ) (d e1 e2 : Draft) (a b f : Field) (s : CodeState) (st : State) (v w : ℕ → ℕ) → (one : GivesTruth (with_entry set 1 W.Own d) s set st v a e1) → GivesTruth e1 one.passes.t set st w b e2
+      → length d.fields ≤ f.offset → f.offset < length e2.fields → IsOwnField g f → f.set ≡ set → f.len ≡ 1 → Within g (with_instr (I.Operate (operation_of is_or) f a b) e2)
+      → GivesTruth d s set st (λ q. from_bool (either_or_both is_or (nonzero (v q)) (nonzero (w q)))) f (with_instr (I.Operate (operation_of is_or) f a b) e2)
+  unfolding begun applied after step_of tests_behind_entry tests_on
+  truth_joined is_or set d e1 e2 a b f s st v w one two newer older own of_set len within =
+      put_truth set d e2 i f (a ∷ b ∷ []) s st (λ q. from_bool (either_or_both is_or (nonzero (v q)) (nonzero (w q)))) (λ q. element (shapes g) (I.Operate (operation_of is_or) (place g f) (place g a) (place g b)) [] two.passes.t.memory q) (Unit {0})
+      (tests_behind_entry g alive set 1 d e2 s st (Unit {0}) (tests_on g alive d1 e1 e2 s st (Behind g a e1) (Behind g b e2) (Unit {0}) one.passes two.passes (λ u. early) (λ u. behind_b)))
+      tt newer older own of_set len refl tt refl refl within
+      (λ q below on.
+      ap (λ (n : ℕ). outcome (operator_of (operation_of is_or)).0 f.len (operator_of (operation_of is_or)).1 n (number_in g b two.passes.t q) % 2 ^ 1) (still q ∙ one.are q below on)
+      ∙ ap (λ (n : ℕ). outcome (operator_of (operation_of is_or)).0 f.len (operator_of (operation_of is_or)).1 (from_bool (nonzero (v q))) n % 2 ^ 1) (two.are q below on)
+      ∙ joined_bits is_or (nonzero (v q)) (nonzero (w q)) f.len)
+    where
+      d1 : Draft
+      d1 = with_entry set 1 W.Own d
+
+      i : Instr
+      i = I.Operate (operation_of is_or) f a b
+
+      there : StandsAt g.unit (length e2.code) i
+      there = stands_here g i e2 within refl
+
+      named_a : IsNamedAt g.unit a.offset (length e2.code)
+      named_a = names_second g i f a (b ∷ []) (length e2.code) there refl
+
+      behind_b : Behind g b e2
+      behind_b = (length e2.code, (names_third g i f a b [] (length e2.code) there refl, omega arith))
+
+      early : Behind g a e1
+      early = (length e2.code, (named_a, code_longer e1 e2 two.passes.grown.0 two.passes.grown.1))
+
+      still : (q : ℕ) → number_in g a two.passes.t q ≡ number_in g a one.passes.t q
+      still q = two.passes.stays behind_b a one.somewhere (length e2.code) q one.older one.own one.ends one.named one.before named_a (omega arith)
