@@ -19,14 +19,14 @@ use Rattle.cstar_tree.specs.Headers.{Leads}
 use Rattle.cstar_tree.specs.ProgramTypes.{plain_info}
 use Rattle.cstar_tree.specs.TypedParts.{call_step, calls_in, calls_within, concat, optional, statement_call_step}
 use Rattle.cstar_tree.specs.Variables.{variables_of}
-use Rattle.code_lengths.proofs.Declaring.{of_block, of_expression, of_with, row_variables}
+use Rattle.code_lengths.proofs.Declaring.{else_variables, of_block, of_expression, of_where, of_with, row_variables}
 use Rattle.lower_base.specs.Operators.{assign_op_of, relates}
 use Rattle.source_meaning.specs.Constants.{constant_of, is_constant, value_of}
 use Rattle.source_meaning.specs.Examples.{number, numbers}
-use Rattle.code_follows.specs.Fragment.{AreClosed, AreIn, AreInitials, AreInStatements, IsBody, IsClosed, IsEffect, IsFileVariable, IsGiven, IsIn, IsInStatement, IsScalarFunction, IsScalarLocal, IsScalarVariable, IsVariable, OfFileOrParam, ScalarsAmong, called_in, may_of}
+use Rattle.code_follows.specs.Fragment.{AreClosed, AreIn, AreInitials, AreInStatements, IsBody, IsClosed, IsClosedElse, IsEffect, IsFileVariable, IsGiven, IsIn, IsInElse, IsInStatement, IsScalarFunction, IsScalarLocal, IsScalarVariable, IsVariable, OfFileOrParam, ScalarsAmong, called_in, may_of}
 use Rattle.code_follows.proofs.Standing.{some_same}
 use Rattle.fields_follow.specs.Example.{ExampleIsParallel, example, main}
-use Rattle.fields_follow.specs.Fragment.{IsFold, IsPromoted, IsPure, IsTarget, IsUpdate, KnowsExtents, fields_beside}
+use Rattle.fields_follow.specs.Fragment.{IsCondition, IsFold, IsPromoted, IsPure, IsTarget, IsUpdate, KnowsExtents, fields_beside}
 
 -- the calls of what has a list in a row
 abbrev PrintsInRow : T.TExpr → Type 0
@@ -50,9 +50,9 @@ block_in_row locals p row =
     (ap calls_within (sym (rolls-Block locals _)) ∙ fold-roll-TStmt (List ℕ) statement_call_step _ ∙ ap (λ (ss : List S.TStmt). concat (map calls_in (concat (map (λ (l : LocalVar). optional l.initial) locals.items))) ++ concat (map calls_within ss)) (sym (S.items_hidden-the_row-TStmt-0 _)))
 
 main_is : (heap : Global) → IsScalarFunction (may_of (fields_beside (example heap)) (example heap) (main heap)) (main heap)
-unfolding IsBody IsInStatement IsEffect IsGiven IsIn IsVariable AreIn AreInitials AreInStatements AreClosed IsClosed OfFileOrParam ScalarsAmong IsFold IsPromoted IsPure IsTarget IsUpdate KnowsExtents assign_op_of constant_of relates divides is_constant residue value_of row_variables
+unfolding IsBody IsInStatement IsInElse IsClosedElse IsCondition else_variables IsEffect IsGiven IsIn IsVariable AreIn AreInitials AreInStatements AreClosed IsClosed OfFileOrParam ScalarsAmong IsFold IsPromoted IsPure IsTarget IsUpdate KnowsExtents assign_op_of constant_of relates divides is_constant residue value_of row_variables
 main_is heap =
-    let no_variables : variables_of (main heap).body ≡ [] = simp (of_block, of_with, of_expression) in
+    let no_variables : variables_of (main heap).body ≡ [] = simp (of_block, of_with, of_where, of_expression) in
     record {
       params = All-nil IsScalarVariable;
       result = λ info is. subst IsScalarVariable (some_same _ info is) refl;
@@ -61,11 +61,31 @@ main_is heap =
           All-nil IsScalarLocal,
           tt,
           (
-            (All-nil IsScalarLocal, tt, (inr ((inl (0, (refl, (refl, refl), tt, inl (refl, refl))), tt), ((λ is. inl (inl tt)), tt)), (inr ((inl (0, (refl, (refl, refl), (refl, refl), inr ((refl, refl), ((refl, refl), inl (1, refl, omega arith))))), tt), ((λ is. inl (inl tt)), tt)), (inl (refl, refl, (refl, inl (inl tt)), ((refl, refl), (((refl, refl), (0, (refl, refl))), tt), (λ is. inl (inl tt))), inl refl), tt)))),
+            (
+              All-nil IsScalarLocal,
+              tt,
+              (
+                inr ((inl (0, (refl, (refl, refl), tt, inl (refl, refl))), tt), ((λ is. inl (inl tt)), tt)),
+                (
+                  inr ((inl (0, (refl, (refl, refl), (refl, refl), inr ((refl, refl), ((refl, refl), inl (1, refl, omega arith))))), tt), ((λ is. inl (inl tt)), tt)),
+                  (
+                    (
+                      (((refl, refl), refl, inl ((refl, refl), inr ((refl, refl), ((refl, refl), inl (2, refl, omega arith))))), (tt, tt)),
+                      ((λ is. inl (inl tt)), tt),
+                      inr ((inl (0, (refl, (refl, refl), (refl, refl), inr ((refl, refl), ((refl, refl), inl (10, refl, omega arith))))), tt), ((λ is. inl (inl tt)), tt)),
+                      tt,
+                      inr ((inl (0, (refl, (refl, refl), tt, inr ((refl, refl), ((refl, refl), inl (0, refl, omega arith))))), tt), ((λ is. inl (inl tt)), tt)),
+                      tt,
+                    ),
+                    (inl (refl, refl, (refl, inl (inl tt)), ((refl, refl), (((refl, refl), (0, (refl, refl))), tt), (λ is. inl (inl tt))), inl refl), tt),
+                  ),
+                ),
+              ),
+            ),
             ((((refl, inl tt), tt), All-cons (λ (elem : Elem). elem.bits ≡ 32) number.elem [] refl (All-nil _)), tt),
           ),
         ),
-        ((tt, (tt, (tt, tt))), (tt, tt)),
+        ((tt, (tt, ((tt, tt), (tt, tt)))), (tt, tt)),
       );
       locals = subst (All IsScalarVariable) (sym no_variables) (All-nil IsScalarVariable);
     }

@@ -2,9 +2,13 @@
 --     shape [4]S;
 --     int:S p;
 --     int s;
---     main() { with (S) { p = pcoord(0); p += 1; s = += p; } printf("%d\n", s); }
+--     main() {
+--       with (S) { p = pcoord(0); p += 1; where (p < 2) p += 10; else p = 0; s = += p; }
+--       printf("%d\n", s);
+--     }
 use Rattle.std.proofs.Common.{[], ◌∷◌, Some, None, Global, lit<}
 use Rattle.cstar_base.specs.declared.formats.NumberFormat.TheVariants.{Signed}
+use Rattle.cstar_base.specs.declared.operators.Op.TheVariants as O
 use Rattle.cstar_tree.specs.declared.syntax.AssignOp.TheVariants as A
 use Rattle.cstar_tree.specs.declared.syntax.ReduceOp.TheVariants as R
 use Rattle.cstar_tree.specs.declared.typed.Instance.{Instance}
@@ -22,13 +26,21 @@ abbrev pub s : T.TExpr
 s = T.Variable number (V.File 1)
 
 module _ (heap : Global) where
+  -- `where` and its `else`
+  abbrev pub choice : S.TStmt
+  choice =
+      S.Where' 0 (T.Binary' numbers (record { line = 5; col = 46 }) O.Lt (box heap) p (box heap) (all heap (num 2))) (box heap)
+      (S.Expression (T.Assign' numbers (record { line = 5; col = 53 }) A.Add (box heap) p (box heap) (all heap (num 10))))
+      (S.Some' (box heap) (S.Expression (T.Assign' numbers (record { line = 5; col = 67 }) A.Set (box heap) p (box heap) (all heap (num 0)))))
+
   -- the block of `with`
   abbrev pub inner : S.TStmt
   inner =
-      S.Block' (vec heap [] (lit< tt)) (vec heap (tt ∷ tt ∷ tt ∷ []) (lit< tt))
-      (S.more_of-TStmt (S.Expression (T.Assign' numbers (record { line = 4; col = 23 }) A.Set (box heap) p (box heap) own))
-      (S.more_of-TStmt (S.Expression (T.Assign' numbers (record { line = 4; col = 38 }) A.Add (box heap) p (box heap) (all heap (num 1))))
-      (S.more_of-TStmt (S.Expression (T.Assign' number (record { line = 4; col = 46 }) A.Set (box heap) s (box heap) (T.Reduce' number R.Add (box heap) p))) S.end_of-TStmt)))
+      S.Block' (vec heap [] (lit< tt)) (vec heap (tt ∷ tt ∷ tt ∷ tt ∷ []) (lit< tt))
+      (S.more_of-TStmt (S.Expression (T.Assign' numbers (record { line = 5; col = 16 }) A.Set (box heap) p (box heap) own))
+      (S.more_of-TStmt (S.Expression (T.Assign' numbers (record { line = 5; col = 31 }) A.Add (box heap) p (box heap) (all heap (num 1))))
+      (S.more_of-TStmt choice
+      (S.more_of-TStmt (S.Expression (T.Assign' number (record { line = 5; col = 74 }) A.Set (box heap) s (box heap) (T.Reduce' number R.Add (box heap) p))) S.end_of-TStmt))))
 
   abbrev pub main : Instance
   main = record {

@@ -7,18 +7,20 @@ ghost use Rattle.fields_follow.specs.Laws.{ParallelCodeMeansSource};
 /// The code that the compiler makes of a program of functions without recursion on scalars, with parallel variables
 /// of the file, comes from a new memory to the end of the source's meaning, with its turns, its output and the final
 /// numbers of these variables at each of their positions, on every input of bytes. The variables have 32 bits and are
-/// no arrays, and all positions are active at first. They are assigned, also with an operator, and stepped, in
-/// statements that may stand within `with`, `where` and `everywhere`; and outside of contexts parallel values are
-/// folded into numbers by unary reductions. The conditions of `where` are parallel values and relations of them, also
-/// with `!`, `&&` and `||`. Parallel expressions are of such variables, of gets from neighbours that wrap around,
-/// `[(. + 1) %% dimof(S, 0)]x`, of own coordinates, of constants and of scalar variables, signed or not, with the
-/// operators `+ - * & | ^ ~ << >> <? >?`.
+/// no arrays, and all positions are active at first. They are assigned, also with an operator, and stepped; and
+/// parallel values of the active positions are folded into numbers by unary reductions, and onto scalar variables by
+/// `s += x` and its like. All of it may stand within `with`, and also under `where` and `everywhere`: there any of these
+/// statements may stand, scalar ones, loops and `printf` too, but for calls, `return`, and a `break` or `continue` that
+/// leads out. The conditions of `where` are parallel values and relations of them, also with `!`, `&&` and `||`.
+/// Parallel expressions are of such variables, of gets from neighbours that wrap around, `[(. + 1) %% dimof(S, 0)]x`, of
+/// own coordinates, of constants and of scalar variables, signed or not, with the operators `+ - * & | ^ ~ << >> <? >?`.
 pub fn parallel_code_means_source()
     ensures { ParallelCodeMeansSource }
 {}
 
-/// Such a program is this one, which gives a parallel variable its own coordinates, adds 1 to them, and prints their
-/// sum: so the law speaks of some.
+/// Such a program is this one, which gives a parallel variable its own coordinates, adds 1 to them, adds 10 where they
+/// are less than 2 and makes them 0 elsewhere, by `where` with an `else`, and prints their sum: so the law speaks of
+/// some, with contexts.
 pub fn example_is_parallel()
     ensures { ExampleIsParallel }
 {}
