@@ -193,7 +193,7 @@ extents_in t set = extents_of (slice_get t.shapes.items set)
 
 -- A program of functions on scalars, without recursion, and of parallel variables of the file: such updates are
 -- statements, also within `with` and under contexts, as such folds onto variables are, other such folds stand within
--- scalar expressions, and such conditions narrow which positions are active. Gets are of shapes with the program's extents.
+-- scalar expressions, and such conditions narrow which positions are active. Gets name the extents of their shapes.
 abbrev pub fields_beside : Typed → Beside
 fields_beside t = record {
   effects = λ e. IsParallelEffect e × KnowsExtents (extents_in t) e;

@@ -9,11 +9,12 @@ ghost use Rattle.fields_follow.specs.Laws.{ParallelCodeMeansSource};
 /// numbers of these variables at each of their positions, on every input of bytes. The variables have 32 bits and are
 /// no arrays, and all positions are active at first. They are assigned, also with an operator, and stepped; and
 /// parallel values of the active positions are folded into numbers by unary reductions, and onto scalar variables by
-/// `s += x` and its like. All of it may stand within `with`, and also under `where` and `everywhere`: there any of these
-/// statements may stand, scalar ones, loops and `printf` too, but for calls, `return`, and a `break` or `continue` that
-/// leads out. The conditions of `where` are parallel values and relations of them, also with `!`, `&&` and `||`.
-/// Parallel expressions are of such variables, of gets from neighbours that wrap around, `[(. + 1) %% dimof(S, 0)]x`, of
-/// own coordinates, of constants and of scalar variables, signed or not, with the operators `+ - * & | ^ ~ << >> <? >?`.
+/// `s += x` and its like. All of it may stand within `with`, and also under `where` and `everywhere`: there any of
+/// these statements may stand, scalar ones, loops and `printf` too, but for calls, `return`, and a `break` or
+/// `continue` that leads out. The conditions of `where` are parallel values and relations of them, also with `!`, `&&`
+/// and `||`. Parallel expressions are of such variables, of gets from neighbours that wrap around,
+/// `[(. + 1) %% dimof(S, 0)]x`, of own coordinates, of constants and of scalar variables, signed or not, with the
+/// operators `+ - * & | ^ ~ << >> <? >?`.
 pub fn parallel_code_means_source()
     ensures { ParallelCodeMeansSource }
 {}
