@@ -4,10 +4,10 @@ use Rattle.std.proofs.Common.{◌≡◌, ℕ, ◌+◌, List, length, map, sym, s
 use Rattle.std.specs.List.{All}
 use Rattle.std.proofs.lemmas.List.Elements.{All-append, All-map, All-nil}
 use mathlib.Core.Former.{Count}
+use Rattle.cstar_tree.specs.declared.typed.TExpr.{TExpr}
 use Rattle.cstar_tree.specs.declared.typed.TStmt.{TStmt, Row_of-TStmt, end_of-TStmt, more_of-TStmt, Held-TStmt-If-2, None', Some'}
 use Rattle.cstar_tree.specs.declared.typed.TStmt as S
 use Rattle.cstar_tree.specs.declared.typed.VarInfo.{VarInfo}
-use Rattle.cstar_tree.specs.declared.typed.Variable.{Variable}
 use Rattle.cstar_tree.specs.Variables.{variables_of}
 use Rattle.code_follows.specs.Fragment.{AreInStatements, IsInElse, IsInStatement, IsScalarVariable, May, within}
 use Rattle.code_lengths.specs.NamingStatements.{behind}
@@ -20,8 +20,8 @@ as_parts : {all own : List VarInfo} → all ≡ own → AreScalar own → AreSca
 as_parts is scalars = subst AreScalar (sym is) scalars
 
 -- no statement may be under a context
-abbrev pub HasNoContexts : May → Type 1
-HasNoContexts may = (names : Variable → Type 0) (s : TStmt) → may.beside.statements names s → ⊥
+abbrev pub HasNoContexts : May → Type 0
+HasNoContexts may = ((shape : ℕ) (e : TExpr) → may.beside.conditions shape e → ⊥) × ((shape : ℕ) → may.beside.widens shape → ⊥)
 
 mutual
   unfolding IsInStatement AreInStatements IsInElse row_variables else_variables
@@ -39,8 +39,8 @@ mutual
   variables_scalar may none n S.Continue h = as_parts of_continue (All-nil IsScalarVariable)
   variables_scalar may none n (S.Return e) h = as_parts (of_return e) (All-nil IsScalarVariable)
   variables_scalar may none n (S.With' shape p body) h = as_parts (of_with shape p body) (variables_scalar may none n body h)
-  variables_scalar may none n (S.Everywhere' shape p body) h = absurd (none may.names (S.Everywhere' shape p body) h)
-  variables_scalar may none n (S.Where' shape test p first second) h = absurd (none may.names (S.Where' shape test p first second) h)
+  variables_scalar may none n (S.Everywhere' shape p body) h = absurd (none.1 shape h.0)
+  variables_scalar may none n (S.Where' shape test p first second) h = absurd (none.0 shape test h.0)
 
   row_scalar : (may : May) → HasNoContexts may → (n : ℕ) (k : Count) (row : Row_of-TStmt k) → AreInStatements may n row → AreScalar (row_variables row)
   row_scalar may none n k end_of-TStmt h = All-nil IsScalarVariable
