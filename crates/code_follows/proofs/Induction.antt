@@ -48,13 +48,16 @@ unfolding AreClosed
 rest_jumps none s rest (inl h) = inl h
 rest_jumps none s rest (inr closed) = inr closed.1
 
+-- a jump itself is not closed
 not_closed : (none : Type 0) → none ⊎ ⊥ → none
 not_closed none (inl h) = h
 not_closed none (inr closed) = absurd closed
 
+-- what is declared before a statement is declared behind it
 behind_too : (alive : Variable → Type 0) (n : ℕ) (s : TStmt) → AreBefore alive n → AreBefore alive (behind n s)
 behind_too alive n s before x living = declared_later n (length (variables_of s)) x (before x living)
 
+-- the statement behind `else` is one
 the_same : {q q' : Boxed} (s other : TStmt) → Some' q s ≡ Some' q' other → s ≡ other
 the_same s other is = ap (λ (held : Held-TStmt-If-2). elim held as (λ _. TStmt) [ None' ↦ s | Some' p x ↦ x ]) is
 

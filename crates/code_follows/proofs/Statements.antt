@@ -33,6 +33,7 @@ pub record StandsIn (g : Setting) (f : Frame) : Type 0 where
   pub main : f.is_main ≡ g.is_main
   pub scalar : f.outcome ≡ R.Parallel → ⊥
 
+-- under one context more
 pub in_context_too : (g : Setting) (f : Frame) → StandsIn g f → StandsIn g (in_context f)
 unfolding in_context
 in_context_too g f h = record { outcome = h.outcome; main = h.main; scalar = h.scalar }
@@ -64,6 +65,7 @@ module _ (f : Frame) (contexts : List Field) where
   unfolding IsClosed
   with_here shape p body h = record { among = h.among; jumps = h.jumps }
 
+-- under one context more
 pub deeper : (f : Frame) (contexts : List Field) (saved : Field) → StandsAmong f contexts → StandsAmong (in_context f) (contexts ++ saved ∷ [])
 unfolding in_context one_more
 deeper f contexts saved k = let long = length-append contexts (saved ∷ []) in record { loop = omega (arith, k.loop, long); all = omega (arith, k.all, long) }
