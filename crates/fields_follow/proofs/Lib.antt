@@ -4,6 +4,7 @@ pub mod ConditionCode
 pub mod Conditions
 pub mod Contexts
 pub mod Courses
+pub mod Deciding
 pub mod Effects
 pub mod Example
 pub mod Expressions
