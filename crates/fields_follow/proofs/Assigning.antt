@@ -51,13 +51,15 @@ use Rattle.source_meaning.specs.Values.{Parallel, Scope, Value}
 use Rattle.source_meaning.proofs.ConstantLaws.{Boxed}
 use Rattle.code_follows.proofs.Following.{HasRegisters, Sim}
 use Rattle.code_follows.proofs.Settings.{At, Setting, Within, and_one, code_more, layout, onto}
-use Rattle.fields_follow.specs.Fragment.{HasOperation, IsOperand, IsOperation, IsTarget, IsUpdate, KnowsExtents}
+use Rattle.fields_follow.specs.Fragment.{HasOperation, IsOperand, IsOperandOrTruth, IsOperation, IsTarget, IsUpdate, KnowsExtents}
 use Rattle.fields_follow.specs.Fields.{IsElement, file_number}
+use Rattle.fields_follow.proofs.Deciding.{truth_last, truth_means}
 use Rattle.fields_follow.proofs.Forms.{HasItsCode, field_is}
 use Rattle.fields_follow.proofs.Instructions.{HasNumbers, Puts, SameExtents, extents, puts_operate_constant, shapes, word_in}
 use Rattle.fields_follow.proofs.Meaning.{promoted_means, value_in}
 use Rattle.fields_follow.proofs.Leaving.{Leaves, UpdateLeaves}
 use Rattle.fields_follow.proofs.Passing.{After, Passes, after_same, code_longer, in_file_has, made_after, passes_all}
+use Rattle.fields_follow.proofs.PassingTests.{PassesTests, tests_passed}
 use Rattle.fields_follow.proofs.Places.{HoldsTheFields, IsFileField, PlacesFields}
 use Rattle.fields_follow.proofs.Pure.{are_grids, pure_means}
 use Rattle.fields_follow.proofs.Updates.{IsFileTarget, assign_means, file_target, promoted_wide, step_means, updated_is}
@@ -85,9 +87,9 @@ module _ (g : Setting) (has : HasRegisters g) (alive : Variable → Type 0) (n :
     was_small : Sim g alive st s → (p : ℕ) → p < processors (shapes g) set → st.parallel (V.File k) 0 p < 2 ^ 32
     was_small sim p below = subst (λ (b : ℕ). st.parallel (V.File k) 0 p < 2 ^ b) word ((fields.opens st s.memory sim.memory).small k 0 set p info is below)
 
-    leaves : (v w : ℕ → ℕ) → ((p : ℕ) → p < processors (shapes g) set → v p < 2 ^ 32 → w p ≡ v p) → (e2 : Draft) (i : Instr) → Within g (with_instr i e2) → (p : Passes g alive (length entered.fields) entered e2 s st (Unit {0})) → Puts g set i variable p.t v
+    leaves : (v w : ℕ → ℕ) → ((p : ℕ) → p < processors (shapes g) set → v p < 2 ^ 32 → w p ≡ v p) → (e2 : Draft) (i : Instr) (used : Type 0) → Within g (with_instr i e2) → (p : PassesTests g alive entered e2 s st used) → used → Puts g set i variable p.t v
         → Leaves g alive d (with_instr i e2) s (with_positions (V.File k) 0 (fields.active set) w st)
-    leaves v w same e2 i within p puts =
+    leaves v w same e2 i used within p wanted puts =
         let x : Extended entered (p.grown.0 + 1) (with_instr i e2) = extended entered e2 (with_instr i e2) p.grown.0 1 p.grown.1 (and_one g i e2) in
         let h = file_written g places fields alive set i variable e2 p.t st v within p.at p.sim refl refl puts k 0 info (fields.active set) w is word (entry_for (with_instr i e2) (p.grown.0 + 1) x within) (λ q below. refl)
         (λ q below on. same q below (few g places fields alive set i variable e2 p.t st v within p.at p.sim refl refl puts q below on)) in
@@ -103,8 +105,14 @@ module _ (g : Setting) (has : HasRegisters g) (alive : Variable → Type 0) (n :
           sim = h.sim;
           stays = λ f first last q below own ends before low after high.
               h.stays tt f first last q (λ alike. omega (arith, alike, below)) own before after (omega (arith, low, longer)) (omega (arith, high, one))
-              ∙ p.stays tt f first last q (omega (arith, below, more)) own before low after (omega (arith, high, one));
+              ∙ p.stays wanted f first last q (omega (arith, below, more)) own ends before low after (omega (arith, high, one));
         }
+
+    -- behind code of values alone
+    leaves_value : (v w : ℕ → ℕ) → ((p : ℕ) → p < processors (shapes g) set → v p < 2 ^ 32 → w p ≡ v p) → (e2 : Draft) (i : Instr) → Within g (with_instr i e2) → (p : Passes g alive (length entered.fields) entered e2 s st (Unit {0})) → Puts g set i variable p.t v
+        → Leaves g alive d (with_instr i e2) s (with_positions (V.File k) 0 (fields.active set) w st)
+    unfolding tests_passed
+    leaves_value v w same e2 i within p puts = leaves v w same e2 i (Unit {0}) within (tests_passed g alive (length entered.fields) entered e2 s st (Unit {0}) (omega arith) p) tt puts
 
     -- the variable with all its bits is that entry
     variable_is : (target : TExpr) (next : Out → Draft → Made Out) → (type_of target).elem.bits ≡ 32
@@ -160,20 +168,24 @@ module _ (g : Setting) (has : HasRegisters g) (alive : Variable → Type 0) (n :
         by (inl h) = pure_means scope fields.active g.typed g.instance n set e st h (are_grids g scope places same_extents set) c.code.names c.extents
         by (inr h) = promoted_means scope fields.active set e st h
 
-    assigns : (ty : ValueType) (place : Place) (op : AssignOp) (p q : Boxed) (target value : TExpr) (set : ℕ) → ty ≡ type_of target → IsTarget set target → HasOperation op → IsOperand set value → NamesVariables g.typed g.instance n target → HasItsCode g.typed g.instance alive n value
+    value_means : (set : ℕ) (op : AssignOp) (e : TExpr) (st : State) → set < length (shapes g) → IsOperandOrTruth set op e → HasItsCode g.typed g.instance alive n e → evaluated scope e fields.active st ≡ Gives (Parallel (λ q. value_in (extents g set) st e q)) st
+    value_means set op e st exists (inl is) c = operand_means set e st exists is c
+    value_means set op e st exists (inr is) c = truth_means g scope places same_extents alive n fields.active set e st is.1 c exists
+
+    assigns : (ty : ValueType) (place : Place) (op : AssignOp) (p q : Boxed) (target value : TExpr) (set : ℕ) → ty ≡ type_of target → IsTarget set target → HasOperation op → IsOperandOrTruth set op value → NamesVariables g.typed g.instance n target → HasItsCode g.typed g.instance alive n value
         → (d : Draft) (s : CodeState) (st : State) → At g s (length d.code) → Sim g alive st s
         → UpdateLeaves g alive fields scope (T.Assign' ty place op p target q value) d s st
     unfolding effect_of assignment_effect variable_operated
-    assigns ty place op p q target value set same is_target operates is_operand names c d s st here sim = (
+    assigns ty place op p q target value set same is_target operates is_value names c d s st here sim = (
       Parallel w,
       (
         u,
         (
-          assign_means scope fields.active set ty place op p q target value h.k (λ x. value_in (extents g set) st value x) st (ap (λ (y : ValueType). y.shape) same ∙ h.type.0) operates (h.means scope fields.active st) (operand_means set value st (places.exists h.k 0 set h.info h.is) is_operand c),
+          assign_means scope fields.active set ty place op p q target value h.k (λ x. value_in (extents g set) st value x) st (ap (λ (y : ValueType). y.shape) same ∙ h.type.0) operates (h.means scope fields.active st) (value_means set op value st (places.exists h.k 0 set h.info h.is) is_value c),
           (after_same g (λ out e. Leaves g alive d e s u)
               (ap (λ (o : Option Own). elim o as (λ _. Made Out) [ Some own ↦ then_make (whole_of g.typed (layout g) target own d) (λ dest after. variable_assigned g.typed (layout g) op place target value dest after) | None ↦ value_of g.typed (layout g) ty.elem.bits (T.Assign' ty place op p target q value) d ]) (own_is set h.k op target value h.own h.type.1)
               ∙ variable_is set h.k h.info h.is h.wide d s st target (λ dest after. variable_assigned g.typed (layout g) op place target value dest after) h.type.1)
-              (by (assign_op_of op) refl operates)),
+              (by (assign_op_of op) refl operates is_value)),
         ),
       ),
     )
@@ -193,19 +205,24 @@ module _ (g : Setting) (has : HasRegisters g) (alive : Variable → Type 0) (n :
         f : Field
         f = next_field set 32 d
 
-        by : (o : Option Op) → assign_op_of op ≡ o → IfSome o IsOperation
+        by : (o : Option Op) → assign_op_of op ≡ o → IfSome o IsOperation → IsOperandOrTruth set op value
             → After g (λ out e. Leaves g alive d e s u) (elim (assign_op_of op) as (λ _. Made Out) [ None ↦ put_to g.typed (layout g) (O.Field f) value d1 | Some x ↦ variable_operated g.typed (layout g) x place target value (O.Field f) d1 ])
-        by None is known =
+        by None is known (inl is_operand) =
             after_same g (λ out e. Leaves g alive d e s u) (ap (λ (o : Option Op). elim o as (λ _. Made Out) [ None ↦ put_to g.typed (layout g) (O.Field f) value d1 | Some x ↦ variable_operated g.typed (layout g) x place target value (O.Field f) d1 ]) is)
             (put_last g has alive n ready places fields set (length d.fields) value is_operand c d1 s st here sim (λ out e. Leaves g alive d e s u)
-            (λ e2 i within passes puts. leaves set h.k h.info h.is h.wide d s st (λ x. value_in (extents g set) st value x) w (λ x below small. plainly op ty.elem (type_of value).elem (st.parallel (V.File h.k) 0 x) (value_in (extents g set) st value x) is) e2 i within passes puts))
-        by (Some x) is known =
+            (λ e2 i within passes puts. leaves_value set h.k h.info h.is h.wide d s st (λ x. value_in (extents g set) st value x) w (λ x below small. plainly op ty.elem (type_of value).elem (st.parallel (V.File h.k) 0 x) (value_in (extents g set) st value x) is) e2 i within passes puts))
+        by None is known (inr truth) =
+            after_same g (λ out e. Leaves g alive d e s u) (ap (λ (o : Option Op). elim o as (λ _. Made Out) [ None ↦ put_to g.typed (layout g) (O.Field f) value d1 | Some x ↦ variable_operated g.typed (layout g) x place target value (O.Field f) d1 ]) is)
+            (truth_last g has alive n ready places fields set (length d.fields) value truth.1 c d1 s st here sim (λ out e. Leaves g alive d e s u)
+            (λ e2 i used within passes wanted puts. leaves set h.k h.info h.is h.wide d s st (λ x. value_in (extents g set) st value x) w (λ x below small. plainly op ty.elem (type_of value).elem (st.parallel (V.File h.k) 0 x) (value_in (extents g set) st value x) is) e2 i used within passes wanted puts))
+        by (Some x) is known (inl is_operand) =
             let signed : Bool = assigned_signed x (type_of target).elem (type_of value).elem in
             after_same g (λ out e. Leaves g alive d e s u) (ap (λ (o : Option Op). elim o as (λ _. Made Out) [ None ↦ put_to g.typed (layout g) (O.Field f) value d1 | Some x ↦ variable_operated g.typed (layout g) x place target value (O.Field f) d1 ]) is)
             (in_place_last g has alive n ready places fields set (length d.fields) h.k h.info x signed place value d1 s st h.is h.wide (entry_for set h.k h.info h.is h.wide d s st) known is_operand c here sim (λ out e. Leaves g alive d e s u)
-            (λ e2 i within passes puts. leaves set h.k h.info h.is h.wide d s st (λ y. outcome x 32 (not signed) (st.parallel (V.File h.k) 0 y) (value_in (extents g set) st value y)) w
+            (λ e2 i within passes puts. leaves_value set h.k h.info h.is h.wide d s st (λ y. outcome x 32 (not signed) (st.parallel (V.File h.k) 0 y) (value_in (extents g set) st value y)) w
             (λ y below small. ap (λ (t : ValueType). updated op t.elem (type_of value).elem (st.parallel (V.File h.k) 0 y) (value_in (extents g set) st value y)) same
             ∙ updated_is op x (type_of target).elem (type_of value).elem (st.parallel (V.File h.k) 0 y) (value_in (extents g set) st value y) is h.type.1 (operand_type set value is_operand).1 (was_small set h.k h.info h.is h.wide d s st sim y below) small) e2 i within passes puts))
+        by (Some x) is known (inr truth) = absurd (let none = truth.0 in cc)
 
     -- one more, or one less
     abbrev stepping : StepOp → Op
@@ -253,7 +270,7 @@ module _ (g : Setting) (has : HasRegisters g) (alive : Variable → Type 0) (n :
               let file : IsFileField g h.k 0 f = entry_for set h.k h.info h.is h.wide d s st (with_instr i d1) 1 (and_one g i d1) within in
               let numbers : HasNumbers g set f s (λ q. st.parallel (V.File h.k) 0 q) =
               in_file_has g alive places fields set f st (λ q. st.parallel (V.File h.k) 0 q) s (record { k = h.k; info = h.info; is = h.is; word = h.wide; file = file; of_set = refl; wide = refl; same = λ q below. refl }) sim in
-              leaves set h.k h.info h.is h.wide d s st (λ x. outcome (stepping op) 32 (not signed) (st.parallel (V.File h.k) 0 x) 1) w
+              leaves_value set h.k h.info h.is h.wide d s st (λ x. outcome (stepping op) 32 (not signed) (st.parallel (V.File h.k) 0 x) 1) w
               (λ x below small. ap (λ (t : ValueType). updated (step_op op) t.elem (promoted t.elem) (st.parallel (V.File h.k) 0 x) 1) same
               ∙ updated_is (step_op op) (stepping op) (type_of target).elem (promoted (type_of target).elem) (st.parallel (V.File h.k) 0 x) 1 (step_assigns op) h.type.1 (ap (λ (e : Elem). e.bits) (promoted_wide (type_of target).elem h.type.1) ∙ h.type.1)
               (was_small set h.k h.info h.is h.wide d s st sim x below) small)

@@ -65,16 +65,16 @@ main_is heap =
               All-nil IsScalarLocal,
               tt,
               (
-                inr ((inl (0, (refl, (refl, refl), tt, inl (refl, refl))), tt), ((λ is. inl (inl tt)), tt)),
+                inr ((inl (0, (refl, (refl, refl), tt, inl (inl (refl, refl)))), tt), ((λ is. inl (inl tt)), tt)),
                 (
-                  inr ((inl (0, (refl, (refl, refl), (refl, refl), inr ((refl, refl), ((refl, refl), inl (1, refl, omega arith))))), tt), ((λ is. inl (inl tt)), tt)),
+                  inr ((inl (0, (refl, (refl, refl), (refl, refl), inl (inr ((refl, refl), ((refl, refl), inl (1, refl, omega arith)))))), tt), ((λ is. inl (inl tt)), tt)),
                   (
                     (
                       (((refl, refl), refl, inl ((refl, refl), inr ((refl, refl), ((refl, refl), inl (2, refl, omega arith))))), (tt, tt)),
                       ((λ is. inl (inl tt)), tt),
-                      inr ((inl (0, (refl, (refl, refl), (refl, refl), inr ((refl, refl), ((refl, refl), inl (10, refl, omega arith))))), tt), ((λ is. inl (inl tt)), tt)),
+                      inr ((inl (0, (refl, (refl, refl), (refl, refl), inl (inr ((refl, refl), ((refl, refl), inl (10, refl, omega arith)))))), tt), ((λ is. inl (inl tt)), tt)),
                       tt,
-                      inr ((inl (0, (refl, (refl, refl), tt, inr ((refl, refl), ((refl, refl), inl (0, refl, omega arith))))), tt), ((λ is. inl (inl tt)), tt)),
+                      inr ((inl (0, (refl, (refl, refl), tt, inl (inr ((refl, refl), ((refl, refl), inl (0, refl, omega arith)))))), tt), ((λ is. inl (inl tt)), tt)),
                       tt,
                     ),
                     (inl (refl, refl, (refl, inl (inl tt)), ((refl, refl), (((refl, refl), (0, (refl, refl))), tt), (λ is. inl (inl tt))), inl refl), tt),

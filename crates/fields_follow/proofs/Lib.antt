@@ -4,6 +4,7 @@ pub mod Bits
 pub mod ConditionCode
 pub mod Conditions
 pub mod Contexts
+pub mod Deciding
 pub mod Effects
 pub mod Example
 pub mod Expressions

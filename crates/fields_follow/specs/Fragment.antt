@@ -1,7 +1,8 @@
 -- The programs with parallel variables of which it is said so far that their code means them. Their parallel
 -- expressions are pure ones of 32 bits, of variables of the file, gets from neighbours round the ends of the grid, own
--- coordinates and promoted scalars, which change nothing and never fail; they are assigned to such variables and folded
--- into numbers and onto scalar variables, and they are the conditions of `where`. Folds are of the active positions.
+-- coordinates and promoted scalars, which change nothing and never fail; they are assigned to such variables, as truth
+-- values of them are, and folded into numbers and onto scalar variables, and they are the conditions of `where`. Folds
+-- are of the active positions.
 -- Under `where` and `everywhere` stand the statements of scalar programs with these, but for calls, `return` and jumps
 -- that lead out of them.
 use Rattle.std.specs.Prelude.{ℕ, ◌≡◌, ◌<◌, ◌+◌, ◌^◌, ◌⊎◌, List, [], ◌∷◌, true, false, slice_get, IfSome, Some, None}
@@ -136,13 +137,35 @@ IsTarget set _ = ⊥
 abbrev pub HasOperation : AssignOp → Type 0
 HasOperation op = IfSome (assign_op_of op) IsOperation
 
+-- A condition of `where`: a relation of two operands, a value that is not zero, `!` of a condition, or two joined by `&&`
+-- or `||`. The right one of these ignores the context: it has no get and no quotient, not even one of constants.
+unfoldable pub IsCondition : ℕ → TExpr → Type 0
+IsCondition set (T.Brackets' ty p inner) = (ty ≡ type_of inner) × IsCondition set inner
+IsCondition set (T.Unary' ty op p operand) = IsWide set ty × (((negates op ≡ true) × IsCondition set operand) ⊎ ((negates op ≡ false) × IsPure set operand))
+IsCondition set (T.LogicalOr' ty p left q right) = IsWide set ty × IsCondition set left × IsCondition set right × (ignores_context right ≡ true)
+IsCondition set (T.LogicalAnd' ty p left q right) = IsWide set ty × IsCondition set left × IsCondition set right × (ignores_context right ≡ true)
+IsCondition set (T.Binary' ty place op p left q right) =
+    IsWide set ty × (divides op ≡ false) × ((IsPure set left × (IsPure set right ⊎ IsPromoted set right)) ⊎ (IsPromoted set left × IsPure set right))
+IsCondition set e = IsPure set e
+
+-- A truth value that the test flags tell: a relation, or `!` of a condition.
+unfoldable pub IsTruth : ℕ → TExpr → Type 0
+IsTruth set (T.Brackets' ty p inner) = (ty ≡ type_of inner) × IsTruth set inner
+IsTruth set (T.Unary' ty op p operand) = IsWide set ty × (negates op ≡ true) × IsCondition set operand
+IsTruth set (T.Binary' ty place op p left q right) = (relates op ≡ true) × IsCondition set (T.Binary' ty place op p left q right)
+IsTruth set _ = ⊥
+
+-- what is assigned is an operand or, without an operator, such a truth value
+abbrev pub IsOperandOrTruth : ℕ → AssignOp → TExpr → Type 0
+IsOperandOrTruth set op e = IsOperand set e ⊎ ((assign_op_of op ≡ None) × IsTruth set e)
+
 -- an assignment to a parallel variable, or a step of one
 unfoldable pub IsUpdate : TExpr → Type 0
-IsUpdate (T.Assign' ty place op p target q value) = (set : ℕ) × ((ty ≡ type_of target) × IsTarget set target × HasOperation op × IsOperand set value)
+IsUpdate (T.Assign' ty place op p target q value) = (set : ℕ) × ((ty ≡ type_of target) × IsTarget set target × HasOperation op × IsOperandOrTruth set op value)
 IsUpdate (T.Step' ty op order p target) = (set : ℕ) × ((ty ≡ type_of target) × IsTarget set target)
 IsUpdate _ = ⊥
 
--- the numbers of a value at all positions are folded into one
+-- the numbers of a value at the active positions are folded into one
 unfoldable pub IsFold : TExpr → Type 0
 IsFold (T.Reduce' ty op p operand) = IsWord ty × ((set : ℕ) × IsPure set operand)
 IsFold _ = ⊥
@@ -171,17 +194,6 @@ IsFoldOnto _ = ⊥
 -- a parallel expression whose value is not used
 abbrev pub IsParallelEffect : TExpr → Type 0
 IsParallelEffect e = IsUpdate e ⊎ IsFoldOnto e
-
--- A condition of `where`: a relation of two operands, a value that is not zero, `!` of a condition, or two joined by `&&`
--- or `||`. The right one of these ignores the context: it has no get and no quotient, not even one of constants.
-unfoldable pub IsCondition : ℕ → TExpr → Type 0
-IsCondition set (T.Brackets' ty p inner) = (ty ≡ type_of inner) × IsCondition set inner
-IsCondition set (T.Unary' ty op p operand) = IsWide set ty × (((negates op ≡ true) × IsCondition set operand) ⊎ ((negates op ≡ false) × IsPure set operand))
-IsCondition set (T.LogicalOr' ty p left q right) = IsWide set ty × IsCondition set left × IsCondition set right × (ignores_context right ≡ true)
-IsCondition set (T.LogicalAnd' ty p left q right) = IsWide set ty × IsCondition set left × IsCondition set right × (ignores_context right ≡ true)
-IsCondition set (T.Binary' ty place op p left q right) =
-    IsWide set ty × (divides op ≡ false) × ((IsPure set left × (IsPure set right ⊎ IsPromoted set right)) ⊎ (IsPromoted set left × IsPure set right))
-IsCondition set e = IsPure set e
 
 -- a parallel variable of 32 bits, which is no array
 abbrev pub IsParallelVariable : VarInfo → Type 0
