@@ -38,7 +38,7 @@ use Rattle.code_follows.proofs.Words.{held_wide}
 use Rattle.fields_follow.specs.Fragment.{IsDivisor, IsOperation, IsPromoted, IsPure}
 use Rattle.fields_follow.proofs.Forms.{HasItsCode, HasItsWord, StandsInRegister, divisor_never_zero, divisor_word, no_pure_divisor, promoted_not_held, promoted_stands, pure_word}
 use Rattle.fields_follow.proofs.Instructions.{Puts, extents, operation_is, puts_constant, puts_operate, puts_operate_constant, word_in}
-use Rattle.fields_follow.proofs.Meaning.{AreOperands, DividesByNoZero, left_of, right_of, value_in}
+use Rattle.fields_follow.proofs.Meaning.{AreOperands, DividesByNoZero, and_false, left_of, right_of, value_in}
 use Rattle.fields_follow.proofs.Passing.{After, Behind, GivesField, Passes, after_same, after_weaker, code_longer, fields_longer, gives_less, gives_numbers, made_after, names_second, names_third, passes_all, passes_on, puts_own, still_numbers, then_after}
 use Rattle.fields_follow.proofs.Places.{HoldsTheFields, PlacesFields, stands_here}
 use Rattle.fields_follow.proofs.Quiet.{promoted_quiet, pure_quiet}
@@ -274,22 +274,18 @@ module _ (g : Setting) where
         → After g (λ right f. Takes op right × GivesRight (length d.fields) d s set st (λ q. value_in (extents g set) st e q) right f) (right_by (operand true e) op e d)
     right_taken set op e is any c whole d s st here sim = by is.1 any
       where
-        Gives_v : Right → Draft → Type 0
-        Gives_v = GivesRight (length d.fields) d s set st (λ q. value_in (extents g set) st e q)
+        GivesNumbers : Right → Draft → Type 0
+        GivesNumbers = GivesRight (length d.fields) d s set st (λ q. value_in (extents g set) st e q)
 
         Q : Right → Draft → Type 0
-        Q right f = Takes op right × Gives_v right f
-
-        no_zero : (c z : Bool) → z ≡ false → (c && z) ≡ false
-        no_zero true z h = h
-        no_zero false z h = refl
+        Q right f = Takes op right × GivesNumbers right f
 
         by : (divides op ≡ false) ⊎ IsDivisor e → IsPure set e ⊎ IsPromoted set e → After g Q (right_by (operand true e) op e d)
-        by (inl no_check) any = after_weaker g Gives_v Q (right_by (operand true e) op e d) (λ right f gives. (inl no_check, gives)) (right_after set op e no_check any c whole d s st here sim)
+        by (inl no_check) any = after_weaker g GivesNumbers Q (right_by (operand true e) op e d) (λ right f gives. (inl no_check, gives)) (right_after set op e no_check any c whole d s st here sim)
         by (inr divisor) (inl pure) = absurd (no_pure_divisor set e pure divisor)
         by (inr divisor) (inr promoted) =
             let h = divisor_word set e promoted divisor in
-            after_weaker g (λ right f. (right ≡ R.Word (K.Imm h.0.word)) × Gives_v right f) Q (right_by (operand true e) op e d) (λ right f gives. (inr (h.0.word, gives.0), gives.1)) (word_right set op e h.0 (no_zero (divides op) (h.0.word == 0) h.1) d s st here sim)
+            after_weaker g (λ right f. (right ≡ R.Word (K.Imm h.0.word)) × GivesNumbers right f) Q (right_by (operand true e) op e d) (λ right f gives. (inr (h.0.word, gives.0), gives.1)) (word_right set op e h.0 (and_false (divides op) (h.0.word == 0) h.1) d s st here sim)
 
     -- The instruction that operates on both: it puts the operator's numbers wherever it stands, and what stood
     -- before both is as it was.
