@@ -5,7 +5,7 @@ use Rattle.cstar_base.specs.declared.elem.Elem.{Elem}
 use Rattle.cstar_base.specs.declared.operators.Op.{Op}
 use Rattle.cstar_base.specs.declared.operators.Op.TheVariants as P
 use Rattle.cstar_base.specs.declared.operators.Place.{Place}
-use Rattle.cstar_base.specs.Operators.{divides, outcome}
+use Rattle.cstar_base.specs.Operators.{outcome}
 use Rattle.cstar_tree.specs.declared.syntax.AssignOp.{AssignOp}
 use Rattle.cstar_tree.specs.declared.syntax.AssignOp.TheVariants as A
 use Rattle.cstar_tree.specs.declared.syntax.StepOp.{StepOp}
@@ -54,15 +54,15 @@ use Rattle.code_follows.proofs.Settings.{At, Setting, Within, and_one, code_more
 use Rattle.fields_follow.specs.Fragment.{HasOperation, IsOperand, IsOperandOrTruth, IsOperation, IsTarget, IsUpdate, KnowsExtents}
 use Rattle.fields_follow.specs.Fields.{IsElement, file_number}
 use Rattle.fields_follow.proofs.Deciding.{truth_last, truth_means}
-use Rattle.fields_follow.proofs.Forms.{HasItsCode, field_is}
+use Rattle.fields_follow.proofs.Forms.{HasItsCode, divisor_never_zero, field_is}
 use Rattle.fields_follow.proofs.Instructions.{HasNumbers, Puts, SameExtents, extents, puts_operate_constant, shapes, word_in}
-use Rattle.fields_follow.proofs.Meaning.{promoted_means, value_in}
+use Rattle.fields_follow.proofs.Meaning.{DividesByNoZero, promoted_means, value_in}
 use Rattle.fields_follow.proofs.Leaving.{Leaves, UpdateLeaves}
 use Rattle.fields_follow.proofs.Passing.{After, Passes, after_same, code_longer, in_file_has, made_after, passes_all}
 use Rattle.fields_follow.proofs.PassingTests.{PassesTests, tests_passed}
 use Rattle.fields_follow.proofs.Places.{HoldsTheFields, IsFileField, PlacesFields}
 use Rattle.fields_follow.proofs.Pure.{are_grids, pure_means}
-use Rattle.fields_follow.proofs.Updates.{IsFileTarget, assign_means, file_target, promoted_wide, step_means, updated_is}
+use Rattle.fields_follow.proofs.Updates.{AssignsByNoZero, IsFileTarget, assign_means, file_target, promoted_wide, step_means, updated_is}
 use Rattle.fields_follow.proofs.Values.{and_entry, next_field, one_more, taken, with_entry}
 use Rattle.fields_follow.proofs.Writing.{few, file_written}
 use Rattle.fields_follow.proofs.Effects.{IsEntryFor, in_place_last, put_last}
@@ -172,7 +172,15 @@ module _ (g : Setting) (has : HasRegisters g) (alive : Variable → Type 0) (n :
     value_means set op e st exists (inl is) c = operand_means set e st exists is c
     value_means set op e st exists (inr is) c = truth_means g scope places same_extents alive n fields.active set e st is.1 c exists
 
-    assigns : (ty : ValueType) (place : Place) (op : AssignOp) (p q : Boxed) (target value : TExpr) (set : ℕ) → ty ≡ type_of target → IsTarget set target → HasOperation op → IsOperandOrTruth set op value → NamesVariables g.typed g.instance n target → HasItsCode g.typed g.instance alive n value
+    by_no_zero : (set : ℕ) (op : AssignOp) (value : TExpr) (st : State) → HasOperation op value → IsOperandOrTruth set op value → AssignsByNoZero op (λ x. value_in (extents g set) st value x)
+    by_no_zero set op value st operates is = by (assign_op_of op) refl operates is
+      where
+        by : (o : Option Op) → assign_op_of op ≡ o → IfSome o (λ x. IsOperation x value) → IsOperandOrTruth set op value → IfSome o (λ x. DividesByNoZero x (λ y. value_in (extents g set) st value y))
+        by None same known is = tt
+        by (Some x) same known (inl operand) = divisor_never_zero set x value (extents g set) st known operand
+        by (Some x) same known (inr truth) = absurd (let none = truth.0 in cc)
+
+    assigns : (ty : ValueType) (place : Place) (op : AssignOp) (p q : Boxed) (target value : TExpr) (set : ℕ) → ty ≡ type_of target → IsTarget set target → HasOperation op value → IsOperandOrTruth set op value → NamesVariables g.typed g.instance n target → HasItsCode g.typed g.instance alive n value
         → (d : Draft) (s : CodeState) (st : State) → At g s (length d.code) → Sim g alive st s
         → UpdateLeaves g alive fields scope (T.Assign' ty place op p target q value) d s st
     unfolding effect_of assignment_effect variable_operated
@@ -181,7 +189,7 @@ module _ (g : Setting) (has : HasRegisters g) (alive : Variable → Type 0) (n :
       (
         u,
         (
-          assign_means scope fields.active set ty place op p q target value h.k (λ x. value_in (extents g set) st value x) st (ap (λ (y : ValueType). y.shape) same ∙ h.type.0) operates (h.means scope fields.active st) (value_means set op value st (places.exists h.k 0 set h.info h.is) is_value c),
+          assign_means scope fields.active set ty place op p q target value h.k (λ x. value_in (extents g set) st value x) st (ap (λ (y : ValueType). y.shape) same ∙ h.type.0) (by_no_zero set op value st operates is_value) (h.means scope fields.active st) (value_means set op value st (places.exists h.k 0 set h.info h.is) is_value c),
           (after_same g (λ out e. Leaves g alive d e s u)
               (ap (λ (o : Option Own). elim o as (λ _. Made Out) [ Some own ↦ then_make (whole_of g.typed (layout g) target own d) (λ dest after. variable_assigned g.typed (layout g) op place target value dest after) | None ↦ value_of g.typed (layout g) ty.elem.bits (T.Assign' ty place op p target q value) d ]) (own_is set h.k op target value h.own h.type.1)
               ∙ variable_is set h.k h.info h.is h.wide d s st target (λ dest after. variable_assigned g.typed (layout g) op place target value dest after) h.type.1)
@@ -205,7 +213,7 @@ module _ (g : Setting) (has : HasRegisters g) (alive : Variable → Type 0) (n :
         f : Field
         f = next_field set 32 d
 
-        by : (o : Option Op) → assign_op_of op ≡ o → IfSome o IsOperation → IsOperandOrTruth set op value
+        by : (o : Option Op) → assign_op_of op ≡ o → IfSome o (λ x. IsOperation x value) → IsOperandOrTruth set op value
             → After g (λ out e. Leaves g alive d e s u) (elim (assign_op_of op) as (λ _. Made Out) [ None ↦ put_to g.typed (layout g) (O.Field f) value d1 | Some x ↦ variable_operated g.typed (layout g) x place target value (O.Field f) d1 ])
         by None is known (inl is_operand) =
             after_same g (λ out e. Leaves g alive d e s u) (ap (λ (o : Option Op). elim o as (λ _. Made Out) [ None ↦ put_to g.typed (layout g) (O.Field f) value d1 | Some x ↦ variable_operated g.typed (layout g) x place target value (O.Field f) d1 ]) is)
@@ -229,10 +237,10 @@ module _ (g : Setting) (has : HasRegisters g) (alive : Variable → Type 0) (n :
     stepping Sp.Increment = P.Add
     stepping Sp.Decrement = P.Sub
 
-    step_known : (op : StepOp) → IsOperation (stepping op)
-    unfolding relates divides
-    step_known Sp.Increment = (refl, refl)
-    step_known Sp.Decrement = (refl, refl)
+    step_known : (op : StepOp) → relates (stepping op) ≡ false
+    unfolding relates
+    step_known Sp.Increment = refl
+    step_known Sp.Decrement = refl
 
     step_assigns : (op : StepOp) → assign_op_of (step_op op) ≡ Some (stepping op)
     unfolding assign_op_of
@@ -275,7 +283,7 @@ module _ (g : Setting) (has : HasRegisters g) (alive : Variable → Type 0) (n :
               ∙ updated_is (step_op op) (stepping op) (type_of target).elem (promoted (type_of target).elem) (st.parallel (V.File h.k) 0 x) 1 (step_assigns op) h.type.1 (ap (λ (e : Elem). e.bits) (promoted_wide (type_of target).elem h.type.1) ∙ h.type.1)
               (was_small set h.k h.info h.is h.wide d s st sim x below) small)
               d1 i within (passes_all g alive (length d1.fields) d1 s st (Unit {0}) here sim)
-              (puts_operate_constant g set (stepping op) signed f f (K.Imm 1) s (λ q. st.parallel (V.File h.k) 0 q) (step_known op) refl numbers (omega arith))))),
+              (puts_operate_constant g set (stepping op) signed f f (K.Imm 1) s (λ q. st.parallel (V.File h.k) 0 q) (step_known op) (λ divided. refl) refl numbers (omega arith))))),
         ),
       ),
     )

@@ -21,7 +21,7 @@ use Rattle.lower_base.specs.declared.emit.Out.{Out}
 use Rattle.lower_base.specs.declared.emit.Out.TheVariants as O
 use Rattle.lower_base.specs.Drafts.{Draft, Fails, Made, Makes, a_field, an_entry, in_field, then_make, with_instr}
 use Rattle.lower_base.specs.Layouts.{register_of}
-use Rattle.lower_base.specs.Operators.{negates}
+use Rattle.lower_base.specs.Operators.{negates, relates}
 use Rattle.lower_expr.specs.Effects.{binary_to, bits_for, computed_to, converted_to, field_binary_to, field_operated, fits_field, goes_unchanged, gone_to, keeps_bits, moved, put_to}
 use Rattle.lower_expr.specs.Kinds.{done_as, operand_bits, operation_bits, reads_signed, unary_bits}
 use Rattle.lower_expr.specs.Operands.{is_plus, is_quiet, operand_by, own_of}
@@ -44,11 +44,11 @@ use Rattle.code_follows.proofs.Following.{HasRegisters, Sim, extends_then}
 use Rattle.code_follows.proofs.Settings.{At, Setting, Within, and_one, layout}
 use Rattle.fields_follow.specs.Fragment.{AreWrapping, IsOperand, IsOperation, IsPromoted, IsPure, IsWide, KnowsExtents}
 use Rattle.fields_follow.specs.Fields.{IsElement, file_number}
-use Rattle.fields_follow.proofs.Forms.{HasItsCode, HasItsWord, StandsInRegister, element_is, field_is, promoted_stands, pure_word}
+use Rattle.fields_follow.proofs.Forms.{HasItsCode, HasItsWord, StandsInRegister, divisor_never_zero, element_is, field_is, promoted_stands, pure_word}
 use Rattle.fields_follow.proofs.Instructions.{HasNumbers, Puts, extents, puts_alike, puts_constant, puts_coordinate, puts_move, word_in}
 use Rattle.fields_follow.proofs.Meaning.{AreOperands, as_shaped, left_of, value_in}
 use Rattle.fields_follow.proofs.News.{get_last}
-use Rattle.fields_follow.proofs.Operands.{GivesRight, fields_after, operated_after, operated_extends, register_has, register_is, right_after, right_extends}
+use Rattle.fields_follow.proofs.Operands.{GivesRight, Takes, fields_after, operated_after, operated_extends, register_has, register_is, right_extends, right_taken}
 use Rattle.fields_follow.proofs.Passing.{After, Behind, GivesField, Passes, after_same, fields_longer, in_file_has, made_after, passes_all, passes_from, then_after}
 use Rattle.fields_follow.proofs.Places.{HoldsTheFields, IsFileField, PlacesFields}
 use Rattle.fields_follow.proofs.Values.{and_entry, code_of, next_field, one_more, operand_of, taken, with_entry}
@@ -104,24 +104,24 @@ module _ (g : Setting) (has : HasRegisters g) (alive : Variable → Type 0) (n :
   negated_last set offset ty U.Not p inner known pure c whole d s st here sim Q last = cc
 
   -- a binary operator
-  wide_fits : (op : Op) (right : TExpr) → IsOperation op → fits_field 32 op right ≡ true
+  wide_fits : (op : Op) (right : TExpr) → relates op ≡ false → fits_field 32 op right ≡ true
   unfolding fits_field operation_bits
-  wide_fits op right is = ap (λ (b : Bool). b || operation_bits 32 op right == 32) is.0 ∙ by _
+  wide_fits op right operates = ap (λ (b : Bool). b || operation_bits 32 op right == 32) operates ∙ by _
     where
       by : (c : Bool) → ((if c then 32 else 32) == 32) ≡ true
       by true = refl
       by false = refl
 
-  operated_last : (set offset : ℕ) (ty : ValueType) (place : Place) (op : Op) (p q : Boxed) (left right : TExpr) → IsOperation op → AreOperands set left right → HasItsCode g.typed g.instance alive n left → HasItsCode g.typed g.instance alive n right
+  operated_last : (set offset : ℕ) (ty : ValueType) (place : Place) (op : Op) (p q : Boxed) (left right : TExpr) → IsOperation op right → AreOperands set left right → HasItsCode g.typed g.instance alive n left → HasItsCode g.typed g.instance alive n right
       → PutsLast set (record { set = set; offset = offset; len = 32 }) (λ st x. outcome op 32 (not (type_of left).elem.signed) (value_in (extents g set) st left x) (value_in (extents g set) st right x))
       (λ d. computed_to g.typed (layout g) (O.Field (record { set = set; offset = offset; len = 32 })) (T.Binary' ty place op p left q right) d)
   unfolding computed_to binary_to field_binary_to field_binary_of then_make an_entry passes_from
   operated_last set offset ty place op p q left right is operands c_left c_right d s st here sim Q last =
       let f : Field = record { set = set; offset = offset; len = 32 } in
       after_same g Q
-      (ap (λ (b : Bool). if b then then_make (a_field set (operand_bits 32 op left right) d) (λ spare after. field_binary_of g.typed (layout g) 32 op place left right f spare after) else moved g.typed (layout g) (O.Field f) (T.Binary' ty place op p left q right) d) (wide_fits op right is)
-      ∙ ap (λ (bits : ℕ). then_make (a_field set bits d) (λ spare after. fields_by op (reads_signed op left right) place f spare (operand_by g.typed (layout g) bits (value_of g.typed (layout g) bits left) (is_quiet right) left) left (operand_by g.typed (layout g) bits (value_of g.typed (layout g) bits right) true right) right after)) (wide_operands op left right is)
-      ∙ ap (λ (signed : Bool). fields_by op signed place f (next_field set 32 d) (operand (is_quiet right) left) left (operand true right) right (with_entry set 32 W.Own d)) (signed_as op left right is (operand_type set left (left_of set left right operands)).1))
+      (ap (λ (b : Bool). if b then then_make (a_field set (operand_bits 32 op left right) d) (λ spare after. field_binary_of g.typed (layout g) 32 op place left right f spare after) else moved g.typed (layout g) (O.Field f) (T.Binary' ty place op p left q right) d) (wide_fits op right is.0)
+      ∙ ap (λ (bits : ℕ). then_make (a_field set bits d) (λ spare after. fields_by op (reads_signed op left right) place f spare (operand_by g.typed (layout g) bits (value_of g.typed (layout g) bits left) (is_quiet right) left) left (operand_by g.typed (layout g) bits (value_of g.typed (layout g) bits right) true right) right after)) (wide_operands op left right is.0)
+      ∙ ap (λ (signed : Bool). fields_by op signed place f (next_field set 32 d) (operand (is_quiet right) left) left (operand true right) right (with_entry set 32 W.Own d)) (signed_as op left right is.0 (operand_type set left (left_of set left right operands)).1))
       (fields_after g has alive n ready places fields set op (type_of left).elem.signed place f left right d s st is refl operands c_left c_right
       (λ pure. pure_after g has alive n ready places fields set left pure c_left) (λ pure. pure_after g has alive n ready places fields set right pure c_right)
       (operand_grows g has alive n ready places fields left c_left) (operand_grows g has alive n ready places fields right c_right) here sim Q
@@ -229,7 +229,7 @@ module _ (g : Setting) (has : HasRegisters g) (alive : Variable → Type 0) (n :
   IsEntryFor k f d = (e : Draft) (m : ℕ) → Extended d m e → Within g e → IsFileField g k 0 f
 
   pub in_place_last : (set offset k : ℕ) (info : VarInfo) (op : Op) (signed : Bool) (place : Place) (value : TExpr) (d : Draft) (s : CodeState) (st : State) → IsElement g.typed k info set 0 → info.elem.bits ≡ 32 → IsEntryFor k (record { set = set; offset = offset; len = 32 }) d
-      → IsOperation op → IsOperand set value → HasItsCode g.typed g.instance alive n value → At g s (length d.code) → Sim g alive st s → (Q : Out → Draft → Type 0)
+      → IsOperation op value → IsOperand set value → HasItsCode g.typed g.instance alive n value → At g s (length d.code) → Sim g alive st s → (Q : Out → Draft → Type 0)
       → ((e2 : Draft) (i : Instr) → Within g (with_instr i e2) → (p : Passes g alive (length d.fields) d e2 s st (Unit {0})) → Puts g set i (record { set = set; offset = offset; len = 32 }) p.t (λ q. outcome op 32 (not signed) (st.parallel (V.File k) 0 q) (value_in (extents g set) st value q)) → Q (O.Field (record { set = set; offset = offset; len = 32 })) (with_instr i e2))
       → After g Q (field_operated g.typed (layout g) op signed place (record { set = set; offset = offset; len = 32 }) value d)
   unfolding field_operated then_make an_entry passes_from
@@ -239,12 +239,12 @@ module _ (g : Setting) (has : HasRegisters g) (alive : Variable → Type 0) (n :
         passes = passes_all g alive (length d.fields) d1 s st (Behind g f d1) here sim;
         stands = inr (record { k = k; info = info; is = is; word = word; file = entry d1 0 (and_entry set 32 W.Own d) within; of_set = refl; wide = refl; same = λ q below. refl });
       }))
-      (λ a begun. extends_then g begun (right_by (operand true value) op value begun) (λ right after. right_operated op signed place f a right spare after) (right_extends g (operand true value) op value (λ after. operand_grows g has alive n ready places fields value c true after) begun) (λ right after. operated_extends g op signed place f a spare right after known))
-      (λ a e1 one. then_after g (GivesRight g has alive n ready places fields (length e1.fields) e1 one.passes.t set st w) Q (right_by (operand true value) op value e1) (λ right after. right_operated op signed place f a right spare after)
-      (right_after g has alive n ready places fields set op value known.1 isin c (λ pure. pure_after g has alive n ready places fields set value pure c) e1 one.passes.t st one.passes.at one.passes.sim)
-      (λ right after. operated_extends g op signed place f a spare right after known)
-      (λ right e2 two. operated_after g has alive n ready places fields (length d.fields) set op signed place f spare a v w d1 e1 e2 s st known refl
-      (let more = fields_longer d1 e1 one.passes.grown.0 one.passes.grown.1 in let first = one_more set 32 W.Own d in omega (arith, more, first)) one right two Q
+      (λ a begun. extends_then g begun (right_by (operand true value) op value begun) (λ right after. right_operated op signed place f a right spare after) (right_extends g (operand true value) op value (λ after. operand_grows g has alive n ready places fields value c true after) begun) (λ right after. operated_extends g op signed place f a spare right after known.0))
+      (λ a e1 one. then_after g (λ right e. Takes op right × GivesRight g has alive n ready places fields (length e1.fields) e1 one.passes.t set st w right e) Q (right_by (operand true value) op value e1) (λ right after. right_operated op signed place f a right spare after)
+      (right_taken g has alive n ready places fields set op value known isin c (λ pure. pure_after g has alive n ready places fields set value pure c) e1 one.passes.t st one.passes.at one.passes.sim)
+      (λ right after. operated_extends g op signed place f a spare right after known.0)
+      (λ right e2 two. operated_after g has alive n ready places fields (length d.fields) set op signed place f spare a v w d1 e1 e2 s st known.0 (divisor_never_zero set op value (extents g set) st known isin) refl
+      (let more = fields_longer d1 e1 one.passes.grown.0 one.passes.grown.1 in let first = one_more set 32 W.Own d in omega (arith, more, first)) one right two.0 two.1 Q
       (λ i within p puts. last e2 i within (passes_from g alive (length d.fields) d d1 e2 s st (Unit {0}) (and_entry set 32 W.Own d) p) puts)))
     where
       f : Field

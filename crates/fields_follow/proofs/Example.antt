@@ -67,12 +67,12 @@ main_is heap =
               (
                 inr ((inl (0, (refl, (refl, refl), tt, inl (inl (refl, refl)))), tt), ((λ is. inl (inl tt)), tt)),
                 (
-                  inr ((inl (0, (refl, (refl, refl), (refl, refl), inl (inr ((refl, refl), ((refl, refl), inl (1, refl, omega arith)))))), tt), ((λ is. inl (inl tt)), tt)),
+                  inr ((inl (0, (refl, (refl, refl), (refl, inl refl), inl (inr ((refl, refl), ((refl, refl), inl (1, refl, omega arith)))))), tt), ((λ is. inl (inl tt)), tt)),
                   (
                     (
                       (((refl, refl), refl, inl ((refl, refl), inr ((refl, refl), ((refl, refl), inl (2, refl, omega arith))))), (tt, tt)),
                       ((λ is. inl (inl tt)), tt),
-                      inr ((inl (0, (refl, (refl, refl), (refl, refl), inl (inr ((refl, refl), ((refl, refl), inl (10, refl, omega arith)))))), tt), ((λ is. inl (inl tt)), tt)),
+                      inr ((inl (0, (refl, (refl, refl), (refl, inl refl), inl (inr ((refl, refl), ((refl, refl), inl (10, refl, omega arith)))))), tt), ((λ is. inl (inl tt)), tt)),
                       tt,
                       inr ((inl (0, (refl, (refl, refl), tt, inl (inr ((refl, refl), ((refl, refl), inl (0, refl, omega arith)))))), tt), ((λ is. inl (inl tt)), tt)),
                       tt,

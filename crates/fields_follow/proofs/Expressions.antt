@@ -22,7 +22,7 @@ use Rattle.lower_base.specs.declared.emit.Out.{Out}
 use Rattle.lower_base.specs.declared.emit.Out.TheVariants as O
 use Rattle.lower_base.specs.Drafts.{Draft, Made, Makes, Plain, a_field, an_entry, fresh_for, in_field, step as step_of, then_make, with_instr}
 use Rattle.lower_base.specs.Kinds.{bits_of, kind_of}
-use Rattle.lower_base.specs.Operators.{is_signed, negates}
+use Rattle.lower_base.specs.Operators.{is_signed, negates, relates}
 use Rattle.lower_expr.specs.Kinds.{done_as, operand_bits, operation_bits, reads_signed, relation_kind, result_bits, unary_bits}
 use Rattle.lower_expr.specs.Operands.{are_quiet, is_plus, is_quiet, operand_by}
 use Rattle.lower_expr.specs.Steps.{field_negated, is_kept, negated}
@@ -71,19 +71,19 @@ wide_operation : (op : Op) (right : TExpr) → operation_bits 32 op right ≡ 32
 unfolding operation_bits
 wide_operation op right = either_way _ 32
 
-pub wide_operands : (op : Op) (left right : TExpr) → IsOperation op → operand_bits 32 op left right ≡ 32
+pub wide_operands : (op : Op) (left right : TExpr) → relates op ≡ false → operand_bits 32 op left right ≡ 32
 unfolding operand_bits
-wide_operands op left right is = ap (λ (c : Bool). if c then bits_of (relation_kind left right) else operation_bits 32 op right) is.0 ∙ wide_operation op right
+wide_operands op left right operates = ap (λ (c : Bool). if c then bits_of (relation_kind left right) else operation_bits 32 op right) operates ∙ wide_operation op right
 
-wide_result : (op : Op) (right : TExpr) → IsOperation op → result_bits 32 op right ≡ 32
+wide_result : (op : Op) (right : TExpr) → relates op ≡ false → result_bits 32 op right ≡ 32
 unfolding result_bits
-wide_result op right is = ap (λ (c : Bool). if c then 32 else operation_bits 32 op right) is.0 ∙ wide_operation op right
+wide_result op right operates = ap (λ (c : Bool). if c then 32 else operation_bits 32 op right) operates ∙ wide_operation op right
 
 -- operands are read as the type of the left one says
-pub signed_as : (op : Op) (left right : TExpr) → IsOperation op → (type_of left).elem.bits ≡ 32 → reads_signed op left right ≡ (type_of left).elem.signed
+pub signed_as : (op : Op) (left right : TExpr) → relates op ≡ false → (type_of left).elem.bits ≡ 32 → reads_signed op left right ≡ (type_of left).elem.signed
 unfolding reads_signed
-signed_as op left right is wide =
-    ap (λ (c : Bool). if c then elim (relation_kind left right) [ None ↦ is_signed (type_of left).elem | Some kind ↦ kind.signed ] else is_signed (type_of left).elem) is.0 ∙ wide_signed (type_of left).elem wide
+signed_as op left right operates wide =
+    ap (λ (c : Bool). if c then elim (relation_kind left right) [ None ↦ is_signed (type_of left).elem | Some kind ↦ kind.signed ] else is_signed (type_of left).elem) operates ∙ wide_signed (type_of left).elem wide
 
 module _ (g : Setting) (has : HasRegisters g) (alive : Variable → Type 0) (n : ℕ) (ready : (d : Draft) → IsReady g.typed g.instance (layout g) n d) (places : PlacesFields g) (fields : HoldsTheFields g) where
   abbrev code : TExpr → Draft → Made Out
@@ -116,15 +116,15 @@ module _ (g : Setting) (has : HasRegisters g) (alive : Variable → Type 0) (n :
         ),
       )
 
-  binary_code : (set : ℕ) (ty : ValueType) (place : Place) (op : Op) (p q : Boxed) (left right : TExpr) (d : Draft) → ty.shape ≡ Some set → IsOperation op → (type_of left).elem.bits ≡ 32
+  binary_code : (set : ℕ) (ty : ValueType) (place : Place) (op : Op) (p q : Boxed) (left right : TExpr) (d : Draft) → ty.shape ≡ Some set → relates op ≡ false → (type_of left).elem.bits ≡ 32
       → code (T.Binary' ty place op p left q right) d ≡ lowest 32 (fields_by op (type_of left).elem.signed place (next_field set 32 d) (next_field set 32 d) (operand (is_quiet right) left) left (operand true right) right (with_entry set 32 W.Own d))
   unfolding value_of binary_by parallel_binary_by spare_for then_make an_entry
-  binary_code set ty place op p q left right d shaped is wide =
-      ap (λ (bits : ℕ). binary_by ty.shape 32 op place (operand_by g.typed (layout g) bits (value_of g.typed (layout g) bits left) (is_quiet right) left) left (operand_by g.typed (layout g) bits (value_of g.typed (layout g) bits right) true right) right d) (wide_operands op left right is)
+  binary_code set ty place op p q left right d shaped operates wide =
+      ap (λ (bits : ℕ). binary_by ty.shape 32 op place (operand_by g.typed (layout g) bits (value_of g.typed (layout g) bits left) (is_quiet right) left) left (operand_by g.typed (layout g) bits (value_of g.typed (layout g) bits right) true right) right d) (wide_operands op left right operates)
       ∙ ap (λ (o : Option ℕ). binary_by o 32 op place (operand (is_quiet right) left) left (operand true right) right d) shaped
-      ∙ ap (λ (bits : ℕ). then_make (a_field set bits d) (λ dest begun. then_make (spare_for op dest (operand_bits 32 op left right) begun) (λ spare between. lowest 32 (fields_by op (reads_signed op left right) place dest spare (operand (is_quiet right) left) left (operand true right) right between)))) (wide_result op right is)
-      ∙ ap (λ (c : Bool). then_make (if c then a_field set (operand_bits 32 op left right) (with_entry set 32 W.Own d) else Makes (next_field set 32 d) (with_entry set 32 W.Own d)) (λ spare between. lowest 32 (fields_by op (reads_signed op left right) place (next_field set 32 d) spare (operand (is_quiet right) left) left (operand true right) right between))) is.0
-      ∙ ap (λ (signed : Bool). lowest 32 (fields_by op signed place (next_field set 32 d) (next_field set 32 d) (operand (is_quiet right) left) left (operand true right) right (with_entry set 32 W.Own d))) (signed_as op left right is wide)
+      ∙ ap (λ (bits : ℕ). then_make (a_field set bits d) (λ dest begun. then_make (spare_for op dest (operand_bits 32 op left right) begun) (λ spare between. lowest 32 (fields_by op (reads_signed op left right) place dest spare (operand (is_quiet right) left) left (operand true right) right between)))) (wide_result op right operates)
+      ∙ ap (λ (c : Bool). then_make (if c then a_field set (operand_bits 32 op left right) (with_entry set 32 W.Own d) else Makes (next_field set 32 d) (with_entry set 32 W.Own d)) (λ spare between. lowest 32 (fields_by op (reads_signed op left right) place (next_field set 32 d) spare (operand (is_quiet right) left) left (operand true right) right between))) operates
+      ∙ ap (λ (signed : Bool). lowest 32 (fields_by op signed place (next_field set 32 d) (next_field set 32 d) (operand (is_quiet right) left) left (operand true right) right (with_entry set 32 W.Own d))) (signed_as op left right operates wide)
 
   -- what has code of its parts
   pub binary_parts : (ty : ValueType) (place : Place) (op : Op) (p q : Boxed) (left right : TExpr) → HasItsCode g.typed g.instance alive n (T.Binary' ty place op p left q right) → HasItsCode g.typed g.instance alive n left × HasItsCode g.typed g.instance alive n right
@@ -239,12 +239,12 @@ module _ (g : Setting) (has : HasRegisters g) (alive : Variable → Type 0) (n :
   unary_after set ty U.Complement p inner known wide pure c whole d s st here sim = signed_after set ty U.Complement p inner (refl, refl) wide pure c whole d s st here sim
   unary_after set ty U.Not p inner known wide pure c whole d s st here sim = cc
 
-  binary_after : (set : ℕ) (ty : ValueType) (place : Place) (op : Op) (p q : Boxed) (left right : TExpr) → IsWide set ty → IsOperation op → AreOperands set left right → HasItsCode g.typed g.instance alive n left → HasItsCode g.typed g.instance alive n right
+  binary_after : (set : ℕ) (ty : ValueType) (place : Place) (op : Op) (p q : Boxed) (left right : TExpr) → IsWide set ty → IsOperation op right → AreOperands set left right → HasItsCode g.typed g.instance alive n left → HasItsCode g.typed g.instance alive n right
       → (IsPure set left → Valued g has alive n ready places fields set left (code left)) → (IsPure set right → Valued g has alive n ready places fields set right (code right))
       → Valued g has alive n ready places fields set (T.Binary' ty place op p left q right) (code (T.Binary' ty place op p left q right))
   unfolding value_in
   binary_after set ty place op p q left right wide is operands c_left c_right whole_left whole_right d s st here sim =
-      after_same g (Answers (length d.fields) d s set st v) (binary_code set ty place op p q left right d wide.0 is (operand_type set left (left_of set left right operands)).1)
+      after_same g (Answers (length d.fields) d s set st v) (binary_code set ty place op p q left right d wide.0 is.0 (operand_type set left (left_of set left right operands)).1)
       (all_bits g has alive n ready places fields (length d.fields) d s set st v made
       (fields_after g has alive n ready places fields set op (type_of left).elem.signed place (next_field set 32 d) left right d s st is refl operands c_left c_right whole_left whole_right (operand_grows left c_left) (operand_grows right c_right) here sim
       (Answers (length d.fields) d s set st v) (λ e2 i within passes puts. own_result set d e2 s st v i within passes puts)))

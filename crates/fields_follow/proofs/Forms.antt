@@ -2,7 +2,9 @@
 use Rattle.std.proofs.Common.{◌≡◌, ◌∙◌, ℕ, ◌+◌, ◌<◌, ◌^◌, Bool, true, false, ◌&&◌, ◌||◌, ◌==◌, List, slice_get, Option, Some, None, refl, sym, ap, subst, inl, inr, if◌then◌else◌, ◌⊎◌, arith}
 use Rattle.std.specs.Prelude.{is_none, nat_le, nat_lt}
 use Rattle.std.proofs.lemmas.Bool.Decides.{nat_tests}
+use Rattle.cstar_base.specs.declared.operators.Op.{Op}
 use Rattle.cstar_base.specs.Numbers.{converted}
+use Rattle.cstar_base.specs.Operators.{divides}
 use Rattle.cstar_tree.specs.declared.typed.Instance.{Instance}
 use Rattle.cstar_tree.specs.declared.typed.TExpr.{TExpr}
 use Rattle.cstar_tree.specs.declared.typed.TExpr as T
@@ -26,10 +28,10 @@ use Rattle.source_meaning.specs.State.{State}
 use Rattle.code_follows.specs.Fragment.{IsWord, ScalarsAmong}
 use Rattle.code_follows.proofs.Settings.{Setting, layout}
 use Rattle.code_follows.proofs.Words.{held_wide}
-use Rattle.fields_follow.specs.Fragment.{IsConstant, IsPromoted, IsPure, IsScalarName, IsWide, KnowsExtents, extents_in}
+use Rattle.fields_follow.specs.Fragment.{IsConstant, IsDivisor, IsOperation, IsPromoted, IsPure, IsScalarName, IsWide, KnowsExtents, extents_in}
 use Rattle.fields_follow.specs.Fields.{IsElement, file_number}
 use Rattle.fields_follow.proofs.FileFields.{first_there}
-use Rattle.fields_follow.proofs.Meaning.{and_false, no_constant, scalar_in, value_in, variable_in, wide_same}
+use Rattle.fields_follow.proofs.Meaning.{DividesByNoZero, and_false, divides_nothing, no_constant, scalar_in, value_in, variable_in, wide_same}
 use Rattle.lower_expr.specs.Kinds.{is_unchanged}
 use Rattle.cstar_base.specs.declared.elem.Elem.{Elem}
 use Rattle.lower_expr.specs.Values.{Code, Test, cast_by, extended, truth_put}
@@ -194,6 +196,41 @@ pub record HasItsWord (e : TExpr) : Type 0 where
   pub small : word < 2 ^ 32
   pub value : (extents : List ℕ) (st : State) (q : ℕ) → value_in extents st e q ≡ word
 
+constant_word : (ty : ValueType) (p : _) (operand : TExpr) → IsWord (type_of operand) → (constant : IsConstant operand) → (h : HasItsWord (T.Promote' ty p operand)) × (h.word ≡ constant.0)
+unfolding word_of register_word value_in scalar_in
+constant_word ty p operand wide constant = (
+  record {
+    word = constant.0;
+    is = ap (λ (o : Option ℕ). then_value o (λ v. Some (converted int_type (type_of operand).elem v))) constant.1 ∙ ap Some (held_wide (type_of operand).elem constant.0 wide.1 constant.2);
+    small = constant.2;
+    value = λ extents st q. ap (λ (o : Option ℕ). elim o [ Some word ↦ word | None ↦ variable_in st operand ]) constant.1;
+  },
+  refl,
+)
+
+-- a divisor is such a constant
+pub divisor_word : (set : ℕ) (e : TExpr) → IsPromoted set e → IsDivisor e → (h : HasItsWord e) × ((h.word == 0) ≡ false)
+unfolding IsPromoted IsDivisor word_of value_in
+divisor_word set (T.Promote' ty p operand) is divisor =
+    let h = constant_word ty p operand is.1.0 divisor.0 in (h.0, (let same = h.1 in let more = divisor.1 in grind (arith, nat_tests, same, more)))
+divisor_word set (T.Brackets' ty p inner) is divisor = let h = divisor_word set inner is.1 divisor in (record { word = h.0.word; is = h.0.is; small = h.0.small; value = h.0.value }, h.1)
+divisor_word set _ is divisor = absurd divisor
+
+pub no_pure_divisor : (set : ℕ) (e : TExpr) → IsPure set e → IsDivisor e → ⊥
+unfolding IsPure IsDivisor
+no_pure_divisor set (T.Promote' ty p operand) is divisor = is
+no_pure_divisor set (T.Brackets' ty p inner) is divisor = no_pure_divisor set inner is.1 divisor
+no_pure_divisor set _ is divisor = divisor
+
+-- an operator divides by no 0
+pub divisor_never_zero : (set : ℕ) (op : Op) (right : TExpr) (extents : List ℕ) (st : State) → IsOperation op right → IsPure set right ⊎ IsPromoted set right → DividesByNoZero op (λ q. value_in extents st right q)
+divisor_never_zero set op right extents st is operand = by is.1 operand
+  where
+    by : (divides op ≡ false) ⊎ IsDivisor right → IsPure set right ⊎ IsPromoted set right → DividesByNoZero op (λ q. value_in extents st right q)
+    by (inl no_check) any = divides_nothing op (λ q. value_in extents st right q) no_check
+    by (inr divisor) (inl pure) = absurd (no_pure_divisor set right pure divisor)
+    by (inr divisor) (inr promoted) = λ divided q. let h = divisor_word set right promoted divisor in ap (λ (w : ℕ). w == 0) (h.0.value extents st q) ∙ h.1
+
 pub record StandsInRegister (t : Typed) (i : Instance) (alive : Variable → Type 0) (e : TExpr) : Type 0 where
   pub x : Variable
   pub info : VarInfo
@@ -253,12 +290,7 @@ unfolding IsPromoted word_of register_word own_of NamesVariables value_in scalar
 promoted_stands t i alive n set (T.Promote' ty p operand) is v among = by is.1.1
   where
     by : IsConstant operand ⊎ IsScalarName operand → HasItsWord (T.Promote' ty p operand) ⊎ StandsInRegister t i alive (T.Promote' ty p operand)
-    by (inl constant) = inl (record {
-      word = constant.0;
-      is = ap (λ (o : Option ℕ). then_value o (λ v. Some (converted int_type (type_of operand).elem v))) constant.1 ∙ ap Some (held_wide (type_of operand).elem constant.0 is.1.0.1 constant.2);
-      small = constant.2;
-      value = λ extents st q. ap (λ (o : Option ℕ). elim o [ Some word ↦ word | None ↦ variable_in st operand ]) constant.1;
-    })
+    by (inl constant) = inl (constant_word ty p operand is.1.0 constant).0
     by (inr variable) = inr (
         let h = named_scalar t i alive n operand variable is.1.0 v among in
         record {

@@ -1,6 +1,6 @@
 -- What one instruction on fields of 32 bits does: its destination takes a number at each active position.
-use Rattle.std.proofs.Common.{◌≡◌, ◌∙◌, ℕ, ◌+◌, ◌-◌, ◌%◌, ◌<◌, ◌^◌, Bool, true, false, not, List, [], ◌∷◌, ◌==◌, length, slice_index, refl, ap, subst, sym, arith}
-use Rattle.std.specs.Prelude.{pos, neg_ℤ}
+use Rattle.std.proofs.Common.{◌≡◌, ◌∙◌, ℕ, ◌+◌, ◌-◌, ◌%◌, ◌<◌, ◌^◌, Bool, true, false, not, List, [], ◌∷◌, ◌==◌, length, slice_index, Some, None, if◌then◌else◌, refl, ap, subst, sym, arith}
+use Rattle.std.specs.Prelude.{pos, neg_ℤ, unwrap_or}
 use Rattle.std.specs.List.{slice_index_or}
 use Rattle.std.proofs.Math.Nat.{mod-eq_of_lt}
 use Rattle.cstar_base.specs.declared.operators.Op.{Op}
@@ -32,7 +32,7 @@ use Rattle.source_meaning.specs.Values.{Scope, unary_of}
 use Rattle.vp_sets.specs.Positions.{coordinate}
 use Rattle.code_follows.proofs.Operators.{by_machine, machine_below, machine_same, minus_same}
 use Rattle.code_follows.proofs.Settings.{Setting, placed_instr}
-use Rattle.fields_follow.specs.Fragment.{IsOperation}
+use Rattle.fields_follow.proofs.Meaning.{DividesByNoZero}
 use Rattle.fields_follow.proofs.Named.{NamesFields}
 
 -- an operator that is no relation is one of the machine's operations
@@ -46,36 +46,40 @@ operation_is P.Gt signed e = cc
 operation_is P.Ge signed e = cc
 operation_is _ signed e = refl
 
+divided : (n : ℕ) (z : Bool) → z ≡ false → n ≡ unwrap_or (if z then None else Some n) 0
+divided n false some = refl
+divided n true some = cc
+
 -- what the operation gives is what the machine does
-by_operation : (op : Op) (signed : Bool) (a b : ℕ) → relates op ≡ false → divides op ≡ false → outcome (operator_of (operation_of op signed)).0 32 (operator_of (operation_of op signed)).1 a b ≡ by_machine (machine_of op signed) a b
+by_operation : (op : Op) (signed : Bool) (a b : ℕ) → relates op ≡ false → (divides op ≡ true → (b == 0) ≡ false) → outcome (operator_of (operation_of op signed)).0 32 (operator_of (operation_of op signed)).1 a b ≡ by_machine (machine_of op signed) a b
 unfolding by_machine machine_of operation_of operated operate divides relates
-by_operation P.Add signed a b e f = refl
-by_operation P.Sub signed a b e f = refl
-by_operation P.Mul signed a b e f = refl
-by_operation P.And signed a b e f = refl
-by_operation P.Or signed a b e f = refl
-by_operation P.Xor signed a b e f = refl
-by_operation P.Min true a b e f = refl
-by_operation P.Min false a b e f = refl
-by_operation P.Max true a b e f = refl
-by_operation P.Max false a b e f = refl
-by_operation P.Shl signed a b e f = refl
-by_operation P.Shr true a b e f = refl
-by_operation P.Shr false a b e f = refl
-by_operation P.Div signed a b e f = cc
-by_operation P.Rem signed a b e f = cc
-by_operation P.Mod signed a b e f = cc
-by_operation _ signed a b e f = cc
+by_operation P.Add signed a b e some = refl
+by_operation P.Sub signed a b e some = refl
+by_operation P.Mul signed a b e some = refl
+by_operation P.And signed a b e some = refl
+by_operation P.Or signed a b e some = refl
+by_operation P.Xor signed a b e some = refl
+by_operation P.Min true a b e some = refl
+by_operation P.Min false a b e some = refl
+by_operation P.Max true a b e some = refl
+by_operation P.Max false a b e some = refl
+by_operation P.Shl signed a b e some = refl
+by_operation P.Shr true a b e some = refl
+by_operation P.Shr false a b e some = refl
+by_operation P.Div true a b e some = divided _ (b == 0) (some refl)
+by_operation P.Div false a b e some = divided _ (b == 0) (some refl)
+by_operation P.Rem true a b e some = divided _ (b == 0) (some refl)
+by_operation P.Rem false a b e some = divided _ (b == 0) (some refl)
+by_operation P.Mod true a b e some = divided _ (b == 0) (some refl)
+by_operation P.Mod false a b e some = divided _ (b == 0) (some refl)
+by_operation _ signed a b e some = cc
 
-no_divisor : (op : Op) (b : ℕ) → divides op ≡ false → divides op ≡ true → (b == 0) ≡ false
-no_divisor op b e f = cc
-
-pub operation_same : (op : Op) (signed : Bool) (a b : ℕ) → IsOperation op → a < 2 ^ 32 → b < 2 ^ 32 →
+pub operation_same : (op : Op) (signed : Bool) (a b : ℕ) → relates op ≡ false → (divides op ≡ true → (b == 0) ≡ false) → a < 2 ^ 32 → b < 2 ^ 32 →
     outcome (operator_of (operation_of op signed)).0 32 (operator_of (operation_of op signed)).1 a b ≡ outcome op 32 (not signed) a b
-operation_same op signed a b is few small = by_operation op signed a b is.0 is.1 ∙ machine_same a b few small op signed (no_divisor op b is.1)
+operation_same op signed a b operates some few small = by_operation op signed a b operates some ∙ machine_same a b few small op signed some
 
-pub operation_below : (op : Op) (signed : Bool) (a b : ℕ) → IsOperation op → a < 2 ^ 32 → b < 2 ^ 32 → outcome op 32 (not signed) a b < 2 ^ 32
-operation_below op signed a b is few small = subst (λ (n : ℕ). n < 2 ^ 32) (machine_same a b few small op signed (no_divisor op b is.1)) (machine_below a b few small (machine_of op signed))
+pub operation_below : (op : Op) (signed : Bool) (a b : ℕ) → (divides op ≡ true → (b == 0) ≡ false) → a < 2 ^ 32 → b < 2 ^ 32 → outcome op 32 (not signed) a b < 2 ^ 32
+operation_below op signed a b some few small = subst (λ (n : ℕ). n < 2 ^ 32) (machine_same a b few small op signed some) (machine_below a b few small (machine_of op signed))
 
 whole : (n : ℕ) → n < 2 ^ 32 → n % 2 ^ 32 ≡ n
 whole n few = mod-eq_of_lt {n = n} {m = 2 ^ 32} few
@@ -195,18 +199,18 @@ module _ (g : Setting) where
   }
 
   -- an operator on two words, as the instruction has it and as the language has it
-  done : (op : Op) (signed : Bool) (len x y a b : ℕ) → len ≡ 32 → x ≡ a → y ≡ b → IsOperation op → a < 2 ^ 32 → b < 2 ^ 32 →
+  done : (op : Op) (signed : Bool) (len x y a b : ℕ) → len ≡ 32 → x ≡ a → y ≡ b → relates op ≡ false → (divides op ≡ true → (b == 0) ≡ false) → a < 2 ^ 32 → b < 2 ^ 32 →
       outcome (operator_of (operation_of op signed)).0 len (operator_of (operation_of op signed)).1 x y % 2 ^ len ≡ outcome op 32 (not signed) a b
-  done op signed len x y a b wide e f is few small =
+  done op signed len x y a b wide e f operates some few small =
       ap (λ (n : ℕ). outcome (operator_of (operation_of op signed)).0 n (operator_of (operation_of op signed)).1 x y % 2 ^ n) wide
       ∙ ap (λ (n : ℕ). outcome (operator_of (operation_of op signed)).0 32 (operator_of (operation_of op signed)).1 n y % 2 ^ 32) e
       ∙ ap (λ (n : ℕ). outcome (operator_of (operation_of op signed)).0 32 (operator_of (operation_of op signed)).1 a n % 2 ^ 32) f
-      ∙ ap (λ (n : ℕ). n % 2 ^ 32) (operation_same op signed a b is few small) ∙ whole (outcome op 32 (not signed) a b) (operation_below op signed a b is few small)
+      ∙ ap (λ (n : ℕ). n % 2 ^ 32) (operation_same op signed a b operates some few small) ∙ whole (outcome op 32 (not signed) a b) (operation_below op signed a b some few small)
 
-  pub puts_operate : (set : ℕ) (op : Op) (signed : Bool) (d a b : Field) (s : CodeState) (v w : ℕ → ℕ) → IsOperation op → d.len ≡ 32 → HasNumbers set a s v → HasNumbers set b s w
+  pub puts_operate : (set : ℕ) (op : Op) (signed : Bool) (d a b : Field) (s : CodeState) (v w : ℕ → ℕ) → relates op ≡ false → DividesByNoZero op w → d.len ≡ 32 → HasNumbers set a s v → HasNumbers set b s w
       → Puts set (I.Operate (operation_of op signed) d a b) d s (λ p. outcome op 32 (not signed) (v p) (w p))
   unfolding begun applied after step_of
-  puts_operate set op signed d a b s v w is wide one other = record {
+  puts_operate set op signed d a b s v w operates never wide one other = record {
     plain = refl;
     simple = tt;
     others = _;
@@ -214,14 +218,14 @@ module _ (g : Setting) where
     write = elementwise shapes (I.Operate (operation_of op signed) (place d) (place a) (place b)) [] s.memory;
     run = refl;
     writes = λ p. refl;
-    value = λ p below on. done op signed d.len (number_in a s p) (number_in b s p) (v p) (w p) wide (one.are p below on) (other.are p below on) is (one.small p below on) (other.small p below on);
+    value = λ p below on. done op signed d.len (number_in a s p) (number_in b s p) (v p) (w p) wide (one.are p below on) (other.are p below on) operates (λ divided. never divided p) (one.small p below on) (other.small p below on);
     goes = refl;
   }
 
-  pub puts_operate_constant : (set : ℕ) (op : Op) (signed : Bool) (d a : Field) (k : Konst) (s : CodeState) (v : ℕ → ℕ) → IsOperation op → d.len ≡ 32 → HasNumbers set a s v → word_in k s < 2 ^ 32
+  pub puts_operate_constant : (set : ℕ) (op : Op) (signed : Bool) (d a : Field) (k : Konst) (s : CodeState) (v : ℕ → ℕ) → relates op ≡ false → (divides op ≡ true → (word_in k s == 0) ≡ false) → d.len ≡ 32 → HasNumbers set a s v → word_in k s < 2 ^ 32
       → Puts set (I.OperateConstant (operation_of op signed) d a k) d s (λ p. outcome op 32 (not signed) (v p) (word_in k s))
   unfolding begun applied after step_of word_in
-  puts_operate_constant set op signed d a (K.Imm w) s v is wide one few = record {
+  puts_operate_constant set op signed d a (K.Imm w) s v operates some wide one few = record {
     plain = refl;
     simple = tt;
     others = _;
@@ -229,10 +233,10 @@ module _ (g : Setting) where
     write = elementwise shapes (I.OperateConstant (operation_of op signed) (place d) (place a) (K.Imm w)) [] s.memory;
     run = refl;
     writes = λ p. refl;
-    value = λ p below on. done op signed d.len (number_in a s p) (w % 2 ^ d.len) (v p) w wide (one.are p below on) (ap (λ (n : ℕ). w % 2 ^ n) wide ∙ whole w few) is (one.small p below on) few;
+    value = λ p below on. done op signed d.len (number_in a s p) (w % 2 ^ d.len) (v p) w wide (one.are p below on) (ap (λ (n : ℕ). w % 2 ^ n) wide ∙ whole w few) operates some (one.small p below on) few;
     goes = refl;
   }
-  puts_operate_constant set op signed d a (K.Reg r) s v is wide one few = record {
+  puts_operate_constant set op signed d a (K.Reg r) s v operates some wide one few = record {
     plain = refl;
     simple = tt;
     others = _;
@@ -242,7 +246,7 @@ module _ (g : Setting) where
     writes = λ p. refl;
     value = λ p below on.
         let w : ℕ = slice_index s.registers r in
-        done op signed d.len (number_in a s p) (w % 2 ^ d.len) (v p) w wide (one.are p below on) (ap (λ (n : ℕ). w % 2 ^ n) wide ∙ whole w few) is (one.small p below on) few;
+        done op signed d.len (number_in a s p) (w % 2 ^ d.len) (v p) w wide (one.are p below on) (ap (λ (n : ℕ). w % 2 ^ n) wide ∙ whole w few) operates some (one.small p below on) few;
     goes = refl;
   }
 

@@ -113,14 +113,25 @@ pub either : {A B C : Type 0} → (A → C) → (B → C) → A ⊎ B → C
 either f g (inl x) = f x
 either f g (inr y) = g y
 
+-- where an operator divides, it does so by no 0
+abbrev pub DividesByNoZero : Op → (ℕ → ℕ) → Type 0
+DividesByNoZero op w = divides op ≡ true → (q : ℕ) → (w q == 0) ≡ false
+
+pub divides_nothing : (op : Op) (w : ℕ → ℕ) → divides op ≡ false → DividesByNoZero op w
+divides_nothing op w no_check divided q = cc
+
 module _ (scope : Scope) (active : Active) where
-  pub operated_is : (ty : ValueType) (set : ℕ) (place : Place) (op : Op) (unsigned : Bool) (v w : Value) (st : State) → ty.shape ≡ Some set → divides op ≡ false
+  pub operated_is : (ty : ValueType) (set : ℕ) (place : Place) (op : Op) (unsigned : Bool) (v w : Value) (st : State) → ty.shape ≡ Some set → DividesByNoZero op (λ p. at w p)
       → operated scope active ty place op unsigned v w st ≡ Gives (Parallel (λ p. outcome op 32 unsigned (at v p) (at w p))) st
   unfolding operated failing unless each
-  operated_is ty set place op unsigned v w st shaped no_check =
+  operated_is ty set place op unsigned v w st shaped never =
       ap (λ (y : ValueType). operated scope active y place op unsigned v w st) (as_shaped ty set shaped)
-      ∙ ap (λ (b : Bool). unless (failing scope active (Some set) (λ p. b && at w p == 0)) DivZero place st (Gives (Parallel (λ p. outcome op 32 unsigned (at v p) (at w p))) st)) no_check
+      ∙ ap (λ (test : ℕ → Bool). unless (failing scope active (Some set) test) DivZero place st (Gives (Parallel (λ p. outcome op 32 unsigned (at v p) (at w p))) st)) (λ j p. no_fault (divides op) (at w p == 0) (λ divided. never divided p) j)
       ∙ ap (λ (o : Option ℕ). unless (elim o [ None ↦ None | Some p ↦ Some (Some p) ]) DivZero place st (Gives (Parallel (λ p. outcome op 32 unsigned (at v p) (at w p))) st)) (none_fails (active set) (positions scope set))
+    where
+      no_fault : (d z : Bool) → (d ≡ true → z ≡ false) → (d && z) ≡ false
+      no_fault true z h = h refl
+      no_fault false z h = refl
 
   pub mapped_is : (ty : ValueType) (set : ℕ) (f : ℕ → ℕ) (v : Value) → ty.shape ≡ Some set → mapped ty f v ≡ Parallel (λ p. f (at v p))
   unfolding mapped each
@@ -169,14 +180,14 @@ module _ (scope : Scope) (active : Active) where
   promoted_means set (T.Brackets' ty p inner) st is = promoted_means set inner st is.1
   promoted_means set _ st is = absurd is
 
-  -- an operator that never fails on two operands that change nothing
-  pub binary_means : (set : ℕ) (ty : ValueType) (place : Place) (op : Op) (p q : Boxed) (left right : TExpr) (v w : ℕ → ℕ) (st : State) → ty.shape ≡ Some set → divides op ≡ false → evaluated scope left active st ≡ Gives (Parallel v) st → evaluated scope right active st ≡ Gives (Parallel w) st
+  -- an operator on two operands that change nothing and never fail
+  pub binary_means : (set : ℕ) (ty : ValueType) (place : Place) (op : Op) (p q : Boxed) (left right : TExpr) (v w : ℕ → ℕ) (st : State) → ty.shape ≡ Some set → DividesByNoZero op w → evaluated scope left active st ≡ Gives (Parallel v) st → evaluated scope right active st ≡ Gives (Parallel w) st
       → evaluated scope (T.Binary' ty place op p left q right) active st ≡ Gives (Parallel (λ x. outcome op 32 (not (type_of left).elem.signed) (v x) (w x))) st
   unfolding evaluated then_do at
-  binary_means set ty place op p q left right v w st shaped no_check one other =
+  binary_means set ty place op p q left right v w st shaped never one other =
       ap (λ (o : Outcome Value). then_do o (λ x between. then_do (evaluated scope right active between) (λ y after. operated scope active ty place op (not (type_of left).elem.signed) x y after))) one
       ∙ ap (λ (o : Outcome Value). then_do o (λ y after. operated scope active ty place op (not (type_of left).elem.signed) (Parallel v) y after)) other
-      ∙ operated_is ty set place op (not (type_of left).elem.signed) (Parallel v) (Parallel w) st shaped no_check
+      ∙ operated_is ty set place op (not (type_of left).elem.signed) (Parallel v) (Parallel w) st shaped never
 
   -- one before an operand that changes nothing
   pub unary_means : (set : ℕ) (ty : ValueType) (op : UnaryOp) (p : Boxed) (operand : TExpr) (v : ℕ → ℕ) (st : State) → ty.shape ≡ Some set → evaluated scope operand active st ≡ Gives (Parallel v) st

@@ -1,20 +1,20 @@
 -- The operands of a parallel operator: the left one in a field, the right one in a field or as a word, and the
 -- instruction that operates on them.
-use Rattle.std.proofs.Common.{◌≡◌, ◌∙◌, ℕ, ◌<◌, ◌≤◌, ◌^◌, ◌==◌, ◌&&◌, Bool, true, false, not, [], ◌∷◌, length, Option, Some, None, refl, sym, ap, subst, arith, ◌⊎◌, inl, inr, if◌then◌else◌}
+use Rattle.std.proofs.Common.{◌≡◌, ◌∙◌, ℕ, ◌+◌, ◌<◌, ◌≤◌, ◌^◌, ◌==◌, ◌&&◌, Bool, true, false, not, [], ◌∷◌, length, Option, Some, None, refl, sym, ap, subst, arith, ◌⊎◌, inl, inr, if◌then◌else◌}
 use Rattle.cstar_base.specs.declared.operators.Op.{Op}
 use Rattle.cstar_base.specs.declared.operators.Place.{Place}
 use Rattle.cstar_base.specs.Operators.{divides, outcome}
 use Rattle.cstar_tree.specs.declared.typed.TExpr.{TExpr}
 use Rattle.cstar_tree.specs.declared.typed.Variable.{Variable}
 use Rattle.code_lengths.specs.Ready.{IsReady}
-use Rattle.code_lengths.proofs.Drafting.{as_it_was}
+use Rattle.code_lengths.proofs.Drafting.{as_it_was, extended}
 use Rattle.lower_base.specs.declared.emit.Out.{Out}
 use Rattle.lower_base.specs.declared.emit.Out.TheVariants as O
 use Rattle.lower_base.specs.declared.operators.Machine.{Machine}
 use Rattle.lower_base.specs.declared.operators.Machine.TheVariants as M
 use Rattle.lower_base.specs.Drafts.{Draft, Made, Makes, from, step as step_of, then_make, with_instr}
 use Rattle.lower_base.specs.Layouts.{register_of}
-use Rattle.lower_base.specs.Operators.{operation_of}
+use Rattle.lower_base.specs.Operators.{operation_of, relates}
 use Rattle.lower_expr.specs.declared.operands.Own.{Own}
 use Rattle.lower_expr.specs.declared.steps.Right.{Right}
 use Rattle.lower_expr.specs.declared.steps.Right.TheVariants as R
@@ -26,18 +26,19 @@ use Rattle.paris_code.specs.declared.instr.Instr.TheVariants as I
 use Rattle.paris_code.specs.declared.operands.Field.{Field}
 use Rattle.paris_code.specs.declared.operands.Konst.{Konst}
 use Rattle.paris_code.specs.declared.operands.Konst.TheVariants as K
+use Rattle.paris_code.specs.declared.operands.Operation.{Operation}
 use Rattle.paris_code.specs.declared.program.Owner.TheVariants as W
 use Rattle.paris_code.specs.Code.{CodeState}
 use Rattle.paris_code.specs.Spans.{StandsAt}
 use Rattle.source_meaning.specs.Constants.{then_value}
 use Rattle.source_meaning.specs.State.{State}
-use Rattle.code_follows.proofs.Following.{Extends, HasRegisters, Sim, extends_then}
+use Rattle.code_follows.proofs.Following.{Extends, HasRegisters, Sim, extends_made, extends_then}
 use Rattle.code_follows.proofs.Settings.{At, Setting, Within, and_one, layout}
 use Rattle.code_follows.proofs.Words.{held_wide}
-use Rattle.fields_follow.specs.Fragment.{IsOperation, IsPromoted, IsPure}
-use Rattle.fields_follow.proofs.Forms.{HasItsCode, HasItsWord, StandsInRegister, promoted_not_held, promoted_stands, pure_word}
+use Rattle.fields_follow.specs.Fragment.{IsDivisor, IsOperation, IsPromoted, IsPure}
+use Rattle.fields_follow.proofs.Forms.{HasItsCode, HasItsWord, StandsInRegister, divisor_never_zero, divisor_word, no_pure_divisor, promoted_not_held, promoted_stands, pure_word}
 use Rattle.fields_follow.proofs.Instructions.{Puts, extents, operation_is, puts_constant, puts_operate, puts_operate_constant, word_in}
-use Rattle.fields_follow.proofs.Meaning.{AreOperands, left_of, right_of, value_in}
+use Rattle.fields_follow.proofs.Meaning.{AreOperands, DividesByNoZero, and_false, left_of, right_of, value_in}
 use Rattle.fields_follow.proofs.Passing.{After, Behind, GivesField, Passes, after_same, after_weaker, code_longer, fields_longer, gives_less, gives_numbers, made_after, names_second, names_third, passes_all, passes_on, puts_own, still_numbers, then_after}
 use Rattle.fields_follow.proofs.Places.{HoldsTheFields, PlacesFields, stands_here}
 use Rattle.fields_follow.proofs.Quiet.{promoted_quiet, pure_quiet}
@@ -47,6 +48,10 @@ use Rattle.fields_follow.proofs.Values.{Gives, Valued, code_of, next_field, one_
 abbrev pub operating : Op → Bool → Field → Field → Right → Instr
 operating op signed dest left (R.Field b) = I.Operate (operation_of op signed) dest left b
 operating op signed dest left (R.Word k) = I.OperateConstant (operation_of op signed) dest left k
+
+-- the instruction takes the right operand as it is: a divisor only if it is given
+abbrev pub Takes : Op → Right → Type 0
+Takes op right = (divides op ≡ false) ⊎ ((word : ℕ) × (right ≡ R.Word (K.Imm word)))
 
 module _ (g : Setting) where
   in_field_extends : (v : Out) (dest : Field) (d : Draft) → Extends g d (in_a_field v dest d)
@@ -68,24 +73,46 @@ module _ (g : Setting) where
       by None = extends_then g d (code d) (λ v after. from (right_given v) (λ right. Makes right after)) (grows d) (λ v after. given (right_given v) after)
 
   -- there is no check, and no field is spread
-  pub operated_is : (op : Op) (signed : Bool) (place : Place) (dest left spare : Field) (right : Right) (e : Draft) → IsOperation op → right_operated op signed place dest left right spare e ≡ Makes (O.Field dest) (with_instr (operating op signed dest left right) e)
+  pub operated_is : (op : Op) (signed : Bool) (place : Place) (dest left spare : Field) (right : Right) (e : Draft) → relates op ≡ false → Takes op right → right_operated op signed place dest left right spare e ≡ Makes (O.Field dest) (with_instr (operating op signed dest left right) e)
   unfolding right_operated fields_operated with_field_check on_fields on_word takes_word
-  operated_is op signed place dest left spare (R.Field b) e is =
-      ap (λ (m : Machine). on_fields m dest left b (if divides op then with_instr (I.CheckDivisor place b) e else e)) (operation_is op signed is.0)
-      ∙ ap (λ (c : Bool). Makes (O.Field dest) (with_instr (I.Operate (operation_of op signed) dest left b) (if c then with_instr (I.CheckDivisor place b) e else e))) is.1
-  operated_is op signed place dest left spare (R.Word (K.Imm word)) e is = ap (λ (m : Machine). on_word m op place dest left (K.Imm word) spare e) (operation_is op signed is.0)
-  operated_is op signed place dest left spare (R.Word (K.Reg r)) e is =
-      ap (λ (m : Machine). on_word m op place dest left (K.Reg r) spare e) (operation_is op signed is.0)
-      ∙ by (divides op) is.1
+  operated_is op signed place dest left spare right e operates takes = by right takes
     where
-      by : (c : Bool) → c ≡ false → (if not c then Makes (O.Field dest) (with_instr (I.OperateConstant (operation_of op signed) dest left (K.Reg r)) e) else on_fields (M.Operate (operation_of op signed)) dest left spare (with_field_check op place spare (with_instr (I.MoveConstant spare (K.Reg r)) e)))
+      not_checked : (c : Bool) (r : ℕ) → c ≡ false → (if not c then Makes (O.Field dest) (with_instr (I.OperateConstant (operation_of op signed) dest left (K.Reg r)) e) else on_fields (M.Operate (operation_of op signed)) dest left spare (with_field_check op place spare (with_instr (I.MoveConstant spare (K.Reg r)) e)))
           ≡ Makes (O.Field dest) (with_instr (I.OperateConstant (operation_of op signed) dest left (K.Reg r)) e)
-      by false e = refl
-      by true e = cc
+      not_checked false r e = refl
+      not_checked true r e = cc
 
-  pub operated_extends : (op : Op) (signed : Bool) (place : Place) (dest left spare : Field) (right : Right) (e : Draft) → IsOperation op → Extends g e (right_operated op signed place dest left right spare e)
-  unfolding Extends
-  operated_extends op signed place dest left spare right e is = subst (λ (m : Made Out). Extends g e m) (sym (operated_is op signed place dest left spare right e is)) (1, and_one g (operating op signed dest left right) e)
+      given : (word : ℕ) → right_operated op signed place dest left (R.Word (K.Imm word)) spare e ≡ Makes (O.Field dest) (with_instr (I.OperateConstant (operation_of op signed) dest left (K.Imm word)) e)
+      given word = ap (λ (m : Machine). on_word m op place dest left (K.Imm word) spare e) (operation_is op signed operates)
+
+      by : (right : Right) → Takes op right → right_operated op signed place dest left right spare e ≡ Makes (O.Field dest) (with_instr (operating op signed dest left right) e)
+      by right (inr (word, same)) = subst (λ (x : Right). right_operated op signed place dest left x spare e ≡ Makes (O.Field dest) (with_instr (operating op signed dest left x) e)) (sym same) (given word)
+      by (R.Field b) (inl no_check) =
+          ap (λ (m : Machine). on_fields m dest left b (if divides op then with_instr (I.CheckDivisor place b) e else e)) (operation_is op signed operates)
+          ∙ ap (λ (c : Bool). Makes (O.Field dest) (with_instr (I.Operate (operation_of op signed) dest left b) (if c then with_instr (I.CheckDivisor place b) e else e))) no_check
+      by (R.Word (K.Imm word)) (inl no_check) = given word
+      by (R.Word (K.Reg r)) (inl no_check) = ap (λ (m : Machine). on_word m op place dest left (K.Reg r) spare e) (operation_is op signed operates) ∙ not_checked (divides op) r no_check
+
+  -- the code goes on, with a check or without
+  pub operated_extends : (op : Op) (signed : Bool) (place : Place) (dest left spare : Field) (right : Right) (e : Draft) → relates op ≡ false → Extends g e (right_operated op signed place dest left right spare e)
+  unfolding Extends right_operated fields_operated with_field_check on_fields on_word takes_word
+  operated_extends op signed place dest left spare right e operates = by right
+    where
+      act : Operation
+      act = operation_of op signed
+
+      checked : (c : Bool) (b : Field) (after : Draft) → Extends g after (on_fields (M.Operate act) dest left b (if c then with_instr (I.CheckDivisor place b) after else after))
+      checked true b after = (1 + 1, extended after (with_instr (I.CheckDivisor place b) after) (with_instr (I.Operate act dest left b) (with_instr (I.CheckDivisor place b) after)) 1 1 (and_one g (I.CheckDivisor place b) after) (and_one g (I.Operate act dest left b) (with_instr (I.CheckDivisor place b) after)))
+      checked false b after = (1, and_one g (I.Operate act dest left b) after)
+
+      spread : (c : Bool) (r : ℕ) → Extends g e (if not c then Makes (O.Field dest) (with_instr (I.OperateConstant act dest left (K.Reg r)) e) else on_fields (M.Operate act) dest left spare (with_field_check op place spare (with_instr (I.MoveConstant spare (K.Reg r)) e)))
+      spread false r = (1, and_one g (I.OperateConstant act dest left (K.Reg r)) e)
+      spread true r = extends_made g e (with_instr (I.MoveConstant spare (K.Reg r)) e) 1 (on_fields (M.Operate act) dest left spare (with_field_check op place spare (with_instr (I.MoveConstant spare (K.Reg r)) e))) (and_one g (I.MoveConstant spare (K.Reg r)) e) (checked (divides op) spare (with_instr (I.MoveConstant spare (K.Reg r)) e))
+
+      by : (right : Right) → Extends g e (right_operated op signed place dest left right spare e)
+      by (R.Field b) = subst (λ (m : Machine). Extends g e (on_fields m dest left b (if divides op then with_instr (I.CheckDivisor place b) e else e))) (sym (operation_is op signed operates)) (checked (divides op) b e)
+      by (R.Word (K.Imm word)) = subst (λ (m : Machine). Extends g e (on_word m op place dest left (K.Imm word) spare e)) (sym (operation_is op signed operates)) (1, and_one g (I.OperateConstant act dest left (K.Imm word)) e)
+      by (R.Word (K.Reg r)) = subst (λ (m : Machine). Extends g e (on_word m op place dest left (K.Reg r) spare e)) (sym (operation_is op signed operates)) (spread (divides op) r)
 
   module _ (has : HasRegisters g) (alive : Variable → Type 0) (n : ℕ) (ready : (d : Draft) → IsReady g.typed g.instance (layout g) n d) (places : PlacesFields g) (fields : HoldsTheFields g) where
     abbrev operand : Bool → TExpr → Code
@@ -203,6 +230,19 @@ module _ (g : Setting) where
         given (Some right) after = (0, as_it_was after)
         given None after = tt
 
+    -- a constant has no code: it is given, unless it is a divisor of 0
+    word_right : (set : ℕ) (op : Op) (e : TExpr) → (h : HasItsWord e) → (divides op && h.word == 0) ≡ false → (d : Draft) (s : CodeState) (st : State) → At g s (length d.code) → Sim g alive st s
+        → After g (λ right f. (right ≡ R.Word (K.Imm h.word)) × GivesRight (length d.fields) d s set st (λ q. value_in (extents g set) st e q) right f) (right_by (operand true e) op e d)
+    unfolding right_by word_taken word_in
+    word_right set op e h some d s st here sim =
+        after_same g Q
+        (ap (λ (o : Option ℕ). elim (then_value o (λ w. if divides op && w == 0 then None else Some w)) as (λ _. Made Right) [ Some word ↦ Makes (R.Word (K.Imm word)) d | None ↦ then_make (operand true e d) (λ x after. from (right_given x) (λ right. Makes right after)) ]) h.is
+        ∙ ap (λ (c : Bool). elim (if c then None else Some h.word) as (λ _. Made Right) [ Some word ↦ Makes (R.Word (K.Imm word)) d | None ↦ then_make (operand true e d) (λ x after. from (right_given x) (λ right. Makes right after)) ]) some)
+        (made_after g Q (R.Word (K.Imm h.word)) d (λ within. (refl, inr (K.Imm h.word, (refl, record { passes = passes_all g alive (length d.fields) d s st (Unit {0}) here sim; small = h.small; same = λ q. h.value (extents g set) st q })))))
+      where
+        Q : Right → Draft → Type 0
+        Q right f = (right ≡ R.Word (K.Imm h.word)) × GivesRight (length d.fields) d s set st (λ q. value_in (extents g set) st e q) right f
+
     pub right_after : (set : ℕ) (op : Op) (e : TExpr) → divides op ≡ false → IsPure set e ⊎ IsPromoted set e → HasItsCode g.typed g.instance alive n e → (IsPure set e → Follows set e) → (d : Draft) (s : CodeState) (st : State) → At g s (length d.code) → Sim g alive st s
         → After g (GivesRight (length d.fields) d s set st (λ q. value_in (extents g set) st e q)) (right_by (operand true e) op e d)
     unfolding right_by word_taken then_make right_given from word_in Extends
@@ -216,16 +256,10 @@ module _ (g : Setting) where
         v : ℕ → ℕ
         v = λ q. value_in (extents g set) st e q
 
-        taken_so : (c : Bool) (w : ℕ) → c ≡ false → (if c && w == 0 then None else Some w) ≡ Some w
-        taken_so false w e = refl
-        taken_so true w e = cc
-
         by : HasItsWord e ⊎ StandsInRegister g.typed g.instance alive e → After g (GivesRight (length d.fields) d s set st v) (right_by (operand true e) op e d)
         by (inl h) =
-            after_same g (GivesRight (length d.fields) d s set st v)
-            (ap (λ (o : Option ℕ). elim (then_value o (λ w. if divides op && w == 0 then None else Some w)) as (λ _. Made Right) [ Some word ↦ Makes (R.Word (K.Imm word)) d | None ↦ then_make (operand true e d) (λ x after. from (right_given x) (λ right. Makes right after)) ]) h.is
-            ∙ ap (λ (o : Option ℕ). elim o as (λ _. Made Right) [ Some word ↦ Makes (R.Word (K.Imm word)) d | None ↦ then_make (operand true e d) (λ x after. from (right_given x) (λ right. Makes right after)) ]) (taken_so (divides op) h.word no_check))
-            (made_after g (GivesRight (length d.fields) d s set st v) (R.Word (K.Imm h.word)) d (λ within. inr (K.Imm h.word, (refl, record { passes = passes_all g alive (length d.fields) d s st (Unit {0}) here sim; small = h.small; same = λ q. h.value (extents g set) st q }))))
+            after_weaker g (λ right f. (right ≡ R.Word (K.Imm h.word)) × GivesRight (length d.fields) d s set st v right f) (GivesRight (length d.fields) d s set st v) (right_by (operand true e) op e d) (λ right f gives. gives.1)
+            (word_right set op e h (ap (λ (c : Bool). c && h.word == 0) no_check) d s st here sim)
         by (inr h) =
             let r : ℕ = register_of (layout g) h.x in
             let holds = register_has e h st s sim in
@@ -235,15 +269,33 @@ module _ (g : Setting) where
             (made_after g (GivesRight (length d.fields) d s set st v) (R.Word (K.Reg r)) d (λ within.
             inr (K.Reg r, (refl, record { passes = passes_all g alive (length d.fields) d s st (Unit {0}) here sim; small = subst (λ (w : ℕ). w < 2 ^ 32) (sym holds.0) holds.1; same = λ q. h.value (extents g set) st q holds.1 ∙ sym holds.0 }))))
 
+    -- and an operation takes it so
+    pub right_taken : (set : ℕ) (op : Op) (e : TExpr) → IsOperation op e → IsPure set e ⊎ IsPromoted set e → HasItsCode g.typed g.instance alive n e → (IsPure set e → Follows set e) → (d : Draft) (s : CodeState) (st : State) → At g s (length d.code) → Sim g alive st s
+        → After g (λ right f. Takes op right × GivesRight (length d.fields) d s set st (λ q. value_in (extents g set) st e q) right f) (right_by (operand true e) op e d)
+    right_taken set op e is any c whole d s st here sim = by is.1 any
+      where
+        GivesNumbers : Right → Draft → Type 0
+        GivesNumbers = GivesRight (length d.fields) d s set st (λ q. value_in (extents g set) st e q)
+
+        Q : Right → Draft → Type 0
+        Q right f = Takes op right × GivesNumbers right f
+
+        by : (divides op ≡ false) ⊎ IsDivisor e → IsPure set e ⊎ IsPromoted set e → After g Q (right_by (operand true e) op e d)
+        by (inl no_check) any = after_weaker g GivesNumbers Q (right_by (operand true e) op e d) (λ right f gives. (inl no_check, gives)) (right_after set op e no_check any c whole d s st here sim)
+        by (inr divisor) (inl pure) = absurd (no_pure_divisor set e pure divisor)
+        by (inr divisor) (inr promoted) =
+            let h = divisor_word set e promoted divisor in
+            after_weaker g (λ right f. (right ≡ R.Word (K.Imm h.0.word)) × GivesNumbers right f) Q (right_by (operand true e) op e d) (λ right f gives. (inr (h.0.word, gives.0), gives.1)) (word_right set op e h.0 (and_false (divides op) (h.0.word == 0) h.1) d s st here sim)
+
     -- The instruction that operates on both: it puts the operator's numbers wherever it stands, and what stood
     -- before both is as it was.
-    pub operated_after : (bound set : ℕ) (op : Op) (signed : Bool) (place : Place) (dest spare a : Field) (v w : ℕ → ℕ) (d e1 e2 : Draft) (s : CodeState) (st : State) → IsOperation op → dest.len ≡ 32 → bound ≤ length e1.fields
-        → (left : GivesField g alive bound d s set st v a e1) (right : Right) → GivesRight (length e1.fields) e1 left.passes.t set st w right e2 → (Q : Out → Draft → Type 0)
+    pub operated_after : (bound set : ℕ) (op : Op) (signed : Bool) (place : Place) (dest spare a : Field) (v w : ℕ → ℕ) (d e1 e2 : Draft) (s : CodeState) (st : State) → relates op ≡ false → DividesByNoZero op w → dest.len ≡ 32 → bound ≤ length e1.fields
+        → (left : GivesField g alive bound d s set st v a e1) (right : Right) → Takes op right → GivesRight (length e1.fields) e1 left.passes.t set st w right e2 → (Q : Out → Draft → Type 0)
         → ((i : Instr) → Within g (with_instr i e2) → (p : Passes g alive bound d e2 s st (Unit {0})) → Puts g set i dest p.t (λ q. outcome op 32 (not signed) (v q) (w q)) → Q (O.Field dest) (with_instr i e2))
         → After g Q (right_operated op signed place dest a right spare e2)
     unfolding step_of passes_on
-    operated_after bound set op signed place dest spare a v w d e1 e2 s st is wide less left right given Q last =
-        after_same g Q (operated_is op signed place dest a spare right e2 is) (made_after g Q (O.Field dest) (with_instr (operating op signed dest a right) e2) (λ within. by right given within))
+    operated_after bound set op signed place dest spare a v w d e1 e2 s st operates never wide less left right takes given Q last =
+        after_same g Q (operated_is op signed place dest a spare right e2 operates takes) (made_after g Q (O.Field dest) (with_instr (operating op signed dest a right) e2) (λ within. by right given within))
       where
         by : (right : Right) → GivesRight (length e1.fields) e1 left.passes.t set st w right e2 → Within g (with_instr (operating op signed dest a right) e2) → Q (O.Field dest) (with_instr (operating op signed dest a right) e2)
         by right (inl (b, (same, gives))) within =
@@ -255,7 +307,7 @@ module _ (g : Setting) where
             let early_a : Behind g a e1 = (length e2.code, (behind_a.1.0, longer)) in
             let behind_b : Behind g b e2 = (length e2.code, (names_third g i dest a b [] (length e2.code) there refl, omega arith)) in
             last i within (passes_on g alive bound (length e1.fields) d e1 e2 s st (Behind g a e1) (Behind g b e2) (Unit {0}) less left.passes gives.passes (λ u. early_a) (λ u. behind_b))
-            (puts_operate g set op signed dest a b gives.passes.t v w is wide
+            (puts_operate g set op signed dest a b gives.passes.t v w operates never wide
             (still_numbers g alive places fields bound (length e1.fields) d s set st v a e1 e2 (Behind g b e2) left gives.passes behind_b (omega arith) behind_a)
             (gives_numbers g alive places fields (length e1.fields) e1 left.passes.t set st w b e2 gives))) within
         by right (inr (k, (same, gives))) within =
@@ -268,11 +320,11 @@ module _ (g : Setting) where
             let same_all : (λ (q : ℕ). outcome op 32 (not signed) (v q) (word_in g k gives.passes.t)) ≡ (λ q. outcome op 32 (not signed) (v q) (w q)) = λ j q. outcome op 32 (not signed) (v q) (sym (gives.same q) j) in
             last i within (passes_on g alive bound (length e1.fields) d e1 e2 s st (Behind g a e1) (Unit {0}) (Unit {0}) less left.passes gives.passes (λ u. early_a) (λ u. tt))
             (subst (λ (x : ℕ → ℕ). Puts g set i dest gives.passes.t x) same_all
-            (puts_operate_constant g set op signed dest a k gives.passes.t v is wide
+            (puts_operate_constant g set op signed dest a k gives.passes.t v operates (λ divided. ap (λ (x : ℕ). x == 0) (sym (gives.same 0)) ∙ never divided 0) wide
             (still_numbers g alive places fields bound (length e1.fields) d s set st v a e1 e2 (Unit {0}) left gives.passes tt (omega arith) behind_a) gives.small))) within
 
     -- an operator on two operands, from the entry that is taken for a promoted left one
-    pub fields_after : (set : ℕ) (op : Op) (signed : Bool) (place : Place) (dest : Field) (left right : TExpr) (d : Draft) (s : CodeState) (st : State) → IsOperation op → dest.len ≡ 32 → AreOperands set left right
+    pub fields_after : (set : ℕ) (op : Op) (signed : Bool) (place : Place) (dest : Field) (left right : TExpr) (d : Draft) (s : CodeState) (st : State) → IsOperation op right → dest.len ≡ 32 → AreOperands set left right
         → HasItsCode g.typed g.instance alive n left → HasItsCode g.typed g.instance alive n right → (IsPure set left → Follows set left) → (IsPure set right → Follows set right)
         → ((quiet : Bool) (after : Draft) → Extends g after (operand quiet left after)) → ((quiet : Bool) (after : Draft) → Extends g after (operand quiet right after))
         → At g s (length d.code) → Sim g alive st s → (Q : Out → Draft → Type 0)
@@ -282,13 +334,13 @@ module _ (g : Setting) where
     fields_after set op signed place dest left right d s st is wide operands c_left c_right whole_left whole_right left_grows right_grows here sim Q last =
         then_after g (GivesField g alive (length d.fields) d1 s set st (λ q. value_in (extents g set) st left q)) Q (spread_into (operand (is_quiet right) left) left spare d1) (λ a between. then_make (right_by (operand true right) op right between) (λ b after. right_operated op signed place dest a b spare after))
         (left_after set left (is_quiet right) (calm operands) (left_of set left right operands) c_left whole_left d s st here sim (left_grows (is_quiet right)))
-        (λ a between. extends_then g between (right_by (operand true right) op right between) (λ b after. right_operated op signed place dest a b spare after) (right_extends (operand true right) op right (right_grows true) between) (λ b after. operated_extends op signed place dest a spare b after is))
-        (λ a e1 one. then_after g (GivesRight (length e1.fields) e1 one.passes.t set st (λ q. value_in (extents g set) st right q)) Q (right_by (operand true right) op right e1) (λ b after. right_operated op signed place dest a b spare after)
-        (right_after set op right is.1 (right_of set left right operands) c_right whole_right e1 one.passes.t st one.passes.at one.passes.sim)
-        (λ b after. operated_extends op signed place dest a spare b after is)
+        (λ a between. extends_then g between (right_by (operand true right) op right between) (λ b after. right_operated op signed place dest a b spare after) (right_extends (operand true right) op right (right_grows true) between) (λ b after. operated_extends op signed place dest a spare b after is.0))
+        (λ a e1 one. then_after g (λ b f. Takes op b × GivesRight (length e1.fields) e1 one.passes.t set st (λ q. value_in (extents g set) st right q) b f) Q (right_by (operand true right) op right e1) (λ b after. right_operated op signed place dest a b spare after)
+        (right_taken set op right is (right_of set left right operands) c_right whole_right e1 one.passes.t st one.passes.at one.passes.sim)
+        (λ b after. operated_extends op signed place dest a spare b after is.0)
         (λ b e2 two.
-        operated_after (length d.fields) set op signed place dest spare a (λ q. value_in (extents g set) st left q) (λ q. value_in (extents g set) st right q) d1 e1 e2 s st is wide
-        (let more = fields_longer d1 e1 one.passes.grown.0 one.passes.grown.1 in let first = one_more set 32 W.Own d in omega (arith, more, first)) one b two Q (λ i within p puts. last e2 i within p puts)))
+        operated_after (length d.fields) set op signed place dest spare a (λ q. value_in (extents g set) st left q) (λ q. value_in (extents g set) st right q) d1 e1 e2 s st is.0 (divisor_never_zero set op right (extents g set) st is (right_of set left right operands)) wide
+        (let more = fields_longer d1 e1 one.passes.grown.0 one.passes.grown.1 in let first = one_more set 32 W.Own d in omega (arith, more, first)) one b two.0 two.1 Q (λ i within p puts. last e2 i within p puts)))
       where
         d1 : Draft
         d1 = with_entry set 32 W.Own d

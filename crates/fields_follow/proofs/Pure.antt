@@ -18,7 +18,7 @@ use Rattle.vp_sets.specs.Positions.{positions_fit}
 use Rattle.fields_follow.specs.Fragment.{IsPure, IsWide, KnowsExtents, NameExtents, extents_in}
 use Rattle.fields_follow.proofs.Meaning.{as_shaped, binary_means, either, left_of, promoted_means, read_is, right_of, unary_means, value_in}
 use Rattle.fields_follow.specs.Fields.{IsElement}
-use Rattle.fields_follow.proofs.Forms.{element_is}
+use Rattle.fields_follow.proofs.Forms.{divisor_never_zero, element_is}
 use Rattle.fields_follow.proofs.Neighbours.{get_means}
 use Rattle.code_follows.proofs.Settings.{Setting}
 use Rattle.fields_follow.proofs.Instructions.{SameExtents}
@@ -39,7 +39,7 @@ module _ (scope : Scope) (active : Active) (t : Typed) (i : Instance) (n : ℕ) 
   pure_means set (T.Brackets' ty p inner) st is grids names knows = pure_means set inner st is.1 grids names knows
   pure_means set (T.Unary' ty op p operand) st is grids names knows = unary_means scope active set ty op p operand (λ q. value_in (scope.extents set) st operand q) st is.0.0 (pure_means set operand st is.2 grids names knows)
   pure_means set (T.Binary' ty place op p left q right) st is grids names knows =
-      binary_means scope active set ty place op p q left right (λ q. value_in (scope.extents set) st left q) (λ q. value_in (scope.extents set) st right q) st is.0.0 is.1.1
+      binary_means scope active set ty place op p q left right (λ q. value_in (scope.extents set) st left q) (λ q. value_in (scope.extents set) st right q) st is.0.0 (divisor_never_zero set op right (scope.extents set) st is.1 (right_of set left right is.2))
       (either (λ h. pure_means set left st h grids names.0 knows.0) (λ h. promoted_means scope active set left st h) (left_of set left right is.2)) (either (λ h. pure_means set right st h grids names.1 knows.1) (λ h. promoted_means scope active set right st h) (right_of set left right is.2))
   pure_means set (T.Convert' ty p operand) st is grids names knows =
       ap (λ (o : Outcome Value). then_do o (λ v after. Gives (convert_to ty (type_of operand).elem v) after)) (pure_means set operand st is.1 grids names knows)

@@ -51,7 +51,7 @@ use Rattle.fields_follow.proofs.Conditions.{HaveTheirCode, and_codes, condition_
 use Rattle.fields_follow.proofs.Expressions.{binary_parts, brackets_part, pure_after, unary_part}
 use Rattle.fields_follow.proofs.Forms.{HasItsCode, element_is, field_is, not_held}
 use Rattle.fields_follow.proofs.Instructions.{HasNumbers, SameExtents, extents, place, shapes}
-use Rattle.fields_follow.proofs.Meaning.{AreOperands, binary_means, either, left_of, promoted_means, right_of, unary_means, value_in}
+use Rattle.fields_follow.proofs.Meaning.{AreOperands, binary_means, divides_nothing, either, left_of, promoted_means, right_of, unary_means, value_in}
 use Rattle.fields_follow.proofs.Passing.{After, after_same, after_weaker, in_file_has, made_after, passes_all, passes_from}
 use Rattle.fields_follow.proofs.Places.{HoldsTheFields, PlacesFields}
 use Rattle.fields_follow.proofs.Pure.{AreGrids, are_grids, pure_means}
@@ -79,7 +79,7 @@ value_means scope active t i n set (T.LogicalAnd' ty p left q right) st is grids
     ∙ ap (λ (o : Outcome Value). then_do o (λ w after. Source.Gives (Parallel (λ q. from_bool (nonzero (value_in (scope.extents set) st left q) && nonzero (at w q)))) after))
     (value_means scope (where_nonzero set (Parallel (λ q. value_in (scope.extents set) st left q)) active) t i n set right st is.2 grids names.1 knows.1)
 value_means scope active t i n set (T.Binary' ty place op p left q right) st is grids names knows =
-    binary_means scope active set ty place op p q left right (λ x. value_in (scope.extents set) st left x) (λ x. value_in (scope.extents set) st right x) st is.0.0 is.1
+    binary_means scope active set ty place op p q left right (λ x. value_in (scope.extents set) st left x) (λ x. value_in (scope.extents set) st right x) st is.0.0 (divides_nothing op (λ x. value_in (scope.extents set) st right x) is.1)
     (either (λ h. pure_means scope active t i n set left st h grids names.0 knows.0) (λ h. promoted_means scope active set left st h) (left_of set left right is.2)) (either (λ h. pure_means scope active t i n set right st h grids names.1 knows.1) (λ h. promoted_means scope active set right st h) (right_of set left right is.2))
 value_means scope active t i n set e st is grids names knows = pure_means scope active t i n set e st is grids names knows
 
@@ -311,7 +311,7 @@ module _ (g : Setting) (has : HasRegisters g) (alive : Variable → Type 0) (n :
     where
       by : (b : Bool) → relates op ≡ b → IsKnown set (T.Binary' ty place op p left q right)
       by true related = relation_known set ty place op p q left right is.0 related is.1 is.2 c
-      by false plain_one = pure_known set (T.Binary' ty place op p left q right) (is.0, (plain_one, is.1), is.2) plain_one c
+      by false plain_one = pure_known set (T.Binary' ty place op p left q right) (is.0, (plain_one, inl is.1), is.2) plain_one c
   known set (T.Variable ty (V.File k)) is c = ((λ d s st here sim. variable_tested set k ty is c.code.names d s st here sim), inl is)
   known set (T.Variable ty x) is c = absurd is
   known set e is c = pure_known set e is refl c

@@ -1,6 +1,6 @@
 -- What assignments to parallel variables and steps of them mean: the variable takes numbers where it is active.
 use Rattle.std.proofs.Common.{◌≡◌, ◌∙◌, ℕ, ◌<◌, ◌^◌, Bool, true, false, not, ◌&&◌, ◌||◌, Option, Some, None, refl, sym, ap, subst, arith, if◌then◌else◌}
-use Rattle.std.specs.Prelude.{is_none, nat_le, nat_lt}
+use Rattle.std.specs.Prelude.{IfSome, is_none, nat_le, nat_lt}
 use Rattle.std.proofs.lemmas.Bool.Decides.{nat_tests}
 use Rattle.cstar_base.specs.declared.elem.Elem.{Elem}
 use Rattle.cstar_base.specs.declared.faults.RunFault.TheVariants.{DivZero}
@@ -35,10 +35,10 @@ use Rattle.source_meaning.specs.Targets.{OfElement, Target, assign_to, assigned,
 use Rattle.source_meaning.specs.Values.{Active, Parallel, Scope, Value, at, each, failing, positions, unless}
 use Rattle.source_meaning.proofs.ConstantLaws.{Boxed}
 use Rattle.code_follows.proofs.Operators.{wide_signed}
-use Rattle.fields_follow.specs.Fragment.{HasOperation, IsTarget, IsWide}
+use Rattle.fields_follow.specs.Fragment.{IsTarget, IsWide}
 use Rattle.fields_follow.specs.Fields.{IsElement}
 use Rattle.fields_follow.proofs.Forms.{element_is}
-use Rattle.fields_follow.proofs.Meaning.{as_shaped, none_fails, wide_same}
+use Rattle.fields_follow.proofs.Meaning.{DividesByNoZero, as_shaped, none_fails, wide_same}
 
 working_so : (o : Op) (to at_type : Elem) (signed : Bool) (old w : ℕ) → to.bits ≡ 32 → at_type.bits ≡ 32 → signed ≡ at_type.signed → old < 2 ^ 32 → outcome o 32 (not signed) old w < 2 ^ 32
     → converted to at_type (outcome o 32 (not at_type.signed) (converted at_type to old) w) ≡ outcome o 32 (not signed) old w
@@ -90,22 +90,16 @@ updated_is op o to from old w is wide also few small = by op o is small
     by A.Min o e = along A.Min P.Min o e (like_value P.Min)
     by A.Max o e = along A.Max P.Max o e (like_value P.Max)
 
-no_zero : (op : AssignOp) (w : ℕ) → HasOperation op → divides_by_zero op w ≡ false
+-- where an assignment divides, it does so by no 0
+abbrev pub AssignsByNoZero : AssignOp → (ℕ → ℕ) → Type 0
+AssignsByNoZero op v = IfSome (assign_op_of op) (λ o. DividesByNoZero o v)
+
+no_zero : (op : AssignOp) (v : ℕ → ℕ) → AssignsByNoZero op v → (q : ℕ) → divides_by_zero op (v q) ≡ false
 unfolding divides_by_zero assign_op_of divides
-no_zero A.Set w is = refl
-no_zero A.Add w is = refl
-no_zero A.Sub w is = refl
-no_zero A.Mul w is = refl
-no_zero A.Div w is = absurd (let h = is.1 in cc)
-no_zero A.Rem w is = absurd (let h = is.1 in cc)
-no_zero A.Mod w is = absurd (let h = is.1 in cc)
-no_zero A.And w is = refl
-no_zero A.Or w is = refl
-no_zero A.Xor w is = refl
-no_zero A.Shl w is = refl
-no_zero A.Shr w is = refl
-no_zero A.Min w is = refl
-no_zero A.Max w is = refl
+no_zero A.Div v never q = never refl q
+no_zero A.Rem v never q = never refl q
+no_zero A.Mod v never q = never refl q
+no_zero _ v never q = refl
 
 -- a target is the variable of a number
 pub record IsFileTarget (t : Typed) (set : ℕ) (target : TExpr) : Type 0 where
@@ -143,27 +137,27 @@ file_target t i n set _ is v = absurd is
 
 module _ (scope : Scope) (active : Active) where
   -- what an assignment stores
-  assigned_is : (set k : ℕ) (place : Place) (op : AssignOp) (to from : ValueType) (v : ℕ → ℕ) (st : State) → to.shape ≡ Some set → HasOperation op
+  assigned_is : (set k : ℕ) (place : Place) (op : AssignOp) (to from : ValueType) (v : ℕ → ℕ) (st : State) → to.shape ≡ Some set → AssignsByNoZero op v
       → assigned scope active place op to from (OfElement (V.File k) 0 set) (Parallel v) st
       ≡ Gives (Parallel (λ p. updated op to.elem from.elem (st.parallel (V.File k) 0 p) (v p))) (with_positions (V.File k) 0 (active set) (λ p. updated op to.elem from.elem (st.parallel (V.File k) 0 p) (v p)) st)
   unfolding assigned assign_to new_value read stored failing unless each at
-  assigned_is set k place op to from v st shaped is =
+  assigned_is set k place op to from v st shaped never =
       ap (λ (y : ValueType). assigned scope active place op y from (OfElement (V.File k) 0 set) (Parallel v) st) (as_shaped to set shaped)
-      ∙ ap (λ (f : ℕ → Bool). unless (elim (least_below (λ p. active set p && f p) (positions scope set)) [ None ↦ None | Some p ↦ Some (Some p) ]) DivZero place st stores) (λ j p. no_zero op (v p) is j)
+      ∙ ap (λ (f : ℕ → Bool). unless (elim (least_below (λ p. active set p && f p) (positions scope set)) [ None ↦ None | Some p ↦ Some (Some p) ]) DivZero place st stores) (λ j p. no_zero op v never p j)
       ∙ ap (λ (o : Option ℕ). unless (elim o [ None ↦ None | Some p ↦ Some (Some p) ]) DivZero place st stores) (none_fails (active set) (positions scope set))
     where
       stores : Outcome Value
       stores = Gives (Parallel (λ p. updated op to.elem from.elem (st.parallel (V.File k) 0 p) (v p))) (with_positions (V.File k) 0 (active set) (λ p. updated op to.elem from.elem (st.parallel (V.File k) 0 p) (v p)) st)
 
-  pub assign_means : (set : ℕ) (ty : ValueType) (place : Place) (op : AssignOp) (p q : Boxed) (target value : TExpr) (k : ℕ) (v : ℕ → ℕ) (st : State) → ty.shape ≡ Some set → HasOperation op
+  pub assign_means : (set : ℕ) (ty : ValueType) (place : Place) (op : AssignOp) (p q : Boxed) (target value : TExpr) (k : ℕ) (v : ℕ → ℕ) (st : State) → ty.shape ≡ Some set → AssignsByNoZero op v
       → located scope target active st ≡ Gives (OfElement (V.File k) 0 set) st → evaluated scope value active st ≡ Gives (Parallel v) st
       → evaluated scope (T.Assign' ty place op p target q value) active st
       ≡ Gives (Parallel (λ x. updated op ty.elem (type_of value).elem (st.parallel (V.File k) 0 x) (v x))) (with_positions (V.File k) 0 (active set) (λ x. updated op ty.elem (type_of value).elem (st.parallel (V.File k) 0 x) (v x)) st)
   unfolding evaluated then_do
-  assign_means set ty place op p q target value k v st shaped is there gives =
+  assign_means set ty place op p q target value k v st shaped never there gives =
       ap (λ (o : Outcome Target). then_do o (λ place_of between. then_do (evaluated scope value active between) (λ x after. assigned scope active place op ty (type_of value) place_of x after))) there
       ∙ ap (λ (o : Outcome Value). then_do o (λ x after. assigned scope active place op ty (type_of value) (OfElement (V.File k) 0 set) x after)) gives
-      ∙ assigned_is set k place op ty (type_of value) v st shaped is
+      ∙ assigned_is set k place op ty (type_of value) v st shaped never
 
   -- and a step
   pub step_means : (set : ℕ) (ty : ValueType) (op : StepOp) (order : StepOrder) (p : Boxed) (target : TExpr) (k : ℕ) (st : State) → ty.shape ≡ Some set → located scope target active st ≡ Gives (OfElement (V.File k) 0 set) st

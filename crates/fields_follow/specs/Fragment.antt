@@ -1,8 +1,8 @@
 -- The programs with parallel variables of which it is said so far that their code means them. Their parallel
 -- expressions are pure ones of 32 bits, of variables of the file, gets from neighbours round the ends of the grid, own
--- coordinates and promoted scalars, which change nothing and never fail; they are assigned to such variables, as truth
--- values of them are, and folded into numbers and onto scalar variables, and they are the conditions of `where`. Folds
--- are of the active positions.
+-- coordinates, promoted scalars, and quotients and remainders by constants other than 0, which change nothing and never
+-- fail; they are assigned to such variables, as truth values of them are, and folded into numbers and onto scalar
+-- variables, and they are the conditions of `where`. Folds are of the active positions.
 -- Under `where` and `everywhere` stand the statements of scalar programs with these, but for calls, `return` and jumps
 -- that lead out of them.
 use Rattle.std.specs.Prelude.{ℕ, ◌≡◌, ◌<◌, ◌+◌, ◌^◌, ◌⊎◌, List, [], ◌∷◌, true, false, slice_get, IfSome, Some, None}
@@ -31,13 +31,19 @@ use Rattle.code_follows.specs.Fragment.{Beside, IsProgramBeside, IsScalarType, I
 abbrev pub IsWide : ℕ → ValueType → Type 0
 IsWide set ty = (ty.shape ≡ Some set) × (ty.elem.bits ≡ 32)
 
--- the operator is no relation and no division: it gives a word of any two
-abbrev pub IsOperation : Op → Type 0
-IsOperation op = (relates op ≡ false) × (divides op ≡ false)
-
 -- a constant
 abbrev pub IsConstant : TExpr → Type 0
 IsConstant e = (word : ℕ) × (constant_of e ≡ Some word) × (word < 2 ^ 32)
+
+-- a constant that is not 0, promoted
+unfoldable pub IsDivisor : TExpr → Type 0
+IsDivisor (T.Promote' ty p operand) = (constant : IsConstant operand) × (0 < constant.0)
+IsDivisor (T.Brackets' ty p inner) = IsDivisor inner
+IsDivisor _ = ⊥
+
+-- the operator is no relation, and divides by such a constant only: it gives a word of any left operand
+abbrev pub IsOperation : Op → TExpr → Type 0
+IsOperation op right = (relates op ≡ false) × ((divides op ≡ false) ⊎ IsDivisor right)
 
 -- a scalar variable, maybe converted to another type of 32 bits
 unfoldable pub IsScalarName : TExpr → Type 0
@@ -90,7 +96,7 @@ IsPure set (T.Variable ty (V.File k)) = IsWide set ty
 IsPure set (T.Brackets' ty p inner) = (ty ≡ type_of inner) × IsPure set inner
 IsPure set (T.Unary' ty op p operand) = IsWide set ty × (negates op ≡ false) × IsPure set operand
 IsPure set (T.Binary' ty place op p left q right) =
-    IsWide set ty × IsOperation op × ((IsPure set left × (IsPure set right ⊎ IsPromoted set right)) ⊎ (IsPromoted set left × IsPure set right))
+    IsWide set ty × IsOperation op right × ((IsPure set left × (IsPure set right ⊎ IsPromoted set right)) ⊎ (IsPromoted set left × IsPure set right))
 IsPure set (T.Convert' ty p operand) = IsWide set ty × IsPure set operand
 IsPure set (T.Pcoord ty axis) = IsWide set ty
 IsPure set (T.LeftIndex' ty place p indexes (V.File k) of) = IsWide set ty × (of ≡ set) × AreWrapping set 0 indexes
@@ -133,12 +139,13 @@ IsTarget set (T.Variable ty (V.File k)) = IsWide set ty
 IsTarget set (T.Brackets' ty p inner) = (ty ≡ type_of inner) × IsTarget set inner
 IsTarget set _ = ⊥
 
--- the operator of an assignment, if it has one
-abbrev pub HasOperation : AssignOp → Type 0
-HasOperation op = IfSome (assign_op_of op) IsOperation
+-- the operator of an assignment of this value, if it has one
+abbrev pub HasOperation : AssignOp → TExpr → Type 0
+HasOperation op value = IfSome (assign_op_of op) (λ o. IsOperation o value)
 
--- A condition of `where`: a relation of two operands, a value that is not zero, `!` of a condition, or two joined by `&&`
--- or `||`. The right one of these ignores the context: it has no get and no quotient, not even one of constants.
+-- A condition of `where`: a relation of two operands, a value that is not zero and is no quotient itself, `!` of a
+-- condition, or two joined by `&&` or `||`. The right one of these ignores the context: it has no get and no quotient,
+-- not even one of constants.
 unfoldable pub IsCondition : ℕ → TExpr → Type 0
 IsCondition set (T.Brackets' ty p inner) = (ty ≡ type_of inner) × IsCondition set inner
 IsCondition set (T.Unary' ty op p operand) = IsWide set ty × (((negates op ≡ true) × IsCondition set operand) ⊎ ((negates op ≡ false) × IsPure set operand))
@@ -161,7 +168,7 @@ IsOperandOrTruth set op e = IsOperand set e ⊎ ((assign_op_of op ≡ None) × I
 
 -- an assignment to a parallel variable, or a step of one
 unfoldable pub IsUpdate : TExpr → Type 0
-IsUpdate (T.Assign' ty place op p target q value) = (set : ℕ) × ((ty ≡ type_of target) × IsTarget set target × HasOperation op × IsOperandOrTruth set op value)
+IsUpdate (T.Assign' ty place op p target q value) = (set : ℕ) × ((ty ≡ type_of target) × IsTarget set target × HasOperation op value × IsOperandOrTruth set op value)
 IsUpdate (T.Step' ty op order p target) = (set : ℕ) × ((ty ≡ type_of target) × IsTarget set target)
 IsUpdate _ = ⊥
 
