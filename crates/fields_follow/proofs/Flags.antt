@@ -1,5 +1,5 @@
 -- What the instructions on contexts and test flags do.
-use Rattle.std.proofs.Common.{◌≡◌, ◌≢◌, ◌∙◌, ℕ, ◌+◌, ◌-◌, ◌%◌, ◌<◌, ◌≤◌, ◌^◌, ◌⊎◌, inl, inr, Bool, true, false, not, ◌&&◌, ◌==◌, Any, List, [], ◌∷◌, length, refl, sym, ap, subst, arith}
+use Rattle.std.proofs.Common.{◌≡◌, ◌≢◌, ◌∙◌, ℕ, ◌+◌, ◌-◌, ◌%◌, ◌<◌, ◌≤◌, ◌^◌, ◌⊎◌, inl, inr, Bool, true, false, not, ◌&&◌, ◌==◌, List, [], ◌∷◌, length, refl, sym, ap, subst, arith}
 use Rattle.std.specs.Int.{bit_at, from_bool}
 use Rattle.std.proofs.lemmas.Bool.{cases_eq}
 use Rattle.std.proofs.lemmas.Nat.Bits.{bit_at_lowest}
@@ -12,19 +12,18 @@ use Rattle.paris_code.specs.Code.{CodeState, Goes, applied, begun}
 use Rattle.paris_code.specs.Meaning.{after}
 use Rattle.paris_code.specs.Memory.{BitMemory, bit_run, context_run, field_number, is_active, is_tested, processors, test_run}
 use Rattle.paris_code.specs.Shapes.{SetShape, bits_at}
-use Rattle.paris_code.specs.Spans.{IsNamedAt, StandsAt, entry_of, fields_of}
+use Rattle.paris_code.specs.Spans.{IsNamedAt, StandsAt, fields_of}
 use Rattle.paris_code.specs.Writes.{Write, covers, written}
 use Rattle.source_meaning.specs.State.{State}
 use Rattle.source_meaning.specs.Values.{Active}
 use Rattle.code_follows.proofs.Following.{Sim}
 use Rattle.code_follows.proofs.Settings.{At, Reaches, Setting, Within, at_next, begins_here, one, placed_instr}
 use Rattle.fields_follow.proofs.Bits.{active_apart, and_both, and_first, covers_flag, field_apart, field_written, if_false, if_true}
-use Rattle.fields_follow.proofs.Fields.{HoldsFields}
 use Rattle.fields_follow.proofs.FileFields.{Apart, apart_back}
 use Rattle.fields_follow.proofs.Instructions.{number_in, place, shapes, wrote}
-use Rattle.fields_follow.proofs.Leaving.{EndsBelow, under}
+use Rattle.fields_follow.proofs.Leaving.{EndsBelow, sim_saying, under}
 use Rattle.fields_follow.proofs.Named.{NamesFields}
-use Rattle.fields_follow.proofs.Places.{IsOwnField, PlacesFields, of_file, stands_here}
+use Rattle.fields_follow.proofs.Places.{IsOwnField, PlacesFields, names_first, of_file, stands_here}
 
 -- the bit of a truth value
 pub bit_is : (x : Bool) → (from_bool x % 2 == 1) ≡ x
@@ -84,7 +83,7 @@ module _ (shapes : List SetShape) (set : ℕ) (writes : ℕ → Bool) (value : �
   abbrev to_context : BitMemory
   to_context = written (written_to (context_run shapes set) writes value) m
 
-  abbrev pub to_test : BitMemory
+  abbrev to_test : BitMemory
   to_test = written (written_to (test_run shapes set) writes value) m
 
   context_taken : writes p ≡ true → is_active shapes to_context set p ≡ (value p % 2 == 1)
@@ -112,22 +111,6 @@ module _ (shapes : List SetShape) (set : ℕ) (writes : ℕ → Bool) (value : �
       by (inr differ) = covers_other (test_run shapes set) q (bits_at shapes q) differ
 
 module _ (g : Setting) (places : PlacesFields g) (alive : Variable → Type 0) (a : Active) where
-  -- the same registers, and a memory that holds the state's fields where other positions may be active
-  with_fields : (b : Active) (st : State) (s : CodeState) (w : Write) → HoldsFields g.typed g.image b st (written w s.memory) → Sim (under g a) alive st s → Sim (under g b) alive st (wrote g w s)
-  with_fields b st s w holds h = record {
-    registers = h.registers;
-    scalars = h.scalars;
-    small = h.small;
-    constants = h.constants;
-    turns = h.turns;
-    output = h.output;
-    input = h.input;
-    returns = h.returns;
-    few = h.few;
-    bytes = h.bytes;
-    memory = holds;
-  }
-
   -- ---- a field takes flags
 
   -- Behind an instruction by which an own entry takes numbers at some positions: contexts and test flags are as they
@@ -155,7 +138,7 @@ module _ (g : Setting) (places : PlacesFields g) (alive : Variable → Type 0) (
     there = stands_here g i e within plain
 
     named_here : IsNamedAt g.unit d.offset (length e.code)
-    named_here = (i, there, subst (λ (xs : List Field). Any (λ (f : Field). entry_of f ≡ d.offset) xs) (sym names) (0, d, omega arith, refl, refl))
+    named_here = names_first g i d others (length e.code) there names
 
     d_ends : (d.set < length (shapes g)) × EndsBelow g d
     d_ends = places.ends (length e.code) i d others there plain simple names
@@ -180,7 +163,7 @@ module _ (g : Setting) (places : PlacesFields g) (alive : Variable → Type 0) (
       go = one g s (wrote g write s) (begins_here g i e s within plain here ∙ goes);
       at = at_next g i e s (s.at + 1) here refl;
       registers = refl;
-      sim = with_fields a st s write (record {
+      sim = sim_saying g alive st s (s.at + 1) (written write s.memory) (record {
         numbers = λ k element q p info is below. elsewhere (of_file g k element) p (places.own_file k element q info d is own) ∙ sim.memory.numbers k element q p info is below;
         small = sim.memory.small;
         flags = λ q p within_sets below. active_apart (shapes g) write s.memory q p d_ends.1 ∙ sim.memory.flags q p within_sets below;
@@ -250,7 +233,7 @@ module _ (g : Setting) (places : PlacesFields g) (alive : Variable → Type 0) (
       go = one g s (wrote g flag s) (begins_here g i e s within plain here ∙ goes);
       at = at_next g i e s (s.at + 1) here refl;
       registers = refl;
-      sim = with_fields b st s flag (record {
+      sim = sim_saying g alive st s (s.at + 1) (written flag s.memory) (record {
         numbers = λ k element q p info is below. field_still (of_file g k element) p (places.files_end k element q info is) ∙ sim.memory.numbers k element q p info is below;
         small = sim.memory.small;
         flags = flags;
