@@ -4,6 +4,7 @@ use Rattle.std.specs.Int.{bit_at, from_bool}
 use Rattle.std.proofs.lemmas.Bool.{cases_eq}
 use Rattle.std.proofs.lemmas.Nat.Bits.{bit_at_lowest}
 use Rattle.cstar_tree.specs.declared.typed.Variable.{Variable}
+use Rattle.constant_trees.proofs.Bringing.{both_true, left_false, right_false}
 use Rattle.lower_base.specs.Drafts.{Draft, Plain, step as step_of, with_instr}
 use Rattle.paris_code.specs.declared.instr.Instr.{Instr}
 use Rattle.paris_code.specs.declared.instr.Instr.TheVariants as I
@@ -18,7 +19,7 @@ use Rattle.source_meaning.specs.State.{State}
 use Rattle.source_meaning.specs.Values.{Active}
 use Rattle.code_follows.proofs.Following.{Sim}
 use Rattle.code_follows.proofs.Settings.{At, Reaches, Setting, Within, at_next, begins_here, one, placed_instr}
-use Rattle.fields_follow.proofs.Bits.{active_apart, and_both, and_first, covers_flag, field_apart, field_written, if_false, if_true}
+use Rattle.fields_follow.proofs.Bits.{active_apart, covers_flag, field_apart, field_written, if_false, if_true}
 use Rattle.fields_follow.proofs.FileFields.{Apart, apart_back}
 use Rattle.fields_follow.proofs.Instructions.{number_in, place, shapes, wrote}
 use Rattle.fields_follow.proofs.Leaving.{EndsBelow, sim_saying, under}
@@ -33,10 +34,6 @@ bit_is false = refl
 pub bit_fits : (x : Bool) (len : ℕ) → len ≡ 1 → from_bool x % 2 ^ len ≡ from_bool x
 bit_fits true len e = ap (λ (n : ℕ). 1 % 2 ^ n) e
 bit_fits false len e = ap (λ (n : ℕ). 0 % 2 ^ n) e
-
-and_second : (a b : Bool) → b ≡ false → (a && b) ≡ false
-and_second true b e = e
-and_second false b e = refl
 
 -- ---- one bit of a set
 
@@ -59,17 +56,17 @@ module _ (set index : ℕ) (writes : ℕ → Bool) (value : ℕ → ℕ) (m : Bi
   bit_taken : writes p ≡ true → (written (written_to (bit_run set index) writes value) m).bit set p index ≡ value p % 2
   unfolding written
   bit_taken e =
-      if_true (covers (bit_run set index) set index && writes p) _ _ (and_both _ _ (covers_bit set index) e)
+      if_true (covers (bit_run set index) set index && writes p) _ _ (both_true _ _ (covers_bit set index) e)
       ∙ ap (λ (k : ℕ). bit_at (value p) k) (let k : index - index ≡ 0 = omega arith in k) ∙ bit_at_lowest (value p)
 
   bit_kept : writes p ≡ false → (written (written_to (bit_run set index) writes value) m).bit set p index ≡ m.bit set p index
   unfolding written
-  bit_kept e = if_false (covers (bit_run set index) set index && writes p) _ _ (and_second _ _ e)
+  bit_kept e = if_false (covers (bit_run set index) set index && writes p) _ _ (right_false _ _ e)
 
 -- a bit that a write doesn't reach
 bit_apart : (w : Write) (m : BitMemory) (set p index : ℕ) → covers w.run set index ≡ false → (written w m).bit set p index ≡ m.bit set p index
 unfolding written
-bit_apart w m set p index e = if_false (covers w.run set index && w.writes p) _ _ (and_first _ _ e)
+bit_apart w m set p index e = if_false (covers w.run set index && w.writes p) _ _ (left_false _ _ e)
 
 -- a write that ends below the flags leaves test flags
 tested_apart : (shapes : List SetShape) (w : Write) (m : BitMemory) (set p : ℕ) → w.run.offset + w.run.len ≤ bits_at shapes w.run.set → is_tested shapes (written w m) set p ≡ is_tested shapes m set p

@@ -38,9 +38,6 @@ use Rattle.fields_follow.proofs.Passing.{Passes, names_second, passes_all, passe
 use Rattle.fields_follow.proofs.Places.{HoldsTheFields, IsOwnField, PlacesFields, names_first, of_file, stands_here}
 use Rattle.fields_follow.proofs.Writing.{with_memory}
 
-small_again : (n : ℕ) → n < 2 ^ 32 → n % 2 ^ 32 ≡ n
-small_again n few = mod-eq_of_lt {n = n} {m = 2 ^ 32} few
-
 module _ (g : Setting) where
   -- a field of 32 bits of a set has these numbers at every position
   pub record HasEverywhere (set : ℕ) (f : Field) (s : CodeState) (v : ℕ → ℕ) : Type 0 where
@@ -82,7 +79,7 @@ module _ (g : Setting) where
     writes = λ p. refl;
     value = λ p below on.
         let got = fetched set axis k a s v grid h p below in
-        ap (λ (n : ℕ). of_neighbour (shapes g) s.memory (place g a) axis k p % 2 ^ n) wide ∙ ap (λ (n : ℕ). n % 2 ^ 32) got.0 ∙ small_again (v (neighbour set axis k p)) got.1;
+        ap (λ (n : ℕ). of_neighbour (shapes g) s.memory (place g a) axis k p % 2 ^ n) wide ∙ ap (λ (n : ℕ). n % 2 ^ 32) got.0 ∙ mod-eq_of_lt got.1;
     goes = refl;
   }
 
@@ -150,7 +147,7 @@ module _ (g : Setting) where
         len = wide;
         are = λ p below.
             let got = fetched set axis k a s v grid h p below in
-            field_written w s.memory p refl ∙ ap (λ (n : ℕ). of_neighbour (shapes g) s.memory (place g a) axis k p % 2 ^ n) wide ∙ ap (λ (n : ℕ). n % 2 ^ 32) got.0 ∙ small_again (v (neighbour set axis k p)) got.1;
+            field_written w s.memory p refl ∙ ap (λ (n : ℕ). of_neighbour (shapes g) s.memory (place g a) axis k p % 2 ^ n) wide ∙ ap (λ (n : ℕ). n % 2 ^ 32) got.0 ∙ mod-eq_of_lt got.1;
         small = λ p below. (fetched set axis k a s v grid h p below).1;
       },
     )

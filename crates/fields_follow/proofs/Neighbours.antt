@@ -16,6 +16,7 @@ use Rattle.cstar_tree.specs.declared.typed.TExpr as T
 use Rattle.cstar_tree.specs.declared.typed.ValueType.{ValueType}
 use Rattle.cstar_tree.specs.declared.typed.Variable.TheVariants as V
 use Rattle.cstar_tree.specs.Typed.{type_of}
+use Rattle.constant_trees.proofs.Bringing.{both_true}
 use Rattle.lower_comm.specs.declared.news.NewsStep.{NewsStep}
 use Rattle.lower_comm.specs.News.{is_conversion, is_dot, is_extent, is_int, near, negated, offset_of, step_by, step_number, step_of, wrapped_step}
 use Rattle.phase_meaning.proofs.Alike.{coordinate_below}
@@ -29,7 +30,6 @@ use Rattle.vp_sets.specs.Positions.{are_positive, coordinate, moved, number_at, 
 use Rattle.vp_sets.proofs.PositionLaws.{extent_bound, extent_positive}
 use Rattle.code_follows.proofs.Standing.{some_same}
 use Rattle.fields_follow.specs.Fragment.{AreWrapping, IsConstant, IsDot, IsIndex, IsOffset, IsPromoted, IsScalarName, IsWrapping, NameExtents, NamesExtent}
-use Rattle.fields_follow.proofs.Bits.{and_both}
 use Rattle.fields_follow.proofs.Meaning.{always_checked, coordinate_behind, coordinates_behind, no_constant, none_fails, not_constant, operated_is, promoted_means, scalar_in, value_in, variable_in}
 use Rattle.fields_follow.proofs.Wrapping.{IsStep, index_number, near_is, moved_within, still_there, turned_step, within_extent, wrapped_word}
 
@@ -230,7 +230,7 @@ module _ (scope : Scope) (active : Active) where
     (
       ap (λ (o : Outcome Value). then_do o (λ v between. then_do (operands scope rest active between) (λ given after. Gives (record { elem = (type_of index).elem; value = v } ∷ given) after))) first.1.0
           ∙ ap (λ (o : Outcome (List Operand)). then_do o (λ given after. Gives (record { elem = (type_of index).elem; value = Parallel first.0 } ∷ given) after)) others.1.0,
-      λ q. (and_both _ _ (ap (is_within extent) (number q) ∙ within_extent extent (first.0 q) (low q)) (others.1.1 q).0, listed _ _ _ _ (ap unsigned_abs (number q) ∙ first.1.1 q ∙ moved_there q) (others.1.1 q).1),
+      λ q. (both_true _ _ (ap (is_within extent) (number q) ∙ within_extent extent (first.0 q) (low q)) (others.1.1 q).0, listed _ _ _ _ (ap unsigned_abs (number q) ∙ first.1.1 q ∙ moved_there q) (others.1.1 q).1),
     ),
   )
     where
