@@ -57,9 +57,9 @@ use Rattle.fields_follow.proofs.Deciding.{truth_last, truth_means}
 use Rattle.fields_follow.proofs.Forms.{HasItsCode, divisor_never_zero, field_is}
 use Rattle.fields_follow.proofs.Instructions.{HasNumbers, Puts, SameExtents, extents, puts_operate_constant, shapes, word_in}
 use Rattle.fields_follow.proofs.Meaning.{DividesByNoZero, promoted_means, value_in}
-use Rattle.fields_follow.proofs.Leaving.{Leaves, UpdateLeaves}
+use Rattle.fields_follow.proofs.Leaving.{Leaves, PassesTests, UpdateLeaves}
 use Rattle.fields_follow.proofs.Passing.{After, Passes, after_same, code_longer, in_file_has, made_after, passes_all}
-use Rattle.fields_follow.proofs.PassingTests.{PassesTests, tests_passed}
+use Rattle.fields_follow.proofs.PassingTests.{tests_passed}
 use Rattle.fields_follow.proofs.Places.{HoldsTheFields, IsFileField, PlacesFields}
 use Rattle.fields_follow.proofs.Pure.{are_grids, pure_means}
 use Rattle.fields_follow.proofs.Updates.{AssignsByNoZero, IsFileTarget, assign_means, file_target, promoted_wide, step_means, updated_is}
@@ -103,8 +103,8 @@ module _ (g : Setting) (has : HasRegisters g) (alive : Variable → Type 0) (n :
           at = h.at;
           registers = h.registers ∙ p.registers;
           sim = h.sim;
-          stays = λ f first last q below own ends before low after high.
-              h.stays tt f first last q (λ alike. omega (arith, alike, below)) own before after (omega (arith, low, longer)) (omega (arith, high, one))
+          stays = λ u f first last q below own ends before low after high.
+              h.stays u f first last q (λ alike. omega (arith, alike, below)) own before after (omega (arith, low, longer)) (omega (arith, high, one))
               ∙ p.stays wanted f first last q (omega (arith, below, more)) own ends before low after (omega (arith, high, one));
         }
 

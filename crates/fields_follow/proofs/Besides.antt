@@ -46,7 +46,7 @@ module _ (g : Setting) (scope : Scope) (active : Active) (known : KnowsFields g 
       t = l.t;
       go = reaches_again g active l.go;
       at = l.at;
-      sim = sim_close g scope active known alive u l.t l.sim (kept_behind f l.t within l.stays);
+      sim = sim_close g scope active known alive u l.t l.sim (kept_behind f l.t within (l.stays tt));
       keeps = λ r kept. ap (λ (registers : List ℕ). slice_index registers r) l.registers;
     }
 
@@ -80,7 +80,7 @@ module _ (g : Setting) (scope : Scope) (active : Active) (known : KnowsFields g 
         (pure_after there (registers_under g active has) alive n ready (places_under g active known.places) (fields_under g active) set o is code) d0 s0 st0 at_o sim_o
 
     -- an update, or a fold onto a variable
-    pub effect_follows : IsParallelEffect e → Follows g (λ v u out f. Ran g alive d s u f) s (evaluated scope e active st) (effect_of g.typed (layout g) e d)
+    effect_follows : IsParallelEffect e → Follows g (λ v u out f. Ran g alive d s u f) s (evaluated scope e active st) (effect_of g.typed (layout g) e d)
     effect_follows (inl is) =
         let leaves : UpdateLeaves (under g active) alive (fields_under g active) scope e d s st =
         updates_leave (under g active) (registers_under g active has) alive n ready (places_under g active known.places) (fields_under g active) scope known.same_extents e is c d s st here (sim_open g scope active known alive st s sim) in
@@ -108,7 +108,7 @@ module _ (g : Setting) (scope : Scope) (active : Active) (known : KnowsFields g 
         }
 
     -- a fold puts its number where it is to be
-    pub fold_follows : IsFold e → (R : Value → State → Out → Draft → Type 0) (r : ℕ) → Dest g has alive (type_of e).elem d s R r → Follows g R s (evaluated scope e active st) (computed_to g.typed (layout g) (O.Scalar r) e d)
+    fold_follows : IsFold e → (R : Value → State → Out → Draft → Type 0) (r : ℕ) → Dest g has alive (type_of e).elem d s R r → Follows g R s (evaluated scope e active st) (computed_to g.typed (layout g) (O.Scalar r) e d)
     unfolding After Follows
     fold_follows is R r dest =
         let (w, (means, after)) = folds_give (under g active) alive scope (places_under g active known.places) (fields_under g active) n operands_stand known.same_extents e is c d s st r here (sim_open g scope active known alive st s sim) in

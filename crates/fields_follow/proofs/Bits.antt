@@ -3,6 +3,7 @@ use Rattle.std.proofs.Common.{◌≡◌, ℕ, suc, zero, ◌+◌, ◌-◌, ◌*�
 use Rattle.std.specs.Prelude.{nat_le, nat_lt}
 use Rattle.std.specs.Int.{bit_at}
 use Rattle.std.proofs.lemmas.Bool.{and_right, eqb-true}
+use Rattle.constant_trees.proofs.Bringing.{both_true, left_false}
 use Rattle.paris_code.specs.declared.operands.Field.{Field}
 use Rattle.paris_code.specs.Memory.{BitMemory, run_number, field_number, is_active}
 use Rattle.paris_code.specs.Shapes.{SetShape, bits_at}
@@ -11,7 +12,7 @@ use Rattle.phase_meaning.proofs.RunBits.{run_number_is}
 use Rattle.fields_follow.proofs.FileFields.{Apart}
 
 -- the numbers of two runs with the same bits
-pub run_number_same : (f g : ℕ → ℕ) (offset n : ℕ) → ((j : ℕ) → j < n → f (offset + j) ≡ g (offset + j)) → run_number f offset n ≡ run_number g offset n
+run_number_same : (f g : ℕ → ℕ) (offset n : ℕ) → ((j : ℕ) → j < n → f (offset + j) ≡ g (offset + j)) → run_number f offset n ≡ run_number g offset n
 unfolding run_number
 run_number_same f g offset zero same = refl
 run_number_same f g offset (suc n) same =
@@ -30,21 +31,12 @@ pub if_false : {A : Type 0} (b : Bool) (x y : A) → b ≡ false → (if b then 
 if_false true x y e = cc
 if_false false x y e = refl
 
-pub and_both : (a b : Bool) → a ≡ true → b ≡ true → (a && b) ≡ true
-and_both true true e f = refl
-and_both false b e f = cc
-and_both true false e f = cc
-
-pub and_first : (a b : Bool) → a ≡ false → (a && b) ≡ false
-and_first true b e = cc
-and_first false b e = refl
-
 -- where the write writes
 pub field_written : (w : Write) (m : BitMemory) (p : ℕ) → w.writes p ≡ true → field_number (written w m) w.run p ≡ w.value p % 2 ^ w.run.len
 unfolding field_number written
 field_written w m p e =
     run_number_is _ w.run.offset w.run.len (w.value p) (λ j h.
-    if_true (covers w.run w.run.set (w.run.offset + j) && w.writes p) _ _ (and_both _ _ (covers_own w.run j h) e)
+    if_true (covers w.run w.run.set (w.run.offset + j) && w.writes p) _ _ (both_true _ _ (covers_own w.run j h) e)
     ∙ ap (λ k. bit_at (w.value p) k) (let k : w.run.offset + j - w.run.offset ≡ j = omega arith in k))
 
 -- and where it does not
@@ -61,7 +53,7 @@ covers_apart f g j (inr (inr e)) h = grind (arith, e, h)
 pub field_apart : (w : Write) (m : BitMemory) (g : Field) (p : ℕ) → Apart w.run g → field_number (written w m) g p ≡ field_number m g p
 unfolding field_number written
 field_apart w m g p a =
-    run_number_same _ _ g.offset g.len (λ j h. if_false (covers w.run g.set (g.offset + j) && w.writes p) _ _ (and_first _ _ (covers_apart w.run g j a h)))
+    run_number_same _ _ g.offset g.len (λ j h. if_false (covers w.run g.set (g.offset + j) && w.writes p) _ _ (left_false _ _ (covers_apart w.run g j a h)))
 
 -- flags stand above the fields
 pub covers_flag : (f : Field) (set index : ℕ) → (f.set ≡ set → f.offset + f.len ≤ index) → covers f set index ≡ false
@@ -75,4 +67,4 @@ covers_flag f set index h = by (set == f.set) refl
 pub active_apart : (shapes : List SetShape) (w : Write) (m : BitMemory) (set p : ℕ) → w.run.offset + w.run.len ≤ bits_at shapes w.run.set → is_active shapes (written w m) set p ≡ is_active shapes m set p
 unfolding is_active written
 active_apart shapes w m set p h =
-    ap (λ b. b == 1) (if_false (covers w.run set (bits_at shapes set) && w.writes p) _ _ (and_first _ _ (covers_flag w.run set (bits_at shapes set) (λ e. subst (λ s. w.run.offset + w.run.len ≤ bits_at shapes s) e h))))
+    ap (λ b. b == 1) (if_false (covers w.run set (bits_at shapes set) && w.writes p) _ _ (left_false _ _ (covers_flag w.run set (bits_at shapes set) (λ e. subst (λ s. w.run.offset + w.run.len ≤ bits_at shapes s) e h))))

@@ -17,6 +17,7 @@ use Rattle.lower_base.specs.declared.emit.Out.TheVariants as O
 use Rattle.lower_base.specs.declared.operators.Machine.{Machine}
 use Rattle.lower_base.specs.Drafts.{Draft, Fails, Made, Makes, Plain, a_field, a_flag, an_entry, first_bits, fresh_for, in_field, shortened, step as step_of, then_make, with_instr}
 use Rattle.lower_base.specs.Kinds.{bits_of, kind_of, truth_type}
+use Rattle.lower_base.specs.Layouts.{Layout}
 use Rattle.lower_base.specs.Operators.{machine_of, negates, relates}
 use Rattle.lower_expr.specs.declared.steps.Right.{Right}
 use Rattle.lower_expr.specs.declared.steps.Right.TheVariants as R
@@ -24,7 +25,7 @@ use Rattle.lower_expr.specs.Joined.{cleared, flag_by, joined, joins, operation_o
 use Rattle.lower_expr.specs.Kinds.{done_as, operand_bits, operation_bits, reads_signed, relation_kind, result_bits, unary_bits}
 use Rattle.lower_expr.specs.Operands.{is_plus, is_quiet, operand_by}
 use Rattle.lower_expr.specs.Steps.{fields_operated, field_negated, is_kept, negated, on_fields, on_word, put_test, right_operated, with_field_check}
-use Rattle.lower_expr.specs.Values.{Code, Condition, binary_by, compared, fields_by, flag_of, joined_by, logical_by, lowest, narrowing_by, next_of, nonzero_tested, parallel_binary_by, parallel_logical_by, relation_by, right_by, spare_for, spread_into, Test, truth_of, unary_by, value_of, zero_tested}
+use Rattle.lower_expr.specs.Values.{Code, Condition, binary_by, compared, fields_by, flag_of, joined_by, logical_by, lowest, narrowing_by, next_of, nonzero_tested, parallel_binary_by, parallel_logical_by, relation_by, right_by, spare_for, Test, truth_of, unary_by, value_of, zero_tested}
 use Rattle.paris_code.specs.declared.instr.Instr.{Instr}
 use Rattle.paris_code.specs.declared.instr.Instr.TheVariants as I
 use Rattle.paris_code.specs.declared.operands.Field.{Field}
@@ -36,11 +37,11 @@ use Rattle.source_meaning.specs.Values.{nonzero}
 use Rattle.source_meaning.proofs.ConstantLaws.{Boxed}
 use Rattle.code_follows.proofs.Following.{Extends, Sim, extends_then}
 use Rattle.code_follows.proofs.Settings.{At, Setting, Within, and_one, layout}
+use Rattle.fields_follow.proofs.Leaving.{PassesTests}
 use Rattle.fields_follow.proofs.Passing.{After, Behind, after_same, fields_longer, made_after, then_after}
-use Rattle.fields_follow.proofs.PassingTests.{PassesTests, tests_and_entry, tests_behind_entry, tests_left, tests_on}
-use Rattle.fields_follow.proofs.Places.{HoldsTheFields, IsOwnField, PlacesFields, stands_here}
+use Rattle.fields_follow.proofs.PassingTests.{tests_and_entry, tests_behind_entry, tests_on}
+use Rattle.fields_follow.proofs.Places.{HoldsTheFields, IsOwnField, PlacesFields, names_first, stands_here}
 use Rattle.fields_follow.proofs.Values.{and_entry, next_field, one_more, taken, with_entry}
-use Rattle.fields_follow.proofs.Writing.{named}
 use Rattle.fields_follow.proofs.TestFlags.{LeavesTests, PutsTest, Tells, compares, puts_nonzero, puts_zero, tested_behind}
 use Rattle.fields_follow.proofs.Truths.{GivesTold, GivesTruth, either_or_both, truth_joined, truth_stored, truth_turned}
 
@@ -59,42 +60,54 @@ unfolding lowest then_make shortened first_bits
 one_bit set d (Makes x e) = refl
 one_bit set d Fails = refl
 
--- a relation that goes to a field of one bit
-right_stored : (op : Op) (signed : Bool) (place : Place) (set : ℕ) (d : Draft) (a : Field) (b : Right) (spare : Field) (e : Draft) → relates op ≡ true → divides op ≡ false
-    → right_operated op signed place (next_field set 1 d) a b spare e ≡ then_make (compared (machine_of op signed) a b spare e) (stored_in set d)
-unfolding right_operated fields_operated on_fields on_word put_test with_field_check compared then_make
-right_stored op signed place set d a (R.Field b) spare e related no_check =
-    ap (λ (c : Bool). on_fields (machine_of op signed) (next_field set 1 d) a b (if c then with_instr (I.CheckDivisor place b) e else e)) no_check
-    ∙ ap (λ (m : Machine). on_fields m (next_field set 1 d) a b e) (compares op signed related).is ∙ sym (ap (λ (m : Machine). then_make (compared m a (R.Field b) spare e) (stored_in set d)) (compares op signed related).is)
-right_stored op signed place set d a (R.Word k) spare e related no_check =
-    ap (λ (m : Machine). on_word m op place (next_field set 1 d) a k spare e) (compares op signed related).is
-    ∙ ap (λ (c : Bool). put_test (next_field set 1 d) (with_instr (I.Compare (compares op signed related).relation a spare) (if c then with_instr (I.CheckDivisor place spare) (with_instr (I.MoveConstant spare k) e) else with_instr (I.MoveConstant spare k) e))) no_check
-    ∙ sym (ap (λ (m : Machine). then_make (compared m a (R.Word k) spare e) (stored_in set d)) (compares op signed related).is)
+-- behind its test the test flags go to a field
+abbrev pub put_in : Field → Unit {0} → Draft → Made Out
+put_in f _ e = put_test f e
 
--- what is stored behind two pieces
-both_stored : (set : ℕ) (d : Draft) (first : Made Field) (second : Draft → Made Right) (whole : Field → Right → Draft → Made Out) (test : Field → Right → Draft → Made (Unit {0})) → ((a : Field) (b : Right) (e : Draft) → whole a b e ≡ then_make (test a b e) (stored_in set d))
-    → lowest 1 (then_make first (λ a e. then_make (second e) (λ b after. whole a b after))) ≡ then_make (then_make first (λ a e. then_make (second e) (λ b after. test a b after))) (stored_in set d)
-unfolding lowest then_make
-both_stored set d Fails second whole test same = refl
-both_stored set d (Makes a e) second whole test same = by (second e)
+-- a relation
+right_put : (op : Op) (signed : Bool) (place : Place) (f a : Field) (b : Right) (spare : Field) (e : Draft) → relates op ≡ true → divides op ≡ false
+    → right_operated op signed place f a b spare e ≡ then_make (compared (machine_of op signed) a b spare e) (put_in f)
+unfolding right_operated fields_operated on_fields on_word with_field_check compared then_make
+right_put op signed place f a (R.Field b) spare e related no_check =
+    ap (λ (c : Bool). on_fields (machine_of op signed) f a b (if c then with_instr (I.CheckDivisor place b) e else e)) no_check
+    ∙ ap (λ (m : Machine). on_fields m f a b e) (compares op signed related).is ∙ sym (ap (λ (m : Machine). then_make (compared m a (R.Field b) spare e) (put_in f)) (compares op signed related).is)
+right_put op signed place f a (R.Word k) spare e related no_check =
+    ap (λ (m : Machine). on_word m op place f a k spare e) (compares op signed related).is
+    ∙ ap (λ (c : Bool). put_test f (with_instr (I.Compare (compares op signed related).relation a spare) (if c then with_instr (I.CheckDivisor place spare) (with_instr (I.MoveConstant spare k) e) else with_instr (I.MoveConstant spare k) e))) no_check
+    ∙ sym (ap (λ (m : Machine). then_make (compared m a (R.Word k) spare e) (put_in f)) (compares op signed related).is)
+
+-- what is put behind two pieces
+both_put : (f : Field) (first : Made Field) (second : Draft → Made Right) (whole : Field → Right → Draft → Made Out) (test : Field → Right → Draft → Made (Unit {0})) → ((a : Field) (b : Right) (e : Draft) → whole a b e ≡ then_make (test a b e) (put_in f))
+    → then_make first (λ a e. then_make (second e) (λ b after. whole a b after)) ≡ then_make (then_make first (λ a e. then_make (second e) (λ b after. test a b after))) (put_in f)
+unfolding then_make
+both_put f Fails second whole test same = refl
+both_put f (Makes a e) second whole test same = by (second e)
   where
-    by : (made : Made Right) → lowest 1 (then_make made (λ b after. whole a b after)) ≡ then_make (then_make made (λ b after. test a b after)) (stored_in set d)
+    by : (made : Made Right) → then_make made (λ b after. whole a b after) ≡ then_make (then_make made (λ b after. test a b after)) (put_in f)
     by Fails = refl
-    by (Makes b after) = ap (λ (m : Made Out). lowest 1 m) (same a b after) ∙ one_bit set d (test a b after)
+    by (Makes b after) = same a b after
 
+pub relation_put : (set : ℕ) (op : Op) (place : Place) (f : Field) (first : Code) (left : TExpr) (second : Code) (right : TExpr) (d : Draft) → relates op ≡ true → divides op ≡ false
+    → then_make (a_field set (bits_of (relation_kind left right)) d) (λ spare after. fields_by op (reads_signed op left right) place f spare first left second right after) ≡ then_make (relation_by set op first left second right d) (put_in f)
+unfolding relation_by fields_by then_make an_entry
+relation_put set op place f first left second right d related no_check = both_put f _ (λ e. right_by second op right e) _ _ (λ a b e. right_put op (reads_signed op left right) place f a b _ e related no_check)
+
+-- `!` of a word
+pub zero_put : (l : Layout) (f : Field) (made : Made Out) → then_make made (λ v after. negated l U.Not (O.Field f) v after) ≡ then_make (then_make made (λ v after. in_field v (λ source. Makes tt (with_instr (I.EqZero source) after)))) (put_in f)
+unfolding then_make negated in_field field_negated
+zero_put l f (Makes (O.Field h) e) = refl
+zero_put l f (Makes (O.Scalar r) e) = refl
+zero_put l f (Makes O.Nothing e) = refl
+zero_put l f Fails = refl
+
+-- in a field of one bit the test flags are stored
 relation_stored : (set : ℕ) (op : Op) (place : Place) (first : Code) (left : TExpr) (second : Code) (right : TExpr) (d : Draft) → relates op ≡ true → divides op ≡ false
     → parallel_binary_by set 1 op place first left second right d ≡ then_make (relation_by set op first left second right (with_entry set 1 W.Own d)) (stored_in set d)
-unfolding parallel_binary_by relation_by spare_for result_bits operand_bits an_entry fields_by then_make lowest
+unfolding parallel_binary_by spare_for result_bits operand_bits an_entry then_make put_test
 relation_stored set op place first left second right d related no_check =
     ap (λ (c : Bool). then_make (a_field set (if c then 1 else operation_bits 1 op right) d) (λ dest begun. then_make (if c then a_field dest.set (if c then bits_of (relation_kind left right) else operation_bits 1 op right) begun else Makes dest begun) (λ spare between. lowest 1 (fields_by op (reads_signed op left right) place dest spare first left second right between)))) related
-    ∙ both_stored set d (spread_into first left spare d2) (λ e. right_by second op right e) (λ a b e. right_operated op (reads_signed op left right) place (next_field set 1 d) a b spare e) (λ a b e. compared (machine_of op (reads_signed op left right)) a b spare e)
-    (λ a b e. right_stored op (reads_signed op left right) place set d a b spare e related no_check)
-  where
-    spare : Field
-    spare = next_field set (bits_of (relation_kind left right)) (with_entry set 1 W.Own d)
-
-    d2 : Draft
-    d2 = with_entry set (bits_of (relation_kind left right)) W.Own (with_entry set 1 W.Own d)
+    ∙ ap (λ (m : Made Out). lowest 1 m) (relation_put set op place (next_field set 1 d) first left second right (with_entry set 1 W.Own d) related no_check)
+    ∙ one_bit set d (relation_by set op first left second right (with_entry set 1 W.Own d))
 
 module _ (g : Setting) where
   -- so many bits of the value, and the operand of the next instruction
@@ -120,26 +133,19 @@ module _ (g : Setting) where
       second = operand_by g.typed (layout g) (bits_of (relation_kind left right)) (value_of g.typed (layout g) (bits_of (relation_kind left right)) right) true right
 
   -- `!` of a word is its test, stored
-  zero_stored : (set : ℕ) (d : Draft) (made : Made Out) → then_make made (λ v after. negated (layout g) U.Not (O.Field (next_field set 1 d)) v after) ≡ then_make (then_make made (λ v after. in_field v (λ source. Makes tt (with_instr (I.EqZero source) after)))) (stored_in set d)
-  unfolding then_make negated in_field field_negated put_test
-  zero_stored set d (Makes (O.Field f) e) = refl
-  zero_stored set d (Makes (O.Scalar r) e) = refl
-  zero_stored set d (Makes O.Nothing e) = refl
-  zero_stored set d Fails = refl
-
   pub word_not_value : (set : ℕ) (ty : ValueType) (p : Boxed) (operand : TExpr) (d : Draft) → ty.shape ≡ Some set → is_kept operand ≡ false → kind_of operand ≡ None
       → value 1 (T.Unary' ty U.Not p operand) d ≡ then_make (zero_tested (operand_at (bits_of (kind_of operand)) operand) (with_entry set 1 W.Own d)) (stored_in set d)
-  unfolding value_of unary_by unary_bits done_as negates is_plus fresh_for an_entry then_make zero_tested bits_of
+  unfolding value_of unary_by unary_bits done_as negates is_plus fresh_for an_entry then_make zero_tested bits_of put_test
   word_not_value set ty p operand d shaped fresh none =
       ap (λ (c : Bool). done (not c && bits_of (kind_of operand) == 1)) fresh ∙ ap (λ (k : Option Elem). done (bits_of k == 1)) none
       ∙ ap (λ (o : Option ℕ). then_make (fresh_for o 1 d) (λ dest between. then_make (operand_at (bits_of (kind_of operand)) operand between) (λ v after. negated (layout g) U.Not dest v after))) shaped
-      ∙ zero_stored set d (operand_at (bits_of (kind_of operand)) operand (with_entry set 1 W.Own d))
+      ∙ zero_put (layout g) (next_field set 1 d) (operand_at (bits_of (kind_of operand)) operand (with_entry set 1 W.Own d))
     where
       done : Bool → Made Out
       done c = unary_by (layout g) ty 1 (if c then U.Complement else U.Not) (value 1 operand) (operand_at (bits_of (kind_of operand)) operand) d
 
   -- that of a bit is its complement
-  abbrev pub turned_in : ℕ → Draft → Out → Draft → Made Out
+  abbrev turned_in : ℕ → Draft → Out → Draft → Made Out
   turned_in set d v e = in_field v (λ source. Makes (O.Field (next_field set 1 d)) (with_instr (I.Lognot (next_field set 1 d) source) e))
 
   pub bit_not_value : (set : ℕ) (ty : ValueType) (p : Boxed) (operand : TExpr) (d : Draft) → ty.shape ≡ Some set → is_kept operand ≡ false → kind_of operand ≡ Some truth_type
@@ -151,7 +157,7 @@ module _ (g : Setting) where
       ∙ ap (λ (o : Option ℕ). then_make (fresh_for o 1 d) (λ dest between. then_make (operand_at 1 operand between) (λ v after. negated (layout g) U.Complement dest v after))) shaped
 
   -- two conditions are joined by one operation
-  abbrev pub joined_in : Bool → ℕ → Draft → Field → Field → Draft → Made Out
+  abbrev joined_in : Bool → ℕ → Draft → Field → Field → Draft → Made Out
   joined_in is_or set d f h e = Makes (O.Field (next_field set 1 d)) (with_instr (I.Operate (operation_of is_or) (next_field set 1 d) f h) e)
 
   pub joined_value : (is_or : Bool) (set : ℕ) (shape : Option ℕ) (left right : Condition) (d : Draft) → shape ≡ Some set → joins left.operand right.operand ≡ true
@@ -161,7 +167,7 @@ module _ (g : Setting) where
       ap (λ (o : Option ℕ). logical_by is_or o 1 left right d) shaped ∙ ap (λ (c : Bool). if c then joined_by is_or (next_field set 1 d) left right (with_entry set 1 W.Own d) else narrowing_by is_or (next_field set 1 d) left right (with_entry set 1 W.Own d)) join
 
   -- both kinds of operands have code
-  pub taken_extends : (x : Out) (e : Draft) → Extends g e (in_field x (λ f. Makes f e))
+  taken_extends : (x : Out) (e : Draft) → Extends g e (in_field x (λ f. Makes f e))
   unfolding Extends in_field
   taken_extends (O.Field f) e = (0, as_it_was e)
   taken_extends (O.Scalar r) e = tt
@@ -202,7 +208,7 @@ module _ (g : Setting) (alive : Variable → Type 0) (places : PlacesFields g) (
       then_after g (Told d s set st v) (λ _ f. Tests d s set st u f) made (put test) told next_extends (λ x e1 (a, (is, gives)).
       after_same g (λ _ f. Tests d s set st u f) (ap (λ (o : Out). put test o e1) is)
       (made_after g (λ _ f. Tests d s set st u f) tt (with_instr (test a) e1) (λ within.
-      tested_behind g alive fields places set d e1 (test a) s st u (Behind g a e1) gives.passes (length e1.code, (named g places fields alive (test a) a [] (length e1.code) (stands_here g (test a) e1 within (plain a)) (names a), omega arith)) gives.exists within
+      tested_behind g alive fields places set d e1 (test a) s st u (Behind g a e1) gives.passes (length e1.code, (names_first g (test a) a [] (length e1.code) (stands_here g (test a) e1 within (plain a)) (names a), omega arith)) gives.exists within
       (puts a gives.passes.t gives.tells))))
     where
       next_extends : (x : Out) (e1 : Draft) → Extends g e1 (put test x e1)
@@ -227,29 +233,29 @@ module _ (g : Setting) (alive : Variable → Type 0) (places : PlacesFields g) (
 
   -- the test flags are stored
   pub stored_after : (set : ℕ) (v : ℕ → ℕ) (d : Draft) (s : CodeState) (st : State) (made : Made (Unit {0})) → After g (λ _ f. Tests (with_entry set 1 W.Own d) s set st v f) made → After g (Bit d s set st v) (then_make made (stored_in set d))
-  unfolding Extends tests_left tests_behind_entry
+  unfolding Extends tests_behind_entry
   stored_after set v d s st made tests =
       then_after g (λ _ f. Tests (with_entry set 1 W.Own d) s set st v f) (Bit d s set st v) made (stored_in set d) tests (λ x e. (1, and_one g (I.StoreTest (next_field set 1 d)) e)) (λ x e left.
       made_after g (Bit d s set st v) (O.Field (next_field set 1 d)) (with_instr (I.StoreTest (next_field set 1 d)) e) (λ within.
-      let p : PassesTests g alive (with_entry set 1 W.Own d) e s st (Unit {0}) = tests_left g alive (with_entry set 1 W.Own d) e s st left.leaves in (
+      let p : PassesTests g alive (with_entry set 1 W.Own d) e s st (Unit {0}) = left.leaves in (
         next_field set 1 d,
         (
           refl,
-          truth_stored g alive places fields set d e (next_field set 1 d) s st v (tests_behind_entry g alive set 1 d e s st (Unit {0}) (tests_left g alive (with_entry set 1 W.Own d) e s st left.leaves)) left.flags (omega arith) (first_older set d e s st (Unit {0}) p)
+          truth_stored g alive places fields set d e (next_field set 1 d) s st v (tests_behind_entry g alive set 1 d e s st (Unit {0}) left.leaves) left.flags (omega arith) (first_older set d e s st (Unit {0}) p)
               (first_entry set d e s st (Unit {0}) (I.StoreTest (next_field set 1 d)) p within) refl refl within,
         ),
       )))
 
   pub flag_after : (set : ℕ) (v : ℕ → ℕ) (d : Draft) (s : CodeState) (st : State) (made : Made (Unit {0})) → After g (λ _ f. Tests d s set st v f) made → After g (Truth d s set st v) (then_make made (stored_behind set))
-  unfolding Extends tests_left tests_and_entry then_make an_entry
+  unfolding Extends tests_and_entry then_make an_entry
   flag_after set v d s st made tests =
       then_after g (λ _ f. Tests d s set st v f) (Truth d s set st v) made (stored_behind set) tests (λ x e. stored_extends g set e) (λ x e left.
       made_after g (Truth d s set st v) (next_field set 1 e) (with_instr (I.StoreTest (next_field set 1 e)) (with_entry set 1 W.Own e)) (λ within.
-      truth_stored g alive places fields set d (with_entry set 1 W.Own e) (next_field set 1 e) s st v (tests_and_entry g alive set 1 d e s st (Unit {0}) (tests_left g alive d e s st left.leaves)) left.flags (fields_longer d e left.leaves.grown.0 left.leaves.grown.1) (let l = one_more set 1 W.Own e in omega (arith, l))
+      truth_stored g alive places fields set d (with_entry set 1 W.Own e) (next_field set 1 e) s st v (tests_and_entry g alive set 1 d e s st (Unit {0}) left.leaves) left.flags (fields_longer d e left.leaves.grown.0 left.leaves.grown.1) (let l = one_more set 1 W.Own e in omega (arith, l))
       (taken g set 1 W.Own e (with_instr (I.StoreTest (next_field set 1 e)) (with_entry set 1 W.Own e)) 1 within (and_one g (I.StoreTest (next_field set 1 e)) (with_entry set 1 W.Own e))) refl refl within))
 
   -- a bit that there is
-  abbrev pub as_bit : Out → Draft → Made Field
+  abbrev as_bit : Out → Draft → Made Field
   as_bit v e = in_field v (λ f. Makes f e)
 
   pub bit_taken : (set : ℕ) (v : ℕ → ℕ) (d : Draft) (s : CodeState) (st : State) (made : Made Out) → After g (Bit d s set st v) made → After g (Truth d s set st v) (then_make made as_bit)

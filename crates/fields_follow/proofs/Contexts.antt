@@ -1,26 +1,22 @@
 -- `where` follows where what stands under it does.
-use Rattle.std.proofs.Common.{◌≡◌, ◌∙◌, ℕ, ◌+◌, ◌<◌, ◌≤◌, true, List, [], ◌∷◌, ◌++◌, length, slice_index, refl, sym, ap, subst, arith}
+use Rattle.std.proofs.Common.{◌≡◌, ◌∙◌, ℕ, ◌+◌, ◌≤◌, true, List, [], ◌∷◌, ◌++◌, length, refl, sym, ap, arith}
 use Rattle.cstar_tree.specs.declared.typed.TExpr.{TExpr}
 use Rattle.cstar_tree.specs.declared.typed.TStmt.{TStmt, Held-TStmt-If-2, None', Some'}
 use Rattle.cstar_tree.specs.declared.typed.TStmt as S
 use Rattle.cstar_tree.specs.declared.typed.Variable.{Variable}
-use Rattle.code_lengths.specs.Growth.{Extended, Grows}
+use Rattle.code_lengths.specs.Growth.{Extended}
 use Rattle.code_lengths.specs.Lowerable.{InField}
 use Rattle.code_lengths.specs.LowerableStatements.{IsLowerableStatement}
 use Rattle.code_lengths.specs.NamingStatements.{StatementNamesVariables, behind}
 use Rattle.code_lengths.specs.Ready.{HasCode, HasStatementCode, IsReady}
 use Rattle.code_lengths.specs.ShapedStatements.{IsShapedStatement}
-use Rattle.code_lengths.proofs.Agreeing.{expressions}
 use Rattle.code_lengths.proofs.Drafting.{and_instr, as_it_was, extended}
-use Rattle.lower_base.specs.Drafts.{Draft, Fails, Made, Makes, an_entry, step as step_of, then_make, with_instr}
-use Rattle.lower_expr.specs.Values.{tested}
+use Rattle.lower_base.specs.Drafts.{Draft, Made, Makes, an_entry, step as step_of, then_make, with_instr}
 use Rattle.lower_stmt.specs.declared.statement.Frame.{Frame}
 use Rattle.lower_stmt.specs.Frames.{in_context}
 use Rattle.lower_stmt.specs.Statements.{closing, kept_for, narrowed, otherwise_of, statement_of, turned, with_kept}
 use Rattle.paris_code.specs.declared.instr.Instr.TheVariants as I
 use Rattle.paris_code.specs.declared.operands.Field.{Field}
-use Rattle.paris_code.specs.declared.program.Owner.TheVariants as W
-use Rattle.paris_code.specs.Code.{CodeState}
 use Rattle.paris_code.specs.Memory.{BitMemory}
 use Rattle.paris_code.specs.Spans.{IsNamedAt}
 use Rattle.source_meaning.specs.Expressions.{evaluated}
@@ -30,29 +26,22 @@ use Rattle.source_meaning.specs.Statements.{Leaving, Onward, declared, else_exec
 use Rattle.source_meaning.specs.Values.{Active, Parallel, Scope, Value, nonzero}
 use Rattle.source_meaning.proofs.ConstantLaws.{Boxed}
 use Rattle.code_follows.proofs.Besides.{ComesOn, Part, StatementPart}
-use Rattle.code_follows.proofs.Following.{Extends, HasRegisters, Sim, at_once, follows_same}
-use Rattle.code_follows.proofs.Settings.{At, Begun, Setting, Within, and_one, code_more, earlier, layout}
+use Rattle.code_follows.proofs.Following.{Extends, HasRegisters, at_once, follows_same}
+use Rattle.code_follows.proofs.Settings.{Setting, Within, and_one, code_more, earlier, layout}
 use Rattle.code_follows.specs.Fragment.{ScalarsAmong}
 use Rattle.fields_follow.specs.Fragment.{IsCondition, KnowsExtents, extents_in}
 use Rattle.fields_follow.proofs.Forms.{HasItsCode}
 use Rattle.fields_follow.proofs.Instructions.{extents}
-use Rattle.fields_follow.proofs.Knowing.{KnowsFields, Lasts, flags_last, kept_open, lasts_both, sim_open}
+use Rattle.fields_follow.proofs.Knowing.{KnowsFields, Lasts, flags_last, lasts_both}
+use Rattle.fields_follow.proofs.Entering.{TestMade, code_more_by, context_led, entered, entries_more, holds, holds_own, saved, saved_own, test_made}
 use Rattle.fields_follow.proofs.Saving.{Arrives, Kept, arrives, arrives_now, kept_lasts, own_below, part_closed, test_below}
-use Rattle.fields_follow.proofs.Leading.{HasTests, Led, TestsAre, keeps_tests, led_weaker, loads_tests, named_next, narrows, saves_context, then_leads, turns}
-use Rattle.fields_follow.proofs.Leaving.{EndsBelow, fields_under, places_under, reaches_again, registers_under, under, within_under}
+use Rattle.fields_follow.proofs.Leading.{HasTests, Led, TestsAre, keeps_tests, led_weaker, loads_tests, named_next, narrows, then_leads, turns}
+use Rattle.fields_follow.proofs.Leaving.{EndsBelow}
 use Rattle.fields_follow.proofs.Meaning.{value_in}
 use Rattle.fields_follow.proofs.Narrowing.{among, among_beside, others, others_beside}
-use Rattle.fields_follow.proofs.Passing.{After, code_longer, fields_longer}
+use Rattle.fields_follow.proofs.Passing.{code_longer, fields_longer}
 use Rattle.fields_follow.proofs.Places.{IsOwnField}
-use Rattle.fields_follow.proofs.TestFlags.{LeavesTests}
-use Rattle.fields_follow.proofs.Testing.{condition_means, condition_tested}
-use Rattle.fields_follow.proofs.Values.{and_entry, next_field, one_more, taken, with_entry}
-
--- code that is made where it grows
-grown_made : {A : Type 0} (d : Draft) (n : ℕ) (P : A → Type 0) (made : Made A) → Grows d n P made → (x : A) × ((e : Draft) × ((made ≡ Makes x e) × ((k : ℕ) × Extended d k e)))
-unfolding Grows
-grown_made d n P (Makes x e) grows = (x, (e, (refl, (n, grows.1))))
-grown_made d n P Fails grows = absurd grows
+use Rattle.fields_follow.proofs.Testing.{condition_means}
 
 -- where the condition gives numbers, the source goes on where they are not zero, and then where they are
 where_means : (scope : Scope) (a : Active) (shape : ℕ) (test : TExpr) (p : Boxed) (first : TStmt) (second : Held-TStmt-If-2) (k : ℕ) (v : ℕ → ℕ) (st : State) → evaluated scope test a st ≡ Gives (Parallel v) st
@@ -62,88 +51,10 @@ where_means scope a shape test p first second k v st is =
     ap (λ (o : Outcome Value). then_do o (λ x after. then_go (executed scope first k (where_nonzero shape x a) after) (else_executed scope second (k + declared first) (where_zero shape x a)))) is
 
 module _ (g : Setting) (has : HasRegisters g) (scope : Scope) (active : Active) (known : KnowsFields g scope active) (alive : Variable → Type 0) (n : ℕ) (ready : (d : Draft) → IsReady g.typed g.instance (layout g) n d) where
-  -- what is said of code that was made
-  after_there : {A : Type 0} (R : A → Draft → Type 0) {made : Made A} (x : A) (e : Draft) → made ≡ Makes x e → After (under g active) R made → Within g e → R x e
-  unfolding After
-  after_there R x e is h w = subst (λ (m : Made _). After (under g active) R m) is h (within_under g active w)
-
   -- what is known of the code of the condition
   where_test : (shape : ℕ) (test : TExpr) (p : Boxed) (first : TStmt) (second : Held-TStmt-If-2) → HasStatementCode g.typed g.instance n (S.Where' shape test p first second) → InField g.typed test × HasCode g.typed g.instance n test
   unfolding IsShapedStatement IsLowerableStatement StatementNamesVariables
   where_test shape test p first second c = (c.lowerable.0, record { shaped = c.shaped.0; lowerable = c.lowerable.1; names = c.names.0 })
-
-  -- the code of `where` takes an entry for the context, and one for the tests
-  module _ (shape : ℕ) (d : Draft) where
-    abbrev entered : Draft
-    entered = with_entry shape 1 W.Own d
-
-    abbrev saved : Field
-    saved = next_field shape 1 d
-
-    abbrev holds : Field
-    holds = next_field shape 1 entered
-
-    abbrev for_test : Draft
-    for_test = with_entry shape 1 W.Own entered
-
-    -- the code of a condition is made
-    abbrev TestMade : TExpr → Type 0
-    TestMade test = (x : Unit {0}) × ((after : Draft) × ((tested g.typed (layout g) test for_test ≡ Makes x after) × ((k : ℕ) × Extended for_test k after)))
-
-    test_made : (test : TExpr) → InField g.typed test → HasItsCode g.typed g.instance alive n test → TestMade test
-    test_made test field c = grown_made for_test _ _ _ ((expressions g.typed g.instance (layout g)).test n test for_test c.code field (ready for_test))
-
-    -- the two entries are no code
-    both_entries : Extended d 0 for_test
-    both_entries = extended d entered for_test 0 0 (and_entry shape 1 W.Own d) (and_entry shape 1 W.Own entered)
-
-    -- the condition's code has been made
-    module _ (after : Draft) (k : ℕ) (longer : Extended for_test k after) where
-      abbrev saves : Draft
-      saves = with_instr (I.StoreContext saved) after
-
-      saved_own : Within g after → IsOwnField g saved
-      saved_own w = taken g shape 1 W.Own d after (0 + k) w (extended entered for_test after 0 k (and_entry shape 1 W.Own entered) longer)
-
-      holds_own : Within g after → IsOwnField g holds
-      holds_own w = taken g shape 1 W.Own entered after k w longer
-
-      -- there are the two entries more
-      entries_more : (length entered.fields ≡ length d.fields + 1) × (length d.fields + 1 + 1 ≤ length after.fields)
-      entries_more = let one = one_more shape 1 W.Own d in let two = one_more shape 1 W.Own entered in let more = fields_longer for_test after k longer in (one, omega (arith, one, two, more))
-
-      code_more_by : length d.code ≤ length after.code
-      code_more_by = code_longer for_test after k longer
-
-      module _ (begun : Begun g d) (s : CodeState) (st : State) where
-        -- it has run
-        condition_leads : (test : TExpr) → IsCondition shape test → HasItsCode g.typed g.instance alive n test → (x : Unit {0}) → At g s (length d.code) → Sim g alive st s → tested g.typed (layout g) test for_test ≡ Makes x after → Within g after
-            → Led g scope active known alive active (λ m. known.kept m × TestsAre g shape active (λ q. value_in (extents g shape) st test q) m) d after s st
-        condition_leads test condition c x at sim is w =
-            let l = after_there (λ u f. LeavesTests (under g active) alive (fields_under g active) for_test s shape st (λ q. value_in (extents g shape) st test q) f) x after is
-            (condition_tested (under g active) (registers_under g active has) alive n ready (places_under g active known.places) (fields_under g active) shape test condition c for_test s st at (sim_open g scope active known alive st s sim)) w in
-            record {
-              grown = (0 + l.leaves.grown.0, extended d for_test after 0 l.leaves.grown.0 both_entries l.leaves.grown.1);
-              t = l.leaves.t;
-              go = reaches_again g active l.leaves.go;
-              at = l.leaves.at;
-              sim = l.leaves.sim;
-              has = (
-                known.lasts s.memory l.leaves.t.memory (λ h first last q inside own ends before early named late.
-                    l.leaves.stays h first last q (let b = begun.fields in let one = one_more shape 1 W.Own d in let two = one_more shape 1 W.Own entered in omega (arith, inside, b, one, two)) own ends before (let b = begun.code in omega (arith, early, b)) named (let up = w.upto in omega (arith, late, up)))
-                    (kept_open g scope active known alive st s sim),
-                l.flags,
-              );
-              keeps = λ r kept. ap (λ (registers : List ℕ). slice_index registers r) l.leaves.registers;
-            }
-
-        -- the context is saved behind it
-        led_saves : (v : ℕ → ℕ) (later : ℕ) → Within g saves → IsNamedAt g.unit saved.offset later → length after.code < later → Led g scope active known alive active (λ m. known.kept m × TestsAre g shape active v m) d after s st
-            → Led g scope active known alive active (λ m. Kept g scope active known alive saved m × TestsAre g shape active v m) d saves s st
-        led_saves v later w named behind_it led =
-            let w_after : Within g after = earlier g after saves 1 (and_one g (I.StoreContext saved) after) w in
-            saves_context g scope active known alive active known.kept g.from g.entries g.upto known.lasts d after s st (λ m. TestsAre g shape active v m) saved later (let b = begun.code in let l = code_more_by in omega (arith, b, l)) begun.fields
-            (let up = w.upto in let one = code_more g (I.StoreContext saved) after in omega (arith, up, one)) (saved_own w_after) refl named behind_it (λ m other same tests p below on. same shape p ∙ tests p below on) w led
 
   -- where nothing is behind `else`
   where_alone : (shape : ℕ) (test : TExpr) (p : Boxed) (first : TStmt) → IsCondition shape test → InField g.typed test → HasItsCode g.typed g.instance alive n test → (f : Frame) (contexts : List Field) → StatementPart KnowsFields g scope alive first n f contexts
@@ -159,20 +70,19 @@ module _ (g : Setting) (has : HasRegisters g) (scope : Scope) (active : Active) 
       let w_saves : Within g save = earlier g save inner 1 (and_one g (I.LogandContextWithTest shape) save) w_inner in
       let w_after : Within g after = earlier g after save 1 (and_one g (I.StoreContext (saved shape d)) after) w_saves in
       let below = own_below g scope active known alive (saved shape d) after w_saves in
-      let own : IsOwnField g (saved shape d) = saved_own shape d after tests.1.1.1.0 tests.1.1.1.1 w_after in
+      let own : IsOwnField g (saved shape d) = saved_own g shape d test tests w_after in
       let stored : IsNamedAt g.unit (saved shape d).offset (length after.code) = named_next g (I.StoreContext (saved shape d)) (saved shape d) after w_saves refl refl in
       let loaded : IsNamedAt g.unit (saved shape d).offset (length e.code) = named_next g (I.LoadContext (saved shape d)) (saved shape d) e w refl refl in
-      let counts = entries_more shape d after tests.1.1.1.0 tests.1.1.1.1 in
-      let low : length d.code ≤ length after.code = code_more_by shape d after tests.1.1.1.0 tests.1.1.1.1 in
+      let counts = entries_more g shape d test tests in
+      let low : length d.code ≤ length after.code = code_more_by g shape d test tests in
       let one : length save.code ≡ length after.code + 1 = code_more g (I.StoreContext (saved shape d)) after in
       let two : length inner.code ≡ length save.code + 1 = code_more g (I.LogandContextWithTest shape) save in
       let fields : length after.fields ≤ length inner.fields = fields_longer after inner 2 inner_more in
       let long : length inner.code ≤ length e.code = code_longer inner e longer.0 longer.1 in
       let lasts : Lasts g (length inner.code) (length inner.fields) (length e.code) (λ m. Kept g scope active known alive (saved shape d) m) =
       kept_lasts g scope active known alive (saved shape d) d (length after.code) (length e.code) (length inner.code) (length inner.fields) (length e.code) begun (omega (arith, low, one, two)) (omega (arith, counts.1, fields)) w_e.upto own below.1 (omega (arith, counts.1, fields)) stored (omega (arith, one, two)) loaded (omega arith) in
-      let led_after : Led g scope active known alive active (λ m. known.kept m × TestsAre g shape active v m) d after s st = condition_leads shape d after tests.1.1.1.0 tests.1.1.1.1 begun s st test condition c tests.0 at sim tests.1.1.0 w_after in
       let led_save : Led g scope active known alive active (λ m. Kept g scope active known alive (saved shape d) m × TestsAre g shape active v m) d save s st =
-      led_saves shape d after tests.1.1.1.0 tests.1.1.1.1 begun s st v (length e.code) w_saves loaded (omega (arith, one, two, long)) led_after in
+      context_led g shape d test tests scope active known alive begun s st has n ready condition c at sim (length e.code) w_saves loaded (omega (arith, one, two, long)) in
       let led_inner : Led g scope active known alive (among shape v active) (λ m. Kept g scope active known alive (saved shape d) m) d inner s st =
       narrows g scope active known alive active (λ m. Kept g scope active known alive (saved shape d) m) (length inner.code) (length inner.fields) (length e.code) lasts d save s st shape v w_inner led_save in
       follows_same g (Arrives g scope active known alive d s) s (where_means scope active shape test p first None' n v st (condition_means g scope known.places known.same_extents alive n active shape test st condition c below.0)) refl
@@ -187,8 +97,8 @@ module _ (g : Setting) (has : HasRegisters g) (scope : Scope) (active : Active) 
       o : Outcome Leaving
       o = executed scope (S.Where' shape test p first None') n active st
 
-      tests : TestMade shape d test
-      tests = test_made shape d test field c
+      tests : TestMade g shape d test
+      tests = test_made g shape d test alive n ready field c
 
       after : Draft
       after = tests.1.0
@@ -246,15 +156,15 @@ module _ (g : Setting) (has : HasRegisters g) (scope : Scope) (active : Active) 
       let w_after : Within g after = earlier g after save 1 (and_one g (I.StoreContext saved_in) after) w_save in
       let below = own_below g scope active known alive saved_in after w_save in
       let below_test : EndsBelow g holds_in = test_below g scope active known alive holds_in save w_keep in
-      let own : IsOwnField g saved_in = saved_own shape d after tests.1.1.1.0 tests.1.1.1.1 w_after in
-      let own_test : IsOwnField g holds_in = holds_own shape d after tests.1.1.1.0 tests.1.1.1.1 w_after in
+      let own : IsOwnField g saved_in = saved_own g shape d test tests w_after in
+      let own_test : IsOwnField g holds_in = holds_own g shape d test tests w_after in
       let stored : IsNamedAt g.unit saved_in.offset (length after.code) = named_next g (I.StoreContext saved_in) saved_in after w_save refl refl in
       let stored_test : IsNamedAt g.unit holds_in.offset (length save.code) = named_next g (I.StoreTest holds_in) holds_in save w_keep refl refl in
       let loaded : IsNamedAt g.unit saved_in.offset (length e.code) = named_next g (I.LoadContext saved_in) saved_in e w_back refl refl in
       let loaded_test : IsNamedAt g.unit holds_in.offset (length back.code) = named_next g (I.LoadTest holds_in) holds_in back w_loads refl refl in
       let loaded_last : IsNamedAt g.unit saved_in.offset (length h.code) = named_next g (I.LoadContext saved_in) saved_in h w refl refl in
-      let counts = entries_more shape d after tests.1.1.1.0 tests.1.1.1.1 in
-      let low : length d.code ≤ length after.code = code_more_by shape d after tests.1.1.1.0 tests.1.1.1.1 in
+      let counts = entries_more g shape d test tests in
+      let low : length d.code ≤ length after.code = code_more_by g shape d test tests in
       let one : length save.code ≡ length after.code + 1 = code_more g (I.StoreContext saved_in) after in
       let two : length keep.code ≡ length save.code + 1 = code_more g (I.StoreTest holds_in) save in
       let three : length inner.code ≡ length keep.code + 1 = code_more g (I.LogandContextWithTest shape) keep in
@@ -274,9 +184,8 @@ module _ (g : Setting) (has : HasRegisters g) (scope : Scope) (active : Active) 
       let lasts_late : Lasts g (length turns_back.code) (length turns_back.fields) (length h.code) (λ m. Kept g scope active known alive saved_in m) =
       kept_lasts g scope active known alive saved_in d (length after.code) (length h.code) (length turns_back.code) (length turns_back.fields) (length h.code) begun (omega (arith, low, one, two, three, long, four, five)) (omega (arith, counts.1, fields, more_fields)) w_f.upto own below.1 (omega (arith, counts.1, fields, more_fields)) stored
       (omega (arith, one, two, three, long, four, five)) loaded_last (omega arith) in
-      let led_after : Led g scope active known alive active (λ m. known.kept m × TestsAre g shape active v m) d after s st = condition_leads shape d after tests.1.1.1.0 tests.1.1.1.1 begun s st test condition c tests.0 at sim tests.1.1.0 w_after in
       let led_save : Led g scope active known alive active (λ m. Kept g scope active known alive saved_in m × TestsAre g shape active v m) d save s st =
-      led_saves shape d after tests.1.1.1.0 tests.1.1.1.1 begun s st v (length e.code) w_save loaded (omega (arith, one, two, three, long)) led_after in
+      context_led g shape d test tests scope active known alive begun s st has n ready condition c at sim (length e.code) w_save loaded (omega (arith, one, two, three, long)) in
       let led_keep : Led g scope active known alive active (λ m. KeptTests m × TestsAre g shape active v m) d keep s st =
       keeps_tests g scope active known alive active (λ m. Kept g scope active known alive saved_in m) (length save.code) (length (entered shape d).fields) (length keep.code) lasts_early d save s st v holds_in (length back.code) (omega arith) (omega arith) (omega (arith, two)) own_test refl loaded_test (omega (arith, two, three, long, four)) w_keep led_save in
       let led_inner : Led g scope active known alive (among shape v active) (λ m. KeptTests m) d inner s st = narrows g scope active known alive active (λ m. KeptTests m) (length inner.code) (length inner.fields) (length e.code) lasts d keep s st shape v w_inner led_keep in
@@ -306,8 +215,8 @@ module _ (g : Setting) (has : HasRegisters g) (scope : Scope) (active : Active) 
       KeptTests : BitMemory → Type 0
       KeptTests memory = Kept g scope active known alive saved_in memory × HasTests g active v holds_in memory
 
-      tests : TestMade shape d test
-      tests = test_made shape d test field c
+      tests : TestMade g shape d test
+      tests = test_made g shape d test alive n ready field c
 
       after : Draft
       after = tests.1.0

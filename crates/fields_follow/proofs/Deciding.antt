@@ -4,11 +4,9 @@ use Rattle.std.proofs.Common.{◌≡◌, ◌∙◌, ℕ, ◌<◌, ◌%◌, ◌^�
 use Rattle.std.specs.Int.{from_bool}
 use Rattle.std.specs.Prelude.{unwrap_or}
 use Rattle.cstar_base.specs.declared.operators.Op.{Op}
-use Rattle.cstar_base.specs.declared.operators.Op.TheVariants as P
 use Rattle.cstar_base.specs.declared.operators.Place.{Place}
 use Rattle.cstar_base.specs.Numbers.{number_of, residue}
-use Rattle.cstar_base.specs.Operators.{divides, outcome}
-use Rattle.cstar_tree.specs.declared.syntax.AssignOp.{AssignOp}
+use Rattle.cstar_base.specs.Operators.{divides}
 use Rattle.cstar_tree.specs.declared.typed.TExpr.{TExpr}
 use Rattle.cstar_tree.specs.declared.typed.TExpr as T
 use Rattle.cstar_tree.specs.declared.typed.UnaryOp.{UnaryOp}
@@ -18,17 +16,14 @@ use Rattle.cstar_tree.specs.declared.typed.Variable.{Variable}
 use Rattle.code_lengths.specs.Ready.{IsReady}
 use Rattle.lower_base.specs.declared.emit.Out.{Out}
 use Rattle.lower_base.specs.declared.emit.Out.TheVariants as O
-use Rattle.lower_base.specs.declared.operators.Machine.{Machine}
-use Rattle.lower_base.specs.Drafts.{Draft, Fails, Made, Makes, a_field, an_entry, in_field, step as step_of, then_make, with_instr}
+use Rattle.lower_base.specs.Drafts.{Draft, Fails, Made, Makes, a_field, an_entry, step as step_of, then_make, with_instr}
 use Rattle.lower_base.specs.Kinds.{bits_of, kind_of}
-use Rattle.lower_base.specs.Operators.{machine_of, negates, relates}
-use Rattle.lower_expr.specs.declared.steps.Right.{Right}
-use Rattle.lower_expr.specs.declared.steps.Right.TheVariants as R
+use Rattle.lower_base.specs.Operators.{negates, relates}
 use Rattle.lower_expr.specs.Effects.{binary_to, bits_for, computed_to, field_binary_to, fits_field, moved, put_to}
 use Rattle.lower_expr.specs.Kinds.{done_as, operand_bits, operation_bits, reads_signed, relation_kind, unary_bits}
 use Rattle.lower_expr.specs.Operands.{is_plus, is_quiet, operand_by}
-use Rattle.lower_expr.specs.Steps.{field_negated, fields_operated, has_truth, negated, on_fields, on_word, put_test, right_operated, with_field_check, word_for, word_of, word_put}
-use Rattle.lower_expr.specs.Values.{Code, compared, field_binary_of, fields_by, next_of, relation_by, right_by, tested, tested_by, truth_of, value_of, zero_tested}
+use Rattle.lower_expr.specs.Steps.{has_truth, put_test, word_for, word_of, word_put}
+use Rattle.lower_expr.specs.Values.{Code, field_binary_of, fields_by, next_of, relation_by, tested, tested_by, truth_of, value_of, zero_tested}
 use Rattle.paris_code.specs.declared.instr.Instr.{Instr}
 use Rattle.paris_code.specs.declared.instr.Instr.TheVariants as I
 use Rattle.paris_code.specs.declared.operands.Field.{Field}
@@ -43,14 +38,14 @@ use Rattle.source_meaning.proofs.ConstantLaws.{Boxed}
 use Rattle.code_follows.proofs.Following.{Extends, HasRegisters, Sim}
 use Rattle.code_follows.proofs.Settings.{At, Setting, Within, and_one, layout}
 use Rattle.fields_follow.specs.Fragment.{IsCondition, IsTruth}
-use Rattle.fields_follow.proofs.ConditionCode.{Truth, flag_after, stored_behind}
+use Rattle.fields_follow.proofs.ConditionCode.{Truth, flag_after, put_in, relation_put, stored_behind, zero_put}
 use Rattle.fields_follow.proofs.Forms.{HasItsCode}
 use Rattle.fields_follow.proofs.Instructions.{Puts, SameExtents, extents, number_in, place, shapes}
 use Rattle.fields_follow.proofs.Meaning.{value_in}
+use Rattle.fields_follow.proofs.Leaving.{PassesTests}
 use Rattle.fields_follow.proofs.Passing.{After, Behind, after_same, flags_of, made_after, names_second, then_after}
-use Rattle.fields_follow.proofs.PassingTests.{PassesTests}
 use Rattle.fields_follow.proofs.Places.{HoldsTheFields, PlacesFields, stands_here}
-use Rattle.fields_follow.proofs.TestFlags.{compares, truth_is}
+use Rattle.fields_follow.proofs.TestFlags.{is_truth, truth_is}
 use Rattle.fields_follow.proofs.Testing.{condition_means, condition_tested}
 
 -- ---- what is known of a truth value
@@ -64,7 +59,7 @@ truth_condition set _ is = absurd is
 
 -- it is 0 or 1
 truth_bit : (extents : _) (st : State) (set : ℕ) (e : TExpr) (x : ℕ) → IsTruth set e → value_in extents st e x ≡ from_bool (nonzero (value_in extents st e x))
-unfolding IsTruth value_in unary_of negates relates outcome
+unfolding IsTruth value_in unary_of negates
 truth_bit extents st set (T.Brackets' ty p inner) x is = truth_bit extents st set inner x is.1
 truth_bit extents st set (T.Unary' ty op p operand) x is = by op is.1
   where
@@ -73,16 +68,7 @@ truth_bit extents st set (T.Unary' ty op p operand) x is = by op is.1
     by U.Plus e = cc
     by U.Minus e = cc
     by U.Complement e = cc
-truth_bit extents st set (T.Binary' ty place op p left q right) x is = by op is.0 _ _ _
-  where
-    by : (op : Op) → relates op ≡ true → (unsigned : Bool) (a b : ℕ) → outcome op 32 unsigned a b ≡ from_bool (nonzero (outcome op 32 unsigned a b))
-    by P.Eq e unsigned a b = truth_is _
-    by P.Ne e unsigned a b = truth_is _
-    by P.Lt e unsigned a b = truth_is _
-    by P.Le e unsigned a b = truth_is _
-    by P.Gt e unsigned a b = truth_is _
-    by P.Ge e unsigned a b = truth_is _
-    by _ e unsigned a b = cc
+truth_bit extents st set (T.Binary' ty place op p left q right) x is = is_truth op 32 _ _ _ is.0
 truth_bit extents st set _ x is = absurd is
 
 -- the test flags tell it, and it is no constant
@@ -102,10 +88,6 @@ truth_word set _ is = absurd is
 
 -- ---- what its code is
 
--- behind its test the test flags go to a field
-abbrev put_in : Field → Unit {0} → Draft → Made Out
-put_in f _ e = put_test f e
-
 abbrev word_field : ℕ → ℕ → Field
 word_field set offset = record { set = set; offset = offset; len = 32 }
 
@@ -118,43 +100,7 @@ unfolding then_make put_test an_entry
 through_bit set offset (Makes x e) = refl
 through_bit set offset Fails = refl
 
--- a relation
-right_put : (op : Op) (signed : Bool) (place : Place) (f a : Field) (b : Right) (spare : Field) (e : Draft) → relates op ≡ true → divides op ≡ false
-    → right_operated op signed place f a b spare e ≡ then_make (compared (machine_of op signed) a b spare e) (put_in f)
-unfolding right_operated fields_operated on_fields on_word with_field_check compared then_make
-right_put op signed place f a (R.Field b) spare e related no_check =
-    ap (λ (c : Bool). on_fields (machine_of op signed) f a b (if c then with_instr (I.CheckDivisor place b) e else e)) no_check
-    ∙ ap (λ (m : Machine). on_fields m f a b e) (compares op signed related).is ∙ sym (ap (λ (m : Machine). then_make (compared m a (R.Field b) spare e) (put_in f)) (compares op signed related).is)
-right_put op signed place f a (R.Word k) spare e related no_check =
-    ap (λ (m : Machine). on_word m op place f a k spare e) (compares op signed related).is
-    ∙ ap (λ (c : Bool). put_test f (with_instr (I.Compare (compares op signed related).relation a spare) (if c then with_instr (I.CheckDivisor place spare) (with_instr (I.MoveConstant spare k) e) else with_instr (I.MoveConstant spare k) e))) no_check
-    ∙ sym (ap (λ (m : Machine). then_make (compared m a (R.Word k) spare e) (put_in f)) (compares op signed related).is)
-
--- what is put behind two pieces
-both_put : (f : Field) (first : Made Field) (second : Draft → Made Right) (whole : Field → Right → Draft → Made Out) (test : Field → Right → Draft → Made (Unit {0})) → ((a : Field) (b : Right) (e : Draft) → whole a b e ≡ then_make (test a b e) (put_in f))
-    → then_make first (λ a e. then_make (second e) (λ b after. whole a b after)) ≡ then_make (then_make first (λ a e. then_make (second e) (λ b after. test a b after))) (put_in f)
-unfolding then_make
-both_put f Fails second whole test same = refl
-both_put f (Makes a e) second whole test same = by (second e)
-  where
-    by : (made : Made Right) → then_make made (λ b after. whole a b after) ≡ then_make (then_make made (λ b after. test a b after)) (put_in f)
-    by Fails = refl
-    by (Makes b after) = same a b after
-
-relation_put : (set : ℕ) (op : Op) (place : Place) (f : Field) (first : Code) (left : TExpr) (second : Code) (right : TExpr) (d : Draft) → relates op ≡ true → divides op ≡ false
-    → then_make (a_field set (bits_of (relation_kind left right)) d) (λ spare after. fields_by op (reads_signed op left right) place f spare first left second right after) ≡ then_make (relation_by set op first left second right d) (put_in f)
-unfolding relation_by fields_by then_make an_entry
-relation_put set op place f first left second right d related no_check = both_put f _ (λ e. right_by second op right e) _ _ (λ a b e. right_put op (reads_signed op left right) place f a b _ e related no_check)
-
 module _ (g : Setting) where
-  -- `!`
-  zero_put : (f : Field) (made : Made Out) → then_make made (λ v after. negated (layout g) U.Not (O.Field f) v after) ≡ then_make (then_make made (λ v after. in_field v (λ source. Makes tt (with_instr (I.EqZero source) after)))) (put_in f)
-  unfolding then_make negated in_field field_negated
-  zero_put f (Makes (O.Field h) e) = refl
-  zero_put f (Makes (O.Scalar r) e) = refl
-  zero_put f (Makes O.Nothing e) = refl
-  zero_put f Fails = refl
-
   relation_code : (set offset : ℕ) (ty : ValueType) (place : Place) (op : Op) (p q : Boxed) (left right : TExpr) (d : Draft) → ty.shape ≡ Some set → relates op ≡ true → divides op ≡ false
       → computed_to g.typed (layout g) (O.Field (word_field set offset)) (T.Binary' ty place op p left q right) d ≡ then_make (truth_of g.typed (layout g) (T.Binary' ty place op p left q right) d) (put_in (word_field set offset))
   unfolding computed_to binary_to field_binary_to field_binary_of truth_of fits_field operand_bits
@@ -182,7 +128,7 @@ module _ (g : Setting) where
     where
       by : (op : UnaryOp) → negates op ≡ true
           → computed_to g.typed (layout g) (O.Field (word_field set offset)) (T.Unary' ty op p operand) d ≡ then_make (truth_of g.typed (layout g) (T.Unary' ty op p operand) d) (put_in (word_field set offset))
-      by U.Not e = zero_put (word_field set offset) (next_of g.typed (layout g) (bits_of (kind_of operand)) true operand d)
+      by U.Not e = zero_put (layout g) (word_field set offset) (next_of g.typed (layout g) (bits_of (kind_of operand)) true operand d)
       by U.Plus e = cc
       by U.Minus e = cc
       by U.Complement e = cc

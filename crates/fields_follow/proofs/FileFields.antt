@@ -200,7 +200,7 @@ pub translated : (t : Typed) (image : Image) (c : IsCompiled t image) → IsSoun
 translated t image c sound = record { lowered = c.lowered.as_described; over = c.placed; linked = c.linked; sound = sound }
 
 -- what the memory begins with, but for the winner
-abbrev pub AreFresh : List SetShape → BitMemory → Type 0
+abbrev AreFresh : List SetShape → BitMemory → Type 0
 AreFresh shapes m = (set position index : ℕ) → set < length shapes → position < processors shapes set → index < bits_at shapes set + 2 → m.bit set position index ≡ (fresh_memory shapes).bit set position index
 
 zero_run : (bits : ℕ → ℕ) (offset n : ℕ) → ((j : ℕ) → j < n → bits (offset + j) ≡ 0) → run_number bits offset n ≡ 0
@@ -228,7 +228,7 @@ unfolding is_active
 fresh_active shapes m set p fresh within below = ap (λ (n : ℕ). n == 1) (fresh set p (bits_at shapes set) within below (omega arith) ∙ fresh_context shapes set p)
 
 -- a field of the set's bits holds 0 at first
-pub fresh_zero : (shapes : List SetShape) (m : BitMemory) (f : Field) (p : ℕ) → AreFresh shapes m → f.set < length shapes → f.offset + f.len ≤ bits_at shapes f.set → p < processors shapes f.set → field_number m f p ≡ 0
+fresh_zero : (shapes : List SetShape) (m : BitMemory) (f : Field) (p : ℕ) → AreFresh shapes m → f.set < length shapes → f.offset + f.len ≤ bits_at shapes f.set → p < processors shapes f.set → field_number m f p ≡ 0
 unfolding field_number
 fresh_zero shapes m f p fresh within ends below =
     zero_run (m.bit f.set p) f.offset f.len (λ j inside. fresh f.set p (f.offset + j) within below (omega arith) ∙ fresh_below shapes f.set p (f.offset + j) (omega arith))
@@ -300,7 +300,7 @@ module _ (t : Typed) (words : List ℕ) (before after : Program) (image : Image)
   same_final k e last is = ap field_or_none is
 
   -- its set and its length
-  pub file_set : (k : ℕ) (info : VarInfo) (set e : ℕ) → IsElement t k info set e → (file_field t image k e).set ≡ set
+  file_set : (k : ℕ) (info : VarInfo) (set e : ℕ) → IsElement t k info set e → (file_field t image k e).set ≡ set
   file_set k info set e is = let f = final_there k info set e is in ap (λ (x : Field). x.set) (same_final k e f.last f.there) ∙ f.of.set_is
 
   final_fits : (n : ℕ) (last : Final) → slice_get image.finals.items n ≡ Some last → FieldExists (shapes_of image) last.field × Fits (shapes_of image) last.field
@@ -322,7 +322,7 @@ module _ (t : Typed) (words : List ℕ) (before after : Program) (image : Image)
       (let long = sets_long in let low : other.field.set < length (shapes_of image) = (final_fits (file_number t j d) other also).0 in omega (arith, long, low))
 
   -- an element has one number, and no other has it
-  pub one_number : (k : ℕ) (info : VarInfo) (set e j : ℕ) (other : VarInfo) (also d : ℕ) → IsElement t k info set e → IsElement t j other also d → file_number t k e ≡ file_number t j d → (k ≡ j) × (e ≡ d)
+  one_number : (k : ℕ) (info : VarInfo) (set e j : ℕ) (other : VarInfo) (also d : ℕ) → IsElement t k info set e → IsElement t j other also d → file_number t k e ≡ file_number t j d → (k ≡ j) × (e ≡ d)
   one_number k info set e j other also d one two same = by (cases_lt k j) (cases_lt j k)
     where
       by : (k < j) ⊎ (j ≤ k) → (j < k) ⊎ (k ≤ j) → (k ≡ j) × (e ≡ d)

@@ -1,9 +1,10 @@
 -- What the instructions on contexts and test flags do.
-use Rattle.std.proofs.Common.{◌≡◌, ◌≢◌, ◌∙◌, ℕ, ◌+◌, ◌-◌, ◌%◌, ◌<◌, ◌≤◌, ◌^◌, ◌⊎◌, inl, inr, Bool, true, false, not, ◌&&◌, ◌==◌, Any, List, [], ◌∷◌, length, refl, sym, ap, subst, arith}
+use Rattle.std.proofs.Common.{◌≡◌, ◌≢◌, ◌∙◌, ℕ, ◌+◌, ◌-◌, ◌%◌, ◌<◌, ◌≤◌, ◌^◌, ◌⊎◌, inl, inr, Bool, true, false, not, ◌&&◌, ◌==◌, List, [], ◌∷◌, length, refl, sym, ap, subst, arith}
 use Rattle.std.specs.Int.{bit_at, from_bool}
 use Rattle.std.proofs.lemmas.Bool.{cases_eq}
 use Rattle.std.proofs.lemmas.Nat.Bits.{bit_at_lowest}
 use Rattle.cstar_tree.specs.declared.typed.Variable.{Variable}
+use Rattle.constant_trees.proofs.Bringing.{both_true, left_false, right_false}
 use Rattle.lower_base.specs.Drafts.{Draft, Plain, step as step_of, with_instr}
 use Rattle.paris_code.specs.declared.instr.Instr.{Instr}
 use Rattle.paris_code.specs.declared.instr.Instr.TheVariants as I
@@ -12,19 +13,18 @@ use Rattle.paris_code.specs.Code.{CodeState, Goes, applied, begun}
 use Rattle.paris_code.specs.Meaning.{after}
 use Rattle.paris_code.specs.Memory.{BitMemory, bit_run, context_run, field_number, is_active, is_tested, processors, test_run}
 use Rattle.paris_code.specs.Shapes.{SetShape, bits_at}
-use Rattle.paris_code.specs.Spans.{IsNamedAt, StandsAt, entry_of, fields_of}
+use Rattle.paris_code.specs.Spans.{IsNamedAt, StandsAt, fields_of}
 use Rattle.paris_code.specs.Writes.{Write, covers, written}
 use Rattle.source_meaning.specs.State.{State}
 use Rattle.source_meaning.specs.Values.{Active}
 use Rattle.code_follows.proofs.Following.{Sim}
 use Rattle.code_follows.proofs.Settings.{At, Reaches, Setting, Within, at_next, begins_here, one, placed_instr}
-use Rattle.fields_follow.proofs.Bits.{active_apart, and_both, and_first, covers_flag, field_apart, field_written, if_false, if_true}
-use Rattle.fields_follow.proofs.Fields.{HoldsFields}
+use Rattle.fields_follow.proofs.Bits.{active_apart, covers_flag, field_apart, field_written, if_false, if_true}
 use Rattle.fields_follow.proofs.FileFields.{Apart, apart_back}
 use Rattle.fields_follow.proofs.Instructions.{number_in, place, shapes, wrote}
-use Rattle.fields_follow.proofs.Leaving.{EndsBelow, under}
+use Rattle.fields_follow.proofs.Leaving.{EndsBelow, sim_saying, under}
 use Rattle.fields_follow.proofs.Named.{NamesFields}
-use Rattle.fields_follow.proofs.Places.{IsOwnField, PlacesFields, of_file, stands_here}
+use Rattle.fields_follow.proofs.Places.{IsOwnField, PlacesFields, names_first, of_file, stands_here}
 
 -- the bit of a truth value
 pub bit_is : (x : Bool) → (from_bool x % 2 == 1) ≡ x
@@ -34,10 +34,6 @@ bit_is false = refl
 pub bit_fits : (x : Bool) (len : ℕ) → len ≡ 1 → from_bool x % 2 ^ len ≡ from_bool x
 bit_fits true len e = ap (λ (n : ℕ). 1 % 2 ^ n) e
 bit_fits false len e = ap (λ (n : ℕ). 0 % 2 ^ n) e
-
-and_second : (a b : Bool) → b ≡ false → (a && b) ≡ false
-and_second true b e = e
-and_second false b e = refl
 
 -- ---- one bit of a set
 
@@ -60,17 +56,17 @@ module _ (set index : ℕ) (writes : ℕ → Bool) (value : ℕ → ℕ) (m : Bi
   bit_taken : writes p ≡ true → (written (written_to (bit_run set index) writes value) m).bit set p index ≡ value p % 2
   unfolding written
   bit_taken e =
-      if_true (covers (bit_run set index) set index && writes p) _ _ (and_both _ _ (covers_bit set index) e)
+      if_true (covers (bit_run set index) set index && writes p) _ _ (both_true _ _ (covers_bit set index) e)
       ∙ ap (λ (k : ℕ). bit_at (value p) k) (let k : index - index ≡ 0 = omega arith in k) ∙ bit_at_lowest (value p)
 
   bit_kept : writes p ≡ false → (written (written_to (bit_run set index) writes value) m).bit set p index ≡ m.bit set p index
   unfolding written
-  bit_kept e = if_false (covers (bit_run set index) set index && writes p) _ _ (and_second _ _ e)
+  bit_kept e = if_false (covers (bit_run set index) set index && writes p) _ _ (right_false _ _ e)
 
 -- a bit that a write doesn't reach
 bit_apart : (w : Write) (m : BitMemory) (set p index : ℕ) → covers w.run set index ≡ false → (written w m).bit set p index ≡ m.bit set p index
 unfolding written
-bit_apart w m set p index e = if_false (covers w.run set index && w.writes p) _ _ (and_first _ _ e)
+bit_apart w m set p index e = if_false (covers w.run set index && w.writes p) _ _ (left_false _ _ e)
 
 -- a write that ends below the flags leaves test flags
 tested_apart : (shapes : List SetShape) (w : Write) (m : BitMemory) (set p : ℕ) → w.run.offset + w.run.len ≤ bits_at shapes w.run.set → is_tested shapes (written w m) set p ≡ is_tested shapes m set p
@@ -84,7 +80,7 @@ module _ (shapes : List SetShape) (set : ℕ) (writes : ℕ → Bool) (value : �
   abbrev to_context : BitMemory
   to_context = written (written_to (context_run shapes set) writes value) m
 
-  abbrev pub to_test : BitMemory
+  abbrev to_test : BitMemory
   to_test = written (written_to (test_run shapes set) writes value) m
 
   context_taken : writes p ≡ true → is_active shapes to_context set p ≡ (value p % 2 == 1)
@@ -112,22 +108,6 @@ module _ (shapes : List SetShape) (set : ℕ) (writes : ℕ → Bool) (value : �
       by (inr differ) = covers_other (test_run shapes set) q (bits_at shapes q) differ
 
 module _ (g : Setting) (places : PlacesFields g) (alive : Variable → Type 0) (a : Active) where
-  -- the same registers, and a memory that holds the state's fields where other positions may be active
-  with_fields : (b : Active) (st : State) (s : CodeState) (w : Write) → HoldsFields g.typed g.image b st (written w s.memory) → Sim (under g a) alive st s → Sim (under g b) alive st (wrote g w s)
-  with_fields b st s w holds h = record {
-    registers = h.registers;
-    scalars = h.scalars;
-    small = h.small;
-    constants = h.constants;
-    turns = h.turns;
-    output = h.output;
-    input = h.input;
-    returns = h.returns;
-    few = h.few;
-    bytes = h.bytes;
-    memory = holds;
-  }
-
   -- ---- a field takes flags
 
   -- Behind an instruction by which an own entry takes numbers at some positions: contexts and test flags are as they
@@ -155,7 +135,7 @@ module _ (g : Setting) (places : PlacesFields g) (alive : Variable → Type 0) (
     there = stands_here g i e within plain
 
     named_here : IsNamedAt g.unit d.offset (length e.code)
-    named_here = (i, there, subst (λ (xs : List Field). Any (λ (f : Field). entry_of f ≡ d.offset) xs) (sym names) (0, d, omega arith, refl, refl))
+    named_here = names_first g i d others (length e.code) there names
 
     d_ends : (d.set < length (shapes g)) × EndsBelow g d
     d_ends = places.ends (length e.code) i d others there plain simple names
@@ -180,7 +160,7 @@ module _ (g : Setting) (places : PlacesFields g) (alive : Variable → Type 0) (
       go = one g s (wrote g write s) (begins_here g i e s within plain here ∙ goes);
       at = at_next g i e s (s.at + 1) here refl;
       registers = refl;
-      sim = with_fields a st s write (record {
+      sim = sim_saying g alive st s (s.at + 1) (written write s.memory) (record {
         numbers = λ k element q p info is below. elsewhere (of_file g k element) p (places.own_file k element q info d is own) ∙ sim.memory.numbers k element q p info is below;
         small = sim.memory.small;
         flags = λ q p within_sets below. active_apart (shapes g) write s.memory q p d_ends.1 ∙ sim.memory.flags q p within_sets below;
@@ -250,7 +230,7 @@ module _ (g : Setting) (places : PlacesFields g) (alive : Variable → Type 0) (
       go = one g s (wrote g flag s) (begins_here g i e s within plain here ∙ goes);
       at = at_next g i e s (s.at + 1) here refl;
       registers = refl;
-      sim = with_fields b st s flag (record {
+      sim = sim_saying g alive st s (s.at + 1) (written flag s.memory) (record {
         numbers = λ k element q p info is below. field_still (of_file g k element) p (places.files_end k element q info is) ∙ sim.memory.numbers k element q p info is below;
         small = sim.memory.small;
         flags = flags;

@@ -193,7 +193,7 @@ module _ (g : Setting) (alive : Variable → Type 0) (n : ℕ) where
 
   module _ (has : HasRegisters g) (scope : Scope) (places : PlacesFields g) (fields : HoldsTheFields g) (stand : OperandsStand g alive n) (same_extents : SameExtents g scope) where
     -- it gives something in the source, and its code leaves the state behind it
-    abbrev pub OntoLeaves : TExpr → Draft → CodeState → State → Type 0
+    abbrev OntoLeaves : TExpr → Draft → CodeState → State → Type 0
     OntoLeaves e d s st = (v : Value) × ((u : State) × ((evaluated scope e fields.active st ≡ Source.Gives v u) × After g (λ out f. LeavesScalars g alive d s st u f) (effect_of g.typed (layout g) e d)))
 
     pub onto_leaves : (e : TExpr) → IsFoldOnto e → HasItsCode g.typed g.instance alive n e → (d : Draft) (s : CodeState) (st : State) → g.begins ≤ d.regs → At g s (length d.code) → Sim g alive st s → OntoLeaves e d s st

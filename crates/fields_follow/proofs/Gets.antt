@@ -1,5 +1,6 @@
 -- The code of a get from neighbours round the ends of the grid: steps by NEWS that are not checked.
 use Rattle.std.proofs.Common.{◌≡◌, ◌∙◌, ℕ, suc, ◌+◌, ◌<◌, ◌==◌, ◌&&◌, Bool, true, false, List, [], ◌∷◌, ◌++◌, length, Option, Some, refl, sym, ap, subst, arith, if◌then◌else◌, append_assoc, length-append}
+use Rattle.std.proofs.Math.Seq.{get_or-append_seam, set-append_seam}
 use Rattle.std.specs.Prelude.{is_some, slice_index, slice_set}
 use Rattle.std.proofs.lemmas.Bool.{eqb-true}
 use Rattle.cstar_base.specs.Numbers.{number_of}
@@ -43,15 +44,6 @@ wrapping_unchecked set axis end_of-TExpr are = refl
 wrapping_unchecked set axis (more_of-TExpr index rest) are =
     ap (λ (steps : List GridStep). steps ++ grid_steps set (axis + 1) (items-the_row-TExpr _ rest)) (unchecked axis (step_of set axis index) are.0.1.0 are.0.1.1.0 are.0.1.1.1) ∙ wrapping_unchecked set (axis + 1) rest are.1
 
--- the place behind the front of a list
-set_behind : (front : List ℕ) (c d : ℕ) (back : List ℕ) → slice_set (front ++ c ∷ back) (length front) d ≡ front ++ d ∷ back
-set_behind [] c d back = refl
-set_behind (x ∷ front) c d back = ap (λ (xs : List ℕ). x ∷ xs) (set_behind front c d back)
-
-index_behind : (front : List ℕ) (c : ℕ) (back : List ℕ) → slice_index (front ++ c ∷ back) (length front) ≡ c
-index_behind [] c back = refl
-index_behind (x ∷ front) c back = index_behind front c back
-
 module _ (g : Setting) (set : ℕ) (positive : are_positive (extents g set) ≡ true) where
   abbrev xs : List ℕ
   xs = extents g set
@@ -77,7 +69,7 @@ module _ (g : Setting) (set : ℕ) (positive : are_positive (extents g set) ≡ 
       low = moved_within (slice_index xs axis) (coordinate xs q axis) (number_of 32 true step.by) (extent_positive xs axis positive there)
 
       put : slice_set (front ++ c ∷ behind) axis m ≡ front ++ m ∷ behind
-      put = ap (λ (n : ℕ). slice_set (front ++ c ∷ behind) n m) at ∙ set_behind front c m behind
+      put = ap (λ (n : ℕ). slice_set (front ++ c ∷ behind) n m) at ∙ set-append_seam front c behind m
 
       still_inside : are_inside xs (front ++ m ∷ behind) ≡ true
       still_inside = ap (are_inside xs) (sym put) ∙ inside_after_set xs (front ++ c ∷ behind) axis m inside there low
@@ -96,7 +88,7 @@ module _ (g : Setting) (set : ℕ) (positive : are_positive (extents g set) ≡ 
         still_inside,
         ap (λ (n : ℕ). number_at xs (slice_set (coordinates xs n) axis (moved (slice_index xs axis) (slice_index (coordinates xs n) axis) (number_of 32 true step.by)))) same
             ∙ ap (λ (cs : List ℕ). number_at xs (slice_set cs axis (moved (slice_index xs axis) (slice_index cs axis) (number_of 32 true step.by)))) all_coordinates
-            ∙ ap (λ (n : ℕ). number_at xs (slice_set (front ++ c ∷ behind) axis (moved (slice_index xs axis) n (number_of 32 true step.by)))) (ap (slice_index (front ++ c ∷ behind)) at ∙ index_behind front c behind ∙ sym own)
+            ∙ ap (λ (n : ℕ). number_at xs (slice_set (front ++ c ∷ behind) axis (moved (slice_index xs axis) n (number_of 32 true step.by)))) (ap (slice_index (front ++ c ∷ behind)) at ∙ get_or-append_seam front c behind 0 ∙ sym own)
             ∙ ap (number_at xs) put,
       )
 
@@ -110,7 +102,7 @@ module _ (g : Setting) (set : ℕ) (positive : are_positive (extents g set) ≡ 
       let (moves, inside, same) = wrapping_leads (axis + 1) rest (front ++ c ∷ []) back q below are.1 (ap (λ (n : ℕ). n + 1) at ∙ sym (length-append front (c ∷ []))) (all ∙ sym (append_assoc front (c ∷ []) back)) (let l = long in omega (arith, l)) in
       let behind : List ℕ = coordinates_behind xs set (axis + 1) (items-the_row-TExpr _ rest) q in
       let joined : (front ++ c ∷ []) ++ behind ≡ front ++ c ∷ behind = append_assoc front (c ∷ []) behind in
-      let own : coordinate xs q axis ≡ c = ap (slice_index (coordinates xs q)) at ∙ ap (λ (cs : List ℕ). slice_index cs (length front)) all ∙ index_behind front c back in
+      let own : coordinate xs q axis ≡ c = ap (slice_index (coordinates xs q)) at ∙ ap (λ (cs : List ℕ). slice_index cs (length front)) all ∙ get_or-append_seam front c back 0 in
       let there : axis < length xs = (let a = length-coordinates xs q in let b : length (coordinates xs q) ≡ length front + length (c ∷ back) = ap length all ∙ length-append front (c ∷ back) in omega (arith, a, b, at)) in
       subst (λ (o : Option NewsStep). AreMoves g set (moving_part axis o ++ moving_steps set (axis + 1) (items-the_row-TExpr _ rest)) × (are_inside xs (front ++ coordinate_behind xs axis o q ∷ behind) ≡ true)
       × (origin g set (moving_part axis o ++ moving_steps set (axis + 1) (items-the_row-TExpr _ rest)) q ≡ number_at xs (front ++ coordinate_behind xs axis o q ∷ behind))) (sym are.0.1.1.0)

@@ -35,11 +35,8 @@ use Rattle.fields_follow.proofs.Fields.{HoldsFields}
 use Rattle.fields_follow.proofs.FileFields.{apart_back}
 use Rattle.fields_follow.proofs.Instructions.{HasNumbers, Puts, extents, number_in, place, puts_move, shapes, wrote}
 use Rattle.fields_follow.proofs.Passing.{Passes, names_second, passes_all, passes_on}
-use Rattle.fields_follow.proofs.Places.{HoldsTheFields, IsOwnField, PlacesFields, of_file, stands_here}
-use Rattle.fields_follow.proofs.Writing.{named, with_memory}
-
-small_again : (n : ℕ) → n < 2 ^ 32 → n % 2 ^ 32 ≡ n
-small_again n few = mod-eq_of_lt {n = n} {m = 2 ^ 32} few
+use Rattle.fields_follow.proofs.Places.{HoldsTheFields, IsOwnField, PlacesFields, names_first, of_file, stands_here}
+use Rattle.fields_follow.proofs.Writing.{with_memory}
 
 module _ (g : Setting) where
   -- a field of 32 bits of a set has these numbers at every position
@@ -59,7 +56,7 @@ module _ (g : Setting) where
   neighbour set axis k p = shifted (extents g set) p axis (number_of 32 true k)
 
   -- the shape is a grid with this axis
-  abbrev pub HasAxis : ℕ → ℕ → Type 0
+  abbrev HasAxis : ℕ → ℕ → Type 0
   HasAxis set axis = (are_positive (extents g set) ≡ true) × (axis < length (extents g set))
 
   -- the number of a neighbour, as it is fetched
@@ -82,7 +79,7 @@ module _ (g : Setting) where
     writes = λ p. refl;
     value = λ p below on.
         let got = fetched set axis k a s v grid h p below in
-        ap (λ (n : ℕ). of_neighbour (shapes g) s.memory (place g a) axis k p % 2 ^ n) wide ∙ ap (λ (n : ℕ). n % 2 ^ 32) got.0 ∙ small_again (v (neighbour set axis k p)) got.1;
+        ap (λ (n : ℕ). of_neighbour (shapes g) s.memory (place g a) axis k p % 2 ^ n) wide ∙ ap (λ (n : ℕ). n % 2 ^ 32) got.0 ∙ mod-eq_of_lt got.1;
     goes = refl;
   }
 
@@ -142,7 +139,7 @@ module _ (g : Setting) where
         }) sim;
         stays = λ used f first last p below is_own before low after high.
             field_apart w s.memory (place g f) p
-            (apart_back (place g f) (place g d) (places.owns_apart f d first (length e.code) last (length (with_instr i e).code) (λ same. omega (arith, same, below, newer)) is_own own ends.0 before after (omega (arith, low)) (omega (arith, high, long)) (named g places fields alive i d (a ∷ []) (length e.code) there refl) again (omega (arith, long))));
+            (apart_back (place g f) (place g d) (places.owns_apart f d first (length e.code) last (length (with_instr i e).code) (λ same. omega (arith, same, below, newer)) is_own own ends.0 before after (omega (arith, low)) (omega (arith, high, long)) (names_first g i d (a ∷ []) (length e.code) there refl) again (omega (arith, long))));
       },
       record {
         of_set = of_set;
@@ -150,7 +147,7 @@ module _ (g : Setting) where
         len = wide;
         are = λ p below.
             let got = fetched set axis k a s v grid h p below in
-            field_written w s.memory p refl ∙ ap (λ (n : ℕ). of_neighbour (shapes g) s.memory (place g a) axis k p % 2 ^ n) wide ∙ ap (λ (n : ℕ). n % 2 ^ 32) got.0 ∙ small_again (v (neighbour set axis k p)) got.1;
+            field_written w s.memory p refl ∙ ap (λ (n : ℕ). of_neighbour (shapes g) s.memory (place g a) axis k p % 2 ^ n) wide ∙ ap (λ (n : ℕ). n % 2 ^ 32) got.0 ∙ mod-eq_of_lt got.1;
         small = λ p below. (fetched set axis k a s v grid h p below).1;
       },
     )
@@ -174,7 +171,7 @@ module _ (g : Setting) where
         was = fields.opens st s.memory sim.memory
 
     -- a fresh field of the set
-    abbrev pub IsFresh : ℕ → ℕ → Field → Type 0
+    abbrev IsFresh : ℕ → ℕ → Field → Type 0
     IsFresh bound set f = (bound ≤ f.offset) × IsOwnField g f × (f.set ≡ set) × (f.len ≡ 32)
 
     hop_by : (bound set axis k : ℕ) (c : Konst) (d a : Field) (e : Draft) (s : CodeState) (st : State) (v : ℕ → ℕ) → c ≡ K.Imm k → IsFresh bound set d → HasAxis set axis → HasEverywhere set a s v

@@ -11,35 +11,14 @@ use Rattle.paris_code.specs.Memory.{BitMemory, field_number, processors}
 use Rattle.paris_code.specs.Spans.{IsNamedAt}
 use Rattle.source_meaning.specs.State.{Early, State}
 use Rattle.source_meaning.specs.Values.{Active, Scope}
-use Rattle.code_follows.specs.Fragment.{May}
 use Rattle.code_follows.proofs.Besides.{under_held}
 use Rattle.code_follows.proofs.Following.{Finishes, IsKept, Sim}
 use Rattle.code_follows.proofs.Settings.{Held, Setting, Within}
 use Rattle.fields_follow.specs.Fragment.{IsCondition, IsFold, IsParallelEffect, KnowsExtents, extents_in}
 use Rattle.fields_follow.proofs.Fields.{HoldsFields, HoldsNumbers, fields_held}
 use Rattle.fields_follow.proofs.Instructions.{SameExtents, place, shapes}
-use Rattle.fields_follow.proofs.Leaving.{EndsBelow, under}
+use Rattle.fields_follow.proofs.Leaving.{EndsBelow, sim_saying, under}
 use Rattle.fields_follow.proofs.Places.{IsOwnField, PlacesFields}
-
--- the same unit, of which other things are said
-abbrev saying : Setting → May → Held → ℕ → ℕ → ℕ → Setting
-saying g may held from entries upto = record g { may = may; held = held; from = from; entries = entries; upto = upto }
-
--- its state agrees too, where the memory holds what is to be held
-sim_saying : (g : Setting) (may other : May) (held more : Held) (from entries upto first fields last : ℕ) (alive : Variable → Type 0) (st : State) (s : CodeState) → more.holds st s.memory → Sim (saying g may held from entries upto) alive st s → Sim (saying g other more first fields last) alive st s
-sim_saying g may other held more from entries upto first fields last alive st s holds h = record {
-  registers = h.registers;
-  scalars = h.scalars;
-  small = h.small;
-  constants = h.constants;
-  turns = h.turns;
-  output = h.output;
-  input = h.input;
-  returns = h.returns;
-  few = h.few;
-  bytes = h.bytes;
-  memory = holds;
-}
 
 module _ (g : Setting) where
   -- What code leaves that is between these places, where there are so many entries at first: what stands in own entries
@@ -67,7 +46,7 @@ module _ (g : Setting) where
   flags_last f takes flags first last from entries upto own ends inside before low after high m other stays has p below taken = stays f first last p inside own ends before low after high ∙ has p below taken
 
   -- where these positions are active, the memory holds the numbers of the file's variables, and this is kept of it
-  abbrev pub held_under : Active → (kept : BitMemory → Type 0) → Held
+  abbrev held_under : Active → (kept : BitMemory → Type 0) → Held
   held_under a kept = record {
     holds = λ st m. HoldsFields g.typed g.image a st m × kept m;
     ends = HoldsNumbers g.typed g.image;
@@ -92,13 +71,13 @@ pub record KnowsFields (g : Setting) (scope : Scope) (a : Active) : Type 1 where
 module _ (g : Setting) (scope : Scope) (a : Active) (k : KnowsFields g scope a) where
   -- the state agrees with the source where the memory has these fields, and keeps what is kept
   pub sim_open : (alive : Variable → Type 0) (st : State) (s : CodeState) → Sim g alive st s → Sim (under g a) alive st s
-  sim_open alive st s h = sim_saying g g.may g.may g.held (fields_held g.typed g.image a) g.from g.entries g.upto g.from g.entries g.upto alive st s (k.opens st s.memory h.memory).0 h
+  sim_open alive st s h = sim_saying g alive st s s.at s.memory (k.opens st s.memory h.memory).0 h
 
   pub kept_open : (alive : Variable → Type 0) (st : State) (s : CodeState) → Sim g alive st s → k.kept s.memory
   kept_open alive st s h = (k.opens st s.memory h.memory).1
 
   pub sim_close : (alive : Variable → Type 0) (st : State) (s : CodeState) → Sim (under g a) alive st s → k.kept s.memory → Sim g alive st s
-  sim_close alive st s h kept = sim_saying g g.may g.may (fields_held g.typed g.image a) g.held g.from g.entries g.upto g.from g.entries g.upto alive st s (k.closes st s.memory h.memory kept) h
+  sim_close alive st s h kept = sim_saying g alive st s s.at s.memory (k.closes st s.memory h.memory kept) h
 
   -- ---- a part under one context more
 
@@ -124,10 +103,10 @@ module _ (g : Setting) (scope : Scope) (a : Active) (k : KnowsFields g scope a) 
     within_inner e high w = record { more = w.more; code = w.code; entries = w.entries; fields = w.fields; regs = w.regs; own = w.own; upto = high }
 
     pub sim_inner : (alive : Variable → Type 0) (st : State) (s : CodeState) → Sim (under g b) alive st s → kept s.memory → Sim inner alive st s
-    sim_inner alive st s h has = sim_saying g g.may inner.may (fields_held g.typed g.image b) (held_under g b kept) g.from g.entries g.upto from entries upto alive st s (h.memory, has) h
+    sim_inner alive st s h has = sim_saying g alive st s s.at s.memory (h.memory, has) h
 
     pub sim_outer : (alive : Variable → Type 0) (st : State) (s : CodeState) → Sim inner alive st s → Sim (under g b) alive st s
-    sim_outer alive st s h = sim_saying g inner.may g.may (held_under g b kept) (fields_held g.typed g.image b) from entries upto g.from g.entries g.upto alive st s h.memory.0 h
+    sim_outer alive st s h = sim_saying g alive st s s.at s.memory h.memory.0 h
 
     pub finishes_outer : (early : Early) (st : State) (s : CodeState) → Finishes inner early st s → Finishes g early st s
     finishes_outer early st s f = record { t = f.t; ends = record { steps = f.ends.steps; is = f.ends.is }; turns = f.turns; output = f.output; input = f.input; memory = k.ends st f.t.memory f.memory }

@@ -1,5 +1,5 @@
 -- The course of code on which contexts are saved and loaded, and other positions become active.
-use Rattle.std.proofs.Common.{◌≡◌, ◌∙◌, ℕ, ◌+◌, ◌<◌, ◌≤◌, Bool, true, not, Any, List, [], ◌∷◌, length, slice_index, refl, sym, ap, subst, arith}
+use Rattle.std.proofs.Common.{◌≡◌, ◌∙◌, ℕ, ◌+◌, ◌<◌, ◌≤◌, Bool, true, not, List, [], ◌∷◌, length, slice_index, refl, sym, ap, subst, arith}
 use Rattle.std.specs.Int.{from_bool}
 use Rattle.cstar_tree.specs.declared.typed.Variable.{Variable}
 use Rattle.code_lengths.specs.Growth.{Extended}
@@ -11,7 +11,7 @@ use Rattle.paris_code.specs.declared.operands.Field.{Field}
 use Rattle.paris_code.specs.declared.program.Owner.{Owner}
 use Rattle.paris_code.specs.Code.{CodeState}
 use Rattle.paris_code.specs.Memory.{BitMemory, is_tested, processors}
-use Rattle.paris_code.specs.Spans.{IsNamedAt, entry_of, fields_of}
+use Rattle.paris_code.specs.Spans.{IsNamedAt, fields_of}
 use Rattle.source_meaning.specs.State.{Ends, Gives, Outcome, State}
 use Rattle.source_meaning.specs.Statements.{Broke, Continued, Leaving, Onward, Returned, then_go}
 use Rattle.source_meaning.specs.Values.{Active, Scope, nonzero}
@@ -24,14 +24,14 @@ use Rattle.fields_follow.proofs.Instructions.{shapes}
 use Rattle.fields_follow.proofs.Knowing.{HasFlags, KnowsFields, Lasts, finishes_outer, inner, kept_inner, kept_open, knows_inner, sim_close, sim_inner, sim_open, sim_outer, within_inner}
 use Rattle.fields_follow.proofs.Leaving.{under}
 use Rattle.fields_follow.proofs.Narrowing.{widened_beside, widened_there, among, among_active, among_beside, among_inactive, others, others_active, others_beside, others_inactive}
-use Rattle.fields_follow.proofs.Places.{IsOwnField, PlacesFields, stands_here}
+use Rattle.fields_follow.proofs.Places.{IsOwnField, PlacesFields, names_first, stands_here}
 use Rattle.fields_follow.proofs.Values.{and_entry, with_entry}
 use Rattle.source_meaning.specs.Narrowing.{widened as all_active}
 
 module _ (g : Setting) where
   -- an instruction that stands next names its only field
   pub named_next : (i : Instr) (saved : Field) (e : Draft) → Within g (with_instr i e) → step_of i ≡ Plain i → fields_of i ≡ saved ∷ [] → IsNamedAt g.unit saved.offset (length e.code)
-  named_next i saved e within plain names = (i, stands_here g i e within plain, subst (λ (fields : List Field). Any (λ (f : Field). entry_of f ≡ saved.offset) fields) (sym names) (0, saved, omega arith, refl, refl))
+  named_next i saved e within plain names = names_first g i saved [] (length e.code) (stands_here g i e within plain) names
 
   -- the test flags of a set tell, where it is active, whether these numbers are not zero
   abbrev pub TestsAre : ℕ → Active → (ℕ → ℕ) → BitMemory → Type 0

@@ -7,17 +7,40 @@ use Rattle.lower_base.specs.Drafts.{Draft}
 use Rattle.lower_expr.specs.Effects.{effect_of}
 use Rattle.paris_code.specs.declared.operands.Field.{Field}
 use Rattle.paris_code.specs.Code.{CodeState}
+use Rattle.paris_code.specs.Memory.{BitMemory}
 use Rattle.paris_code.specs.Shapes.{bits_at}
 use Rattle.paris_code.specs.Spans.{IsNamedAt}
 use Rattle.source_meaning.specs.Expressions.{evaluated}
 use Rattle.source_meaning.specs.State.{Gives, State}
 use Rattle.source_meaning.specs.Values.{Active, Scope, Value}
+use Rattle.code_follows.specs.Fragment.{May}
 use Rattle.code_follows.proofs.Following.{HasRegisters, Sim}
-use Rattle.code_follows.proofs.Settings.{At, Reaches, Setting, Within, layout}
+use Rattle.code_follows.proofs.Settings.{At, Held, Reaches, Setting, Within, layout}
 use Rattle.fields_follow.proofs.Fields.{fields_held}
 use Rattle.fields_follow.proofs.Instructions.{number_in, place, shapes}
 use Rattle.fields_follow.proofs.Passing.{After}
 use Rattle.fields_follow.proofs.Places.{HoldsTheFields, IsOwnField, PlacesFields}
+
+-- the same unit, of which other things are said
+abbrev pub saying : Setting → May → Held → ℕ → ℕ → ℕ → Setting
+saying g may held from entries upto = record g { may = may; held = held; from = from; entries = entries; upto = upto }
+
+-- its state agrees too at another place, where its memory holds what is to be held
+pub sim_saying : (g : Setting) {may other : May} {held more : Held} {from entries upto first fields last : ℕ} (alive : Variable → Type 0) (st : State) (s : CodeState) (at : ℕ) (m : BitMemory) → more.holds st m
+    → Sim (saying g may held from entries upto) alive st s → Sim (saying g other more first fields last) alive st (record s { at = at; memory = m })
+sim_saying g alive st s at m holds h = record {
+  registers = h.registers;
+  scalars = h.scalars;
+  small = h.small;
+  constants = h.constants;
+  turns = h.turns;
+  output = h.output;
+  input = h.input;
+  returns = h.returns;
+  few = h.few;
+  bytes = h.bytes;
+  memory = holds;
+}
 
 module _ (g : Setting) where
   -- the field ends below the flags of its set
@@ -25,16 +48,20 @@ module _ (g : Setting) where
   EndsBelow h = (place g h).offset + h.len ≤ bits_at (shapes g) h.set
 
   module _ (alive : Variable → Type 0) where
-    -- The code from one draft to another leaves a state, the registers, and what stands in own entries that are named
-    -- before it and behind it.
-    pub record Leaves (d e : Draft) (s : CodeState) (u : State) : Type 0 where
+    -- The code from one draft to another leaves a state, the registers and, if its answer is used, what stands in own
+    -- entries below the flags that are named before it and behind it; it may leave other test flags.
+    pub record PassesTests (d e : Draft) (s : CodeState) (u : State) (used : Type 0) : Type 0 where
       pub grown : (n : ℕ) × Extended d n e
       pub t : CodeState
       pub go : Reaches g s t
       pub at : At g t (length e.code)
       pub registers : t.registers ≡ s.registers
       pub sim : Sim g alive u t
-      pub stays : (h : Field) (first last p : ℕ) → h.offset < length d.fields → IsOwnField g h → EndsBelow h → IsNamedAt g.unit h.offset first → first < length d.code → IsNamedAt g.unit h.offset last → length e.code ≤ last → number_in g h t p ≡ number_in g h s p
+      pub stays : used → (h : Field) (first last p : ℕ) → h.offset < length d.fields → IsOwnField g h → EndsBelow h → IsNamedAt g.unit h.offset first → first < length d.code → IsNamedAt g.unit h.offset last → length e.code ≤ last → number_in g h t p ≡ number_in g h s p
+
+    -- so it does of an update, or of a test
+    abbrev pub Leaves : Draft → Draft → CodeState → State → Type 0
+    Leaves d e s u = PassesTests d e s u (Unit {0})
 
     module _ (fields : HoldsTheFields g) where
       -- an update gives something in the source, and its code leaves the state behind it

@@ -6,6 +6,7 @@ pub mod Conditions
 pub mod Contexts
 pub mod Deciding
 pub mod Effects
+pub mod Entering
 pub mod Example
 pub mod Expressions
 pub mod Fields

@@ -1,5 +1,6 @@
 -- Which positions are active where the source narrows a context, and where it widens one.
-use Rattle.std.proofs.Common.{◌≡◌, ◌∙◌, ℕ, ◌==◌, ◌&&◌, ◌||◌, Bool, true, false, not, refl, arith, if◌then◌else◌}
+use Rattle.std.proofs.Common.{◌≡◌, ◌∙◌, ℕ, ◌==◌, ◌&&◌, ◌||◌, Bool, true, false, not, sym, arith, if◌then◌else◌}
+use Rattle.std.proofs.Math.Bool.{not-not}
 use Rattle.std.proofs.lemmas.Bool.Decides.{nat_tests}
 use Rattle.source_meaning.specs.Narrowing.{narrowed, where_nonzero, where_zero, widened as all_active}
 use Rattle.source_meaning.specs.Values.{Active, Parallel, at, nonzero}
@@ -48,11 +49,7 @@ module _ (set : ℕ) (v : ℕ → ℕ) (a : Active) where
 
   pub others_active : (p : ℕ) → a set p ≡ true → others set v a set p ≡ not (nonzero (v p))
   unfolding where_zero at
-  others_active p active = narrowed_active set (λ q. v q == 0) a p active ∙ twice (v p == 0)
-    where
-      twice : (b : Bool) → b ≡ not (not b)
-      twice true = refl
-      twice false = refl
+  others_active p active = narrowed_active set (λ q. v q == 0) a p active ∙ sym (not-not (v p == 0))
 
   pub others_inactive : (p : ℕ) → a set p ≡ false → others set v a set p ≡ false
   unfolding where_zero at

@@ -1,9 +1,9 @@
 -- What a get from neighbours round the ends of the grid means: the number of the variable at the position to which its
 -- indexes lead, with the state as it was.
-use Rattle.std.proofs.Common.{◌≡◌, ◌∙◌, ℕ, zero, suc, ◌+◌, ◌-◌, ◌%◌, ◌<◌, ◌≤◌, ◌^◌, pos, Bool, true, false, not, ◌&&◌, ◌||◌, ◌==◌, List, [], ◌∷◌, length, Option, Some, None, refl, sym, ap, subst, inl, inr, ◌⊎◌, if◌then◌else◌, arith}
+use Rattle.std.proofs.Common.{◌≡◌, ◌∙◌, ℕ, suc, ◌+◌, ◌-◌, ◌%◌, ◌<◌, ◌≤◌, ◌^◌, pos, Bool, true, false, not, ◌&&◌, ◌||◌, ◌==◌, List, [], ◌∷◌, length, Option, Some, None, refl, sym, ap, subst, inl, inr, ◌⊎◌, if◌then◌else◌, arith}
 use Rattle.std.specs.Prelude.{slice_get, slice_index, unsigned_abs}
 use Rattle.std.proofs.lemmas.Bool.Decides.{nat_tests}
-use Rattle.std.proofs.lemmas.Option.{get_or_from_slice_get}
+use Rattle.std.proofs.lemmas.Option.{get_or_from_slice_get, slice_get_within}
 use Rattle.cstar_base.specs.declared.faults.RunFault.TheVariants.{DivZero, Index}
 use Rattle.cstar_base.specs.declared.operators.Op.{Op}
 use Rattle.cstar_base.specs.declared.operators.Op.TheVariants as P
@@ -16,6 +16,7 @@ use Rattle.cstar_tree.specs.declared.typed.TExpr as T
 use Rattle.cstar_tree.specs.declared.typed.ValueType.{ValueType}
 use Rattle.cstar_tree.specs.declared.typed.Variable.TheVariants as V
 use Rattle.cstar_tree.specs.Typed.{type_of}
+use Rattle.constant_trees.proofs.Bringing.{both_true}
 use Rattle.lower_comm.specs.declared.news.NewsStep.{NewsStep}
 use Rattle.lower_comm.specs.News.{is_conversion, is_dot, is_extent, is_int, near, negated, offset_of, step_by, step_number, step_of, wrapped_step}
 use Rattle.phase_meaning.proofs.Alike.{coordinate_below}
@@ -42,11 +43,6 @@ unfolding positions_fit
 fit_few xs fits = grind (arith, nat_tests, fits)
 
 module _ (scope : Scope) (active : Active) where
-  inside : (xs : List ℕ) (n x : ℕ) → slice_get xs n ≡ Some x → n < length xs
-  inside [] n x is = cc
-  inside (y ∷ ys) zero x is = omega arith
-  inside (y ∷ ys) (suc n) x is = let low = inside ys n x is in omega (arith, low)
-
   -- the own coordinate
   dot_means : (set axis : ℕ) (e : TExpr) (st : State) → IsDot set axis e → evaluated scope e active st ≡ Gives (Parallel (λ q. coordinate (scope.extents set) q axis)) st
   unfolding IsDot evaluated own_coordinate
@@ -234,7 +230,7 @@ module _ (scope : Scope) (active : Active) where
     (
       ap (λ (o : Outcome Value). then_do o (λ v between. then_do (operands scope rest active between) (λ given after. Gives (record { elem = (type_of index).elem; value = v } ∷ given) after))) first.1.0
           ∙ ap (λ (o : Outcome (List Operand)). then_do o (λ given after. Gives (record { elem = (type_of index).elem; value = Parallel first.0 } ∷ given) after)) others.1.0,
-      λ q. (both _ _ (ap (is_within extent) (number q) ∙ within_extent extent (first.0 q) (low q)) (others.1.1 q).0, listed _ _ _ _ (ap unsigned_abs (number q) ∙ first.1.1 q ∙ moved_there q) (others.1.1 q).1),
+      λ q. (both_true _ _ (ap (is_within extent) (number q) ∙ within_extent extent (first.0 q) (low q)) (others.1.1 q).0, listed _ _ _ _ (ap unsigned_abs (number q) ∙ first.1.1 q ∙ moved_there q) (others.1.1 q).1),
     ),
   )
     where
@@ -245,7 +241,7 @@ module _ (scope : Scope) (active : Active) where
       known = ap (slice_get extents) (omega arith) ∙ sym (from 0)
 
       there : axis < length extents
-      there = inside extents axis extent known
+      there = slice_get_within extents axis extent known
 
       is : slice_index extents axis ≡ extent
       is = get_or_from_slice_get extents axis extent 0 known
@@ -273,10 +269,6 @@ module _ (scope : Scope) (active : Active) where
 
       moved_there : (q : ℕ) → moved extent (coordinate extents q axis) (number_of 32 true are.1.0.by) ≡ coordinate_behind extents axis (step_of set axis index) q
       moved_there q = ap (λ (n : ℕ). moved n (coordinate extents q axis) (number_of 32 true are.1.0.by)) (sym is) ∙ ap (λ (o : Option NewsStep). coordinate_behind extents axis o q) (sym are.1.1.0)
-
-      both : (a b : Bool) → a ≡ true → b ≡ true → (a && b) ≡ true
-      both true b e f = f
-      both false b e f = cc
 
       listed : (a b : ℕ) (xs ys : List ℕ) → a ≡ b → xs ≡ ys → (a ∷ xs) ≡ (b ∷ ys)
       listed a b xs ys e f = ap (λ (n : ℕ). n ∷ xs) e ∙ ap (λ (l : List ℕ). b ∷ l) f

@@ -36,10 +36,9 @@ use Rattle.fields_follow.specs.Fragment.{assignment_of}
 use Rattle.fields_follow.proofs.Folds.{folding}
 use Rattle.fields_follow.proofs.Instructions.{HasNumbers, number_in, place, shapes}
 use Rattle.fields_follow.proofs.Passing.{Behind, GivesField, Passes, code_longer, flags_of, gives_numbers}
-use Rattle.fields_follow.proofs.Places.{HoldsTheFields, IsOwnField, PlacesFields, stands_here}
+use Rattle.fields_follow.proofs.Places.{HoldsTheFields, IsOwnField, PlacesFields, names_first, stands_here}
 use Rattle.fields_follow.proofs.Reducing.{whole, whole_is}
 use Rattle.fields_follow.proofs.Totals.{held_below, onto_is}
-use Rattle.fields_follow.proofs.Writing.{named}
 
 -- an operator of a reduction is an operation of the machine on words
 operation_is : (r : ReduceOp) (signed : Bool) (a b : ℕ) → operated (operation_of (reduce_op_of r) signed) a b ≡ by_machine (machine_of (reduce_op_of r) signed) a b
@@ -209,7 +208,7 @@ module _ (g : Setting) (alive : Variable → Type 0) where
 
       module _ (places : PlacesFields g) (fields : HoldsTheFields g) (set : ℕ) (v : ℕ → ℕ) where
         -- what the source stores in the variable
-        abbrev pub stores_so : State → ℕ
+        abbrev stores_so : State → ℕ
         stores_so st = folded_into (assignment_of reduction) info.elem from (st.scalar x) (fields.active set) v (processors (shapes g) set)
 
         -- the value's numbers are words where they are active
@@ -244,7 +243,7 @@ module _ (g : Setting) (alive : Variable → Type 0) where
             behind = (
               length (with_reg (loaded e)).code,
               (
-                named g places fields alive (fold e) f [] (length (with_reg (loaded e)).code) (stands_here g (fold e) (with_reg (loaded e)) within_fold refl) refl,
+                names_first g (fold e) f [] (length (with_reg (loaded e)).code) (stands_here g (fold e) (with_reg (loaded e)) within_fold refl) refl,
                 (let more = code_more g (load e) (with_reg e) in omega (arith, more)),
               ),
             )

@@ -16,8 +16,8 @@ use Rattle.code_follows.proofs.Following.{Extends, Sim}
 use Rattle.code_follows.proofs.Settings.{At, Reaches, Setting, Within, and_one, code_more, earlier, onto, stay}
 use Rattle.fields_follow.specs.Fields.{IsElement}
 use Rattle.fields_follow.proofs.Instructions.{HasNumbers, Puts, has_alike, number_in, shapes}
-use Rattle.fields_follow.proofs.Places.{HoldsTheFields, IsFileField, IsOwnField, PlacesFields, stands_here}
-use Rattle.fields_follow.proofs.Writing.{named, own_written}
+use Rattle.fields_follow.proofs.Places.{HoldsTheFields, IsFileField, IsOwnField, PlacesFields, names_first, stands_here}
+use Rattle.fields_follow.proofs.Writing.{own_written}
 
 longer : {A : Type 0} (xs ys zs : List A) → ys ≡ xs ++ zs → length xs ≤ length ys
 longer xs ys zs e = let l : length ys ≡ length xs + length zs = ap length e ∙ length-append xs zs in omega (arith, l)
@@ -55,7 +55,7 @@ module _ (g : Setting) where
   after_weaker R Q (Makes x e) f h = λ w. f x e (h w)
   after_weaker R Q Fails f h = tt
 
-  -- an instruction that stands at a place names its fields there
+  -- its second, and its third
   pub names_second : (i : Instr) (first f : Field) (others : List Field) (at : ℕ) → StandsAt g.unit at i → fields_of i ≡ first ∷ f ∷ others → IsNamedAt g.unit f.offset at
   names_second i first f others at there names = (i, there, subst (λ (xs : List Field). Any (λ (h : Field). entry_of h ≡ f.offset) xs) (sym names) (1, f, omega arith, refl, refl))
 
@@ -257,7 +257,7 @@ module _ (g : Setting) where
               newer = newer;
               older = let l = fields_longer e (with_instr i e) 1 x in omega (arith, older, l);
               somewhere = length e.code;
-              named = named g places fields alive i d puts.others (length e.code) (stands_here g i e within puts.plain) puts.names;
+              named = names_first g i d puts.others (length e.code) (stands_here g i e within puts.plain) puts.names;
               before = omega (arith, long);
               has = w.has;
             });

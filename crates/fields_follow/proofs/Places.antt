@@ -1,6 +1,7 @@
 -- Where the fields of a unit stand in the image, as the code of its expressions relies on it.
-use Rattle.std.proofs.Common.{◌≡◌, ◌∙◌, ℕ, ◌+◌, ◌<◌, ◌≤◌, ◌^◌, true, List, [], ◌∷◌, ◌++◌, length, slice_get, Some, refl, ap, append_assoc}
+use Rattle.std.proofs.Common.{◌≡◌, ◌∙◌, ℕ, ◌+◌, ◌<◌, ◌≤◌, ◌^◌, true, List, [], ◌∷◌, ◌++◌, Any, length, slice_get, Some, refl, sym, ap, subst, arith, append_assoc}
 use Rattle.cstar_tree.specs.declared.typed.VarInfo.{VarInfo}
+use Rattle.code_lengths.proofs.Declaring.{at_length}
 use Rattle.lower_base.specs.Drafts.{Draft, Plain, Step, step as step_of, with_instr, with_step}
 use Rattle.paris_code.specs.declared.instr.Instr.{Instr}
 use Rattle.paris_code.specs.declared.operands.Field.{Field}
@@ -9,7 +10,7 @@ use Rattle.paris_code.specs.declared.program.Virtual.{Virtual}
 use Rattle.paris_code.specs.Memory.{BitMemory, processors}
 use Rattle.paris_code.specs.Proper.{IsEntry, IsOwn}
 use Rattle.paris_code.specs.Shapes.{bits_at}
-use Rattle.paris_code.specs.Spans.{IsNamedAt, StandsAt, fields_of}
+use Rattle.paris_code.specs.Spans.{IsNamedAt, StandsAt, entry_of, fields_of}
 use Rattle.source_meaning.specs.State.{State}
 use Rattle.source_meaning.specs.Values.{Active}
 use Rattle.code_follows.proofs.Settings.{Setting, Within}
@@ -56,19 +57,19 @@ module _ (g : Setting) where
     pub opens : (st : State) (m : BitMemory) → g.held.holds st m → HoldsFields g.typed g.image active st m
     pub closes : (st : State) (m : BitMemory) → HoldsFields g.typed g.image active st m → g.held.holds st m
 
-  pub seam : {A : Type 0} (xs : List A) (y : A) (ys : List A) → slice_get (xs ++ y ∷ ys) (length xs) ≡ Some y
-  seam [] y ys = refl
-  seam (x ∷ xs) y ys = seam xs y ys
-
   -- the instruction that the draft gets next stands in the unit
   pub stands_here : (i : Instr) (d : Draft) → Within g (with_instr i d) → step_of i ≡ Plain i → StandsAt g.unit (length d.code) i
   unfolding with_instr with_step
   stands_here i d w plain =
       (stands g.image g.before g.after g.placed g.number g.unit g.linked g.is_unit (length d.code) i
-      (ap (λ (c : List Step). slice_get c (length d.code)) (w.code ∙ append_assoc d.code (step_of i ∷ []) w.more) ∙ seam d.code (step_of i) w.more ∙ ap Some plain)).0
+      (ap (λ (c : List Step). slice_get c (length d.code)) (w.code ∙ append_assoc d.code (step_of i ∷ []) w.more) ∙ at_length d.code (step_of i) w.more ∙ ap Some plain)).0
 
   -- an entry that a draft has is the unit's
   pub entry_is : (earlier later : List Virtual) (v : Virtual) (e : Draft) → Within g e → e.fields ≡ (earlier ++ v ∷ []) ++ later → IsEntry g.unit (length earlier) v
   entry_is earlier later v e w is =
       ap (λ (xs : List Virtual). slice_get xs (length earlier)) (w.fields ∙ ap (λ (xs : List Virtual). xs ++ w.entries) is ∙ append_assoc (earlier ++ v ∷ []) later w.entries ∙ append_assoc earlier (v ∷ []) (later ++ w.entries))
-      ∙ seam earlier v (later ++ w.entries)
+      ∙ at_length earlier v (later ++ w.entries)
+
+  -- an instruction that stands at a place names its first field there
+  pub names_first : (i : Instr) (first : Field) (others : List Field) (at : ℕ) → StandsAt g.unit at i → fields_of i ≡ first ∷ others → IsNamedAt g.unit first.offset at
+  names_first i first others at there names = (i, there, subst (λ (xs : List Field). Any (λ (h : Field). entry_of h ≡ first.offset) xs) (sym names) (0, first, omega arith, refl, refl))

@@ -45,7 +45,7 @@ module _ (g : Setting) (made : IsTranslated g.typed g.words g.before g.after g.i
   stands_so : (i : Instr) (at : ℕ) → IsThere i at → StandsAt g.unit at i × (slice_get g.image.code.items (start g + at) ≡ Some (placed_instr g i))
   stands_so i at is = stands g.image g.before g.after g.placed g.number g.unit g.linked g.is_unit at i is
 
-  pub rules_there : (i : Instr) (at : ℕ) → IsThere i at → KeepsRules g.image (start g + at) (placed_instr g i)
+  rules_there : (i : Instr) (at : ℕ) → IsThere i at → KeepsRules g.image (start g + at) (placed_instr g i)
   rules_there i at is = made.sound.each (start g + at) (placed_instr g i) (stands_so i at is).1
 
   -- a field of an instruction there: it is of a set of the image, and ends below the flags of the set
@@ -120,13 +120,13 @@ module _ (g : Setting) (made : IsTranslated g.typed g.words g.before g.after g.i
   pub record Lasts (entry at : ℕ) : Type 0 where
     pub first : ℕ
     pub last : ℕ
-    pub named_first : IsNamedAt g.unit entry first
-    pub named_last : IsNamedAt g.unit entry last
+    named_first : IsNamedAt g.unit entry first
+    named_last : IsNamedAt g.unit entry last
     pub before : first < at
     pub behind : at ≤ last
 
   -- then it is in use there, and not made there
-  pub lasts_used : (entry at : ℕ) → Lasts entry at → IsUsed g.before g.number g.unit entry at
+  lasts_used : (entry at : ℕ) → Lasts entry at → IsUsed g.before g.number g.unit entry at
   lasts_used entry at l =
       let low = l.before in
       let high = l.behind in
@@ -135,7 +135,7 @@ module _ (g : Setting) (made : IsTranslated g.typed g.words g.before g.after g.i
         (λ made_here. let a = (made_here.in_use.named l.first l.named_first).0 in let b = made_here.begins in omega (arith, a, b, low)),
       )
 
-  pub lasts_apart : (at : ℕ) (f h : Field) → IsOwnField f → IsOwnField h → f.offset ≢ h.offset → f.set < length shapes → Lasts f.offset at → Lasts h.offset at → Apart (at_bits f) (at_bits h)
+  lasts_apart : (at : ℕ) (f h : Field) → IsOwnField f → IsOwnField h → f.offset ≢ h.offset → f.set < length shapes → Lasts f.offset at → Lasts h.offset at → Apart (at_bits f) (at_bits h)
   lasts_apart at f h one other differ exists l m =
       let high = l.behind in
       let low = inside f.offset l.last l.named_last in
@@ -144,7 +144,7 @@ module _ (g : Setting) (made : IsTranslated g.typed g.words g.before g.after g.i
   -- A value that was written at a place or before and is read behind it, and one that is written at that place and
   -- read behind it, have no bit in common. Where an instruction reads the one for the last time and writes the other,
   -- they may.
-  pub goes_on : (entry first last at : ℕ) → IsNamedAt g.unit entry first → IsNamedAt g.unit entry last → first ≤ at → at < last → Lasts entry (at + 1)
+  goes_on : (entry first last at : ℕ) → IsNamedAt g.unit entry first → IsNamedAt g.unit entry last → first ≤ at → at < last → Lasts entry (at + 1)
   goes_on entry first last at a b low high = record { first = first; last = last; named_first = a; named_last = b; before = omega (arith, low); behind = omega (arith, high) }
 
   pub written_apart : (at first last later : ℕ) (f h : Field) → IsOwnField f → IsOwnField h → f.offset ≢ h.offset → h.set < length shapes → IsNamedAt g.unit f.offset first → IsNamedAt g.unit f.offset last → first ≤ at → at < last

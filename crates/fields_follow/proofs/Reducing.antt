@@ -46,8 +46,7 @@ use Rattle.fields_follow.specs.Fragment.{IsWide}
 use Rattle.fields_follow.proofs.Folds.{folding, global_is}
 use Rattle.fields_follow.proofs.Instructions.{HasNumbers, place, shapes}
 use Rattle.fields_follow.proofs.Passing.{After, Behind, GivesField, Passes, after_same, flags_of, gives_numbers, made_after, then_after}
-use Rattle.fields_follow.proofs.Places.{HoldsTheFields, PlacesFields, stands_here}
-use Rattle.fields_follow.proofs.Writing.{named}
+use Rattle.fields_follow.proofs.Places.{HoldsTheFields, PlacesFields, names_first, stands_here}
 
 -- what is read of an element behind a write to it, and written there again: where there is none, nothing is
 read_back : (f : ℕ → ℕ) (xs : List ℕ) (r a : ℕ) → slice_set (slice_set xs r a) r (f (slice_index (slice_set xs r a) r)) ≡ slice_set (slice_set xs r a) r (f a)
@@ -192,7 +191,7 @@ module _ (g : Setting) (alive : Variable → Type 0) where
           after_fold = let x = negated_more op r 0 (with_instr (global r f) e) (with_instr (global r f) e) (as_it_was (with_instr (global r f) e)) in earlier g (with_instr (global r f) e) (made r f e) x.0 x.1 within
 
           behind : Behind g f e
-          behind = (length e.code, (named g places fields alive (global r f) f [] (length e.code) (stands_here g (global r f) e after_fold refl) refl, omega arith))
+          behind = (length e.code, (names_first g (global r f) f [] (length e.code) (stands_here g (global r f) e after_fold refl) refl, omega arith))
 
   module _ (places : PlacesFields g) (fields : HoldsTheFields g) (ty : ValueType) (op : ReduceOp) (p : Boxed) (operand : TExpr) (set : ℕ) (wide : IsWide set (type_of operand)) (none : kind_of operand ≡ None) where
     abbrev signed_operand : Bool

@@ -44,11 +44,11 @@ use Rattle.fields_follow.proofs.Instructions.{HasNumbers, shapes, extents, place
 use Rattle.fields_follow.proofs.Meaning.{AreOperands, left_of, value_in}
 use Rattle.fields_follow.proofs.Operands.{GivesRight, GivesWord, RightField, left_after, pure_left, pure_right, right_after, right_extends}
 use Rattle.fields_follow.proofs.Passing.{After, Behind, GivesField, Passes, Stands, after_same, code_longer, fields_longer, flags_of, gives_numbers, in_file_has, made_after, names_second, passes_from, passes_less, passes_on, still_numbers, then_after}
-use Rattle.fields_follow.proofs.Places.{HoldsTheFields, IsOwnField, PlacesFields, stands_here}
+use Rattle.fields_follow.proofs.Places.{HoldsTheFields, IsOwnField, PlacesFields, names_first, stands_here}
 use Rattle.fields_follow.proofs.Quiet.{pure_quiet}
 use Rattle.fields_follow.proofs.Reductions.{pure_kind}
 use Rattle.fields_follow.proofs.Values.{and_entry, next_field, one_more, operand_of, taken, with_entry}
-use Rattle.fields_follow.proofs.Writing.{Written, named, own_written}
+use Rattle.fields_follow.proofs.Writing.{Written, own_written}
 use Rattle.fields_follow.proofs.TestFlags.{ComparesAs, LeavesTests, compares, puts_compare, tested_last}
 
 -- an expression of 32 bits, and a relation of two such, are of no narrow type
@@ -105,7 +105,7 @@ module _ (g : Setting) (has : HasRegisters g) (alive : Variable → Type 0) (n :
       there = stands_here g compare e2 within refl
 
       behind_a : Behind g a e2
-      behind_a = (length e2.code, (named g places fields alive compare a (b ∷ []) (length e2.code) there refl, omega arith))
+      behind_a = (length e2.code, (names_first g compare a (b ∷ []) (length e2.code) there refl, omega arith))
 
       behind_b : Behind g b e2
       behind_b = (length e2.code, (names_second g compare a b [] (length e2.code) there refl, omega arith))
@@ -156,7 +156,7 @@ module _ (g : Setting) (has : HasRegisters g) (alive : Variable → Type 0) (n :
       there = stands_here g compare e3 within refl
 
       named_a : IsNamedAt g.unit a.offset (length e3.code)
-      named_a = named g places fields alive compare a (spare ∷ []) (length e3.code) there refl
+      named_a = names_first g compare a (spare ∷ []) (length e3.code) there refl
 
       named_spare : IsNamedAt g.unit spare.offset (length e3.code)
       named_spare = names_second g compare a spare [] (length e3.code) there refl

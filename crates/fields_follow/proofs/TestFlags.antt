@@ -28,9 +28,9 @@ use Rattle.fields_follow.proofs.Bits.{field_apart}
 use Rattle.fields_follow.proofs.Fields.{HoldsFields}
 use Rattle.fields_follow.proofs.Flags.{above_fields, bit_is, context_under_test, test_taken, written_to}
 use Rattle.fields_follow.proofs.Instructions.{HasNumbers, number_in, place, shapes, wrote}
-use Rattle.fields_follow.proofs.Leaving.{Leaves}
+use Rattle.fields_follow.proofs.Leaving.{Leaves, PassesTests, sim_saying}
 use Rattle.fields_follow.proofs.Passing.{Passes}
-use Rattle.fields_follow.proofs.PassingTests.{PassesTests, tests_passed}
+use Rattle.fields_follow.proofs.PassingTests.{tests_passed}
 use Rattle.fields_follow.proofs.Places.{HoldsTheFields, PlacesFields, of_file}
 
 -- a relation of the machine holds where that of the language does
@@ -58,7 +58,7 @@ truth_is true = refl
 truth_is false = refl
 
 -- what a relation gives is a truth value
-is_truth : (op : Op) (bits : ℕ) (unsigned : Bool) (a b : ℕ) → relates op ≡ true → outcome op bits unsigned a b ≡ from_bool (nonzero (outcome op bits unsigned a b))
+pub is_truth : (op : Op) (bits : ℕ) (unsigned : Bool) (a b : ℕ) → relates op ≡ true → outcome op bits unsigned a b ≡ from_bool (nonzero (outcome op bits unsigned a b))
 unfolding relates outcome
 is_truth P.Eq bits unsigned a b e = truth_is _
 is_truth P.Ne bits unsigned a b e = truth_is _
@@ -131,25 +131,13 @@ module _ (g : Setting) where
         go = onto g s p.t (wrote g flag p.t) p.go (one g p.t (wrote g flag p.t) (begins_here g i e p.t within puts.plain p.at ∙ puts.goes));
         at = at_next g i e p.t (p.t.at + 1) p.at refl;
         registers = p.registers;
-        sim = record {
-          registers = p.sim.registers;
-          scalars = p.sim.scalars;
-          small = p.sim.small;
-          constants = p.sim.constants;
-          turns = p.sim.turns;
-          output = p.sim.output;
-          input = p.sim.input;
-          returns = p.sim.returns;
-          few = p.sim.few;
-          bytes = p.sim.bytes;
-          memory = fields.closes st (written flag p.t.memory) (record {
-            numbers = λ k element q x info is below. still (of_file g k element) x (places.files_end k element q info is) ∙ was.numbers k element q x info is below;
-            small = was.small;
-            flags = λ q x there below. context_under_test (shapes g) set writes puts.takes p.t.memory x q ∙ was.flags q x there below;
-            winner = same_winner;
-          });
-        };
-        stays = λ h first last q below own ends before low after high.
+        sim = sim_saying g alive st p.t (p.t.at + 1) (written flag p.t.memory) (fields.closes st (written flag p.t.memory) (record {
+          numbers = λ k element q x info is below. still (of_file g k element) x (places.files_end k element q info is) ∙ was.numbers k element q x info is below;
+          small = was.small;
+          flags = λ q x there below. context_under_test (shapes g) set writes puts.takes p.t.memory x q ∙ was.flags q x there below;
+          winner = same_winner;
+        })) p.sim;
+        stays = λ u h first last q below own ends before low after high.
             still (place g h) q ends
             ∙ p.stays wanted h first last q below own ends before low after (let l = code_more g i e in omega (arith, high, l));
       };

@@ -22,14 +22,13 @@ use Rattle.code_follows.proofs.Following.{Sim}
 use Rattle.code_follows.proofs.Settings.{Setting, Within, and_one, code_more, onto, placed_instr}
 use Rattle.fields_follow.proofs.Flags.{Stored, bit_fits, stored, written_to}
 use Rattle.fields_follow.proofs.Instructions.{number_in, place, shapes, wrote}
-use Rattle.fields_follow.proofs.Leaving.{EndsBelow, under}
+use Rattle.fields_follow.proofs.Leaving.{EndsBelow, PassesTests, sim_saying, under}
 use Rattle.fields_follow.proofs.Named.{NamesFields}
 use Rattle.fields_follow.proofs.Passing.{Behind, GivesField, code_longer, fields_longer, flags_of, gives_numbers, names_second, names_third}
-use Rattle.fields_follow.proofs.PassingTests.{PassesTests, tests_behind_entry, tests_on, tests_passed}
-use Rattle.fields_follow.proofs.Places.{HoldsTheFields, IsOwnField, PlacesFields, stands_here}
+use Rattle.fields_follow.proofs.PassingTests.{tests_behind_entry, tests_on, tests_passed}
+use Rattle.fields_follow.proofs.Places.{HoldsTheFields, IsOwnField, PlacesFields, names_first, stands_here}
 use Rattle.fields_follow.proofs.TestFlags.{Tells, numbers_tell}
 use Rattle.fields_follow.proofs.Values.{with_entry}
-use Rattle.fields_follow.proofs.Writing.{named}
 
 zero_bit : (b : Bool) → (from_bool (not b) == 0) ≡ b
 zero_bit true = refl
@@ -57,34 +56,10 @@ joined_bits false false false len = refl
 module _ (g : Setting) (alive : Variable → Type 0) (places : PlacesFields g) (fields : HoldsTheFields g) where
   -- what the state is for the fields alone
   fields_sim : (st : State) (s : CodeState) → Sim g alive st s → Sim (under g fields.active) alive st s
-  fields_sim st s h = record {
-    registers = h.registers;
-    scalars = h.scalars;
-    small = h.small;
-    constants = h.constants;
-    turns = h.turns;
-    output = h.output;
-    input = h.input;
-    returns = h.returns;
-    few = h.few;
-    bytes = h.bytes;
-    memory = fields.opens st s.memory h.memory;
-  }
+  fields_sim st s h = sim_saying g alive st s s.at s.memory (fields.opens st s.memory h.memory) h
 
   whole_sim : (st : State) (s : CodeState) → Sim (under g fields.active) alive st s → Sim g alive st s
-  whole_sim st s h = record {
-    registers = h.registers;
-    scalars = h.scalars;
-    small = h.small;
-    constants = h.constants;
-    turns = h.turns;
-    output = h.output;
-    input = h.input;
-    returns = h.returns;
-    few = h.few;
-    bytes = h.bytes;
-    memory = fields.closes st s.memory h.memory;
-  }
+  whole_sim st s h = sim_saying g alive st s s.at s.memory (fields.closes st s.memory h.memory) h
 
   -- Code of conditions gives a field that is zero where these numbers are.
   pub record GivesTold (d : Draft) (s : CodeState) (set : ℕ) (st : State) (v : ℕ → ℕ) (f : Field) (e : Draft) : Type 0 where
@@ -99,7 +74,6 @@ module _ (g : Setting) (alive : Variable → Type 0) (places : PlacesFields g) (
     pub of_set : f.set ≡ set
     pub exists : set < length (shapes g)
     pub len : f.len ≡ 1
-    pub newer : length d.fields ≤ f.offset
     pub older : f.offset < length e.fields
     pub ends : EndsBelow g f
     pub somewhere : ℕ
@@ -148,11 +122,10 @@ module _ (g : Setting) (alive : Variable → Type 0) (places : PlacesFields g) (
       of_set = of_set;
       exists = w.exists;
       len = len;
-      newer = newer;
       older = let l = fields_longer e (with_instr i e) 1 (and_one g i e) in omega (arith, older, l);
       ends = w.ends;
       somewhere = length e.code;
-      named = named g places fields alive i f others (length e.code) (stands_here g i e within plain) names;
+      named = names_first g i f others (length e.code) (stands_here g i e within plain) names;
       before = omega (arith, long);
       are = λ q below on. w.has q below (below, on);
     }

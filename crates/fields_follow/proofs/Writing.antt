@@ -1,5 +1,5 @@
 -- What an instruction on fields leaves: its destination has the numbers, and all else is as it was.
-use Rattle.std.proofs.Common.{◌≡◌, ◌≢◌, ◌∙◌, ℕ, ◌+◌, ◌%◌, ◌<◌, ◌≤◌, ◌^◌, ◌⊎◌, inl, inr, Bool, true, false, ◌&&◌, ◌==◌, Any, List, ◌∷◌, length, slice_get, refl, sym, ap, subst, arith, if◌then◌else◌}
+use Rattle.std.proofs.Common.{◌≡◌, ◌≢◌, ◌∙◌, ℕ, ◌+◌, ◌%◌, ◌<◌, ◌≤◌, ◌^◌, ◌⊎◌, inl, inr, Bool, true, false, ◌&&◌, ◌==◌, List, length, slice_get, refl, sym, ap, subst, arith, if◌then◌else◌}
 use Rattle.std.proofs.lemmas.Bool.{cases_eq}
 use Rattle.std.proofs.lemmas.Bool.Decides.{nat_tests}
 use Rattle.cstar_tree.specs.declared.typed.VarInfo.{VarInfo}
@@ -11,7 +11,7 @@ use Rattle.paris_code.specs.declared.operands.Field.{Field}
 use Rattle.paris_code.specs.Code.{CodeState}
 use Rattle.paris_code.specs.Memory.{BitMemory, field_number, is_active, processors}
 use Rattle.paris_code.specs.Shapes.{bits_at}
-use Rattle.paris_code.specs.Spans.{IsNamedAt, StandsAt, entry_of, fields_of}
+use Rattle.paris_code.specs.Spans.{IsNamedAt, StandsAt}
 use Rattle.paris_code.specs.Writes.{Write, written}
 use Rattle.source_meaning.specs.State.{State, is_same, with_positions}
 use Rattle.code_follows.specs.Agreement.{AreBytes, mark_of}
@@ -23,7 +23,7 @@ use Rattle.fields_follow.proofs.Fields.{HoldsFields}
 use Rattle.fields_follow.specs.Fields.{IsElement}
 use Rattle.fields_follow.proofs.FileFields.{Apart, apart_back}
 use Rattle.fields_follow.proofs.Instructions.{HasNumbers, Puts, number_in, place, shapes, wrote}
-use Rattle.fields_follow.proofs.Places.{HoldsTheFields, IsFileField, IsOwnField, PlacesFields, of_file, stands_here}
+use Rattle.fields_follow.proofs.Places.{HoldsTheFields, IsFileField, IsOwnField, PlacesFields, names_first, of_file, stands_here}
 
 module _ (g : Setting) (places : PlacesFields g) (fields : HoldsTheFields g) (alive : Variable → Type 0) where
   abbrev Opened : State → BitMemory → Type 0
@@ -44,10 +44,6 @@ module _ (g : Setting) (places : PlacesFields g) (fields : HoldsTheFields g) (al
     bytes = subst (λ (b : List ℕ). AreBytes b) (sym input) h.bytes;
     memory = fields.closes u (written w s.memory) opened;
   }
-
-  -- an instruction names its destination
-  pub named : (i : Instr) (d : Field) (others : List Field) (at : ℕ) → StandsAt g.unit at i → fields_of i ≡ d ∷ others → IsNamedAt g.unit d.offset at
-  named i d others at there names = (i, there, subst (λ (xs : List Field). Any (λ (f : Field). entry_of f ≡ d.offset) xs) (sym names) (0, d, omega arith, refl, refl))
 
   -- Behind an instruction that stands next: the destination has the numbers, and if its answer is used, what stands in
   -- own entries that are named before and behind it stays.
@@ -127,7 +123,7 @@ module _ (g : Setting) (places : PlacesFields g) (fields : HoldsTheFields g) (al
       }) sim;
       has = numbers;
       stays = λ again h first last p other is_own before after low high.
-          elsewhere (place g h) p (apart_back (place g h) (place g d) (places.owns_apart h d first (length e.code) last again.0 other is_own own d_ends.0 before after low high (named i d puts.others (length e.code) there puts.names) again.1.0 again.1.1));
+          elsewhere (place g h) p (apart_back (place g h) (place g d) (places.owns_apart h d first (length e.code) last again.0 other is_own own d_ends.0 before after low high (names_first g i d puts.others (length e.code) there puts.names) again.1.0 again.1.1));
     }
 
     -- a variable of the file takes the numbers where it is active, or others that are the same there

@@ -1,0 +1,120 @@
+-- What the code of `where` has done where what stands under it begins: its condition has run, and the context is saved.
+use Rattle.std.proofs.Common.{◌≡◌, ◌∙◌, ℕ, ◌+◌, ◌<◌, ◌≤◌, List, length, slice_index, refl, ap, subst, arith}
+use Rattle.cstar_tree.specs.declared.typed.TExpr.{TExpr}
+use Rattle.cstar_tree.specs.declared.typed.Variable.{Variable}
+use Rattle.code_lengths.specs.Growth.{Extended, Grows}
+use Rattle.code_lengths.specs.Lowerable.{InField}
+use Rattle.code_lengths.specs.Ready.{IsReady}
+use Rattle.code_lengths.proofs.Agreeing.{expressions}
+use Rattle.code_lengths.proofs.Drafting.{extended}
+use Rattle.lower_base.specs.Drafts.{Draft, Fails, Made, Makes, with_instr}
+use Rattle.lower_expr.specs.Values.{tested}
+use Rattle.paris_code.specs.declared.instr.Instr.TheVariants as I
+use Rattle.paris_code.specs.declared.operands.Field.{Field}
+use Rattle.paris_code.specs.declared.program.Owner.TheVariants as W
+use Rattle.paris_code.specs.Code.{CodeState}
+use Rattle.paris_code.specs.Memory.{BitMemory}
+use Rattle.paris_code.specs.Spans.{IsNamedAt}
+use Rattle.source_meaning.specs.State.{State}
+use Rattle.source_meaning.specs.Values.{Active, Scope}
+use Rattle.code_follows.proofs.Following.{HasRegisters, Sim}
+use Rattle.code_follows.proofs.Settings.{At, Begun, Setting, Within, and_one, code_more, earlier, layout}
+use Rattle.fields_follow.specs.Fragment.{IsCondition}
+use Rattle.fields_follow.proofs.Forms.{HasItsCode}
+use Rattle.fields_follow.proofs.Instructions.{extents}
+use Rattle.fields_follow.proofs.Knowing.{KnowsFields, kept_open, sim_open}
+use Rattle.fields_follow.proofs.Saving.{Kept}
+use Rattle.fields_follow.proofs.Leading.{Led, TestsAre, saves_context}
+use Rattle.fields_follow.proofs.Leaving.{fields_under, places_under, reaches_again, registers_under, under, within_under}
+use Rattle.fields_follow.proofs.Meaning.{value_in}
+use Rattle.fields_follow.proofs.Passing.{After, code_longer, fields_longer}
+use Rattle.fields_follow.proofs.Places.{IsOwnField}
+use Rattle.fields_follow.proofs.TestFlags.{LeavesTests}
+use Rattle.fields_follow.proofs.Testing.{condition_tested}
+use Rattle.fields_follow.proofs.Values.{and_entry, next_field, one_more, taken, with_entry}
+
+-- code that is made where it grows
+grown_made : {A : Type 0} (d : Draft) (n : ℕ) (P : A → Type 0) (made : Made A) → Grows d n P made → (x : A) × ((e : Draft) × ((made ≡ Makes x e) × ((k : ℕ) × Extended d k e)))
+unfolding Grows
+grown_made d n P (Makes x e) grows = (x, (e, (refl, (n, grows.1))))
+grown_made d n P Fails grows = absurd grows
+
+-- the code of `where` takes an entry for the context, and one for the tests
+module _ (shape : ℕ) (d : Draft) where
+  abbrev pub entered : Draft
+  entered = with_entry shape 1 W.Own d
+
+  abbrev pub saved : Field
+  saved = next_field shape 1 d
+
+  abbrev pub holds : Field
+  holds = next_field shape 1 entered
+
+  abbrev for_test : Draft
+  for_test = with_entry shape 1 W.Own entered
+
+module _ (g : Setting) (shape : ℕ) (d : Draft) (test : TExpr) where
+  -- behind them the code of a condition is made
+  abbrev pub TestMade : Type 0
+  TestMade = (x : Unit {0}) × ((after : Draft) × ((tested g.typed (layout g) test (for_test shape d) ≡ Makes x after) × ((k : ℕ) × Extended (for_test shape d) k after)))
+
+  pub test_made : (alive : Variable → Type 0) (n : ℕ) → ((d : Draft) → IsReady g.typed g.instance (layout g) n d) → InField g.typed test → HasItsCode g.typed g.instance alive n test → TestMade
+  test_made alive n ready field c = grown_made (for_test shape d) _ _ _ ((expressions g.typed g.instance (layout g)).test n test (for_test shape d) c.code field (ready (for_test shape d)))
+
+  module _ (made : TestMade) where
+    abbrev after : Draft
+    after = made.1.0
+
+    abbrev longer : Extended (for_test shape d) made.1.1.1.0 after
+    longer = made.1.1.1.1
+
+    pub saved_own : Within g after → IsOwnField g (saved shape d)
+    saved_own w = taken g shape 1 W.Own d after (0 + made.1.1.1.0) w (extended (entered shape d) (for_test shape d) after 0 made.1.1.1.0 (and_entry shape 1 W.Own (entered shape d)) longer)
+
+    pub holds_own : Within g after → IsOwnField g (holds shape d)
+    holds_own w = taken g shape 1 W.Own (entered shape d) after made.1.1.1.0 w longer
+
+    -- there are the two entries more
+    pub entries_more : (length (entered shape d).fields ≡ length d.fields + 1) × (length d.fields + 1 + 1 ≤ length after.fields)
+    entries_more = let one = one_more shape 1 W.Own d in let two = one_more shape 1 W.Own (entered shape d) in let more = fields_longer (for_test shape d) after made.1.1.1.0 longer in (one, omega (arith, one, two, more))
+
+    pub code_more_by : length d.code ≤ length after.code
+    code_more_by = code_longer (for_test shape d) after made.1.1.1.0 longer
+
+    module _ (scope : Scope) (active : Active) (known : KnowsFields g scope active) (alive : Variable → Type 0) (begun : Begun g d) (s : CodeState) (st : State) where
+      -- what is kept, and the test flags
+      abbrev Tested : (BitMemory → Type 0) → BitMemory → Type 0
+      Tested kept m = kept m × TestsAre g shape active (λ q. value_in (extents g shape) st test q) m
+
+      -- the condition has run
+      condition_leads : (has : HasRegisters g) (n : ℕ) (ready : (d : Draft) → IsReady g.typed g.instance (layout g) n d) → IsCondition shape test → HasItsCode g.typed g.instance alive n test → At g s (length d.code) → Sim g alive st s → Within g after
+          → Led g scope active known alive active (λ m. Tested known.kept m) d after s st
+      unfolding After
+      condition_leads has n ready condition c at sim w =
+          let l = subst (λ (m : Made (Unit {0})). After (under g active) (λ u f. LeavesTests (under g active) alive (fields_under g active) (for_test shape d) s shape st (λ q. value_in (extents g shape) st test q) f) m) made.1.1.0
+          (condition_tested (under g active) (registers_under g active has) alive n ready (places_under g active known.places) (fields_under g active) shape test condition c (for_test shape d) s st at (sim_open g scope active known alive st s sim)) (within_under g active w) in
+          record {
+            grown = (0 + l.leaves.grown.0, extended d (for_test shape d) after 0 l.leaves.grown.0 (extended d (entered shape d) (for_test shape d) 0 0 (and_entry shape 1 W.Own d) (and_entry shape 1 W.Own (entered shape d))) l.leaves.grown.1);
+            t = l.leaves.t;
+            go = reaches_again g active l.leaves.go;
+            at = l.leaves.at;
+            sim = l.leaves.sim;
+            has = (
+              known.lasts s.memory l.leaves.t.memory (λ h first last q inside own ends before early named late.
+                  l.leaves.stays tt h first last q (let b = begun.fields in let one = one_more shape 1 W.Own d in let two = one_more shape 1 W.Own (entered shape d) in omega (arith, inside, b, one, two)) own ends before (let b = begun.code in omega (arith, early, b)) named (let up = w.upto in omega (arith, late, up)))
+                  (kept_open g scope active known alive st s sim),
+              l.flags,
+            );
+            keeps = λ r kept. ap (λ (registers : List ℕ). slice_index registers r) l.leaves.registers;
+          }
+
+      abbrev saves : Draft
+      saves = with_instr (I.StoreContext (saved shape d)) after
+
+      -- and behind it the context is saved
+      pub context_led : (has : HasRegisters g) (n : ℕ) (ready : (d : Draft) → IsReady g.typed g.instance (layout g) n d) → IsCondition shape test → HasItsCode g.typed g.instance alive n test → At g s (length d.code) → Sim g alive st s
+          → (later : ℕ) → Within g saves → IsNamedAt g.unit (saved shape d).offset later → length after.code < later → Led g scope active known alive active (λ m. Tested (λ x. Kept g scope active known alive (saved shape d) x) m) d saves s st
+      context_led has n ready condition c at sim later w named behind_it =
+          let w_after : Within g after = earlier g after saves 1 (and_one g (I.StoreContext (saved shape d)) after) w in
+          saves_context g scope active known alive active known.kept g.from g.entries g.upto known.lasts d after s st (λ m. TestsAre g shape active (λ q. value_in (extents g shape) st test q) m) (saved shape d) later (let b = begun.code in let l = code_more_by in omega (arith, b, l)) begun.fields
+          (let up = w.upto in let one = code_more g (I.StoreContext (saved shape d)) after in omega (arith, up, one)) (saved_own w_after) refl named behind_it (λ m other same tests p below on. same shape p ∙ tests p below on) w (condition_leads has n ready condition c at sim w_after)
