@@ -65,7 +65,7 @@ use Rattle.fields_follow.proofs.Places.{HoldsTheFields, IsFileField, PlacesField
 use Rattle.fields_follow.proofs.Pure.{are_grids, pure_means}
 use Rattle.fields_follow.proofs.Updates.{IsFileTarget, assign_means, file_target, promoted_wide, step_means, updated_is}
 use Rattle.fields_follow.proofs.Values.{and_entry, next_field, one_more, taken, with_entry}
-use Rattle.fields_follow.proofs.Writing.{TakesBehind, few, file_ends, file_sim, instr_takes, own_stays}
+use Rattle.fields_follow.proofs.Writing.{TakesBehind, few, entry_ends, file_sim, instr_takes, own_stays}
 use Rattle.fields_follow.proofs.Effects.{IsEntryFor, in_place_last, put_last}
 use Rattle.fields_follow.proofs.Expressions.{operand_type}
 use Rattle.code_follows.specs.Fragment.{ScalarsAmong}
@@ -93,7 +93,7 @@ module _ (g : Setting) (has : HasRegisters g) (alive : Variable → Type 0) (n :
     leaves v w same e2 f used within p wanted last =
         let x : Extended entered (p.grown.0 + last.more.0) f = extended entered e2 f p.grown.0 last.more.0 p.grown.1 last.more.1 in
         let file : IsFileField g k 0 variable = entry_for f (p.grown.0 + last.more.0) x within in
-        let ends = file_ends g places fields alive set k 0 info variable is word file refl refl in
+        let ends = entry_ends g places fields alive set k 0 info variable is word file refl refl in
         let longer = code_longer e2 f last.more.0 last.more.1 in
         let more = one_more set info.elem.bits (W.File (file_number g.typed k 0)) d in
         record {

@@ -12,7 +12,7 @@ use Rattle.phase_meaning.proofs.RunBits.{run_number_is}
 use Rattle.fields_follow.proofs.FileFields.{Apart}
 
 -- the numbers of two runs with the same bits
-run_number_same : (f g : ℕ → ℕ) (offset n : ℕ) → ((j : ℕ) → j < n → f (offset + j) ≡ g (offset + j)) → run_number f offset n ≡ run_number g offset n
+pub run_number_same : (f g : ℕ → ℕ) (offset n : ℕ) → ((j : ℕ) → j < n → f (offset + j) ≡ g (offset + j)) → run_number f offset n ≡ run_number g offset n
 unfolding run_number
 run_number_same f g offset zero same = refl
 run_number_same f g offset (suc n) same =

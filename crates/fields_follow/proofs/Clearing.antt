@@ -38,7 +38,7 @@ use Rattle.fields_follow.proofs.Passing.{Behind, code_longer, flags_of, names_se
 use Rattle.fields_follow.proofs.PassingTests.{tests_on}
 use Rattle.fields_follow.proofs.Places.{HoldsTheFields, IsFileField, IsOwnField, PlacesFields, of_file, stands_here}
 use Rattle.fields_follow.proofs.Truths.{GivesTruth, either_or_both, joined_bits}
-use Rattle.fields_follow.proofs.Writing.{TakesBehind, file_ends, file_place}
+use Rattle.fields_follow.proofs.Writing.{TakesBehind, entry_ends, entry_place}
 
 -- ---- two writes are one
 
@@ -149,7 +149,7 @@ module _ (g : Setting) (places : PlacesFields g) (fields : HoldsTheFields g) (al
       both = written_to (place g dest) on (λ q. number q % 2)
 
       ends : (dest.set < length (shapes g)) × ((place g dest).offset + dest.len ≤ bits_at (shapes g) dest.set)
-      ends = file_ends g places fields alive set k 0 info dest is word file refl refl
+      ends = entry_ends g places fields alive set k 0 info dest is word file refl refl
 
       still_active : (q : ℕ) → is_active (shapes g) s1.memory set q ≡ on q
       still_active q = active_apart (shapes g) clears s.memory set q ends.1
@@ -159,7 +159,7 @@ module _ (g : Setting) (places : PlacesFields g) (fields : HoldsTheFields g) (al
 
       still : (h : Field) (q : ℕ) → IsOwnField g h → number_in g h s1 q ≡ number_in g h s q
       still h q own =
-          field_apart clears s.memory (place g h) q (subst (λ (f : Field). Apart f (place g h)) (sym (file_place g places fields alive set k 0 info dest is word file refl refl)) (apart_back (place g h) (of_file g k 0) (places.own_file k 0 set info h is own)))
+          field_apart clears s.memory (place g h) q (subst (λ (f : Field). Apart f (place g h)) (sym (entry_place g places fields alive set k 0 info dest is word file refl refl)) (apart_back (place g h) (of_file g k 0) (places.own_file k 0 set info h is own)))
 
       few : (x : Bool) → from_bool (nonzero (from_bool x)) % 2 ^ 32 ≡ from_bool x
       few true = refl

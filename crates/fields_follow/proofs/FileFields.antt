@@ -300,7 +300,7 @@ module _ (t : Typed) (words : List ℕ) (before after : Program) (image : Image)
   same_final k e last is = ap field_or_none is
 
   -- its set and its length
-  file_set : (k : ℕ) (info : VarInfo) (set e : ℕ) → IsElement t k info set e → (file_field t image k e).set ≡ set
+  pub file_set : (k : ℕ) (info : VarInfo) (set e : ℕ) → IsElement t k info set e → (file_field t image k e).set ≡ set
   file_set k info set e is = let f = final_there k info set e is in ap (λ (x : Field). x.set) (same_final k e f.last f.there) ∙ f.of.set_is
 
   final_fits : (n : ℕ) (last : Final) → slice_get image.finals.items n ≡ Some last → FieldExists (shapes_of image) last.field × Fits (shapes_of image) last.field

@@ -87,13 +87,13 @@ module _ (g : Setting) (places : PlacesFields g) (fields : HoldsTheFields g) (al
     pub stays : used → (h : Field) (first last p : ℕ) → (h.offset ≡ d.offset → ⊥) → IsOwnField g h → IsNamedAt g.unit h.offset first → IsNamedAt g.unit h.offset last → first ≤ length e.code → length e.code < last → number_in g h t p ≡ number_in g h s p
 
   -- the entry for an element of the file stands at its field, below the flags
-  pub file_place : (set k element : ℕ) (info : VarInfo) (d : Field) → IsElement g.typed k info set element → info.elem.bits ≡ 32 → IsFileField g k element d → d.set ≡ set → d.len ≡ 32 → place g d ≡ of_file g k element
-  file_place set k element info d is word own of_set wide = places.file k element info d (subst (λ (n : ℕ). IsElement g.typed k info n element) (sym of_set) is) (word ∙ sym wide) own
+  pub entry_place : (set k element : ℕ) (info : VarInfo) (d : Field) → IsElement g.typed k info set element → info.elem.bits ≡ 32 → IsFileField g k element d → d.set ≡ set → d.len ≡ 32 → place g d ≡ of_file g k element
+  entry_place set k element info d is word own of_set wide = places.file k element info d (subst (λ (n : ℕ). IsElement g.typed k info n element) (sym of_set) is) (word ∙ sym wide) own
 
-  pub file_ends : (set k element : ℕ) (info : VarInfo) (d : Field) → IsElement g.typed k info set element → info.elem.bits ≡ 32 → IsFileField g k element d → d.set ≡ set → d.len ≡ 32 → (d.set < length (shapes g)) × ((place g d).offset + d.len ≤ bits_at (shapes g) d.set)
-  file_ends set k element info d is word own of_set wide = (
+  pub entry_ends : (set k element : ℕ) (info : VarInfo) (d : Field) → IsElement g.typed k info set element → info.elem.bits ≡ 32 → IsFileField g k element d → d.set ≡ set → d.len ≡ 32 → (d.set < length (shapes g)) × ((place g d).offset + d.len ≤ bits_at (shapes g) d.set)
+  entry_ends set k element info d is word own of_set wide = (
     subst (λ (n : ℕ). n < length (shapes g)) (sym of_set) (places.exists k element set info is),
-    subst (λ (h : Field). h.offset + h.len ≤ bits_at (shapes g) h.set) (sym (file_place set k element info d is word own of_set wide)) (places.files_end k element set info is),
+    subst (λ (h : Field). h.offset + h.len ≤ bits_at (shapes g) h.set) (sym (entry_place set k element info d is word own of_set wide)) (places.files_end k element set info is),
   )
 
   module _ (set : ℕ) (d : Field) (s : CodeState) (st : State) (v : ℕ → ℕ) (sim : Sim g alive st s) (of_set : d.set ≡ set) (wide : d.len ≡ 32) (exists : d.set < length (shapes g)) (ends : (place g d).offset + d.len ≤ bits_at (shapes g) d.set) (takes : Takes g set d s v) where
@@ -137,7 +137,7 @@ module _ (g : Setting) (places : PlacesFields g) (fields : HoldsTheFields g) (al
     -- are the same there.
     module _ (k element : ℕ) (info : VarInfo) (is : IsElement g.typed k info set element) (word : info.elem.bits ≡ 32) (own : IsFileField g k element d) where
       at_file : place g d ≡ of_file g k element
-      at_file = file_place set k element info d is word own of_set wide
+      at_file = entry_place set k element info d is word own of_set wide
 
       -- own entries stay
       pub own_stays : (h : Field) (p : ℕ) → IsOwnField g h → field_number behind (place g h) p ≡ field_number s.memory (place g h) p
