@@ -43,6 +43,7 @@ use Rattle.paris_code.specs.declared.program.Owner.TheVariants as W
 use Rattle.paris_code.specs.Code.{CodeState}
 use Rattle.paris_code.specs.Memory.{processors}
 use Rattle.paris_code.specs.Proper.{IsEntry}
+use Rattle.paris_code.specs.Writes.{written}
 use Rattle.source_meaning.specs.Expressions.{evaluated}
 use Rattle.source_meaning.specs.Reductions.{promoted, updated}
 use Rattle.source_meaning.specs.State.{Gives, State, with_positions}
@@ -50,7 +51,7 @@ use Rattle.source_meaning.specs.Targets.{step_op}
 use Rattle.source_meaning.specs.Values.{Parallel, Scope, Value}
 use Rattle.source_meaning.proofs.ConstantLaws.{Boxed}
 use Rattle.code_follows.proofs.Following.{HasRegisters, Sim}
-use Rattle.code_follows.proofs.Settings.{At, Setting, Within, and_one, code_more, layout, onto}
+use Rattle.code_follows.proofs.Settings.{At, Setting, Within, and_one, layout, onto}
 use Rattle.fields_follow.specs.Fragment.{HasOperation, IsOperand, IsOperandOrTruth, IsOperation, IsTarget, IsUpdate, KnowsExtents}
 use Rattle.fields_follow.specs.Fields.{IsElement, file_number}
 use Rattle.fields_follow.proofs.Deciding.{truth_last, truth_means}
@@ -64,14 +65,14 @@ use Rattle.fields_follow.proofs.Places.{HoldsTheFields, IsFileField, PlacesField
 use Rattle.fields_follow.proofs.Pure.{are_grids, pure_means}
 use Rattle.fields_follow.proofs.Updates.{AssignsByNoZero, IsFileTarget, assign_means, file_target, promoted_wide, step_means, updated_is}
 use Rattle.fields_follow.proofs.Values.{and_entry, next_field, one_more, taken, with_entry}
-use Rattle.fields_follow.proofs.Writing.{few, file_written}
+use Rattle.fields_follow.proofs.Writing.{TakesBehind, few, entry_ends, file_sim, instr_takes, own_stays}
 use Rattle.fields_follow.proofs.Effects.{IsEntryFor, in_place_last, put_last}
 use Rattle.fields_follow.proofs.Expressions.{operand_type}
 use Rattle.code_follows.specs.Fragment.{ScalarsAmong}
 
 module _ (g : Setting) (has : HasRegisters g) (alive : Variable → Type 0) (n : ℕ) (ready : (d : Draft) → IsReady g.typed g.instance (layout g) n d) (places : PlacesFields g) (fields : HoldsTheFields g) where
-  -- The last instruction writes the variable where it is active: with the entry for it before, the code leaves a state
-  -- that has what the source stores.
+  -- What comes last writes the variable where it is active: with the entry for it before, the code leaves a state that
+  -- has what the source stores.
   module _ (set k : ℕ) (info : VarInfo) (is : IsElement g.typed k info set 0) (word : info.elem.bits ≡ 32) (d : Draft) (s : CodeState) (st : State) where
     abbrev entered : Draft
     entered = with_entry set info.elem.bits (W.File (file_number g.typed k 0)) d
@@ -87,32 +88,33 @@ module _ (g : Setting) (has : HasRegisters g) (alive : Variable → Type 0) (n :
     was_small : Sim g alive st s → (p : ℕ) → p < processors (shapes g) set → st.parallel (V.File k) 0 p < 2 ^ 32
     was_small sim p below = subst (λ (b : ℕ). st.parallel (V.File k) 0 p < 2 ^ b) word ((fields.opens st s.memory sim.memory).small k 0 set p info is below)
 
-    leaves : (v w : ℕ → ℕ) → ((p : ℕ) → p < processors (shapes g) set → v p < 2 ^ 32 → w p ≡ v p) → (e2 : Draft) (i : Instr) (used : Type 0) → Within g (with_instr i e2) → (p : PassesTests g alive entered e2 s st used) → used → Puts g set i variable p.t v
-        → Leaves g alive d (with_instr i e2) s (with_positions (V.File k) 0 (fields.active set) w st)
-    leaves v w same e2 i used within p wanted puts =
-        let x : Extended entered (p.grown.0 + 1) (with_instr i e2) = extended entered e2 (with_instr i e2) p.grown.0 1 p.grown.1 (and_one g i e2) in
-        let h = file_written g places fields alive set i variable e2 p.t st v within p.at p.sim refl refl puts k 0 info (fields.active set) w is word (entry_for (with_instr i e2) (p.grown.0 + 1) x within) (λ q below. refl)
-        (λ q below on. same q below (few g places fields alive set i variable e2 p.t st v within p.at p.sim refl refl puts q below on)) in
-        let longer = code_longer entered e2 p.grown.0 p.grown.1 in
-        let one : length (with_instr i e2).code ≡ length e2.code + 1 = code_more g i e2 in
+    leaves : (v w : ℕ → ℕ) → ((p : ℕ) → p < processors (shapes g) set → v p < 2 ^ 32 → w p ≡ v p) → (e2 f : Draft) (used : Type 0) → Within g f → (p : PassesTests g alive entered e2 s st used) → used → TakesBehind g set variable e2 f p.t v
+        → Leaves g alive d f s (with_positions (V.File k) 0 (fields.active set) w st)
+    leaves v w same e2 f used within p wanted last =
+        let x : Extended entered (p.grown.0 + last.more.0) f = extended entered e2 f p.grown.0 last.more.0 p.grown.1 last.more.1 in
+        let file : IsFileField g k 0 variable = entry_for f (p.grown.0 + last.more.0) x within in
+        let ends = entry_ends g places fields alive set k 0 info variable is word file refl refl in
+        let longer = code_longer e2 f last.more.0 last.more.1 in
         let more = one_more set info.elem.bits (W.File (file_number g.typed k 0)) d in
         record {
-          grown = (0 + (p.grown.0 + 1), extended d entered (with_instr i e2) 0 (p.grown.0 + 1) (and_entry set info.elem.bits (W.File (file_number g.typed k 0)) d) x);
-          t = h.t;
-          go = onto g s p.t h.t p.go h.go;
-          at = h.at;
-          registers = h.registers ∙ p.registers;
-          sim = h.sim;
-          stays = λ u f first last q below own ends before low after high.
-              h.stays u f first last q (λ alike. omega (arith, alike, below)) own before after (omega (arith, low, longer)) (omega (arith, high, one))
-              ∙ p.stays wanted f first last q (omega (arith, below, more)) own ends before low after (omega (arith, high, one));
+          grown = (0 + (p.grown.0 + last.more.0), extended d entered f 0 (p.grown.0 + last.more.0) (and_entry set info.elem.bits (W.File (file_number g.typed k 0)) d) x);
+          t = record p.t { at = last.place; memory = written last.takes.write p.t.memory };
+          go = onto g s p.t (record p.t { at = last.place; memory = written last.takes.write p.t.memory }) p.go last.go;
+          at = last.at;
+          registers = p.registers;
+          sim = file_sim g places fields alive set variable p.t st v p.sim refl refl ends.0 ends.1 last.takes k 0 info is word file last.place (fields.active set) w (λ q below. refl)
+              (λ q below on. same q below (few g places fields alive set variable p.t st v p.sim refl refl ends.0 ends.1 last.takes q below on));
+          stays = λ u h first final q below own ends_below before low after high.
+              own_stays g places fields alive set variable p.t st v p.sim refl refl ends.0 ends.1 last.takes k 0 info is word file h q own
+              ∙ p.stays wanted h first final q (omega (arith, below, more)) own ends_below before low after (omega (arith, high, longer));
         }
 
-    -- behind code of values alone
+    -- by an instruction behind code of values alone
     leaves_value : (v w : ℕ → ℕ) → ((p : ℕ) → p < processors (shapes g) set → v p < 2 ^ 32 → w p ≡ v p) → (e2 : Draft) (i : Instr) → Within g (with_instr i e2) → (p : Passes g alive (length entered.fields) entered e2 s st (Unit {0})) → Puts g set i variable p.t v
         → Leaves g alive d (with_instr i e2) s (with_positions (V.File k) 0 (fields.active set) w st)
     unfolding tests_passed
-    leaves_value v w same e2 i within p puts = leaves v w same e2 i (Unit {0}) within (tests_passed g alive (length entered.fields) entered e2 s st (Unit {0}) (omega arith) p) tt puts
+    leaves_value v w same e2 i within p puts =
+        leaves v w same e2 (with_instr i e2) (Unit {0}) within (tests_passed g alive (length entered.fields) entered e2 s st (Unit {0}) (omega arith) p) tt (instr_takes g set i variable e2 p.t v within p.at puts)
 
     -- the variable with all its bits is that entry
     variable_is : (target : TExpr) (next : Out → Draft → Made Out) → (type_of target).elem.bits ≡ 32
@@ -221,8 +223,8 @@ module _ (g : Setting) (has : HasRegisters g) (alive : Variable → Type 0) (n :
             (λ e2 i within passes puts. leaves_value set h.k h.info h.is h.wide d s st (λ x. value_in (extents g set) st value x) w (λ x below small. plainly op ty.elem (type_of value).elem (st.parallel (V.File h.k) 0 x) (value_in (extents g set) st value x) is) e2 i within passes puts))
         by None is known (inr truth) =
             after_same g (λ out e. Leaves g alive d e s u) (ap (λ (o : Option Op). elim o as (λ _. Made Out) [ None ↦ put_to g.typed (layout g) (O.Field f) value d1 | Some x ↦ variable_operated g.typed (layout g) x place target value (O.Field f) d1 ]) is)
-            (truth_last g has alive n ready places fields set (length d.fields) value truth.1 c d1 s st here sim (λ out e. Leaves g alive d e s u)
-            (λ e2 i used within passes wanted puts. leaves set h.k h.info h.is h.wide d s st (λ x. value_in (extents g set) st value x) w (λ x below small. plainly op ty.elem (type_of value).elem (st.parallel (V.File h.k) 0 x) (value_in (extents g set) st value x) is) e2 i used within passes wanted puts))
+            (truth_last g has alive n ready places fields set h.k (length d.fields) h.info h.is h.wide d1 s st here sim (entry_for set h.k h.info h.is h.wide d s st) (λ out e. Leaves g alive d e s u) value truth.1 c
+            (λ e2 f used within passes wanted last. leaves set h.k h.info h.is h.wide d s st (λ x. value_in (extents g set) st value x) w (λ x below small. plainly op ty.elem (type_of value).elem (st.parallel (V.File h.k) 0 x) (value_in (extents g set) st value x) is) e2 f used within passes wanted last))
         by (Some x) is known (inl is_operand) =
             let signed : Bool = assigned_signed x (type_of target).elem (type_of value).elem in
             after_same g (λ out e. Leaves g alive d e s u) (ap (λ (o : Option Op). elim o as (λ _. Made Out) [ None ↦ put_to g.typed (layout g) (O.Field f) value d1 | Some x ↦ variable_operated g.typed (layout g) x place target value (O.Field f) d1 ]) is)

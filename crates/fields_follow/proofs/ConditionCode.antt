@@ -35,8 +35,8 @@ use Rattle.paris_code.specs.Spans.{fields_of}
 use Rattle.source_meaning.specs.State.{State}
 use Rattle.source_meaning.specs.Values.{nonzero}
 use Rattle.source_meaning.proofs.ConstantLaws.{Boxed}
-use Rattle.code_follows.proofs.Following.{Extends, Sim, extends_then}
-use Rattle.code_follows.proofs.Settings.{At, Setting, Within, and_one, layout}
+use Rattle.code_follows.proofs.Following.{Extends, extends_then}
+use Rattle.code_follows.proofs.Settings.{Setting, Within, and_one, layout}
 use Rattle.fields_follow.proofs.Leaving.{PassesTests}
 use Rattle.fields_follow.proofs.Passing.{After, Behind, after_same, fields_longer, made_after, then_after}
 use Rattle.fields_follow.proofs.PassingTests.{tests_and_entry, tests_behind_entry, tests_on}
@@ -157,7 +157,7 @@ module _ (g : Setting) where
       ∙ ap (λ (o : Option ℕ). then_make (fresh_for o 1 d) (λ dest between. then_make (operand_at 1 operand between) (λ v after. negated (layout g) U.Complement dest v after))) shaped
 
   -- two conditions are joined by one operation
-  abbrev joined_in : Bool → ℕ → Draft → Field → Field → Draft → Made Out
+  abbrev pub joined_in : Bool → ℕ → Draft → Field → Field → Draft → Made Out
   joined_in is_or set d f h e = Makes (O.Field (next_field set 1 d)) (with_instr (I.Operate (operation_of is_or) (next_field set 1 d) f h) e)
 
   pub joined_value : (is_or : Bool) (set : ℕ) (shape : Option ℕ) (left right : Condition) (d : Draft) → shape ≡ Some set → joins left.operand right.operand ≡ true
@@ -284,33 +284,21 @@ module _ (g : Setting) (alive : Variable → Type 0) (places : PlacesFields g) (
       next_extends O.Nothing e = tt
 
   -- two bits, joined
-  pub joined_after : (is_or : Bool) (set : ℕ) (v w : ℕ → ℕ) (d : Draft) (s : CodeState) (st : State) (first : Made Field) (second : Draft → Made Field) → After g (Truth (with_entry set 1 W.Own d) s set st v) first → ((e : Draft) → Extends g e (second e))
-      → ((e : Draft) (t : CodeState) → At g t (length e.code) → Sim g alive st t → After g (Truth e t set st w) (second e))
-      → After g (Bit d s set st (λ q. from_bool (either_or_both is_or (nonzero (v q)) (nonzero (w q))))) (then_make first (λ f between. then_make (second between) (λ h after. joined_in g is_or set d f h after)))
-  unfolding Extends tests_on
-  joined_after is_or set v w d s st first second one grows two =
-      then_after g (Truth d1 s set st v) (Bit d s set st u) first (λ f e. next f e) one (λ f e. extends_then g e (second e) (λ h after. joined_in g is_or set d f h after) (grows e) (λ h after. (1, and_one g (joins_by f h) after))) (λ f e1 left.
-      then_after g (Truth e1 left.passes.t set st w) (Bit d s set st u) (second e1) (λ h after. joined_in g is_or set d f h after) (two e1 left.passes.t left.passes.at left.passes.sim) (λ h after. (1, and_one g (joins_by f h) after)) (λ h e2 right.
-      made_after g (Bit d s set st u) dest (with_instr (joins_by f h) e2) (λ within.
+  pub joined_made : (is_or : Bool) (set : ℕ) (v w : ℕ → ℕ) (d : Draft) (s : CodeState) (st : State) (f h : Field) (e1 e2 : Draft) → (left : Truth (with_entry set 1 W.Own d) s set st v f e1) → Truth e1 left.passes.t set st w h e2
+      → After g (Bit d s set st (λ q. from_bool (either_or_both is_or (nonzero (v q)) (nonzero (w q))))) (joined_in g is_or set d f h e2)
+  unfolding tests_on
+  joined_made is_or set v w d s st f h e1 e2 left right =
+      made_after g (Bit d s set st (λ q. from_bool (either_or_both is_or (nonzero (v q)) (nonzero (w q))))) (O.Field (next_field set 1 d)) (with_instr joins_by e2) (λ within.
       let p : PassesTests g alive d1 e2 s st (Behind g f e1 × Behind g h e2) = tests_on g alive d1 e1 e2 s st (Behind g f e1) (Behind g h e2) (Behind g f e1 × Behind g h e2) left.passes right.passes (λ b. b.0) (λ b. b.1) in (
         next_field set 1 d,
         (
           refl,
-          truth_joined g alive places fields is_or set d e1 e2 f h (next_field set 1 d) s st v w left right (omega arith) (first_older set d e2 s st (Behind g f e1 × Behind g h e2) p) (first_entry set d e2 s st (Behind g f e1 × Behind g h e2) (joins_by f h) p within) refl refl within,
+          truth_joined g alive places fields is_or set d e1 e2 f h (next_field set 1 d) s st v w left right (omega arith) (first_older set d e2 s st (Behind g f e1 × Behind g h e2) p) (first_entry set d e2 s st (Behind g f e1 × Behind g h e2) joins_by p within) refl refl within,
         ),
-      ))))
+      ))
     where
       d1 : Draft
       d1 = with_entry set 1 W.Own d
 
-      dest : Out
-      dest = O.Field (next_field set 1 d)
-
-      u : ℕ → ℕ
-      u = λ q. from_bool (either_or_both is_or (nonzero (v q)) (nonzero (w q)))
-
-      joins_by : Field → Field → Instr
-      joins_by f h = I.Operate (operation_of is_or) (next_field set 1 d) f h
-
-      next : Field → Draft → Made Out
-      next f e = then_make (second e) (λ h after. joined_in g is_or set d f h after)
+      joins_by : Instr
+      joins_by = I.Operate (operation_of is_or) (next_field set 1 d) f h

@@ -131,7 +131,7 @@ module _ (g : Setting) where
         go = one g s (wrote g w s) (begins_here g i e s within (hop_plain axis k d a) here ∙ hop_goes axis k d a s);
         at = at_next g i e s (s.at + 1) here refl;
         registers = refl;
-        sim = with_memory g places fields alive st st s w refl refl refl refl refl (record {
+        sim = with_memory g places fields alive st st s (s.at + 1) w refl refl refl refl refl (record {
           numbers = λ j element q p info is below. field_apart w s.memory (of_file g j element) p (places.own_file j element q info d is own) ∙ was.numbers j element q p info is below;
           small = was.small;
           flags = λ q p exists below. active_apart (shapes g) w s.memory q p ends.1 ∙ was.flags q p exists below;

@@ -27,7 +27,7 @@ use Rattle.lower_base.specs.Drafts.{Draft, Made, Makes, an_entry, in_field, step
 use Rattle.lower_base.specs.Kinds.{binary_kind, bits_of, common_kind, is_bitwise, kind_of, truth_type}
 use Rattle.lower_base.specs.Operators.{negates, relates}
 use Rattle.lower_expr.specs.declared.operands.Own.{Own}
-use Rattle.lower_expr.specs.Joined.{flag_by, is_flag}
+use Rattle.lower_expr.specs.Joined.{flag_by, is_flag, operation_of}
 use Rattle.lower_expr.specs.Operands.{ignores_context, in_place, operand_by, own_of, standing}
 use Rattle.lower_expr.specs.Steps.{has_truth}
 use Rattle.lower_expr.specs.Values.{condition_by, condition_of, flag_of, logical_by, next_of, nonzero_tested, tested, tested_by, truth_of, value_of, zero_tested}
@@ -41,18 +41,18 @@ use Rattle.source_meaning.specs.State as Source
 use Rattle.source_meaning.specs.State.{Outcome, State, then_do}
 use Rattle.source_meaning.specs.Values.{Active, Parallel, Scope, Value, at, nonzero, unary_of}
 use Rattle.source_meaning.proofs.ConstantLaws.{Boxed}
-use Rattle.code_follows.proofs.Following.{Extends, HasRegisters, Sim}
+use Rattle.code_follows.proofs.Following.{Extends, HasRegisters, Sim, extends_then}
 use Rattle.code_follows.proofs.Values.{extends_grown}
 use Rattle.code_follows.proofs.Settings.{At, Setting, and_one, layout}
 use Rattle.fields_follow.specs.Fields.{IsElement, file_number}
 use Rattle.fields_follow.specs.Fragment.{IsCondition, IsPure, IsWide, KnowsExtents, extents_in}
-use Rattle.fields_follow.proofs.ConditionCode.{Bit, Told, Truth, bit_not_value, bit_taken, flag_after, flag_extends, joined_after, joined_value, nonzero_after, operand_at, relation_value, stored_after, turned_after, word_not_value, zero_after}
+use Rattle.fields_follow.proofs.ConditionCode.{Bit, Told, Truth, bit_not_value, bit_taken, flag_after, flag_extends, joined_in, joined_made, joined_value, nonzero_after, operand_at, relation_value, stored_after, turned_after, word_not_value, zero_after}
 use Rattle.fields_follow.proofs.Conditions.{HaveTheirCode, and_codes, condition_constant, condition_kept, condition_type, conditions_join, or_codes}
 use Rattle.fields_follow.proofs.Expressions.{binary_parts, brackets_part, pure_after, unary_part}
 use Rattle.fields_follow.proofs.Forms.{HasItsCode, element_is, field_is, not_held}
 use Rattle.fields_follow.proofs.Instructions.{HasNumbers, SameExtents, extents, place, shapes}
 use Rattle.fields_follow.proofs.Meaning.{AreOperands, binary_means, divides_nothing, either, left_of, promoted_means, right_of, unary_means, value_in}
-use Rattle.fields_follow.proofs.Passing.{After, after_same, after_weaker, in_file_has, made_after, passes_all, passes_from}
+use Rattle.fields_follow.proofs.Passing.{After, after_same, after_weaker, in_file_has, made_after, passes_all, passes_from, then_after}
 use Rattle.fields_follow.proofs.Places.{HoldsTheFields, PlacesFields}
 use Rattle.fields_follow.proofs.Pure.{AreGrids, are_grids, pure_means}
 use Rattle.fields_follow.proofs.Reductions.{pure_kind}
@@ -267,13 +267,26 @@ module _ (g : Setting) (has : HasRegisters g) (alive : Variable → Type 0) (n :
       flag_extends g (is_flag e) set (operand_at g (bits_of (kind_of e)) e) (tested g.typed (layout g) e) d (extends_grown g has alive _ d _ _ ((expressions g.typed g.instance (layout g)).operand (bits_of (kind_of e)) n true e d c.code (ready d)))
       (extends_grown g has alive _ d _ _ ((expressions g.typed g.instance (layout g)).test n e d c.code field (ready d)))
 
+  -- what comes behind two of them
+  flags_after : (set : ℕ) (left right : TExpr) → IsCondition set left → IsCondition set right → HaveTheirCode g.typed g.instance alive n left right → IsKnown set left → IsKnown set right → (d : Draft) (s : CodeState) (st : State) → At g s (length d.code) → Sim g alive st s
+      → (Q : Out → Draft → Type 0) (last : Field → Field → Draft → Made Out) → ((f h : Field) (e : Draft) → Extends g e (last f h e))
+      → ((f h : Field) (e1 e2 : Draft) (one : Truth g alive places fields d s set st (numbers_of set left st) f e1) → Truth g alive places fields e1 one.passes.t set st (numbers_of set right st) h e2 → After g Q (last f h e2))
+      → After g Q (then_make (flag_of set (condition_of g.typed (layout g) left) d) (λ f between. then_make (flag_of set (condition_of g.typed (layout g) right) between) (λ h after. last f h after)))
+  flags_after set left right is also codes one two d s st here sim Q last grows given =
+      then_after g (Truth g alive places fields d s set st (numbers_of set left st)) Q (flag_of set (condition_of g.typed (layout g) left) d) (λ f e. then_make (second e) (λ h after. last f h after)) (flagged set left is one d s st here sim)
+      (λ f e. extends_then g e (second e) (λ h after. last f h after) (flag_grows set right codes.right_code codes.right_field e) (λ h after. grows f h after)) (λ f e1 a.
+      then_after g (Truth g alive places fields e1 a.passes.t set st (numbers_of set right st)) Q (second e1) (λ h after. last f h after) (flagged set right also two e1 a.passes.t st a.passes.at a.passes.sim) (λ h after. grows f h after) (λ h e2 b. given f h e1 e2 a b))
+    where
+      second : Draft → Made Field
+      second e = flag_of set (condition_of g.typed (layout g) right) e
+
   joined_bit : (is_or : Bool) (set : ℕ) (shape : Option ℕ) (left right : TExpr) → shape ≡ Some set → IsCondition set left → IsCondition set right → ignores_context right ≡ true → HaveTheirCode g.typed g.instance alive n left right → IsKnown set left → IsKnown set right
       → Everywhere (λ d s st. After g (Bit g alive places fields d s set st (λ q. from_bool (either_or_both is_or (nonzero (value_in (extents g set) st left q)) (nonzero (value_in (extents g set) st right q))))) (logical_by is_or shape 1 (condition_of g.typed (layout g) left) (condition_of g.typed (layout g) right) d))
-  unfolding condition_by
+  unfolding condition_by Extends
   joined_bit is_or set shape left right shaped is also same codes one two d s st here sim =
       after_same g (Bit g alive places fields d s set st (λ q. from_bool (either_or_both is_or (nonzero (value_in (extents g set) st left q)) (nonzero (value_in (extents g set) st right q))))) (joined_value g is_or set shape (condition_of g.typed (layout g) left) (condition_of g.typed (layout g) right) d shaped (conditions_join set left right is also same))
-      (joined_after g alive places fields is_or set (numbers_of set left st) (numbers_of set right st) d s st (flag_of set (condition_of g.typed (layout g) left) (with_entry set 1 W.Own d)) (λ e. flag_of set (condition_of g.typed (layout g) right) e)
-      (flagged set left is one (with_entry set 1 W.Own d) s st here sim) (λ e. flag_grows set right codes.right_code codes.right_field e) (λ e t now still. flagged set right also two e t st now still))
+      (flags_after set left right is also codes one two (with_entry set 1 W.Own d) s st here sim (Bit g alive places fields d s set st (λ q. from_bool (either_or_both is_or (nonzero (value_in (extents g set) st left q)) (nonzero (value_in (extents g set) st right q))))) (λ f h e. joined_in g is_or set d f h e)
+      (λ f h e. (1, and_one g (I.Operate (operation_of is_or) (next_field set 1 d) f h) e)) (λ f h e1 e2 a b. joined_made g alive places fields is_or set (numbers_of set left st) (numbers_of set right st) d s st f h e1 e2 a b))
 
   -- a bit that is no test flag is tested
   bit_known : (set : ℕ) (e : TExpr) → IsCondition set e → has_truth e ≡ false → HasBit set e → IsKnown set e
@@ -320,3 +333,10 @@ module _ (g : Setting) (has : HasRegisters g) (alive : Variable → Type 0) (n :
   pub condition_tested : (set : ℕ) (e : TExpr) → IsCondition set e → HasItsCode g.typed g.instance alive n e → (d : Draft) (s : CodeState) (st : State) → At g s (length d.code) → Sim g alive st s
       → After g (λ _ f. LeavesTests g alive fields d s set st (λ q. value_in (extents g set) st e q) f) (tested g.typed (layout g) e d)
   condition_tested set e is c = (known set e is c).0
+
+  -- what comes behind two that are put in fields of one bit
+  pub both_flagged : (set : ℕ) (left right : TExpr) → IsCondition set left → IsCondition set right → HaveTheirCode g.typed g.instance alive n left right → (d : Draft) (s : CodeState) (st : State) → At g s (length d.code) → Sim g alive st s
+      → (Q : Out → Draft → Type 0) (last : Field → Field → Draft → Made Out) → ((f h : Field) (e : Draft) → Extends g e (last f h e))
+      → ((f h : Field) (e1 e2 : Draft) (one : Truth g alive places fields d s set st (λ q. value_in (extents g set) st left q) f e1) → Truth g alive places fields e1 one.passes.t set st (λ q. value_in (extents g set) st right q) h e2 → After g Q (last f h e2))
+      → After g Q (then_make (flag_of set (condition_of g.typed (layout g) left) d) (λ f between. then_make (flag_of set (condition_of g.typed (layout g) right) between) (λ h after. last f h after)))
+  both_flagged set left right is also codes = flags_after set left right is also codes (known set left is codes.left_code) (known set right also codes.right_code)

@@ -42,7 +42,7 @@ other_bit false len n wide is = ap (λ (k : ℕ). (2 ^ k - 1 - n) % 2 ^ 1) wide 
 abbrev pub either_or_both : Bool → Bool → Bool → Bool
 either_or_both is_or a b = if is_or then a || b else a && b
 
-joined_bits : (is_or a b : Bool) (len : ℕ) → outcome (operator_of (operation_of is_or)).0 len (operator_of (operation_of is_or)).1 (from_bool a) (from_bool b) % 2 ^ 1 ≡ from_bool (nonzero (from_bool (either_or_both is_or a b)))
+pub joined_bits : (is_or a b : Bool) (len : ℕ) → outcome (operator_of (operation_of is_or)).0 len (operator_of (operation_of is_or)).1 (from_bool a) (from_bool b) % 2 ^ 1 ≡ from_bool (nonzero (from_bool (either_or_both is_or a b)))
 unfolding operation_of outcome
 joined_bits true true true len = refl
 joined_bits true true false len = refl

@@ -5,6 +5,7 @@ use Rattle.std.proofs.lemmas.Bool.Decides.{nat_tests}
 use Rattle.cstar_tree.specs.declared.typed.VarInfo.{VarInfo}
 use Rattle.cstar_tree.specs.declared.typed.Variable.{Variable}
 use Rattle.cstar_tree.specs.declared.typed.Variable.TheVariants as V
+use Rattle.code_lengths.specs.Growth.{Extended}
 use Rattle.lower_base.specs.Drafts.{Draft, with_instr}
 use Rattle.paris_code.specs.declared.instr.Instr.{Instr}
 use Rattle.paris_code.specs.declared.operands.Field.{Field}
@@ -17,7 +18,7 @@ use Rattle.source_meaning.specs.State.{State, is_same, with_positions}
 use Rattle.code_follows.specs.Agreement.{AreBytes, mark_of}
 use Rattle.code_follows.proofs.Following.{Sim, held}
 use Rattle.code_follows.proofs.Standing.{some_same}
-use Rattle.code_follows.proofs.Settings.{At, Reaches, Setting, Within, at_next, begins_here, one}
+use Rattle.code_follows.proofs.Settings.{At, Reaches, Setting, Within, and_one, at_next, begins_here, one}
 use Rattle.fields_follow.proofs.Bits.{active_apart, field_apart, field_kept, field_written}
 use Rattle.fields_follow.proofs.Fields.{HoldsFields}
 use Rattle.fields_follow.specs.Fields.{IsElement}
@@ -25,13 +26,42 @@ use Rattle.fields_follow.proofs.FileFields.{Apart, apart_back}
 use Rattle.fields_follow.proofs.Instructions.{HasNumbers, Puts, number_in, place, shapes, wrote}
 use Rattle.fields_follow.proofs.Places.{HoldsTheFields, IsFileField, IsOwnField, PlacesFields, names_first, of_file, stands_here}
 
+module _ (g : Setting) where
+  -- a write of a field, by which it takes these numbers where it is active
+  pub record Takes (set : ℕ) (d : Field) (s : CodeState) (v : ℕ → ℕ) : Type 0 where
+    pub write : Write
+    pub run : write.run ≡ place g d
+    pub writes : (p : ℕ) → write.writes p ≡ is_active (shapes g) s.memory d.set p
+    pub value : (p : ℕ) → p < processors (shapes g) set → is_active (shapes g) s.memory set p ≡ true → write.value p % 2 ^ d.len ≡ v p
+
+  abbrev puts_take : (set : ℕ) (i : Instr) (d : Field) (s : CodeState) (v : ℕ → ℕ) → Puts g set i d s v → Takes set d s v
+  puts_take set i d s v puts = record { write = puts.write; run = puts.run; writes = puts.writes; value = puts.value }
+
+  -- the code from one draft to another does no more than such a write
+  pub record TakesBehind (set : ℕ) (d : Field) (e f : Draft) (s : CodeState) (v : ℕ → ℕ) : Type 0 where
+    pub takes : Takes set d s v
+    pub more : (k : ℕ) × Extended e k f
+    pub place : ℕ
+    pub go : Reaches g s (record s { at = place; memory = written takes.write s.memory })
+    pub at : At g (record s { at = place; memory = written takes.write s.memory }) (length f.code)
+
+  -- so it is of an instruction that puts the numbers there
+  pub instr_takes : (set : ℕ) (i : Instr) (d : Field) (e : Draft) (s : CodeState) (v : ℕ → ℕ) → Within g (with_instr i e) → At g s (length e.code) → Puts g set i d s v → TakesBehind set d e (with_instr i e) s v
+  instr_takes set i d e s v within here puts = record {
+    takes = puts_take set i d s v puts;
+    more = (1, and_one g i e);
+    place = s.at + 1;
+    go = one g s (wrote g puts.write s) (begins_here g i e s within puts.plain here ∙ puts.goes);
+    at = at_next g i e s (s.at + 1) here refl;
+  }
+
 module _ (g : Setting) (places : PlacesFields g) (fields : HoldsTheFields g) (alive : Variable → Type 0) where
   abbrev Opened : State → BitMemory → Type 0
   Opened st m = HoldsFields g.typed g.image fields.active st m
 
   -- the same memory for a state, whatever the parallel variables are in it
-  pub with_memory : (st u : State) (s : CodeState) (w : Write) → u.scalar ≡ st.scalar → u.turns ≡ st.turns → u.output ≡ st.output → u.input ≡ st.input → u.rest ≡ st.rest → Opened u (written w s.memory) → Sim g alive st s → Sim g alive u (wrote g w s)
-  with_memory st u s w scalar turns output input rest opened h = record {
+  pub with_memory : (st u : State) (s : CodeState) (at : ℕ) (w : Write) → u.scalar ≡ st.scalar → u.turns ≡ st.turns → u.output ≡ st.output → u.input ≡ st.input → u.rest ≡ st.rest → Opened u (written w s.memory) → Sim g alive st s → Sim g alive u (record s { at = at; memory = written w s.memory })
+  with_memory st u s at w scalar turns output input rest opened h = record {
     registers = h.registers;
     scalars = λ x info known is. h.scalars x info known is ∙ ap (λ (f : Variable → ℕ). held info.elem (f x)) (sym scalar);
     small = λ x info known is. subst (λ (f : Variable → ℕ). f x < 2 ^ info.elem.bits) (sym scalar) (h.small x info known is);
@@ -56,156 +86,175 @@ module _ (g : Setting) (places : PlacesFields g) (fields : HoldsTheFields g) (al
     pub has : HasNumbers g set d t v
     pub stays : used → (h : Field) (first last p : ℕ) → (h.offset ≡ d.offset → ⊥) → IsOwnField g h → IsNamedAt g.unit h.offset first → IsNamedAt g.unit h.offset last → first ≤ length e.code → length e.code < last → number_in g h t p ≡ number_in g h s p
 
-  module _ (set : ℕ) (i : Instr) (d : Field) (e : Draft) (s : CodeState) (st : State) (v : ℕ → ℕ) (within : Within g (with_instr i e)) (here : At g s (length e.code)) (sim : Sim g alive st s) (of_set : d.set ≡ set) (wide : d.len ≡ 32) (puts : Puts g set i d s v) where
-    there : StandsAt g.unit (length e.code) i
-    there = stands_here g i e within puts.plain
+  -- the entry for an element of the file stands at its field, below the flags
+  pub entry_place : (set k element : ℕ) (info : VarInfo) (d : Field) → IsElement g.typed k info set element → info.elem.bits ≡ 32 → IsFileField g k element d → d.set ≡ set → d.len ≡ 32 → place g d ≡ of_file g k element
+  entry_place set k element info d is word own of_set wide = places.file k element info d (subst (λ (n : ℕ). IsElement g.typed k info n element) (sym of_set) is) (word ∙ sym wide) own
 
+  pub entry_ends : (set k element : ℕ) (info : VarInfo) (d : Field) → IsElement g.typed k info set element → info.elem.bits ≡ 32 → IsFileField g k element d → d.set ≡ set → d.len ≡ 32 → (d.set < length (shapes g)) × ((place g d).offset + d.len ≤ bits_at (shapes g) d.set)
+  entry_ends set k element info d is word own of_set wide = (
+    subst (λ (n : ℕ). n < length (shapes g)) (sym of_set) (places.exists k element set info is),
+    subst (λ (h : Field). h.offset + h.len ≤ bits_at (shapes g) h.set) (sym (entry_place set k element info d is word own of_set wide)) (places.files_end k element set info is),
+  )
+
+  module _ (set : ℕ) (d : Field) (s : CodeState) (st : State) (v : ℕ → ℕ) (sim : Sim g alive st s) (of_set : d.set ≡ set) (wide : d.len ≡ 32) (exists : d.set < length (shapes g)) (ends : (place g d).offset + d.len ≤ bits_at (shapes g) d.set) (takes : Takes g set d s v) where
     was : Opened st s.memory
     was = fields.opens st s.memory sim.memory
 
-    d_ends : (d.set < length (shapes g)) × ((place g d).offset + d.len ≤ bits_at (shapes g) d.set)
-    d_ends = places.ends (length e.code) i d puts.others there puts.plain puts.simple puts.names
-
     set_exists : set < length (shapes g)
-    set_exists = subst (λ (q : ℕ). q < length (shapes g)) of_set d_ends.0
+    set_exists = subst (λ (q : ℕ). q < length (shapes g)) of_set exists
 
-    active_still : (q p : ℕ) → q < length (shapes g) → p < processors (shapes g) q → is_active (shapes g) (written puts.write s.memory) q p ≡ fields.active q p
+    abbrev behind : BitMemory
+    behind = written takes.write s.memory
+
+    active_still : (q p : ℕ) → q < length (shapes g) → p < processors (shapes g) q → is_active (shapes g) behind q p ≡ fields.active q p
     active_still q p within_sets below =
-        active_apart (shapes g) puts.write s.memory q p (subst (λ (f : Field). f.offset + f.len ≤ bits_at (shapes g) f.set) (sym puts.run) d_ends.1)
+        active_apart (shapes g) takes.write s.memory q p (subst (λ (f : Field). f.offset + f.len ≤ bits_at (shapes g) f.set) (sym takes.run) ends)
         ∙ was.flags q p within_sets below
 
-    writes_where : (p : ℕ) → p < processors (shapes g) set → puts.write.writes p ≡ fields.active set p
-    writes_where p below = puts.writes p ∙ ap (λ (q : ℕ). is_active (shapes g) s.memory q p) of_set ∙ was.flags set p set_exists below
+    writes_where : (p : ℕ) → p < processors (shapes g) set → takes.write.writes p ≡ fields.active set p
+    writes_where p below = takes.writes p ∙ ap (λ (q : ℕ). is_active (shapes g) s.memory q p) of_set ∙ was.flags set p set_exists below
 
-    value_is : (p : ℕ) → p < processors (shapes g) set → fields.active set p ≡ true → field_number (written puts.write s.memory) (place g d) p ≡ v p
+    value_is : (p : ℕ) → p < processors (shapes g) set → fields.active set p ≡ true → field_number behind (place g d) p ≡ v p
     value_is p below on =
-        ap (λ (f : Field). field_number (written puts.write s.memory) f p) (sym puts.run)
-        ∙ field_written puts.write s.memory p (writes_where p below ∙ on)
-        ∙ ap (λ (f : Field). puts.write.value p % 2 ^ f.len) puts.run ∙ puts.value p below (was.flags set p set_exists below ∙ on)
+        ap (λ (f : Field). field_number behind f p) (sym takes.run)
+        ∙ field_written takes.write s.memory p (writes_where p below ∙ on)
+        ∙ ap (λ (f : Field). takes.write.value p % 2 ^ f.len) takes.run ∙ takes.value p below (was.flags set p set_exists below ∙ on)
 
     pub few : (p : ℕ) → p < processors (shapes g) set → fields.active set p ≡ true → v p < 2 ^ 32
-    few p below on = subst (λ (n : ℕ). n < 2 ^ 32) (ap (λ (n : ℕ). puts.write.value p % 2 ^ n) (sym wide) ∙ puts.value p below (was.flags set p set_exists below ∙ on)) (small (puts.write.value p))
+    few p below on = subst (λ (n : ℕ). n < 2 ^ 32) (ap (λ (n : ℕ). takes.write.value p % 2 ^ n) (sym wide) ∙ takes.value p below (was.flags set p set_exists below ∙ on)) (small (takes.write.value p))
       where
         small : (n : ℕ) → n % 2 ^ 32 < 2 ^ 32
         small n = omega arith
 
-    numbers : HasNumbers g set d (wrote g puts.write s) v
-    numbers = record {
-      of_set = of_set;
-      exists = set_exists;
-      len = wide;
-      are = λ p below on. value_is p below (sym (active_still set p set_exists below) ∙ on);
-      small = λ p below on. few p below (sym (active_still set p set_exists below) ∙ on);
-    }
+    elsewhere : (f : Field) (p : ℕ) → Apart (place g d) f → field_number behind f p ≡ field_number s.memory f p
+    elsewhere f p apart = field_apart takes.write s.memory f p (subst (λ (h : Field). Apart h f) (sym takes.run) apart)
 
-    elsewhere : (f : Field) (p : ℕ) → Apart (place g d) f → field_number (written puts.write s.memory) f p ≡ field_number s.memory f p
-    elsewhere f p apart = field_apart puts.write s.memory f p (subst (λ (h : Field). Apart h f) (sym puts.run) apart)
-
-    go : Reaches g s (wrote g puts.write s)
-    go = one g s (wrote g puts.write s) (begins_here g i e s within puts.plain here ∙ puts.goes)
-
-    winner_still : (written puts.write s.memory).winner ≡ st.winner
+    winner_still : behind.winner ≡ st.winner
     unfolding written
     winner_still = was.winner
+
+    -- Where it is that of a variable of the file, the state has what this takes where it is active, or other numbers that
+    -- are the same there.
+    module _ (k element : ℕ) (info : VarInfo) (is : IsElement g.typed k info set element) (word : info.elem.bits ≡ 32) (own : IsFileField g k element d) where
+      at_file : place g d ≡ of_file g k element
+      at_file = entry_place set k element info d is word own of_set wide
+
+      -- own entries stay
+      pub own_stays : (h : Field) (p : ℕ) → IsOwnField g h → field_number behind (place g h) p ≡ field_number s.memory (place g h) p
+      own_stays h p is_own = elsewhere (place g h) p (subst (λ (f : Field). Apart f (place g h)) (sym at_file) (apart_back (place g h) (of_file g k element) (places.own_file k element set info h is is_own)))
+
+      pub file_sim : (at : ℕ) (passes : ℕ → Bool) (w : ℕ → ℕ) → ((p : ℕ) → p < processors (shapes g) set → passes p ≡ fields.active set p) → ((p : ℕ) → p < processors (shapes g) set → fields.active set p ≡ true → w p ≡ v p)
+          → Sim g alive (with_positions (V.File k) element passes w st) (record s { at = at; memory = behind })
+      unfolding with_positions is_same
+      file_sim at passes w passing same_numbers =
+          with_memory st (with_positions (V.File k) element passes w st) s at takes.write refl refl refl refl refl (record {
+            numbers = λ j other q p of which below. by_element j other q p of which below (cases_eq k j) (cases_eq other element);
+            small = λ j other q p of which below. small_still j other q p of which below (cases_eq k j) (cases_eq other element);
+            flags = active_still;
+            winner = winner_still;
+          }) sim
+        where
+          -- the variable behind it, at one of its active positions and elsewhere
+          here_is : (j other p : ℕ) (old : ℕ) → k ≡ j → other ≡ element → passes p ≡ true → (if (k == j) && (other == element) && passes p then w p else old) ≡ w p
+          here_is j other p old same equal passed = grind (arith, nat_tests, same, equal, passed)
+
+          off_is : (j other p : ℕ) (old : ℕ) → passes p ≡ false → (if (k == j) && (other == element) && passes p then w p else old) ≡ old
+          off_is j other p old passed = grind (arith, nat_tests, passed)
+
+          there_is : (j other p : ℕ) (old : ℕ) → ((k ≢ j) ⊎ (other ≢ element)) → (if (k == j) && (other == element) && passes p then w p else old) ≡ old
+          there_is j other p old (inl differ) = grind (arith, nat_tests, differ)
+          there_is j other p old (inr differ) = grind (arith, nat_tests, differ)
+
+          same_set : (j other q : ℕ) (of : VarInfo) → IsElement g.typed j of q other → k ≡ j → (q ≡ set) × (of.elem.bits ≡ 32)
+          same_set j other q of which same =
+              let infos : of ≡ info = some_same of info (sym which.known ∙ ap (λ (n : ℕ). slice_get g.typed.vars.items n) (sym same) ∙ is.known) in (
+                some_same q set (sym which.parallel ∙ ap (λ (i : VarInfo). i.shape) infos ∙ is.parallel),
+                ap (λ (i : VarInfo). i.elem.bits) infos ∙ word,
+              )
+
+          moved_on : (j other q p : ℕ) (of : VarInfo) → IsElement g.typed j of q other → p < processors (shapes g) q → ((k ≢ j) ⊎ (other ≢ element)) → (k ≡ j → element ≡ other → ⊥)
+              → field_number behind (of_file g j other) p ≡ (with_positions (V.File k) element passes w st).parallel (V.File j) other p
+          moved_on j other q p of which below differ apart =
+              elsewhere (of_file g j other) p (subst (λ (f : Field). Apart f (of_file g j other)) (sym at_file) (places.files_apart k element set j other q info of is which apart))
+              ∙ was.numbers j other q p of which below ∙ sym (there_is j other p (st.parallel (V.File j) other p) differ)
+
+          by_element : (j other q p : ℕ) (of : VarInfo) → IsElement g.typed j of q other → p < processors (shapes g) q → (k ≡ j) ⊎ (k ≢ j) → (other ≡ element) ⊎ (other ≢ element)
+              → field_number behind (of_file g j other) p ≡ (with_positions (V.File k) element passes w st).parallel (V.File j) other p
+          by_element j other q p of which below (inl same) (inl equal) =
+              by (fields.active set p) refl
+            where
+              inside : p < processors (shapes g) set
+              inside = subst (λ (n : ℕ). p < processors (shapes g) n) (same_set j other q of which same).0 below
+
+              stands : of_file g j other ≡ place g d
+              stands = ap (λ (n : ℕ). of_file g n other) (sym same) ∙ ap (λ (n : ℕ). of_file g k n) equal ∙ sym at_file
+
+              by : (b : Bool) → fields.active set p ≡ b → field_number behind (of_file g j other) p ≡ (with_positions (V.File k) element passes w st).parallel (V.File j) other p
+              by true on =
+                  ap (λ (f : Field). field_number behind f p) stands
+                  ∙ value_is p inside on ∙ sym (same_numbers p inside on) ∙ sym (here_is j other p (st.parallel (V.File j) other p) same equal (passing p inside ∙ on))
+              by false off =
+                  field_kept takes.write s.memory (of_file g j other) p (writes_where p inside ∙ off)
+                  ∙ was.numbers j other q p of which below ∙ sym (off_is j other p (st.parallel (V.File j) other p) (passing p inside ∙ off))
+          by_element j other q p of which below (inr differ) any = moved_on j other q p of which below (inl differ) (λ same equal. differ same)
+          by_element j other q p of which below (inl same) (inr differ) = moved_on j other q p of which below (inr differ) (λ same equal. differ (sym equal))
+
+          small_still : (j other q p : ℕ) (of : VarInfo) → IsElement g.typed j of q other → p < processors (shapes g) q → (k ≡ j) ⊎ (k ≢ j) → (other ≡ element) ⊎ (other ≢ element) → (with_positions (V.File k) element passes w st).parallel (V.File j) other p < 2 ^ of.elem.bits
+          small_still j other q p of which below (inl same) (inl equal) =
+              by (fields.active set p) refl
+            where
+              both : (q ≡ set) × (of.elem.bits ≡ 32)
+              both = same_set j other q of which same
+
+              inside : p < processors (shapes g) set
+              inside = subst (λ (n : ℕ). p < processors (shapes g) n) both.0 below
+
+              by : (b : Bool) → fields.active set p ≡ b → (with_positions (V.File k) element passes w st).parallel (V.File j) other p < 2 ^ of.elem.bits
+              by true on =
+                  subst (λ (n : ℕ). n < 2 ^ of.elem.bits) (sym (here_is j other p (st.parallel (V.File j) other p) same equal (passing p inside ∙ on))) (subst (λ (n : ℕ). w p < 2 ^ n) (sym both.1) (subst (λ (n : ℕ). n < 2 ^ 32) (sym (same_numbers p inside on)) (few p inside on)))
+              by false off = subst (λ (n : ℕ). n < 2 ^ of.elem.bits) (sym (off_is j other p (st.parallel (V.File j) other p) (passing p inside ∙ off))) (was.small j other q p of which below)
+          small_still j other q p of which below (inr differ) any = subst (λ (n : ℕ). n < 2 ^ of.elem.bits) (sym (there_is j other p (st.parallel (V.File j) other p) (inl differ))) (was.small j other q p of which below)
+          small_still j other q p of which below (inl same) (inr differ) = subst (λ (n : ℕ). n < 2 ^ of.elem.bits) (sym (there_is j other p (st.parallel (V.File j) other p) (inr differ))) (was.small j other q p of which below)
+
+  module _ (set : ℕ) (i : Instr) (d : Field) (e : Draft) (s : CodeState) (st : State) (v : ℕ → ℕ) (within : Within g (with_instr i e)) (here : At g s (length e.code)) (sim : Sim g alive st s) (of_set : d.set ≡ set) (wide : d.len ≡ 32) (puts : Puts g set i d s v) where
+    there : StandsAt g.unit (length e.code) i
+    there = stands_here g i e within puts.plain
+
+    d_ends : (d.set < length (shapes g)) × ((place g d).offset + d.len ≤ bits_at (shapes g) d.set)
+    d_ends = places.ends (length e.code) i d puts.others there puts.plain puts.simple puts.names
+
+    abbrev takes : Takes g set d s v
+    takes = puts_take g set i d s v puts
 
     -- an own entry takes the numbers
     pub own_written : IsOwnField g d → Written set d e i s st v ((later : ℕ) × (IsNamedAt g.unit d.offset later × (length e.code < later)))
     own_written own = record {
       t = wrote g puts.write s;
-      go = go;
+      go = one g s (wrote g puts.write s) (begins_here g i e s within puts.plain here ∙ puts.goes);
       at = at_next g i e s (s.at + 1) here refl;
       registers = refl;
-      sim = with_memory st st s puts.write refl refl refl refl refl (record {
-        numbers = λ k element q p info is below. elsewhere (of_file g k element) p (places.own_file k element q info d is own) ∙ was.numbers k element q p info is below;
-        small = was.small;
-        flags = active_still;
-        winner = winner_still;
+      sim = with_memory st st s (s.at + 1) puts.write refl refl refl refl refl (record {
+        numbers = λ k element q p info is below. still (of_file g k element) p (places.own_file k element q info d is own) ∙ (fields.opens st s.memory sim.memory).numbers k element q p info is below;
+        small = (fields.opens st s.memory sim.memory).small;
+        flags = active;
+        winner = winner_still set d s st v sim of_set wide d_ends.0 d_ends.1 takes;
       }) sim;
-      has = numbers;
+      has = record {
+        of_set = of_set;
+        exists = exists;
+        len = wide;
+        are = λ p below on. value_is set d s st v sim of_set wide d_ends.0 d_ends.1 takes p below (sym (active set p exists below) ∙ on);
+        small = λ p below on. few set d s st v sim of_set wide d_ends.0 d_ends.1 takes p below (sym (active set p exists below) ∙ on);
+      };
       stays = λ again h first last p other is_own before after low high.
-          elsewhere (place g h) p (apart_back (place g h) (place g d) (places.owns_apart h d first (length e.code) last again.0 other is_own own d_ends.0 before after low high (names_first g i d puts.others (length e.code) there puts.names) again.1.0 again.1.1));
-    }
-
-    -- a variable of the file takes the numbers where it is active, or others that are the same there
-    pub file_written : (k element : ℕ) (info : VarInfo) (passes : ℕ → Bool) (w : ℕ → ℕ) → IsElement g.typed k info set element → info.elem.bits ≡ 32 → IsFileField g k element d → ((p : ℕ) → p < processors (shapes g) set → passes p ≡ fields.active set p)
-        → ((p : ℕ) → p < processors (shapes g) set → fields.active set p ≡ true → w p ≡ v p) → Written set d e i s (with_positions (V.File k) element passes w st) v (Unit {0})
-    unfolding with_positions is_same
-    file_written k element info passes w is word own passing same_numbers = record {
-      t = wrote g puts.write s;
-      go = go;
-      at = at_next g i e s (s.at + 1) here refl;
-      registers = refl;
-      sim = with_memory st (with_positions (V.File k) element passes w st) s puts.write refl refl refl refl refl (record {
-        numbers = λ j other q p of which below. by_element j other q p of which below (cases_eq k j) (cases_eq other element);
-        small = λ j other q p of which below. small_still j other q p of which below (cases_eq k j) (cases_eq other element);
-        flags = active_still;
-        winner = winner_still;
-      }) sim;
-      has = numbers;
-      stays = λ used h first last p other is_own before after low high. elsewhere (place g h) p (subst (λ (f : Field). Apart f (place g h)) (sym at_file) (apart_back (place g h) (of_file g k element) (places.own_file k element set info h is is_own)));
+          still (place g h) p (apart_back (place g h) (place g d) (places.owns_apart h d first (length e.code) last again.0 other is_own own d_ends.0 before after low high (names_first g i d puts.others (length e.code) there puts.names) again.1.0 again.1.1));
     }
       where
-        at_file : place g d ≡ of_file g k element
-        at_file = places.file k element info d (subst (λ (n : ℕ). IsElement g.typed k info n element) (sym of_set) is) (word ∙ sym wide) own
+        exists : set < length (shapes g)
+        exists = set_exists set d s st v sim of_set wide d_ends.0 d_ends.1 takes
 
-        -- the variable behind it, at one of its active positions and elsewhere
-        here_is : (j other p : ℕ) (old : ℕ) → k ≡ j → other ≡ element → passes p ≡ true → (if (k == j) && (other == element) && passes p then w p else old) ≡ w p
-        here_is j other p old same equal passed = grind (arith, nat_tests, same, equal, passed)
+        active : (q p : ℕ) → q < length (shapes g) → p < processors (shapes g) q → is_active (shapes g) (written puts.write s.memory) q p ≡ fields.active q p
+        active = active_still set d s st v sim of_set wide d_ends.0 d_ends.1 takes
 
-        off_is : (j other p : ℕ) (old : ℕ) → passes p ≡ false → (if (k == j) && (other == element) && passes p then w p else old) ≡ old
-        off_is j other p old passed = grind (arith, nat_tests, passed)
-
-        there_is : (j other p : ℕ) (old : ℕ) → ((k ≢ j) ⊎ (other ≢ element)) → (if (k == j) && (other == element) && passes p then w p else old) ≡ old
-        there_is j other p old (inl differ) = grind (arith, nat_tests, differ)
-        there_is j other p old (inr differ) = grind (arith, nat_tests, differ)
-
-        same_set : (j other q : ℕ) (of : VarInfo) → IsElement g.typed j of q other → k ≡ j → (q ≡ set) × (of.elem.bits ≡ 32)
-        same_set j other q of which same =
-            let infos : of ≡ info = some_same of info (sym which.known ∙ ap (λ (n : ℕ). slice_get g.typed.vars.items n) (sym same) ∙ is.known) in (
-              some_same q set (sym which.parallel ∙ ap (λ (i : VarInfo). i.shape) infos ∙ is.parallel),
-              ap (λ (i : VarInfo). i.elem.bits) infos ∙ word,
-            )
-
-        moved_on : (j other q p : ℕ) (of : VarInfo) → IsElement g.typed j of q other → p < processors (shapes g) q → ((k ≢ j) ⊎ (other ≢ element)) → (k ≡ j → element ≡ other → ⊥)
-            → field_number (written puts.write s.memory) (of_file g j other) p ≡ (with_positions (V.File k) element passes w st).parallel (V.File j) other p
-        moved_on j other q p of which below differ apart =
-            elsewhere (of_file g j other) p (subst (λ (f : Field). Apart f (of_file g j other)) (sym at_file) (places.files_apart k element set j other q info of is which apart))
-            ∙ was.numbers j other q p of which below ∙ sym (there_is j other p (st.parallel (V.File j) other p) differ)
-
-        by_element : (j other q p : ℕ) (of : VarInfo) → IsElement g.typed j of q other → p < processors (shapes g) q → (k ≡ j) ⊎ (k ≢ j) → (other ≡ element) ⊎ (other ≢ element)
-            → field_number (written puts.write s.memory) (of_file g j other) p ≡ (with_positions (V.File k) element passes w st).parallel (V.File j) other p
-        by_element j other q p of which below (inl same) (inl equal) =
-            by (fields.active set p) refl
-          where
-            inside : p < processors (shapes g) set
-            inside = subst (λ (n : ℕ). p < processors (shapes g) n) (same_set j other q of which same).0 below
-
-            stands : of_file g j other ≡ place g d
-            stands = ap (λ (n : ℕ). of_file g n other) (sym same) ∙ ap (λ (n : ℕ). of_file g k n) equal ∙ sym at_file
-
-            by : (b : Bool) → fields.active set p ≡ b → field_number (written puts.write s.memory) (of_file g j other) p ≡ (with_positions (V.File k) element passes w st).parallel (V.File j) other p
-            by true on =
-                ap (λ (f : Field). field_number (written puts.write s.memory) f p) stands
-                ∙ value_is p inside on ∙ sym (same_numbers p inside on) ∙ sym (here_is j other p (st.parallel (V.File j) other p) same equal (passing p inside ∙ on))
-            by false off =
-                field_kept puts.write s.memory (of_file g j other) p (writes_where p inside ∙ off)
-                ∙ was.numbers j other q p of which below ∙ sym (off_is j other p (st.parallel (V.File j) other p) (passing p inside ∙ off))
-        by_element j other q p of which below (inr differ) any = moved_on j other q p of which below (inl differ) (λ same equal. differ same)
-        by_element j other q p of which below (inl same) (inr differ) = moved_on j other q p of which below (inr differ) (λ same equal. differ (sym equal))
-
-        small_still : (j other q p : ℕ) (of : VarInfo) → IsElement g.typed j of q other → p < processors (shapes g) q → (k ≡ j) ⊎ (k ≢ j) → (other ≡ element) ⊎ (other ≢ element) → (with_positions (V.File k) element passes w st).parallel (V.File j) other p < 2 ^ of.elem.bits
-        small_still j other q p of which below (inl same) (inl equal) =
-            by (fields.active set p) refl
-          where
-            both : (q ≡ set) × (of.elem.bits ≡ 32)
-            both = same_set j other q of which same
-
-            inside : p < processors (shapes g) set
-            inside = subst (λ (n : ℕ). p < processors (shapes g) n) both.0 below
-
-            by : (b : Bool) → fields.active set p ≡ b → (with_positions (V.File k) element passes w st).parallel (V.File j) other p < 2 ^ of.elem.bits
-            by true on =
-                subst (λ (n : ℕ). n < 2 ^ of.elem.bits) (sym (here_is j other p (st.parallel (V.File j) other p) same equal (passing p inside ∙ on))) (subst (λ (n : ℕ). w p < 2 ^ n) (sym both.1) (subst (λ (n : ℕ). n < 2 ^ 32) (sym (same_numbers p inside on)) (few p inside on)))
-            by false off = subst (λ (n : ℕ). n < 2 ^ of.elem.bits) (sym (off_is j other p (st.parallel (V.File j) other p) (passing p inside ∙ off))) (was.small j other q p of which below)
-        small_still j other q p of which below (inr differ) any = subst (λ (n : ℕ). n < 2 ^ of.elem.bits) (sym (there_is j other p (st.parallel (V.File j) other p) (inl differ))) (was.small j other q p of which below)
-        small_still j other q p of which below (inl same) (inr differ) = subst (λ (n : ℕ). n < 2 ^ of.elem.bits) (sym (there_is j other p (st.parallel (V.File j) other p) (inr differ))) (was.small j other q p of which below)
+        still : (f : Field) (p : ℕ) → Apart (place g d) f → field_number (written puts.write s.memory) f p ≡ field_number s.memory f p
+        still = elsewhere set d s st v sim of_set wide d_ends.0 d_ends.1 takes

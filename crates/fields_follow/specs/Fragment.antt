@@ -155,10 +155,12 @@ IsCondition set (T.Binary' ty place op p left q right) =
     IsWide set ty × (divides op ≡ false) × ((IsPure set left × (IsPure set right ⊎ IsPromoted set right)) ⊎ (IsPromoted set left × IsPure set right))
 IsCondition set e = IsPure set e
 
--- A truth value that the test flags tell: a relation, or `!` of a condition.
+-- A truth value: a relation, `!` of a condition, or two conditions joined.
 unfoldable pub IsTruth : ℕ → TExpr → Type 0
 IsTruth set (T.Brackets' ty p inner) = (ty ≡ type_of inner) × IsTruth set inner
 IsTruth set (T.Unary' ty op p operand) = IsWide set ty × (negates op ≡ true) × IsCondition set operand
+IsTruth set (T.LogicalOr' ty p left q right) = IsCondition set (T.LogicalOr' ty p left q right)
+IsTruth set (T.LogicalAnd' ty p left q right) = IsCondition set (T.LogicalAnd' ty p left q right)
 IsTruth set (T.Binary' ty place op p left q right) = (relates op ≡ true) × IsCondition set (T.Binary' ty place op p left q right)
 IsTruth set _ = ⊥
 

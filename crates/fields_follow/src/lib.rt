@@ -14,8 +14,8 @@ ghost use Rattle.fields_follow.specs.Laws.{ParallelCodeMeansSource};
 /// `continue` that leads out. The conditions of `where` are parallel values and relations of them, also with `!`, `&&`
 /// and `||`. Parallel expressions are of such variables, of gets from neighbours that wrap around,
 /// `[(. + 1) %% dimof(S, 0)]x`, of own coordinates, of constants and of scalar variables, signed or not, with the
-/// operators `+ - * & | ^ ~ << >> <? >?`, and `/ % %%` by constants other than 0. The truth values of relations and of
-/// `!` are assigned, too.
+/// operators `+ - * & | ^ ~ << >> <? >?`, and `/ % %%` by constants other than 0. Truth values of relations, `!`,
+/// `&&` and `||` are assigned, too.
 pub fn parallel_code_means_source()
     ensures { ParallelCodeMeansSource }
 {}

@@ -1,0 +1,210 @@
+-- A variable that is cleared, and whose lowest bit then is written by an operation on two bits, takes a truth value.
+use Rattle.std.proofs.Common.{◌≡◌, ◌∙◌, ℕ, zero, suc, ◌+◌, ◌-◌, ◌%◌, ◌^◌, ◌<◌, ◌≤◌, ◌==◌, ◌&&◌, Bool, true, false, [], ◌∷◌, length, refl, sym, ap, subst, arith, if◌then◌else◌}
+use Rattle.std.proofs.lemmas.Bool.Decides.{nat_tests}
+use Rattle.std.proofs.lemmas.Nat.Bits.{bit_at-zero, bit_at_lowest}
+use Rattle.std.proofs.Math.Nat.{div-eq_of_lt, pow-suc}
+use Rattle.std.proofs.lemmas.Nat.{pow_pos}
+use Rattle.std.specs.Int.{bit_at, from_bool}
+use Rattle.std.specs.Prelude.{nat_le, nat_lt}
+use Rattle.cstar_base.specs.Operators.{outcome}
+use Rattle.cstar_tree.specs.declared.typed.VarInfo.{VarInfo}
+use Rattle.cstar_tree.specs.declared.typed.Variable.{Variable}
+use Rattle.code_lengths.specs.Growth.{Extended}
+use Rattle.code_lengths.proofs.Drafting.{and_instr, extended}
+use Rattle.lower_base.specs.Drafts.{Draft, step as step_of, with_instr}
+use Rattle.lower_expr.specs.Joined.{operation_of}
+use Rattle.paris_code.specs.declared.instr.Instr.{Instr}
+use Rattle.paris_code.specs.declared.instr.Instr.TheVariants as I
+use Rattle.paris_code.specs.declared.operands.Field.{Field}
+use Rattle.paris_code.specs.declared.operands.Konst.TheVariants as K
+use Rattle.paris_code.specs.Code.{CodeState, Goes, applied, begun}
+use Rattle.paris_code.specs.Elementwise.{element}
+use Rattle.paris_code.specs.Meaning.{after}
+use Rattle.paris_code.specs.Memory.{BitMemory, is_active, processors}
+use Rattle.paris_code.specs.Operators.{operator_of}
+use Rattle.paris_code.specs.Shapes.{bits_at}
+use Rattle.paris_code.specs.Spans.{IsNamedAt, StandsAt}
+use Rattle.paris_code.specs.Writes.{Write, covers, written}
+use Rattle.source_meaning.specs.State.{State}
+use Rattle.source_meaning.specs.Values.{nonzero}
+use Rattle.code_follows.proofs.Settings.{At, Reaches, Setting, Within, and_one, at_next, begins_here, code_more, earlier, one, onto, placed_instr}
+use Rattle.fields_follow.specs.Fields.{IsElement}
+use Rattle.fields_follow.proofs.Bits.{active_apart, field_apart}
+use Rattle.fields_follow.proofs.FileFields.{Apart, apart_back}
+use Rattle.fields_follow.proofs.Flags.{written_to}
+use Rattle.fields_follow.proofs.Instructions.{number_in, place, shapes, wrote}
+use Rattle.fields_follow.proofs.Leaving.{PassesTests}
+use Rattle.fields_follow.proofs.Passing.{Behind, code_longer, flags_of, names_second, names_third}
+use Rattle.fields_follow.proofs.PassingTests.{tests_on}
+use Rattle.fields_follow.proofs.Places.{HoldsTheFields, IsFileField, IsOwnField, PlacesFields, of_file, stands_here}
+use Rattle.fields_follow.proofs.Truths.{GivesTruth, either_or_both, joined_bits}
+use Rattle.fields_follow.proofs.Writing.{TakesBehind, entry_ends, entry_place}
+
+-- ---- two writes are one
+
+-- a bit above the lowest one is that of 0
+higher : (x k : ℕ) → 0 < k → bit_at 0 k ≡ bit_at (x % 2) k
+higher x zero some = absurd (omega (arith, some))
+higher x (suc j) some = bit_at-zero (suc j) ∙ sym (ap (λ (n : ℕ). n % 2) (div-eq_of_lt (let double = pow-suc 2 j in let power = pow_pos j in omega (arith, double, power))))
+
+abbrev lowest_bit : Field → Field
+lowest_bit f = record { set = f.set; offset = f.offset; len = 1 }
+
+-- the same positions of a field are cleared, and then its lowest bit is written
+two_writes : (f : Field) (writes again : ℕ → Bool) (value : ℕ → ℕ) (m : BitMemory) → 0 < f.len → ((p : ℕ) → again p ≡ writes p)
+    → written (written_to (lowest_bit f) again value) (written (written_to f writes (λ p. 0)) m) ≡ written (written_to f writes (λ p. value p % 2)) m
+unfolding written covers
+two_writes f writes again value m some same = λ j. record { bit = λ set p index. bits set p index j; winner = m.winner }
+  where
+    by : (p index old : ℕ) (s l n h w : Bool) → nat_le f.offset index ≡ l → nat_lt index (f.offset + 1) ≡ n → nat_lt index (f.offset + f.len) ≡ h
+        → (if (s && (l && n)) && w then bit_at (value p) (index - f.offset) else (if (s && (l && h)) && w then bit_at 0 (index - f.offset) else old)) ≡ (if (s && (l && h)) && w then bit_at (value p % 2) (index - f.offset) else old)
+    by p index old false l n h w e k i = refl
+    by p index old true false n h w e k i = refl
+    by p index old true true true false w e k i = absurd (grind (arith, nat_tests, e, k, i, some))
+    by p index old true true true true false e k i = refl
+    by p index old true true true true true e k i =
+        let lowest : index - f.offset ≡ 0 = grind (arith, nat_tests, e, k) in
+        ap (λ (n : ℕ). bit_at (value p) n) lowest ∙ bit_at_lowest (value p) ∙ omega arith ∙ sym (bit_at_lowest (value p % 2)) ∙ ap (λ (n : ℕ). bit_at (value p % 2) n) (sym lowest)
+    by p index old true true false true true e k i = higher (value p) (index - f.offset) (grind (arith, nat_tests, e, k))
+    by p index old true true false true false e k i = refl
+    by p index old true true false false w e k i = refl
+
+    bits : (set p index : ℕ) → (written (written_to (lowest_bit f) again value) (written (written_to f writes (λ p. 0)) m)).bit set p index ≡ (written (written_to f writes (λ p. value p % 2)) m).bit set p index
+    bits set p index =
+        ap (λ (w : Bool). if covers (lowest_bit f) set index && w then bit_at (value p) (index - f.offset) else (if covers f set index && writes p then bit_at 0 (index - f.offset) else m.bit set p index)) (same p)
+        ∙ by p index (m.bit set p index) (set == f.set) (nat_le f.offset index) (nat_lt index (f.offset + 1)) (nat_lt index (f.offset + f.len)) (writes p) refl refl refl
+
+-- ---- two bits joined in a word
+
+abbrev pub word_field : ℕ → ℕ → Field
+word_field set offset = record { set = set; offset = offset; len = 32 }
+
+abbrev clear : ℕ → ℕ → Instr
+clear set offset = I.MoveConstant (word_field set offset) (K.Imm 0)
+
+abbrev join : Bool → ℕ → ℕ → Field → Field → Instr
+join is_or set offset a b = I.Operate (operation_of is_or) (lowest_bit (word_field set offset)) a b
+
+-- the word is cleared before
+abbrev cleared_behind : ℕ → ℕ → Draft → Draft
+cleared_behind set offset e = with_instr (clear set offset) e
+
+abbrev pub joined_behind : Bool → ℕ → ℕ → Field → Field → Draft → Draft
+joined_behind is_or set offset a b e = with_instr (join is_or set offset a b) (cleared_behind set offset e)
+
+pub joined_more : (g : Setting) (is_or : Bool) (set offset : ℕ) (a b : Field) (e : Draft) → Extended e 2 (joined_behind is_or set offset a b e)
+joined_more g is_or set offset a b e = and_instr (join is_or set offset a b) e (cleared_behind set offset e) 1 (and_one g (clear set offset) e)
+
+module _ (g : Setting) (places : PlacesFields g) (fields : HoldsTheFields g) (alive : Variable → Type 0) (set k offset : ℕ) (info : VarInfo) (is : IsElement g.typed k info set 0) (word : info.elem.bits ≡ 32) (is_or : Bool) (a b : Field) (e : Draft) (s : CodeState) where
+  abbrev dest : Field
+  dest = word_field set offset
+
+  abbrev on : ℕ → Bool
+  on q = is_active (shapes g) s.memory set q
+
+  abbrev clears : Write
+  clears = written_to (place g dest) on (λ q. 0)
+
+  abbrev s1 : CodeState
+  s1 = wrote g clears s
+
+  abbrev number : ℕ → ℕ
+  number q = element (shapes g) (I.Operate (operation_of is_or) (place g (lowest_bit dest)) (place g a) (place g b)) [] s1.memory q
+
+  abbrev joins : Write
+  joins = written_to (place g (lowest_bit dest)) (λ q. is_active (shapes g) s1.memory set q) number
+
+  clear_goes : begun g.image (placed_instr g (clear set offset)) s ≡ Goes s1
+  unfolding begun applied after
+  clear_goes = refl
+
+  join_goes : begun g.image (placed_instr g (join is_or set offset a b)) s1 ≡ Goes (wrote g joins s1)
+  unfolding begun applied after
+  join_goes = refl
+
+  -- two bits of own fields are joined in a variable of the file
+  joined_takes : (v w : ℕ → ℕ) → IsFileField g k 0 dest → IsOwnField g a → IsOwnField g b → Within g (joined_behind is_or set offset a b e) → At g s (length e.code)
+      → ((q : ℕ) → q < processors (shapes g) set → on q ≡ true → number_in g a s q ≡ from_bool (nonzero (v q))) → ((q : ℕ) → q < processors (shapes g) set → on q ≡ true → number_in g b s q ≡ from_bool (nonzero (w q)))
+      → TakesBehind g set dest e (joined_behind is_or set offset a b e) s (λ q. from_bool (either_or_both is_or (nonzero (v q)) (nonzero (w q))))
+  unfolding step_of
+  joined_takes v w file own_a own_b within here one_bit other_bit = record {
+    takes = record {
+      write = both;
+      run = refl;
+      writes = λ p. refl;
+      value = λ p below active.
+          ap (λ (n : ℕ). outcome (operator_of (operation_of is_or)).0 1 (operator_of (operation_of is_or)).1 n (number_in g b s1 p) % 2 % 2 ^ 32) (still a p own_a ∙ one_bit p below active)
+          ∙ ap (λ (n : ℕ). outcome (operator_of (operation_of is_or)).0 1 (operator_of (operation_of is_or)).1 (from_bool (nonzero (v p))) n % 2 % 2 ^ 32) (still b p own_b ∙ other_bit p below active)
+          ∙ ap (λ (n : ℕ). n % 2 ^ 32) (joined_bits is_or (nonzero (v p)) (nonzero (w p)) 1) ∙ few (either_or_both is_or (nonzero (v p)) (nonzero (w p)));
+    };
+    more = (2, joined_more g is_or set offset a b e);
+    place = s.at + 1 + 1;
+    go = subst (λ (m : BitMemory). Reaches g s (record s { at = s.at + 1 + 1; memory = m })) (two_writes (place g dest) on (λ q. is_active (shapes g) s1.memory set q) number s.memory (omega arith) still_active)
+        (onto g s s1 (wrote g joins s1) (one g s s1 (begins_here g (clear set offset) e s (earlier g (cleared_behind set offset e) (joined_behind is_or set offset a b e) 1 (and_one g (join is_or set offset a b) (cleared_behind set offset e)) within) refl here ∙ clear_goes))
+        (one g s1 (wrote g joins s1) (begins_here g (join is_or set offset a b) (cleared_behind set offset e) s1 within refl at_join ∙ join_goes)));
+    at = at_next g (join is_or set offset a b) (cleared_behind set offset e) s1 (s1.at + 1) at_join refl;
+  }
+    where
+      both : Write
+      both = written_to (place g dest) on (λ q. number q % 2)
+
+      ends : (dest.set < length (shapes g)) × ((place g dest).offset + dest.len ≤ bits_at (shapes g) dest.set)
+      ends = entry_ends g places fields alive set k 0 info dest is word file refl refl
+
+      still_active : (q : ℕ) → is_active (shapes g) s1.memory set q ≡ on q
+      still_active q = active_apart (shapes g) clears s.memory set q ends.1
+
+      at_join : At g s1 (length (cleared_behind set offset e).code)
+      at_join = at_next g (clear set offset) e s (s.at + 1) here refl
+
+      still : (h : Field) (q : ℕ) → IsOwnField g h → number_in g h s1 q ≡ number_in g h s q
+      still h q own =
+          field_apart clears s.memory (place g h) q (subst (λ (f : Field). Apart f (place g h)) (sym (entry_place g places fields alive set k 0 info dest is word file refl refl)) (apart_back (place g h) (of_file g k 0) (places.own_file k 0 set info h is own)))
+
+      few : (x : Bool) → from_bool (nonzero (from_bool x)) % 2 ^ 32 ≡ from_bool x
+      few true = refl
+      few false = refl
+
+-- behind code that gives two such bits
+module _ (g : Setting) (places : PlacesFields g) (fields : HoldsTheFields g) (alive : Variable → Type 0) (set k offset : ℕ) (info : VarInfo) (is : IsElement g.typed k info set 0) (word : info.elem.bits ≡ 32) (is_or : Bool) (a b : Field) (d e1 e2 : Draft) (s : CodeState) (st : State) (v w : ℕ → ℕ) where
+  abbrev behind : Draft
+  behind = joined_behind is_or set offset a b e2
+
+  pub truths_taken : (one : GivesTruth g alive places fields d s set st v a e1) → GivesTruth g alive places fields e1 one.passes.t set st w b e2 → ((m : ℕ) → Extended d m behind → IsFileField g k 0 (word_field set offset)) → Within g behind
+      → (p : PassesTests g alive d e2 s st (Unit {0})) × TakesBehind g set (word_field set offset) e2 behind p.t (λ q. from_bool (either_or_both is_or (nonzero (v q)) (nonzero (w q))))
+  unfolding step_of tests_on
+  truths_taken one two file within = (
+    passes,
+    joined_takes g places fields alive set k offset info is word is_or a b e2 two.passes.t v w (file (passes.grown.0 + 2) (extended d e2 behind passes.grown.0 2 passes.grown.1 (joined_more g is_or set offset a b e2))) one.own two.own within two.passes.at
+        (λ q below on. still q ∙ one.are q below (active q below ∙ on)) (λ q below on. two.are q below (active q below ∙ on)),
+  )
+    where
+      cleared_one : Draft
+      cleared_one = cleared_behind set offset e2
+
+      joins : Instr
+      joins = join is_or set offset a b
+
+      long : length cleared_one.code ≡ length e2.code + 1
+      long = code_more g (clear set offset) e2
+
+      there : StandsAt g.unit (length cleared_one.code) joins
+      there = stands_here g joins cleared_one within refl
+
+      named_a : IsNamedAt g.unit a.offset (length cleared_one.code)
+      named_a = names_second g joins _ a (b ∷ []) (length cleared_one.code) there refl
+
+      behind_b : Behind g b e2
+      behind_b = (length cleared_one.code, (names_third g joins _ a b [] (length cleared_one.code) there refl, omega (arith, long)))
+
+      early : Behind g a e1
+      early = (length cleared_one.code, (named_a, (let longer = code_longer e1 e2 two.passes.grown.0 two.passes.grown.1 in omega (arith, longer, long))))
+
+      passes : PassesTests g alive d e2 s st (Unit {0})
+      passes = tests_on g alive d e1 e2 s st (Behind g a e1) (Behind g b e2) (Unit {0}) one.passes two.passes (λ u. early) (λ u. behind_b)
+
+      still : (q : ℕ) → number_in g a two.passes.t q ≡ number_in g a one.passes.t q
+      still q = two.passes.stays behind_b a one.somewhere (length cleared_one.code) q one.older one.own one.ends one.named one.before named_a (omega (arith, long))
+
+      active : (q : ℕ) → q < processors (shapes g) set → fields.active set q ≡ is_active (shapes g) two.passes.t.memory set q
+      active q below = sym (flags_of g alive places fields st two.passes.t set q two.passes.sim two.exists below)
