@@ -24,7 +24,7 @@ use Rattle.source_meaning.specs.Expressions.{evaluated}
 use Rattle.source_meaning.specs.State.{Outcome, State}
 use Rattle.source_meaning.specs.Statements.{Leaving, Onward, executed}
 use Rattle.source_meaning.specs.Values.{Active, Scope, Value}
-use Rattle.code_follows.specs.Fragment.{ScalarsAmong, under_contexts}
+use Rattle.code_follows.specs.Fragment.{May, ScalarsAmong, under_contexts}
 use Rattle.code_follows.proofs.Following.{Follows, HasRegisters, Ran, Sim}
 use Rattle.code_follows.proofs.Settings.{At, Begun, Held, Setting, layout}
 use Rattle.code_follows.proofs.Values.{Dest}
@@ -54,9 +54,9 @@ module _ (g : Setting) (scope : Scope) where
 abbrev pub under_held : Setting → Held → ℕ → ℕ → ℕ → Setting
 under_held g held from entries upto = record g { may = under_contexts g.may; held = held; from = from; entries = entries; upto = upto }
 
--- it has the same registers
-pub registers_under : (g : Setting) (held : Held) (from entries upto : ℕ) → HasRegisters g → HasRegisters (under_held g held from entries upto)
-registers_under g held from entries upto h = record {
+-- the same registers, whatever may be done and is held
+pub registers_as : (g : Setting) (may : May) (held : Held) (from entries upto : ℕ) → HasRegisters g → HasRegisters (record g { may = may; held = held; from = from; entries = entries; upto = upto })
+registers_as g may held from entries upto h = record {
   below = h.below;
   free = h.free;
   behind_files = h.behind_files;
@@ -68,6 +68,9 @@ registers_under g held from entries upto h = record {
   spared_own = h.spared_own;
   apart = h.apart;
 }
+
+pub registers_under : (g : Setting) (held : Held) (from entries upto : ℕ) → HasRegisters g → HasRegisters (under_held g held from entries upto)
+registers_under g held from entries upto h = registers_as g (under_contexts g.may) held from entries upto h
 
 -- What is known of a setting, a scope and the active positions is what those need who know of fields.
 module _ (Known : Setting → Scope → Active → Type 1) (g : Setting) (scope : Scope) where

@@ -1,5 +1,5 @@
 -- The code of a scalar expression gives its value.
-use Rattle.std.proofs.Common.{◌≡◌, ◌∙◌, ℕ, ◌+◌, ◌-◌, ◌<◌, ◌≤◌, ◌^◌, ◌==◌, ◌&&◌, Bool, true, false, not, List, [], ◌∷◌, zero, suc, length, slice_index, slice_set, Option, Some, None, refl, sym, ap, subst, if◌then◌else◌, arith}
+use Rattle.std.proofs.Common.{◌≡◌, ◌∙◌, ℕ, ◌+◌, ◌-◌, ◌<◌, ◌≤◌, ◌^◌, ◌==◌, ◌&&◌, Bool, true, false, not, [], length, slice_index, slice_set, Option, Some, None, refl, sym, ap, subst, if◌then◌else◌, arith}
 use Rattle.cstar_base.specs.declared.elem.Elem.{Elem}
 use Rattle.cstar_base.specs.declared.faults.RunFault.TheVariants.{DivZero}
 use Rattle.cstar_base.specs.declared.operators.Op.{Op}
@@ -54,12 +54,6 @@ use Rattle.code_follows.proofs.Jumping.{sim_moved}
 use Rattle.code_follows.proofs.Operators.{by_machine, machine_below, machine_same, minus_same, wide_signed}
 use Rattle.code_follows.proofs.Settings.{At, Begun, Reaches, Setting, Within, and_one, at_next, begins_here, begun_later, earlier, ends_now, layout, one, onto, placed_instr, regs_more, start, stay}
 use Rattle.code_follows.proofs.Words.{below_bits, below_word, held_wide}
-
--- what is written twice is what it was written last
-pub set_again : (xs : List ℕ) (r a b : ℕ) → slice_set (slice_set xs r a) r b ≡ slice_set xs r b
-set_again [] r a b = refl
-set_again (x ∷ xs) zero a b = refl
-set_again (x ∷ xs) (suc r) a b = ap (λ (rest : List ℕ). x ∷ rest) (set_again xs r a b)
 
 -- one more register
 abbrev pub with_reg : Draft → Draft
@@ -129,20 +123,6 @@ module _ (g : Setting) (has : HasRegisters g) (alive : Variable → Type 0) wher
         → begun g.image (placed_instr g i) s ≡ Goes (with_register r (held elem w) s) → w < 2 ^ elem.bits → R (Scalar w) st (O.Scalar r) (with_instr i e)
     put_by e n i s st w go here sim grows keeps within plain does few =
         dest.takes e (with_instr i e) n 1 s (s.at + 1) st w go sim grows keeps (and_one g i e) within (one g s (with_register r (held elem w) s) (begins_here g i e s within plain here ∙ does)) (at_next g i e s (s.at + 1) here refl) few
-
-    -- or two, where the second reads what the first put there
-    pub put_by_two : (e : Draft) (n : ℕ) (i j : Instr) (s : CodeState) (st : State) (a w : ℕ) → Reaches g s0 s → At g s (length e.code) → Sim g alive st s → Extended d n e → Keeps g d s0 s → Within g (with_instr j (with_instr i e)) → step_of i ≡ Plain i → step_of j ≡ Plain j
-        → begun g.image (placed_instr g i) s ≡ Goes (with_register r a s) → begun g.image (placed_instr g j) (with_register r a s) ≡ Goes (with_register r (held elem w) (with_register r a s)) → w < 2 ^ elem.bits
-        → R (Scalar w) st (O.Scalar r) (with_instr j (with_instr i e))
-    put_by_two e n i j s st a w go here sim grows keeps within plain_i plain_j does_i does_j few =
-        let between : Draft = with_instr i e in
-        let middle : CodeState = with_register r a s in
-        let last : CodeState = with_register r (held elem w) middle in
-        let early : Within g between = earlier g between (with_instr j between) 1 (and_one g j between) within in
-        let there : At g middle (length between.code) = at_next g i e s (s.at + 1) here refl in
-        let goes : Reaches g s last = onto g s middle last (one g s middle (begins_here g i e s early plain_i here ∙ does_i)) (one g middle last (begins_here g j between middle within plain_j there ∙ does_j)) in
-        dest.takes e (with_instr j between) n 2 s (s.at + 1 + 1) st w go sim grows keeps (extended e between (with_instr j between) 1 1 (and_one g i e) (and_one g j between)) within
-        (subst (λ (registers : List ℕ). Reaches g s (record s { at = s.at + 1 + 1; registers = registers })) (set_again s.registers r a (held elem w)) goes) (at_next g j between middle (s.at + 1 + 1) there refl) few
 
   -- a fresh one
   pub fresh_dest : (elem : Elem) (quiet : Bool) (d : Draft) (s0 : CodeState) → Begun g d → Dest elem (with_reg d) s0 (λ v st out e. Arrives g alive elem quiet d s0 v st out e) d.regs

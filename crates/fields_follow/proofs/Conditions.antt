@@ -1,6 +1,7 @@
 -- What is known of the conditions of `where`, by their form.
 use Rattle.std.proofs.Common.{◌≡◌, ◌&&◌, ◌==◌, ℕ, Bool, true, false, not, refl, ap, subst, sym}
 use Rattle.std.specs.Prelude.{is_none}
+use Rattle.constant_trees.proofs.Bringing.{right_false}
 use Rattle.cstar_tree.specs.declared.typed.Instance.{Instance}
 use Rattle.cstar_tree.specs.declared.typed.TExpr.{TExpr}
 use Rattle.cstar_tree.specs.declared.typed.TExpr as T
@@ -19,7 +20,6 @@ use Rattle.source_meaning.proofs.ConstantLaws.{Boxed}
 use Rattle.code_follows.specs.Fragment.{ScalarsAmong}
 use Rattle.fields_follow.specs.Fragment.{IsCondition, IsWide, KnowsExtents}
 use Rattle.fields_follow.proofs.Forms.{HasItsCode, pure_constant, pure_kept, pure_type}
-use Rattle.fields_follow.proofs.Meaning.{and_false}
 
 shaped : (ty : ValueType) (set : ℕ) → IsWide set ty → is_none ty.shape ≡ false
 shaped ty set is = ap is_none is.0
@@ -49,7 +49,7 @@ condition_kept set e is = pure_kept set e is
 -- no condition is a constant
 pub condition_constant : (set : ℕ) (e : TExpr) → IsCondition set e → is_constant e ≡ false
 unfolding IsCondition is_constant
-condition_constant set (T.Brackets' ty p inner) is = and_false (is_none ty.shape && ty.elem.bits == (type_of inner).elem.bits) (is_constant inner) (condition_constant set inner is.1)
+condition_constant set (T.Brackets' ty p inner) is = right_false (is_none ty.shape && ty.elem.bits == (type_of inner).elem.bits) (is_constant inner) (condition_constant set inner is.1)
 condition_constant set (T.Unary' ty op p operand) is = no_constant ty set (ty.elem.bits == 32) (is_constant operand) is.0
 condition_constant set (T.LogicalOr' ty p left q right) is = ap (λ (c : Bool). c && is_constant right) (no_constant ty set (ty.elem.bits == 32) (is_constant left) is.0)
 condition_constant set (T.LogicalAnd' ty p left q right) is = ap (λ (c : Bool). c && is_constant right) (no_constant ty set (ty.elem.bits == 32) (is_constant left) is.0)

@@ -2,6 +2,7 @@
 use Rattle.std.proofs.Common.{◌≡◌, ◌∙◌, ℕ, ◌+◌, ◌<◌, ◌^◌, Bool, true, false, ◌&&◌, ◌||◌, ◌==◌, List, slice_get, Option, Some, None, refl, sym, ap, subst, inl, inr, if◌then◌else◌, ◌⊎◌, arith}
 use Rattle.std.specs.Prelude.{is_none, nat_le, nat_lt}
 use Rattle.std.proofs.lemmas.Bool.Decides.{nat_tests}
+use Rattle.constant_trees.proofs.Bringing.{right_false}
 use Rattle.cstar_base.specs.declared.operators.Op.{Op}
 use Rattle.cstar_base.specs.Numbers.{converted}
 use Rattle.cstar_base.specs.Operators.{divides}
@@ -31,7 +32,7 @@ use Rattle.code_follows.proofs.Words.{held_wide}
 use Rattle.fields_follow.specs.Fragment.{IsConstant, IsDivisor, IsOperation, IsPromoted, IsPure, IsScalarName, IsWide, KnowsExtents, extents_in}
 use Rattle.fields_follow.specs.Fields.{IsElement, file_number}
 use Rattle.fields_follow.proofs.FileFields.{first_there}
-use Rattle.fields_follow.proofs.Meaning.{DividesByNoZero, and_false, divides_nothing, no_constant, scalar_in, value_in, variable_in, wide_same}
+use Rattle.fields_follow.proofs.Meaning.{DividesByNoZero, divides_nothing, no_constant, scalar_in, value_in, variable_in, wide_same}
 use Rattle.lower_expr.specs.Kinds.{is_unchanged}
 use Rattle.cstar_base.specs.declared.elem.Elem.{Elem}
 use Rattle.lower_expr.specs.Values.{Code, Test, cast_by, extended, truth_put}
@@ -269,14 +270,14 @@ named_scalar t i alive n (T.Variable ty x) is word v among = record {
 }
 named_scalar t i alive n (T.Brackets' ty p inner) is word v among =
     let h = named_scalar t i alive n inner is.1 (subst (λ (y : ValueType). IsWord y) is.0 word) v among in
-    record { x = h.x; info = h.info; own = h.own; none = and_false (is_none ty.shape && ty.elem.bits == (type_of inner).elem.bits) (is_constant inner) h.none; known = h.known; lives = h.lives; scalar = h.scalar; wide = h.wide; value = h.value }
+    record { x = h.x; info = h.info; own = h.own; none = right_false (is_none ty.shape && ty.elem.bits == (type_of inner).elem.bits) (is_constant inner) h.none; known = h.known; lives = h.lives; scalar = h.scalar; wide = h.wide; value = h.value }
 named_scalar t i alive n (T.Convert' ty p operand) is word v among =
     let h = named_scalar t i alive n operand is.1 is.0 v among in
     record {
       x = h.x;
       info = h.info;
       own = ap (λ (c : Bool). if c then own_of 32 operand else None) (unchanged_wide ty.elem (is_kept operand) word.1) ∙ h.own;
-      none = and_false (is_none ty.shape) (is_constant operand) h.none;
+      none = right_false (is_none ty.shape) (is_constant operand) h.none;
       known = h.known;
       lives = h.lives;
       scalar = h.scalar;

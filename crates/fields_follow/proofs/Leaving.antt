@@ -14,6 +14,7 @@ use Rattle.source_meaning.specs.Expressions.{evaluated}
 use Rattle.source_meaning.specs.State.{Gives, State}
 use Rattle.source_meaning.specs.Values.{Active, Scope, Value}
 use Rattle.code_follows.specs.Fragment.{May}
+use Rattle.code_follows.proofs.Besides.{registers_as}
 use Rattle.code_follows.proofs.Following.{HasRegisters, Sim}
 use Rattle.code_follows.proofs.Settings.{At, Held, Reaches, Setting, Within, layout}
 use Rattle.fields_follow.proofs.Fields.{fields_held}
@@ -87,15 +88,4 @@ module _ (g : Setting) where
   reaches_again a r = record { by = r.by }
 
   pub registers_under : (a : Active) → HasRegisters g → HasRegisters (under a)
-  registers_under a h = record {
-    below = h.below;
-    free = h.free;
-    behind_files = h.behind_files;
-    room = h.room;
-    result = h.result;
-    result_apart = h.result_apart;
-    spared_variable = h.spared_variable;
-    spared_result = h.spared_result;
-    spared_own = h.spared_own;
-    apart = h.apart;
-  }
+  registers_under a h = registers_as g g.may (fields_held g.typed g.image a) g.from g.entries g.upto h

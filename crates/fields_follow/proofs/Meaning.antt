@@ -7,6 +7,7 @@ use Rattle.cstar_base.specs.declared.operators.Op.{Op}
 use Rattle.cstar_base.specs.declared.operators.Place.{Place}
 use Rattle.cstar_base.specs.Operators.{divides, outcome}
 use Rattle.cstar_base.specs.Orders.{least_below, or_else}
+use Rattle.constant_trees.proofs.Bringing.{right_false}
 use Rattle.cstar_tree.specs.declared.typed.TExpr.{TExpr, items-the_row-TExpr}
 use Rattle.cstar_tree.specs.declared.typed.TExpr as T
 use Rattle.cstar_tree.specs.declared.typed.UnaryOp.{UnaryOp}
@@ -89,10 +90,6 @@ none_fails active (suc n) = ap (λ (o : Option ℕ). or_else o (if active n && f
     by true n = refl
     by false n = refl
 
-pub and_false : (a b : Bool) → b ≡ false → (a && b) ≡ false
-and_false true b e = e
-and_false false b e = refl
-
 pub no_constant : (e : TExpr) → is_constant e ≡ false → constant_of e ≡ None
 unfolding constant_of
 no_constant e is = ap (λ (b : Bool). if b then Const.value_of e else None) is
@@ -161,8 +158,8 @@ module _ (scope : Scope) (active : Active) where
   pub not_constant : (e : TExpr) → IsScalarName e → is_constant e ≡ false
   unfolding IsScalarName is_constant
   not_constant (T.Variable ty x) is = refl
-  not_constant (T.Brackets' ty p inner) is = and_false (is_none ty.shape && ty.elem.bits == (type_of inner).elem.bits) (is_constant inner) (not_constant inner is.1)
-  not_constant (T.Convert' ty p operand) is = and_false (is_none ty.shape) (is_constant operand) (not_constant operand is.1)
+  not_constant (T.Brackets' ty p inner) is = right_false (is_none ty.shape && ty.elem.bits == (type_of inner).elem.bits) (is_constant inner) (not_constant inner is.1)
+  not_constant (T.Convert' ty p operand) is = right_false (is_none ty.shape) (is_constant operand) (not_constant operand is.1)
   not_constant _ is = absurd is
 
   pub everywhere_means : (e : TExpr) (st : State) → IsEverywhere e → evaluated scope e active st ≡ Gives (Scalar (scalar_in st e)) st

@@ -1,6 +1,7 @@
 -- The operands of a parallel operator: the left one in a field, the right one in a field or as a word, and the
 -- instruction that operates on them.
 use Rattle.std.proofs.Common.{◌≡◌, ◌∙◌, ℕ, ◌+◌, ◌<◌, ◌≤◌, ◌^◌, ◌==◌, ◌&&◌, Bool, true, false, not, [], ◌∷◌, length, Option, Some, None, refl, sym, ap, subst, arith, ◌⊎◌, inl, inr, if◌then◌else◌}
+use Rattle.constant_trees.proofs.Bringing.{right_false}
 use Rattle.cstar_base.specs.declared.operators.Op.{Op}
 use Rattle.cstar_base.specs.declared.operators.Place.{Place}
 use Rattle.cstar_base.specs.Operators.{divides, outcome}
@@ -38,7 +39,7 @@ use Rattle.code_follows.proofs.Words.{held_wide}
 use Rattle.fields_follow.specs.Fragment.{IsDivisor, IsOperation, IsPromoted, IsPure}
 use Rattle.fields_follow.proofs.Forms.{HasItsCode, HasItsWord, StandsInRegister, divisor_never_zero, divisor_word, no_pure_divisor, promoted_not_held, promoted_stands, pure_word}
 use Rattle.fields_follow.proofs.Instructions.{Puts, extents, operation_is, puts_constant, puts_operate, puts_operate_constant, word_in}
-use Rattle.fields_follow.proofs.Meaning.{AreOperands, DividesByNoZero, and_false, left_of, right_of, value_in}
+use Rattle.fields_follow.proofs.Meaning.{AreOperands, DividesByNoZero, left_of, right_of, value_in}
 use Rattle.fields_follow.proofs.Passing.{After, Behind, GivesField, Passes, after_same, after_weaker, code_longer, fields_longer, gives_less, gives_numbers, made_after, names_second, names_third, passes_all, passes_on, puts_own, still_numbers, then_after}
 use Rattle.fields_follow.proofs.Places.{HoldsTheFields, PlacesFields, stands_here}
 use Rattle.fields_follow.proofs.Quiet.{promoted_quiet, pure_quiet}
@@ -285,7 +286,7 @@ module _ (g : Setting) where
         by (inr divisor) (inl pure) = absurd (no_pure_divisor set e pure divisor)
         by (inr divisor) (inr promoted) =
             let h = divisor_word set e promoted divisor in
-            after_weaker g (λ right f. (right ≡ R.Word (K.Imm h.0.word)) × GivesNumbers right f) Q (right_by (operand true e) op e d) (λ right f gives. (inr (h.0.word, gives.0), gives.1)) (word_right set op e h.0 (and_false (divides op) (h.0.word == 0) h.1) d s st here sim)
+            after_weaker g (λ right f. (right ≡ R.Word (K.Imm h.0.word)) × GivesNumbers right f) Q (right_by (operand true e) op e d) (λ right f gives. (inr (h.0.word, gives.0), gives.1)) (word_right set op e h.0 (right_false (divides op) (h.0.word == 0) h.1) d s st here sim)
 
     -- The instruction that operates on both: it puts the operator's numbers wherever it stands, and what stood
     -- before both is as it was.

@@ -40,13 +40,19 @@ use Rattle.source_meaning.proofs.ConstantLaws.{Boxed}
 use Rattle.code_follows.proofs.Following.{Extends, HasRegisters, Sim}
 use Rattle.code_follows.proofs.Operators.{minus_same, wide_signed}
 use Rattle.code_follows.proofs.Settings.{At, Reaches, Setting, Within, and_one, at_next, begins_here, earlier, layout, one, onto, placed_instr, start}
-use Rattle.code_follows.proofs.Values.{Dest, set_again}
+use Rattle.code_follows.proofs.Values.{Dest}
 use Rattle.code_follows.proofs.Words.{below_bits, held_wide}
 use Rattle.fields_follow.specs.Fragment.{IsWide}
 use Rattle.fields_follow.proofs.Folds.{folding, global_is}
 use Rattle.fields_follow.proofs.Instructions.{HasNumbers, place, shapes}
 use Rattle.fields_follow.proofs.Passing.{After, Behind, GivesField, Passes, after_same, flags_of, gives_numbers, made_after, then_after}
 use Rattle.fields_follow.proofs.Places.{HoldsTheFields, PlacesFields, names_first, stands_here}
+
+-- what is written twice is what it was written last
+set_again : (xs : List ℕ) (r a b : ℕ) → slice_set (slice_set xs r a) r b ≡ slice_set xs r b
+set_again [] r a b = refl
+set_again (x ∷ xs) zero a b = refl
+set_again (x ∷ xs) (suc r) a b = ap (λ (rest : List ℕ). x ∷ rest) (set_again xs r a b)
 
 -- what is read of an element behind a write to it, and written there again: where there is none, nothing is
 read_back : (f : ℕ → ℕ) (xs : List ℕ) (r a : ℕ) → slice_set (slice_set xs r a) r (f (slice_index (slice_set xs r a) r)) ≡ slice_set (slice_set xs r a) r (f a)
