@@ -43,7 +43,7 @@ module _ (t : Typed) (i : Instance) where
     names_later n m more (T.Element' ty place array p index) h = ((h.0.0, still_there more h.0.1), names_later n m more index h.1)
     names_later n m more (T.Brackets' ty p inner) h = names_later n m more inner h
     names_later n m more (T.Call' ty instance p arguments) h = all_later n m more arguments h
-    names_later n m more (T.LeftIndex' ty place p indexes x of) h = (still_there more h.0, all_later n m more indexes h.1)
+    names_later n m more (T.LeftIndex' ty place p indexes x of) h = (still_there more h.0, all_later n m more indexes h.1, h.2)
     names_later n m more (T.Scan' ty p source axis combiner direction mode bit within) h = (bits_later n m more bit h.0, names_later n m more source h.1)
     names_later n m more (T.Enumerate ty axis direction within mode bit) h = bits_later n m more bit h
     names_later n m more (T.Printf' ty pieces p arguments) h = all_later n m more arguments h
@@ -52,7 +52,7 @@ module _ (t : Typed) (i : Instance) where
     names_later n m more (T.Pcoord ty axis) h = tt
     names_later n m more (T.PositionsOf ty shape value) h = tt
     names_later n m more (T.RankOf ty shape value) h = tt
-    names_later n m more (T.DimOf ty shape axis value) h = tt
+    names_later n m more (T.DimOf ty shape axis value) h = h
     names_later n m more (T.GetChar ty) h = tt
 
     all_later : {k : _} (n m : ℕ) → n ≤ m → (row : Row_of-TExpr k) → AllNameVariables t i n row → AllNameVariables t i m row

@@ -1,9 +1,11 @@
 -- The variables that a typed expression names are those of the program and of the instance in which it
 -- stands, each by its number and with its type, and of those of the blocks the first ones, which are
--- declared before it.
-use Rattle.std.specs.Prelude.{◌≡◌, ◌<◌, ℕ, List, slice_get, Option, Some, None, IfSome, IsSome}
+-- declared before it; and what it says of shapes is so of the program's: `dimof` has the extent, and a left
+-- index has one index for each axis.
+use Rattle.std.specs.Prelude.{◌≡◌, ◌<◌, ℕ, List, length, map, slice_get, Option, Some, None, IfSome, IsSome}
 use Rattle.cstar_tree.specs.declared.typed.Instance.{Instance}
-use Rattle.cstar_tree.specs.declared.typed.TExpr.{TExpr, Row_of-TExpr, end_of-TExpr, more_of-TExpr}
+use Rattle.cstar_tree.specs.declared.typed.ShapeInfo.{ShapeInfo}
+use Rattle.cstar_tree.specs.declared.typed.TExpr.{TExpr, Row_of-TExpr, end_of-TExpr, more_of-TExpr, items-the_row-TExpr}
 use Rattle.cstar_tree.specs.declared.typed.TExpr as T
 use Rattle.cstar_tree.specs.declared.typed.Typed.{Typed}
 use Rattle.cstar_tree.specs.declared.typed.ValueType.{ValueType}
@@ -42,9 +44,23 @@ pub record HasVariable (t : Typed) (i : Instance) (n : ℕ) (v : Variable) (ty :
 abbrev pub plain : ValueType → VariableType
 plain ty = record { value = ty; array = None }
 
--- the variables that are known at a place are there
+-- the extents of the program's shapes
+abbrev pub extents_in : Typed → List (List ℕ)
+extents_in t = map (λ (s : ShapeInfo). s.extents.items) t.shapes.items
+
+-- what is known at a place is there: the variables, where so many of the blocks are declared, and the shapes
+abbrev pub Knows : Typed → Instance → ℕ → Here → Type 0
+Knows t i n here = ((word : List ℕ) (v : Variable) (ty : VariableType) → meaning here word ≡ Some (a_variable v (Some ty)) → HasVariable t i n v ty) × (here.shapes ≡ extents_in t)
+
 abbrev pub KnowsVariables : Typed → Instance → Here → Type 0
-KnowsVariables t i here = (word : List ℕ) (v : Variable) (ty : VariableType) → meaning here word ≡ Some (a_variable v (Some ty)) → HasVariable t i here.locals v ty
+KnowsVariables t i here = Knows t i here.locals here
+
+-- a shape of the program has this extent along an axis, and so many axes
+abbrev pub HasExtent : Typed → ℕ → ℕ → ℕ → Type 0
+HasExtent t shape axis extent = (extents : List ℕ) × (slice_get (extents_in t) shape ≡ Some extents) × (slice_get extents axis ≡ Some extent)
+
+abbrev pub HasAxes : Typed → ℕ → ℕ → Type 0
+HasAxes t shape many = (extents : List ℕ) × (slice_get (extents_in t) shape ≡ Some extents) × (many ≡ length extents)
 
 -- the segment bits of a scan, if it has any, are a parallel variable
 abbrev pub HasBits : Typed → Instance → ℕ → Option Variable → Type 0
@@ -69,9 +85,10 @@ unfoldable mutual
       ((length : ℕ) × HasVariable t i n array (record { value = ty; array = Some length })) × NamesVariables t i n index
   NamesVariables t i n (T.Brackets' ty p inner) = NamesVariables t i n inner
   NamesVariables t i n (T.Call' ty instance p arguments) = AllNameVariables t i n arguments
-  NamesVariables t i n (T.LeftIndex' ty place p indexes x of) = HasVariable t i n x (plain (parallel ty.elem of)) × AllNameVariables t i n indexes
+  NamesVariables t i n (T.LeftIndex' ty place p indexes x of) = HasVariable t i n x (plain (parallel ty.elem of)) × AllNameVariables t i n indexes × HasAxes t of (length (items-the_row-TExpr _ indexes))
   NamesVariables t i n (T.Scan' ty p source axis combiner direction mode bit within) = HasBits t i n bit × NamesVariables t i n source
   NamesVariables t i n (T.Enumerate ty axis direction within mode bit) = HasBits t i n bit
+  NamesVariables t i n (T.DimOf ty shape axis value) = HasExtent t shape axis value
   NamesVariables t i n (T.Printf' ty pieces p arguments) = AllNameVariables t i n arguments
   NamesVariables t i n _ = Unit {0}
 

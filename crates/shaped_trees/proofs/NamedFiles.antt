@@ -29,7 +29,7 @@ use Rattle.cstar_tree.specs.StatementTypes.{TypesBlock, variable_info}
 use Rattle.cstar_tree.specs.TypedParts.{concat}
 use Rattle.cstar_tree.specs.Variables.{variables_of}
 use Rattle.code_lengths.proofs.Declaring.{all_at, at_number, first_part, found, info_of, second_part}
-use Rattle.code_lengths.specs.Naming.{HasItsShape, HasVariable, IsDeclared, KnowsVariables, variable_named}
+use Rattle.code_lengths.specs.Naming.{HasItsShape, HasVariable, IsDeclared, KnowsVariables, extents_in, variable_named}
 use Rattle.code_lengths.specs.NamingStatements.{StandFrom, StatementNamesVariables}
 use Rattle.code_lengths.specs.Ready.{HasPlainParameters, HasStatementCode}
 use Rattle.shaped_trees.specs.Laws.{HasLowerableBody, HasShapedBody, TypedFilesHaveCode}
@@ -263,13 +263,13 @@ module _ (typed : Typed) (i : Instance) where
       let parts = parts_name typed i program returns own k stand in
       subst (λ (n : ℕ). StatementNamesVariables typed i n (T.Block ls ss)) none (block_names_variables typed i here.locals ls ss parts.0 parts.1)
 
-  instance_names : {program : Program} {shapes : List (List ℕ)} {r : Reached} → All (KnowsFile typed) program.functions → StandsUnder typed r → TypesInstance program shapes r i → StatementNamesVariables typed i 0 i.body
+  instance_names : {program : Program} {shapes : List (List ℕ)} {r : Reached} → shapes ≡ extents_in typed → All (KnowsFile typed) program.functions → StandsUnder typed r → TypesInstance program shapes r i → StatementNamesVariables typed i 0 i.body
   unfolding meaning
-  instance_names {program = program} {shapes = shapes} {r = r} known under is =
+  instance_names {program = program} {shapes = shapes} {r = r} extents known under is =
       let own = all_at (KnowsFile typed) program.functions r.function is.placed known is.is_function in
       let shapes_are = λ (word : List ℕ) (number : ℕ) (found : find is.placed.known word ≡ Some (a_shape number)). own word (a_shape number) found in
       body_names is.block is.body refl (same_locals (header_place shapes is.placed r) 0 is.placed.function.parameters.items) (record {
-        variables = parameters_known is.parameters (λ word v ty found. own word (a_variable v (Some ty)) found i 0) (record { named = shapes_are; current = under }) (stand_all i.params.items);
+        variables = parameters_known is.parameters (λ word v ty found. own word (a_variable v (Some ty)) found i 0, extents) (record { named = shapes_are; current = under }) (stand_all i.params.items);
         shapes = body_shapes typed shapes is.placed r shapes_are under;
       })
 
@@ -281,24 +281,24 @@ parameters_plain (Y.next_parameter {p = p} {ty = ty} {rest = rest} is more) = Al
 abbrev HasBodyCode : Typed → Instance → Type 0
 HasBodyCode typed i = HasPlainParameters i × HasStatementCode typed i 0 i.body
 
-instances_code : {program : Program} {shapes : List (List ℕ)} {rs : List Reached} {is : List Instance} (typed : Typed) → All (KnowsFile typed) program.functions → All (StandsUnder typed) rs → All HasShapedBody is → All (HasLowerableBody typed) is →
+instances_code : {program : Program} {shapes : List (List ℕ)} {rs : List Reached} {is : List Instance} (typed : Typed) → shapes ≡ extents_in typed → All (KnowsFile typed) program.functions → All (StandsUnder typed) rs → All HasShapedBody is → All (HasLowerableBody typed) is →
     TypesInstances program shapes rs is → All (HasBodyCode typed) is
-instances_code typed known under shaped lowerable Y.no_instance = All-nil (HasBodyCode typed)
-instances_code typed known under shaped lowerable (Y.next_instance {r = r} {rs = rs} {i = i} {is = is} own more) =
+instances_code typed extents known under shaped lowerable Y.no_instance = All-nil (HasBodyCode typed)
+instances_code typed extents known under shaped lowerable (Y.next_instance {r = r} {rs = rs} {i = i} {is = is} own more) =
     All-cons (HasBodyCode typed) i is (
       parameters_plain own.parameters,
       record {
         shaped = All-head HasShapedBody i is shaped;
         lowerable = All-head (HasLowerableBody typed) i is lowerable;
-        names = instance_names typed i known (All-head (StandsUnder typed) r rs under) own;
+        names = instance_names typed i extents known (All-head (StandsUnder typed) r rs under) own;
         stands = stand_all (variables_of i.body);
       },
     )
-    (instances_code typed known (All-tail (StandsUnder typed) r rs under) (All-tail HasShapedBody i is shaped) (All-tail (HasLowerableBody typed) i is lowerable) more)
+    (instances_code typed extents known (All-tail (StandsUnder typed) r rs under) (All-tail HasShapedBody i is shaped) (All-tail (HasLowerableBody typed) i is lowerable) more)
 
 pub file_code : TypedFilesHaveCode
-file_code tree typed spelled all file number i found =
+file_code tree typed spelled all extents file number i found =
     let known = placed_know typed (functions_named tree) file.items (functions_mean (MeansKnown typed) (λ (number : ℕ). tt) [] 0 tree.items.items) (stand_all typed.vars.items) (omega (arith, all)) (omega arith) in
     let shapes = All-weaker (KnowsFile typed) (KnowsItsShapes typed) (λ placed own word number found. own word (a_shape number) found) (file_functions tree) known in
-    let each = instances_code typed known (instances_under typed tree shapes) (file_shaped tree typed spelled file) (file_lowerable tree typed spelled file) file.instances in
+    let each = instances_code typed extents known (instances_under typed tree shapes) (file_shaped tree typed spelled file) (file_lowerable tree typed spelled file) file.instances in
     all_at (HasBodyCode typed) typed.instances.items number i each found

@@ -26,7 +26,7 @@ use Rattle.cstar_tree.specs.StatementTypes.{IsReturned, TypesBlock, TypesDeclara
 use Rattle.cstar_tree.specs.StatementTypes as Y
 use Rattle.cstar_tree.specs.TypedParts.{concat}
 use Rattle.cstar_tree.specs.Variables.{variables_of}
-use Rattle.code_lengths.specs.Naming.{HasItsShape, HasVariable, IsDeclared, KnowsVariables, NamesVariables, variable_named}
+use Rattle.code_lengths.specs.Naming.{HasItsShape, HasVariable, IsDeclared, Knows, KnowsVariables, NamesVariables, variable_named}
 use Rattle.code_lengths.proofs.Declaring.{at_number, else_variables, first_part, info_of, of_do, of_everywhere, of_for, of_if, of_where, of_while, of_with, second_part}
 use Rattle.code_lengths.proofs.NamedLater.{still_there}
 use Rattle.code_lengths.specs.NamingStatements.{ElseNamesVariables, InitialsNameVariables, StandFrom, StatementNamesVariables}
@@ -34,7 +34,7 @@ use Rattle.shaped_trees.specs.Places.{IsShapeOf, KnowsShapes}
 use Rattle.shaped_trees.proofs.Counting.{as_many, of_block}
 use Rattle.shaped_trees.proofs.KnownShapes.{behind_all, behind_each, in_block, shape_there, type_there, under_shape}
 use Rattle.shaped_trees.proofs.Meanings.{AllMean, declared_one}
-use Rattle.shaped_trees.proofs.NamedVariables.{Knows, fitted, named}
+use Rattle.shaped_trees.proofs.NamedVariables.{fitted, named}
 use Rattle.shaped_trees.proofs.Rows.{EachNamesVariables, block_names_variables}
 
 -- ---- names
@@ -68,8 +68,10 @@ module _ (t : Typed) (i : Instance) where
   pub behind_name : (here : Here) (word : List ℕ) (v : Variable) (ty : Option VariableType) (locals : ℕ) → here.locals ≤ locals → MeansVariable locals (a_variable v ty) → KnowsVariables t i here →
       KnowsVariables t i (record here { names = declared here.names word (a_variable v ty); locals = locals })
   unfolding meaning
-  behind_name here word v ty locals more new k other w of found =
-      declared_one (MeansVariable locals) here.names word (a_variable v ty) (all_mean locals _ (λ x u f is. still_there t i more (k x u f is))) new other (a_variable w (Some of)) found
+  behind_name here word v ty locals more new k = (
+    λ other w of found. declared_one (MeansVariable locals) here.names word (a_variable v ty) (all_mean locals _ (λ x u f is. still_there t i more (k.0 x u f is))) new other (a_variable w (Some of)) found,
+    k.1,
+  )
 
   -- ---- places: the variables that they know are there, and their shapes are the program's
 
@@ -92,7 +94,7 @@ module _ (t : Typed) (i : Instance) where
   known_behind : (here : Here) (s : Stmt) → IsKnown here → IsKnown (behind here s)
   unfolding meaning
   known_behind here s k = record {
-    variables = λ word v ty found. still_there t i (omega arith) (k.variables word v ty found);
+    variables = (λ word v ty found. still_there t i (omega arith) (k.variables.0 word v ty found), k.variables.1);
     shapes = record { named = k.shapes.named; current = k.shapes.current };
   }
 

@@ -1,5 +1,5 @@
 -- What the rules of typing give an expression names the variables that its place knows.
-use Rattle.std.proofs.Common.{◌≡◌, ℕ, Bool, List, Option, Some, None, refl, sym, subst}
+use Rattle.std.proofs.Common.{◌≡◌, ℕ, Bool, List, length, slice_get, Option, Some, None, refl, ap, ◌∙◌, sym, subst}
 use Rattle.std.specs.List.{All}
 use Rattle.std.proofs.lemmas.List.Elements.{All-nil, All-cons, All-head, All-tail}
 use Rattle.cstar_base.specs.declared.elem.Elem.{Elem}
@@ -17,15 +17,12 @@ use Rattle.cstar_tree.specs.Conversions as C
 use Rattle.cstar_tree.specs.ExpressionTypes.{IsBit, Types, TypesEach, TypesIndexes}
 use Rattle.cstar_tree.specs.ExpressionTypes as X
 use Rattle.cstar_tree.specs.Headers.{Program}
-use Rattle.cstar_tree.specs.Scopes.{Here, VariableType, a_variable, index_place, meaning}
-use Rattle.code_lengths.specs.Naming.{HasBits, HasVariable, NamesVariables}
+use Rattle.cstar_tree.specs.Scopes.{Here, extents_of, index_place, meaning}
+use Rattle.code_lengths.specs.Naming.{HasAxes, HasBits, HasVariable, Knows, NamesVariables, extents_in}
 use Rattle.shaped_trees.proofs.Rows.{list_names_variables}
+use Rattle.shaped_trees.proofs.Standing.{as_many_indexes, as_many_spread}
 
 module _ (t : Typed) (i : Instance) (n : ℕ) where
-  -- the variables that a place knows are there, where so many are declared
-  abbrev pub Knows : Here → Type 0
-  Knows here = (word : List ℕ) (v : Variable) (ty : VariableType) → meaning here word ≡ Some (a_variable v (Some ty)) → HasVariable t i n v ty
-
   converted : {e f : TExpr} {elem : Elem} → IsConverted e elem f → NamesVariables t i n e → NamesVariables t i n f
   unfolding NamesVariables
   converted (C.as_it_is same) names = names
@@ -55,27 +52,33 @@ module _ (t : Typed) (i : Instance) (n : ℕ) where
   each_fitted (C.next {e = e} {f = f} {es = es} {fs = fs} takes fit more) ns =
       All-cons (NamesVariables t i n) f fs (fitted fit (All-head (NamesVariables t i n) e es ns)) (each_fitted more (All-tail (NamesVariables t i n) e es ns))
 
-  bits : {here : Here} {mode : SegmentMode} {name : Option Name} {v : Option Variable} → IsBit here mode name v → Knows here → HasBits t i n v
+  bits : {here : Here} {mode : SegmentMode} {name : Option Name} {v : Option Variable} → IsBit here mode name v → Knows t i n here → HasBits t i n v
   bits X.no_bit k = tt
-  bits (X.bit {n = name} {v = v} {elem = elem} {shape = shape} segments is one current) k = (parallel elem shape, refl, k name.word v (record { value = parallel elem shape; array = None }) is)
+  bits (X.bit {n = name} {v = v} {elem = elem} {shape = shape} segments is one current) k = (parallel elem shape, refl, k.0 name.word v (record { value = parallel elem shape; array = None }) is)
+
+  -- a shape that a place knows has these extents
+  extents_known : (here : Here) (shape : ℕ) (extents : List ℕ) → Knows t i n here → extents_of here shape ≡ Some extents → slice_get (extents_in t) shape ≡ Some extents
+  unfolding extents_of
+  extents_known here shape extents k known = subst (λ (shapes : List (List ℕ)). slice_get shapes shape ≡ Some extents) k.1 known
 
   module _ (program : Program) where
     -- the same names are known at the place of an index
-    in_index : (here : Here) (word : List ℕ) (axis : ℕ) → Knows here → Knows (index_place here word axis)
+    in_index : (here : Here) (word : List ℕ) (axis : ℕ) → Knows t i n here → Knows t i n (index_place here word axis)
     unfolding index_place meaning
     in_index here word axis k = k
 
     mutual
       unfolding NamesVariables meaning
 
-      pub named : {here : Here} {e : Expr} {f : TExpr} {has_value : Bool} → Types program here e f has_value → Knows here → NamesVariables t i n f
+      pub named : {here : Here} {e : Expr} {f : TExpr} {has_value : Bool} → Types program here e f has_value → Knows t i n here → NamesVariables t i n f
       named X.number k = tt
-      named (X.name {n = name} {v = v} {ty = ty} is at_hand) k = k name.word v (record { value = ty; array = None }) is
-      named (X.element {n = name} {v = v} {ty = ty} {length = length} index j is at none at_hand) k = ((length, k name.word v (record { value = ty; array = Some length }) is), named at k)
+      named (X.name {n = name} {v = v} {ty = ty} is at_hand) k = k.0 name.word v (record { value = ty; array = None }) is
+      named (X.element {n = name} {v = v} {ty = ty} {length = length} index j is at none at_hand) k = ((length, k.0 name.word v (record { value = ty; array = Some length }) is), named at k)
       named (X.dot is) k = tt
-      named (X.left_index {here = here} {p = p} {n = name} {v = v} {elem = elem} {of = of} {given = ts} indexes ss is known as_many are spreads) k = (
-        k name.word v (record { value = parallel elem of; array = None }) is,
+      named (X.left_index {here = here} {p = p} {n = name} {v = v} {elem = elem} {of = of} {extents = extents} {given = ts} indexes ss is known as_many are spreads) k = (
+        k.0 name.word v (record { value = parallel elem of; array = None }) is,
         list_names_variables t i n (T.LeftIndex (record { elem = elem; shape = shape_among ts }) p ss v of) ss (items_hidden-the_row-TExpr-0 ss) (each_spread spreads (named_indexes are k)),
+        (extents, extents_known here of extents k known, ap length (items_hidden-the_row-TExpr-0 ss) ∙ (sym (as_many_spread spreads) ∙ (sym (as_many_indexes are) ∙ as_many))),
       )
       named (X.brackets inner j at) k = named at k
       named (X.assign target value u f at at_value place storable fit) k = (named at k, fitted fit (named at_value k))
@@ -97,18 +100,18 @@ module _ (t : Typed) (i : Instance) (n : ℕ) where
       named (X.pcoord axis current known is) k = tt
       named (X.positions_of is known) k = tt
       named (X.rank_of is known) k = tt
-      named (X.dim_of axis is known among at_axis) k = tt
+      named (X.dim_of {here = here} {shape = shape} {extents = extents} axis is known among at_axis) k = (extents, extents_known here shape extents k known, at_axis)
       named (X.scan source axis x current known is segments at parallel conversion) k = (bits segments k, converted conversion (named at k))
       named (X.enumerate axis current known is segments) k = bits segments k
       named (X.printf arguments pieces values are none pieces_are as_many promoted) k =
           list_names_variables t i n (T.Printf (scalar int) pieces values) values (items_hidden-the_row-TExpr-0 values) (each_promoted promoted (named_each are k))
       named X.getchar k = tt
 
-      named_each : {here : Here} {es : List Expr} {ts : List TExpr} → TypesEach program here es ts → Knows here → All (NamesVariables t i n) ts
+      named_each : {here : Here} {es : List Expr} {ts : List TExpr} → TypesEach program here es ts → Knows t i n here → All (NamesVariables t i n) ts
       named_each X.no_expression k = All-nil (NamesVariables t i n)
       named_each (X.next_expression {t = f} {ts = ts} at more) k = All-cons (NamesVariables t i n) f ts (named at k) (named_each more k)
 
-      named_indexes : {here : Here} {name : Name} {axis : ℕ} {es : List Expr} {ts : List TExpr} → TypesIndexes program here name axis es ts → Knows here → All (NamesVariables t i n) ts
+      named_indexes : {here : Here} {name : Name} {axis : ℕ} {es : List Expr} {ts : List TExpr} → TypesIndexes program here name axis es ts → Knows t i n here → All (NamesVariables t i n) ts
       named_indexes X.no_index k = All-nil (NamesVariables t i n)
       named_indexes (X.next_index {here = here} {n = name} {axis = axis} {t = f} {ts = ts} at more) k =
           All-cons (NamesVariables t i n) f ts (named at (in_index here name.word axis k)) (named_indexes more k)

@@ -13,7 +13,7 @@ use Rattle.cstar_tree.specs.declared.typed.ValueType.{ValueType}
 use Rattle.cstar_tree.specs.declared.typed.VarInfo.{VarInfo}
 use Rattle.cstar_tree.specs.Conversions.{AreFitted, ArePromoted, AreSpread, IsConverted, IsFitted, IsSpread, either, shape_among}
 use Rattle.cstar_tree.specs.Conversions as C
-use Rattle.cstar_tree.specs.ExpressionTypes.{Gives, TypesEach}
+use Rattle.cstar_tree.specs.ExpressionTypes.{Gives, TypesEach, TypesIndexes}
 use Rattle.cstar_tree.specs.ExpressionTypes as X
 use Rattle.cstar_tree.specs.Headers.{Program, Returns, parameter_types}
 use Rattle.cstar_tree.specs.Operations.{left_target, one, target_of}
@@ -167,6 +167,14 @@ as_many_typed (X.next_expression typed more) = ap suc (as_many_typed more)
 pub as_many_promoted : {es fs : List TExpr} → ArePromoted es fs → length es ≡ length fs
 as_many_promoted C.none = refl
 as_many_promoted (C.next c more) = ap suc (as_many_promoted more)
+
+pub as_many_spread : {shape : Option ℕ} {es fs : List TExpr} → AreSpread shape es fs → length es ≡ length fs
+as_many_spread C.none = refl
+as_many_spread (C.next s more) = ap suc (as_many_spread more)
+
+pub as_many_indexes : {program : Program} {here : Here} {name : _} {axis : ℕ} {es : List Expr} {ts : List TExpr} → TypesIndexes program here name axis es ts → length es ≡ length ts
+as_many_indexes X.no_index = refl
+as_many_indexes (X.next_index typed more) = ap suc (as_many_indexes more)
 
 -- ---- calls
 

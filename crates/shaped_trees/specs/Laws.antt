@@ -14,6 +14,7 @@ use Rattle.cstar_tree.specs.declared.typed.Typed.{Typed}
 use Rattle.cstar_tree.specs.declared.typed.VarInfo.{VarInfo}
 use Rattle.cstar_tree.specs.BlockScopes.{behind_declarations}
 use Rattle.cstar_tree.specs.ExpressionTypes.{Types}
+use Rattle.cstar_tree.specs.FileScopes.{file_known}
 use Rattle.cstar_tree.specs.Headers.{Program, Returns}
 use Rattle.cstar_tree.specs.Items.{IsTree}
 use Rattle.cstar_tree.specs.Operations.{Target, target_of}
@@ -28,7 +29,7 @@ use Rattle.code_lengths.specs.ShapedStatements.{AreShapedLocals, IsShapedStateme
 use Rattle.shaped_trees.specs.Casts.{DeclarationNamesShapes, ExpressionNamesShapes, NamesShapes, StatementNamesShapes}
 use Rattle.code_lengths.specs.Lowerable.{GivesValue, IsLowerable}
 use Rattle.code_lengths.specs.LowerableStatements.{IsLowerableLocal, IsLowerableStatement}
-use Rattle.code_lengths.specs.Naming.{KnowsVariables, NamesVariables}
+use Rattle.code_lengths.specs.Naming.{KnowsVariables, NamesVariables, extents_in}
 use Rattle.code_lengths.specs.NamingStatements.{StandFrom, StatementNamesVariables}
 use Rattle.code_lengths.specs.Ready.{IsCodable}
 use Rattle.shaped_trees.specs.Places.{IsInside, IsSound, KnowsShapes}
@@ -54,7 +55,7 @@ TypedExpressionsAreLowerable =
     (program : Program) (typed : Typed) (here : Here) (e : Expr) (t : TExpr) (has_value : Bool) → IsSound here → IsInside program typed here → ExpressionNamesShapes e →
     Types program here e t has_value → IsLowerableValue typed here.whole has_value t
 
--- the same expression names no variables but those that its place knows
+-- the same expression names no variables but those that its place knows, and says of shapes what is so of them
 abbrev pub TypedExpressionsNameVariables : Type 0
 TypedExpressionsNameVariables =
     (program : Program) (typed : Typed) (instance : Instance) (here : Here) (e : Expr) (t : TExpr) (has_value : Bool) → KnowsVariables typed instance here → Types program here e t has_value →
@@ -106,6 +107,6 @@ HasLowerableBody typed instance = IsLowerableStatement typed instance.result ins
 abbrev pub TypedFilesAreLowerable : Type 0
 TypedFilesAreLowerable = (tree : Tree) (typed : Typed) → NamesShapes tree → TypesFile tree typed → All (HasLowerableBody typed) typed.instances.items
 
--- so the instances of a file's program have code
+-- so the instances of a file's program have code, where the names of the file stand for all of its variables and shapes
 abbrev pub TypedFilesHaveCode : Type 0
-TypedFilesHaveCode = (tree : Tree) (typed : Typed) → NamesShapes tree → NamesAll tree typed.vars.items → TypesFile tree typed → IsCodable typed
+TypedFilesHaveCode = (tree : Tree) (typed : Typed) → NamesShapes tree → NamesAll tree typed.vars.items → (file_known tree).shapes ≡ extents_in typed → TypesFile tree typed → IsCodable typed

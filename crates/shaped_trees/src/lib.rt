@@ -63,7 +63,7 @@ pub fn typed_file_is_lowerable()
 {}
 
 /// The instances of what a file becomes by the rules have code, as the laws of code lengths ask for it, where
-/// no name of its variables is declared twice.
+/// no name of its variables and shapes is declared twice.
 pub fn typed_file_has_code()
     ensures { TypedFilesHaveCode }
 {}
