@@ -25,7 +25,7 @@ use Rattle.accepted_code.specs.Laws.{AcceptedProgramsHaveCode, ImagesHaveEveryUn
 
 -- each function of the program of a text has code
 pub codable : (text : List ℕ) (typed : Typed) → IsProgramOf text typed → IsCodable typed
-codable text typed is = file_code is.tree typed (spelled is.tokens is.tree is.spelled) is.new is.types
+codable text typed is = file_code is.tree typed (spelled is.tokens is.tree is.spelled) is.new.variables is.new.shapes is.types
 
 pub accepted : AcceptedProgramsHaveCode
 accepted text typed words regs is = programs typed words regs (codable text typed is)

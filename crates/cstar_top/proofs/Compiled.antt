@@ -8,17 +8,18 @@ use Rattle.cstar_tree.specs.declared.syntax.Tree.{Tree}
 use Rattle.cstar_tree.specs.declared.token.Tokens.{Tokens}
 use Rattle.cstar_tree.specs.FileScopes.{file_known}
 use Rattle.cstar_tree.specs.Items.{IsTree}
-use Rattle.cstar_tree.specs.ProgramTypes.{NamesAll, TypesFile}
+use Rattle.cstar_tree.specs.ProgramTypes.{TypesFile}
 use Rattle.cstar_tree.specs.Room.{HasRoom}
 use Rattle.plain_texts.proofs.FewNames.{few_names}
 use Rattle.plain_texts.proofs.PlainTrees.{tree_is_plain}
 use Rattle.plain_texts.proofs.Words.{text_has_words}
 use Rattle.shape_types.specs.Plain.{IsPlainTree}
+use Rattle.shape_types.specs.TypedFiles.{HaveOwnNames}
 use Rattle.cstar_top.specs.Accepted.{IsImageOf, IsProgramOf}
 
 -- a program that the rules give the tree of a text is the text's
 pub program_of_text : (text : List ℕ) (tokens : Tokens) (tree : Tree) (typed : Typed) → length text ≤ 1048576 → IsText text tokens.list.items → IsTree tokens tree
-    → (length (file_known tree).names < 2 ^ 32 → IsPlainTree tree → TypesFile tree typed) → (length (file_known tree).names < 2 ^ 32 → IsPlainTree tree → NamesAll tree typed.vars.items)
+    → (length (file_known tree).names < 2 ^ 32 → IsPlainTree tree → TypesFile tree typed) → (length (file_known tree).names < 2 ^ 32 → IsPlainTree tree → HaveOwnNames tree typed.shapes.items typed.vars.items)
     → HasRoom typed.shapes.items typed.need.items → IsProgramOf text typed
 program_of_text text tokens tree typed short read spelled types new room =
     let words = text_has_words text tokens.list.items (omega (arith, short)) read in

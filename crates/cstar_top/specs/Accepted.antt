@@ -6,19 +6,20 @@ use Rattle.cstar_tree.specs.declared.syntax.Tree.{Tree}
 use Rattle.cstar_tree.specs.declared.token.Tokens.{Tokens}
 use Rattle.cstar_tree.specs.declared.typed.Typed.{Typed}
 use Rattle.cstar_tree.specs.Items.{IsTree}
-use Rattle.cstar_tree.specs.ProgramTypes.{NamesAll, TypesFile}
+use Rattle.cstar_tree.specs.ProgramTypes.{TypesFile}
 use Rattle.cstar_tree.specs.Room.{HasRoom}
 use Rattle.paris_code.specs.declared.program.Image.{Image}
+use Rattle.shape_types.specs.TypedFiles.{HaveOwnNames}
 
 -- The text is read as these tokens, which spell the tree; the rules of typing give it this program, whose
--- variables all have names of their own, and the machine has the room that the program needs.
+-- shapes and variables all have names of their own, and the machine has the room that the program needs.
 pub record IsProgramOf (text : List ℕ) (typed : Typed) : Type 0 where
   pub tokens : Tokens
   pub tree : Tree
   pub read : IsText text tokens.list.items
   pub spelled : IsTree tokens tree
   pub types : TypesFile tree typed
-  pub new : NamesAll tree typed.vars.items
+  pub new : HaveOwnNames tree typed.shapes.items typed.vars.items
   pub room : HasRoom typed.shapes.items typed.need.items
 
 -- the image is what the compiler makes of the text's program

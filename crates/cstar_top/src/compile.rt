@@ -13,9 +13,10 @@ ghost use Rattle.cstar_compile.specs.Compiled.{IsCompiled};
 ghost use Rattle.lower_stmt.specs.Programs.{HasEveryUnit};
 ghost use Rattle.cstar_tree.specs.FileScopes.{file_known};
 ghost use Rattle.cstar_tree.specs.Items.{IsTree};
-ghost use Rattle.cstar_tree.specs.ProgramTypes.{NamesAll, TypesFile};
+ghost use Rattle.cstar_tree.specs.ProgramTypes.{TypesFile};
 ghost use Rattle.cstar_tree.specs.Room.{HasRoom};
 ghost use Rattle.shape_types.specs.Plain.{IsPlainTree};
+ghost use Rattle.shape_types.specs.TypedFiles.{HaveOwnNames};
 ghost use Rattle.cstar_top.specs.Accepted.{IsProgramOf};
 ghost use Rattle.cstar_top.specs.Refusals.{IsOfText, NamesOnly};
 
@@ -184,7 +185,7 @@ fn place_of(tokens: &Tokens, number: u32) -> Place {
 fn typed_of(alloc: Global, tree: &Tree) -> Result<Typed, NoImage>
     ensures typed { IfOk result IsTyped }
     ensures exact { length (file_known tree.now).names < 2 ^ 32 → IsPlainTree tree.now → IfOk result (TypesFile tree.now) }
-    ensures new { length (file_known tree.now).names < 2 ^ 32 → IsPlainTree tree.now → IfOk result (λ typed. NamesAll tree.now typed.vars.items) }
+    ensures new { length (file_known tree.now).names < 2 ^ 32 → IsPlainTree tree.now → IfOk result (λ typed. HaveOwnNames tree.now typed.shapes.items typed.vars.items) }
     ensures room { IfOk result (λ typed. HasRoom typed.shapes.items typed.need.items) }
     ensures refused { IfErr result (NamesOnly IsOfText) }
 {

@@ -10,6 +10,7 @@ pub mod Effects
 pub mod Entering
 pub mod Example
 pub mod Expressions
+pub mod Extents
 pub mod Fields
 pub mod FileFields
 pub mod Flags

@@ -4,7 +4,7 @@
 ghost use Rattle.cstar_tree.specs.FileScopes.{file_known, functions_named, nothing_known};
 ghost use Rattle.cstar_tree.specs.Instances.{program_of};
 ghost use Rattle.cstar_tree.specs.IsTyped.{IsTyped};
-ghost use Rattle.cstar_tree.specs.ProgramTypes.{NamesAll, TypesFile, TypesInstances, TypesItems};
+ghost use Rattle.cstar_tree.specs.ProgramTypes.{TypesFile, TypesInstances, TypesItems};
 ghost use Rattle.cstar_tree.specs.Room.{HasRoom};
 ghost use Rattle.cstar_tree.specs.declared.syntax.Tree as Text;
 ghost use Rattle.file_names.specs.Numbers.{HasFewNames};
@@ -12,7 +12,7 @@ ghost use Rattle.shape_types.specs.FileKnowledge.{IsNumberedFile};
 ghost use Rattle.shape_types.specs.Groups.{in_groups};
 ghost use Rattle.shape_types.specs.Plain.{IsPlainTree};
 ghost use Rattle.shape_types.specs.TypeFaults.{IsListedFault};
-ghost use Rattle.shape_types.specs.TypedFiles.{AreTyped, IsTypedFile};
+ghost use Rattle.shape_types.specs.TypedFiles.{AreTyped, HaveOwnNames, IsTypedFile};
 ghost use Rattle.std.specs.Prelude.{◌≡◌, [], ◌<◌, ◌≤◌, ◌^◌, IfErr, IfOk, IsNone, OnOk, length, slice_get, unwrap_or};
 
 mod declarations;
@@ -63,7 +63,7 @@ pub fn check(alloc: Global, tree: &Tree) -> Result<Typed, TypeFault>
     ensures fault { IfErr result IsListedFault }
     ensures typed { IfOk result IsTyped }
     ensures exact { length (file_known tree.now).names < 2 ^ 32 → IsPlainTree tree.now → IfOk result (TypesFile tree.now) }
-    ensures new { length (file_known tree.now).names < 2 ^ 32 → IsPlainTree tree.now → IfOk result (λ typed. NamesAll tree.now typed.vars.items) }
+    ensures new { length (file_known tree.now).names < 2 ^ 32 → IsPlainTree tree.now → IfOk result (λ typed. HaveOwnNames tree.now typed.shapes.items typed.vars.items) }
     ensures room { IfOk result (λ typed. HasRoom typed.shapes.items typed.need.items) }
 {
     let typed = types(alloc, tree)?;
@@ -119,7 +119,7 @@ fn with_needs(
     requires main { 0 < length program.instances.items }
     ensures fault { IfErr result IsListedFault }
     ensures typed { IfOk result IsTyped }
-    ensures exact { (tree : Text.Tree) → TypesItems (functions_named tree) nothing_known tree.items.items shapes.items declared.vars.items → NamesAll tree declared.vars.items → TypesInstances (program_of tree) (file_known tree).shapes (program_of tree).instances program.instances.items → IfOk result (IsTypedFile tree) }
+    ensures exact { (tree : Text.Tree) → TypesItems (functions_named tree) nothing_known tree.items.items shapes.items declared.vars.items → HaveOwnNames tree shapes.items declared.vars.items → TypesInstances (program_of tree) (file_known tree).shapes (program_of tree).instances program.instances.items → IfOk result (IsTypedFile tree) }
 {
     let Declared { vars, .. } = declared;
     let Program { instances, .. } = program;

@@ -32,5 +32,5 @@ returns c = record {
         | in-Some+in_ok-program-in-Some w ↦ rw w.program-is (w.in_ok-program-in-Some.ensures.typed tree all plain (sym main ∙ w.in-Some.is) c.in_ok-declared.ensures.met headers)
         | in-None w ↦ rw w.program-is (λ complete. absurd (true≢false (sym complete ∙ w.none-program.ensures.whole)))
       ] in
-      (declared.items, declared.new, program);
+      (declared.items, record { variables = declared.new; shapes = declared.known.shapes }, program);
 }
