@@ -35,35 +35,39 @@ use Rattle.source_meaning.specs.State as Source
 use Rattle.code_follows.proofs.Declaring.{clears, sim_fewer, Alive}
 use Rattle.code_follows.specs.Fragment.{IsEffect, IsScalarLocal, OrAmong, naming}
 use Rattle.code_follows.proofs.Assigning.{effect_follows}
-use Rattle.code_follows.proofs.Executing.{IsGiven, Jumped, Left, RanOn, follows_from, go_on}
+use Rattle.code_follows.proofs.Executing.{Exits, IsGiven, Jumped, Left, LeftSo, RanOn, follows_from, go_on}
 use Rattle.code_follows.proofs.Callees.{CallsFollow}
 use Rattle.code_follows.proofs.Following.{Extends, Follows, follows_other, HasRegisters, Ran, Sim, delayed, extends_made, keeps_all, nothing_said}
-use Rattle.code_follows.proofs.Jumping.{jumps, moved_to, sim_moved, none_restored}
-use Rattle.code_follows.proofs.Settings.{At, Begun, Setting, Within, begun_later, layout, start, stay}
+use Rattle.code_follows.proofs.Jumping.{jumps, moved_to, sim_moved}
+use Rattle.code_follows.proofs.Restoring.{Restores}
+use Rattle.code_follows.proofs.Settings.{At, Begun, Held, Setting, Within, and_one, begun_later, earlier, holding, layout, onto, start, stay}
 use Rattle.code_follows.proofs.Starting.{AreCoded, AreSettled, Now, coded, go_after, initials_follow, initials_grow}
-use Rattle.code_follows.proofs.Statements.{StandsIn, expression_code, statement_made}
+use Rattle.code_follows.proofs.Statements.{StandsHere, StandsIn, expression_code, statement_made}
 
 module _ (g : Setting) (has : HasRegisters g) (alive : Variable → Type 0) (files : (k : ℕ) → alive (V.File k)) (numbers : NumbersVariables g.instance (layout g)) (ready : (n : ℕ) (d : Draft) → IsReady g.typed g.instance (layout g) n d)
     (declares : (n : ℕ) (d : Draft) → d.homes ≡ [] → HasDeclared g.typed g.instance (layout g) n d) (scope : Scope) (active : Active) (calls_follow : CallsFollow g scope active)
     (falls : (s : TStmt) (n : ℕ) (st : State) → (state_after (executed scope s n active st)).turns ≤ st.turns) (contexts : List Field) where
   -- an expression as a statement
-  effect_statement : (f : Frame) (n : ℕ) (d : Draft) (s0 : CodeState) (o : Outcome Value) (made : Made Out) → Follows g (λ v u out e. Ran g alive d s0 u e) s0 o made
+  effect_statement : (f : Exits) (n : ℕ) (d : Draft) (s0 : CodeState) (o : Outcome Value) (made : Made Out) → Follows g (λ v u out e. Ran g alive d s0 u e) s0 o made
       → Follows g (Left g alive f d s0) s0 (then_do o (λ v after. Source.Gives Onward after)) (then_make (then_make made (λ out after. Makes (tt {0}) after)) (λ u after. Makes n after))
-  unfolding Follows Left then_do then_make
+  unfolding Follows LeftSo then_do then_make
   effect_statement f n d s0 (Source.Gives v u) (Makes out e) h = h
   effect_statement f n d s0 (Source.Ends early u) (Makes out e) h = h
   effect_statement f n d s0 (Source.Gives v u) Fails h = tt
   effect_statement f n d s0 (Source.Ends early u) Fails h = tt
 
-  -- a jump out of a loop
-  jumps_out : (f : Frame) (n place : ℕ) (d : Draft) (s0 : CodeState) (st : State) → At g s0 (length d.code) → Sim g alive st s0 → Within g (with_instr (I.FrontJump place) d) → Jumped g alive d s0 st place
-  jumps_out f n place d s0 st at sim within = record {
-    t = moved_to g alive (place + start g) s0;
-    go = jumps g alive place d s0 within at;
-    at = omega arith;
-    sim = sim_moved g alive st s0 (place + start g) sim;
-    keeps = keeps_all g d s0;
-  }
+  -- contexts are loaded, and a jump out of a loop leads to where this is held
+  jumps_out : (held : Held) (newest place : ℕ) (d : Draft) (s0 : CodeState) (st : State) → Restores g held contexts newest → Begun g d → At g s0 (length d.code) → Sim g alive st s0 → Within g (with_instr (I.FrontJump place) (restored contexts newest d)) → Jumped g alive held d s0 st place
+  jumps_out held newest place d s0 st restores free at sim within =
+      let loaded : Draft = restored contexts newest d in
+      let r = restores.loads alive d s0 st free at sim (earlier g loaded (with_instr (I.FrontJump place) loaded) 1 (and_one g (I.FrontJump place) loaded) within) in
+      record {
+        t = moved_to g alive (place + start g) r.t;
+        go = onto g s0 r.t (moved_to g alive (place + start g) r.t) r.go (jumps g alive place loaded r.t within r.at);
+        at = omega arith;
+        sim = sim_moved (holding g held) alive st r.t (place + start g) r.sim;
+        keeps = r.keeps;
+      }
 
   -- statements in a row, and what is known of them
   pub record RowCode {k : Count} (n : ℕ) (row : Row_of-TStmt k) : Type 0 where
@@ -93,25 +97,23 @@ module _ (g : Setting) (has : HasRegisters g) (alive : Variable → Type 0) (fil
       grown_on d e k Fails a b = tt
 
   -- nothing is done
-  pub stays_here : (f : Frame) (n : ℕ) (d : Draft) (s0 : CodeState) (st : State) → At g s0 (length d.code) → Sim g alive st s0 → Follows g (Left g alive f d s0) s0 (Source.Gives Onward st) (Makes n d)
-  unfolding Follows Left
+  pub stays_here : (f : Exits) (n : ℕ) (d : Draft) (s0 : CodeState) (st : State) → At g s0 (length d.code) → Sim g alive st s0 → Follows g (Left g alive f d s0) s0 (Source.Gives Onward st) (Makes n d)
+  unfolding Follows LeftSo
   stays_here f n d s0 st at sim = λ within. record { grown = (0, as_it_was d); t = s0; go = stay g s0; at = at; sim = sim; keeps = keeps_all g d s0 }
 
-  pub expression_follows : (e : TExpr) → (IsEffect (naming g.may alive)) e → (f : Frame) (n : ℕ) (d : Draft) (s0 : CodeState) (st : State) → Begun g d → At g s0 (length d.code) → Sim g alive st s0 → HasStatementCode g.typed g.instance n (S.Expression e)
+  pub expression_follows : (e : TExpr) → (IsEffect (naming g.may alive)) e → (f : Exits) (n : ℕ) (d : Draft) (s0 : CodeState) (st : State) → Begun g d → At g s0 (length d.code) → Sim g alive st s0 → HasStatementCode g.typed g.instance n (S.Expression e)
       → Follows g (Left g alive f d s0) s0 (done scope active (Some e) st) (then_make (part_of g.typed (layout g) (Some e) d) (λ u after. Makes n after))
   unfolding done part_of
   expression_follows e h f n d s0 st free at sim c =
       effect_statement f n d s0 _ _ (effect_follows g has alive n files (ready n) scope active calls_follow e h (expression_code g numbers declares n e c) d s0 st free at sim)
 
-  pub breaks : (f : Frame) (n : ℕ) (d : Draft) (s0 : CodeState) (st : State) → f.saved.in_loop ≡ 0 → At g s0 (length d.code) → Sim g alive st s0 → Follows g (Left g alive f d s0) s0 (Source.Gives Broke st) (Makes n (with_instr (I.FrontJump f.after) (restored contexts f.saved.in_loop d)))
-  unfolding Follows Left
-  breaks f n d s0 st none at sim =
-      subst (λ (e : Draft). Follows g (Left g alive f d s0) s0 (Source.Gives Broke st) (Makes n (with_instr (I.FrontJump f.after) e))) (sym (none_restored contexts f.saved.in_loop d none)) (λ within. jumps_out f n f.after d s0 st at sim within)
+  pub breaks : (f : Exits) (n : ℕ) (d : Draft) (s0 : CodeState) (st : State) → StandsHere g f contexts → Begun g d → At g s0 (length d.code) → Sim g alive st s0 → Follows g (Left g alive f d s0) s0 (Source.Gives Broke st) (Makes n (with_instr (I.FrontJump f.frame.after) (restored contexts f.frame.saved.in_loop d)))
+  unfolding Follows LeftSo
+  breaks f n d s0 st stands free at sim = λ within. jumps_out f.loop f.frame.saved.in_loop f.frame.after d s0 st stands.loop free at sim within
 
-  pub continues : (f : Frame) (n : ℕ) (d : Draft) (s0 : CodeState) (st : State) → f.saved.in_loop ≡ 0 → At g s0 (length d.code) → Sim g alive st s0 → Follows g (Left g alive f d s0) s0 (Source.Gives Continued st) (Makes n (with_instr (I.FrontJump f.next) (restored contexts f.saved.in_loop d)))
-  unfolding Follows Left
-  continues f n d s0 st none at sim =
-      subst (λ (e : Draft). Follows g (Left g alive f d s0) s0 (Source.Gives Continued st) (Makes n (with_instr (I.FrontJump f.next) e))) (sym (none_restored contexts f.saved.in_loop d none)) (λ within. jumps_out f n f.next d s0 st at sim within)
+  pub continues : (f : Exits) (n : ℕ) (d : Draft) (s0 : CodeState) (st : State) → StandsHere g f contexts → Begun g d → At g s0 (length d.code) → Sim g alive st s0 → Follows g (Left g alive f d s0) s0 (Source.Gives Continued st) (Makes n (with_instr (I.FrontJump f.frame.next) (restored contexts f.frame.saved.in_loop d)))
+  unfolding Follows LeftSo
+  continues f n d s0 st stands free at sim = λ within. jumps_out f.loop f.frame.saved.in_loop f.frame.next d s0 st stands.loop free at sim within
 
   pub block_stands : (n : ℕ) (locals : Vec LocalVar Global) (p : Vec (Unit {0}) Global) (row : _) → HasStatementCode g.typed g.instance n (S.Block' locals p row) → StandFrom (variables_of g.instance.body) n (map info_of locals.items ++ row_variables row)
   block_stands n locals p row c = subst (λ (own : List VarInfo). StandFrom (variables_of g.instance.body) n own) (of_block locals p row) c.stands
@@ -126,23 +128,23 @@ module _ (g : Setting) (has : HasRegisters g) (alive : Variable → Type 0) (fil
   }
 
   -- the initialisers of a block and its statements behind them, where its variables are cleared
-  abbrev pub begun_code : {k : Count} → List LocalVar → Row_of-TStmt k → Frame → ℕ → Draft → Made ℕ
-  begun_code locals row f n d = then_make (then_make (all_initialised g.typed (layout g) locals n d) (λ v after. Makes (n + length locals) after)) (λ m after. statements_of g.typed (layout g) row f contexts m after)
+  abbrev pub begun_code : {k : Count} → List LocalVar → Row_of-TStmt k → Exits → ℕ → Draft → Made ℕ
+  begun_code locals row f n d = then_make (then_make (all_initialised g.typed (layout g) locals n d) (λ v after. Makes (n + length locals) after)) (λ m after. statements_of g.typed (layout g) row f.frame contexts m after)
 
-  pub begun_grows : {k : Count} (locals : List LocalVar) (row : Row_of-TStmt k) (f : Frame) (n : ℕ) (d : Draft) → All IsScalarLocal locals → AreSettled g has alive files ready scope active calls_follow n locals → AreCoded g has alive files ready scope active calls_follow n locals → RowCode (n + length locals) row → StandsIn g f → StandsAmong f contexts → d.homes ≡ []
+  pub begun_grows : {k : Count} (locals : List LocalVar) (row : Row_of-TStmt k) (f : Exits) (n : ℕ) (d : Draft) → All IsScalarLocal locals → AreSettled g has alive files ready scope active calls_follow n locals → AreCoded g has alive files ready scope active calls_follow n locals → RowCode (n + length locals) row → StandsIn g f.frame → StandsAmong f.frame contexts → d.homes ≡ []
       → Extends g d (begun_code locals row f n d)
   unfolding then_make Extends
   begun_grows locals row f n d isin settled initial code framed among none = by (all_initialised g.typed (layout g) locals n d) refl
     where
-      by : (m : Made (Unit {0})) → all_initialised g.typed (layout g) locals n d ≡ m → Extends g d (then_make (then_make m (λ v after. Makes (n + length locals) after)) (λ m' after. statements_of g.typed (layout g) row f contexts m' after))
+      by : (m : Made (Unit {0})) → all_initialised g.typed (layout g) locals n d ≡ m → Extends g d (then_make (then_make m (λ v after. Makes (n + length locals) after)) (λ m' after. statements_of g.typed (layout g) row f.frame contexts m' after))
       by Fails is = tt
       by (Makes u e) is =
           let grows : (j : ℕ) × Extended d j e = subst (λ (m : Made (Unit {0})). Extends g d m) is (initials_grow g has alive files ready scope active calls_follow locals n d isin settled initial) in
-          extends_made g d e grows.0 (statements_of g.typed (layout g) row f contexts (n + length locals) e) grows.1 (row_grows row f (n + length locals) e framed among (grows.1.homes ∙ none) code)
+          extends_made g d e grows.0 (statements_of g.typed (layout g) row f.frame contexts (n + length locals) e) grows.1 (row_grows row f.frame (n + length locals) e framed among (grows.1.homes ∙ none) code)
 
-  pub begun_follows : {k : Count} (locals : List LocalVar) (row : Row_of-TStmt k) (f : Frame) (n : ℕ) (d : Draft) (s0 : CodeState) (st : State) → All IsScalarLocal locals → StandFrom (variables_of g.instance.body) n (map info_of locals) → AreSettled g has alive files ready scope active calls_follow n locals → AreCoded g has alive files ready scope active calls_follow n locals → RowCode (n + length locals) row
-      → StandsIn g f → StandsAmong f contexts → d.homes ≡ [] → Begun g d → At g s0 (length d.code) → Sim g (λ z. Now g has alive files ready scope active calls_follow locals n z) st s0
-      → ((e : Draft) (t : CodeState) (u : State) → e.homes ≡ [] → Begun g e → At g t (length e.code) → Sim g alive u t → Follows g (Left g alive f e t) t (all_executed scope row (n + length locals) active u) (statements_of g.typed (layout g) row f contexts (n + length locals) e))
+  pub begun_follows : {k : Count} (locals : List LocalVar) (row : Row_of-TStmt k) (f : Exits) (n : ℕ) (d : Draft) (s0 : CodeState) (st : State) → All IsScalarLocal locals → StandFrom (variables_of g.instance.body) n (map info_of locals) → AreSettled g has alive files ready scope active calls_follow n locals → AreCoded g has alive files ready scope active calls_follow n locals → RowCode (n + length locals) row
+      → StandsIn g f.frame → StandsAmong f.frame contexts → d.homes ≡ [] → Begun g d → At g s0 (length d.code) → Sim g (λ z. Now g has alive files ready scope active calls_follow locals n z) st s0
+      → ((e : Draft) (t : CodeState) (u : State) → e.homes ≡ [] → Begun g e → At g t (length e.code) → Sim g alive u t → Follows g (Left g alive f e t) t (all_executed scope row (n + length locals) active u) (statements_of g.typed (layout g) row f.frame contexts (n + length locals) e))
       → Follows g (Left g alive f d s0) s0 (then_go (initialised scope active n locals st) (all_executed scope row (n + length locals) active)) (begun_code locals row f n d)
   unfolding then_make Extends
   begun_follows locals row f n d s0 st isin stand settled initial code framed among none free at sim next = by (all_initialised g.typed (layout g) locals n d) refl
@@ -150,28 +152,28 @@ module _ (g : Setting) (has : HasRegisters g) (alive : Variable → Type 0) (fil
       whole : Outcome Leaving
       whole = then_go (initialised scope active n locals st) (all_executed scope row (n + length locals) active)
 
-      by : (m : Made (Unit {0})) → all_initialised g.typed (layout g) locals n d ≡ m → Follows g (Left g alive f d s0) s0 whole (then_make (then_make m (λ v after. Makes (n + length locals) after)) (λ m' after. statements_of g.typed (layout g) row f contexts m' after))
+      by : (m : Made (Unit {0})) → all_initialised g.typed (layout g) locals n d ≡ m → Follows g (Left g alive f d s0) s0 whole (then_make (then_make m (λ v after. Makes (n + length locals) after)) (λ m' after. statements_of g.typed (layout g) row f.frame contexts m' after))
       by Fails is = nothing_said g (Left g alive f d s0) s0 whole
       by (Makes u e) is =
           let grows : (j : ℕ) × Extended d j e = subst (λ (m : Made (Unit {0})). Extends g d m) is (initials_grow g has alive files ready scope active calls_follow locals n d isin settled initial) in
           let homes : e.homes ≡ [] = grows.1.homes ∙ none in
-          let made : Made ℕ = statements_of g.typed (layout g) row f contexts (n + length locals) e in
+          let made : Made ℕ = statements_of g.typed (layout g) row f.frame contexts (n + length locals) e in
           go_after g has alive files ready scope active calls_follow d s0 (Left g alive f d s0) (initialised scope active n locals st) (all_executed scope row (n + length locals) active) u e made
-          (subst (λ (m : Made (Unit {0})). Follows g (RanOn g alive d s0) s0 (initialised scope active n locals st) m) is (initials_follow g has alive files ready scope active calls_follow locals n d s0 st isin stand settled initial free at sim)) (row_grows row f (n + length locals) e framed among homes code)
+          (subst (λ (m : Made (Unit {0})). Follows g (RanOn g alive d s0) s0 (initialised scope active n locals st) m) is (initials_follow g has alive files ready scope active calls_follow locals n d s0 st isin stand settled initial free at sim)) (row_grows row f.frame (n + length locals) e framed among homes code)
           (λ v one. follows_from g alive f d e grows.0 s0 one.t (all_executed scope row (n + length locals) active v) made grows.1 one.go one.keeps (next e one.t v homes (begun_later g d e grows.0 grows.1 free) one.at one.sim))
 
   -- a block: its variables, and then its statements
-  pub block_follows : {k : Count} (before : Variable → Type 0) (locals : List LocalVar) (row : Row_of-TStmt k) (f : Frame) (n : ℕ) (d : Draft) (s0 : CodeState) (st : State) → All IsScalarLocal locals → StandFrom (variables_of g.instance.body) n (map info_of locals) → AreSettled g has alive files ready scope active calls_follow n locals → AreCoded g has alive files ready scope active calls_follow n locals → RowCode (n + length locals) row
-      → StandsIn g f → StandsAmong f contexts → d.homes ≡ [] → Begun g d → At g s0 (length d.code) → Sim g before st s0 → ((x : Variable) → alive x → OrAmong before n (length locals) x)
-      → ((e : Draft) (t : CodeState) (u : State) → e.homes ≡ [] → Begun g e → At g t (length e.code) → Sim g alive u t → Follows g (Left g alive f e t) t (all_executed scope row (n + length locals) active u) (statements_of g.typed (layout g) row f contexts (n + length locals) e))
-      → Follows g (Left g alive f d s0) s0 (then_go (initialised scope active n locals (zeroed n (length locals) st)) (all_executed scope row (n + length locals) active)) (then_make (declared_in g.typed (layout g) false locals n d) (λ m after. statements_of g.typed (layout g) row f contexts m after))
+  pub block_follows : {k : Count} (before : Variable → Type 0) (locals : List LocalVar) (row : Row_of-TStmt k) (f : Exits) (n : ℕ) (d : Draft) (s0 : CodeState) (st : State) → All IsScalarLocal locals → StandFrom (variables_of g.instance.body) n (map info_of locals) → AreSettled g has alive files ready scope active calls_follow n locals → AreCoded g has alive files ready scope active calls_follow n locals → RowCode (n + length locals) row
+      → StandsIn g f.frame → StandsAmong f.frame contexts → d.homes ≡ [] → Begun g d → At g s0 (length d.code) → Sim g before st s0 → ((x : Variable) → alive x → OrAmong before n (length locals) x)
+      → ((e : Draft) (t : CodeState) (u : State) → e.homes ≡ [] → Begun g e → At g t (length e.code) → Sim g alive u t → Follows g (Left g alive f e t) t (all_executed scope row (n + length locals) active u) (statements_of g.typed (layout g) row f.frame contexts (n + length locals) e))
+      → Follows g (Left g alive f d s0) s0 (then_go (initialised scope active n locals (zeroed n (length locals) st)) (all_executed scope row (n + length locals) active)) (then_make (declared_in g.typed (layout g) false locals n d) (λ m after. statements_of g.typed (layout g) row f.frame contexts m after))
   unfolding declared_in then_make
   block_follows before locals row f n d s0 st isin stand settled initial code framed among none free at sim covers next =
       let c = clears g has before locals n d isin stand in
       let after_zero : State = zeroed n (length locals) st in
       let whole : Outcome Leaving = then_go (initialised scope active n locals after_zero) (all_executed scope row (n + length locals) active) in
       let homes : c.e.homes ≡ [] = c.grown.homes ∙ none in
-      subst (λ (m : Made (Unit {0})). Follows g (Left g alive f d s0) s0 whole (then_make (then_make m (λ u between. then_make (all_initialised g.typed (layout g) locals n between) (λ v after. Makes (n + length locals) after))) (λ m' after. statements_of g.typed (layout g) row f contexts m' after))) (sym c.is)
+      subst (λ (m : Made (Unit {0})). Follows g (Left g alive f d s0) s0 whole (then_make (then_make m (λ u between. then_make (all_initialised g.typed (layout g) locals n between) (λ v after. Makes (n + length locals) after))) (λ m' after. statements_of g.typed (layout g) row f.frame contexts m' after))) (sym c.is)
       (delayed g (Left g alive f d s0) c.e s0 whole (begun_code locals row f n c.e) (begun_grows locals row f n c.e isin settled initial code framed among homes) (λ within.
       let ran = c.runs s0 st free.regs at sim within in
       let started : Sim g (λ z. Now g has alive files ready scope active calls_follow locals n z) after_zero ran.t = sim_fewer g (λ x. Alive before locals n x) (λ z. Now g has alive files ready scope active calls_follow locals n z) after_zero ran.t (λ x info named h. (covers x h.0, h.1)) ran.sim in
@@ -183,38 +185,38 @@ module _ (g : Setting) (has : HasRegisters g) (alive : Variable → Type 0) (fil
   unfolding IsShapedStatement IsLowerableStatement StatementNamesVariables
   block_initials n locals p row c = coded g has alive files ready scope active calls_follow n locals.items c.shaped.0 c.lowerable.0 c.names.0
 
-  pub row_onward : {k : Count} (s : TStmt) (rest : Row_of-TStmt k) (f : Frame) (n : ℕ) (d : Draft) (s0 : CodeState) (st : State) → StandsIn g f → StandsAmong f contexts → d.homes ≡ [] → Begun g d → RowCode n (more_of-TStmt s rest)
-      → Follows g (Left g alive f d s0) s0 (executed scope s n active st) (statement_of g.typed (layout g) s f contexts n d)
-      → ((e : Draft) (t : CodeState) (u : State) → e.homes ≡ [] → Begun g e → At g t (length e.code) → Sim g alive u t → Follows g (Left g alive f e t) t (all_executed scope rest (n + declared s) active u) (statements_of g.typed (layout g) rest f contexts (n + declared s) e))
-      → Follows g (Left g alive f d s0) s0 (then_go (executed scope s n active st) (all_executed scope rest (n + declared s) active)) (then_make (statement_of g.typed (layout g) s f contexts n d) (λ m after. statements_of g.typed (layout g) rest f contexts m after))
+  pub row_onward : {k : Count} (s : TStmt) (rest : Row_of-TStmt k) (f : Exits) (n : ℕ) (d : Draft) (s0 : CodeState) (st : State) → StandsIn g f.frame → StandsAmong f.frame contexts → d.homes ≡ [] → Begun g d → RowCode n (more_of-TStmt s rest)
+      → Follows g (Left g alive f d s0) s0 (executed scope s n active st) (statement_of g.typed (layout g) s f.frame contexts n d)
+      → ((e : Draft) (t : CodeState) (u : State) → e.homes ≡ [] → Begun g e → At g t (length e.code) → Sim g alive u t → Follows g (Left g alive f e t) t (all_executed scope rest (n + declared s) active u) (statements_of g.typed (layout g) rest f.frame contexts (n + declared s) e))
+      → Follows g (Left g alive f d s0) s0 (then_go (executed scope s n active st) (all_executed scope rest (n + declared s) active)) (then_make (statement_of g.typed (layout g) s f.frame contexts n d) (λ m after. statements_of g.typed (layout g) rest f.frame contexts m after))
   unfolding then_make declared
   row_onward s rest f n d s0 st framed among none free c first next =
-      let made = statement_made g numbers declares s f contexts n d framed among (row_first n s rest c) none in
-      subst (λ (m : Made ℕ). Follows g (Left g alive f d s0) s0 (then_go (executed scope s n active st) (all_executed scope rest (n + declared s) active)) (then_make m (λ m' after. statements_of g.typed (layout g) rest f contexts m' after))) (sym made.is)
-      (go_on g alive f d s0 (executed scope s n active st) (all_executed scope rest (n + declared s) active) (behind n s) made.e (statements_of g.typed (layout g) rest f contexts (behind n s) made.e)
-      (subst (λ (m : Made ℕ). Follows g (Left g alive f d s0) s0 (executed scope s n active st) m) made.is first) (row_grows rest f (behind n s) made.e framed among made.homes (row_rest n s rest c))
-      (λ u ran. follows_from g alive f d made.e ran.grown.0 s0 ran.t (all_executed scope rest (n + declared s) active u) (statements_of g.typed (layout g) rest f contexts (behind n s) made.e) ran.grown.1 ran.go ran.keeps
+      let made = statement_made g numbers declares s f.frame contexts n d framed among (row_first n s rest c) none in
+      subst (λ (m : Made ℕ). Follows g (Left g alive f d s0) s0 (then_go (executed scope s n active st) (all_executed scope rest (n + declared s) active)) (then_make m (λ m' after. statements_of g.typed (layout g) rest f.frame contexts m' after))) (sym made.is)
+      (go_on g alive (λ u h. Ran g alive d s0 u h) f d s0 (executed scope s n active st) (all_executed scope rest (n + declared s) active) (behind n s) made.e (statements_of g.typed (layout g) rest f.frame contexts (behind n s) made.e)
+      (subst (λ (m : Made ℕ). Follows g (Left g alive f d s0) s0 (executed scope s n active st) m) made.is first) (row_grows rest f.frame (behind n s) made.e framed among made.homes (row_rest n s rest c))
+      (λ u ran. follows_from g alive f d made.e ran.grown.0 s0 ran.t (all_executed scope rest (n + declared s) active u) (statements_of g.typed (layout g) rest f.frame contexts (behind n s) made.e) ran.grown.1 ran.go ran.keeps
       (next made.e ran.t u made.homes (begun_later g d made.e ran.grown.0 ran.grown.1 free) ran.at ran.sim)))
 
 -- what is said of more variables is said of fewer where a statement is left
 module _ (g : Setting) (wide alive : Variable → Type 0) (among : (x : Variable) → alive x → wide x) where
-  fewer_after : (st : State) (s : CodeState) → Sim g wide st s → Sim g alive st s
-  fewer_after st s sim = sim_fewer g wide alive st s (λ x info named h. among x h) sim
+  held_fewer : (held : Held) (st : State) (s : CodeState) → Sim (holding g held) wide st s → Sim (holding g held) alive st s
+  held_fewer held st s sim = sim_fewer (holding g held) wide alive st s (λ x info named h. among x h) sim
 
-  jumped_fewer : (d : Draft) (s : CodeState) (st : State) (place : ℕ) → Jumped g wide d s st place → Jumped g alive d s st place
-  jumped_fewer d s st place j = record { t = j.t; go = j.go; at = j.at; sim = fewer_after st j.t j.sim; keeps = j.keeps }
+  jumped_fewer : (held : Held) (d : Draft) (s : CodeState) (st : State) (place : ℕ) → Jumped g wide held d s st place → Jumped g alive held d s st place
+  jumped_fewer held d s st place j = record { t = j.t; go = j.go; at = j.at; sim = held_fewer held st j.t j.sim; keeps = j.keeps }
 
   given_fewer : (s t : CodeState) (v : Option Value) → IsGiven g wide s t v → IsGiven g alive s t v
   unfolding IsGiven
   given_fewer s t None h = h
   given_fewer s t (Some v) h = h
 
-  left_fewer : (f : Frame) (d : Draft) (s : CodeState) (leaving : Leaving) (st : State) (m : ℕ) (e : Draft) → Left g wide f d s leaving st m e → Left g alive f d s leaving st m e
-  unfolding Left
-  left_fewer f d s Onward st m e r = record { grown = r.grown; t = r.t; go = r.go; at = r.at; sim = fewer_after st r.t r.sim; keeps = r.keeps }
-  left_fewer f d s Broke st m e r = jumped_fewer d s st f.after r
-  left_fewer f d s Continued st m e r = jumped_fewer d s st f.next r
-  left_fewer f d s (Returned v) st m e r = record { t = r.t; go = r.go; sim = fewer_after st r.t r.sim; leaves = r.leaves; spares = r.spares; given = given_fewer s r.t v r.given; allowed = r.allowed }
+  left_fewer : (f : Exits) (d : Draft) (s : CodeState) (leaving : Leaving) (st : State) (m : ℕ) (e : Draft) → Left g wide f d s leaving st m e → Left g alive f d s leaving st m e
+  unfolding LeftSo
+  left_fewer f d s Onward st m e r = record { grown = r.grown; t = r.t; go = r.go; at = r.at; sim = held_fewer g.held st r.t r.sim; keeps = r.keeps }
+  left_fewer f d s Broke st m e r = jumped_fewer f.loop d s st f.frame.after r
+  left_fewer f d s Continued st m e r = jumped_fewer f.loop d s st f.frame.next r
+  left_fewer f d s (Returned v) st m e r = record { t = r.t; go = r.go; sim = held_fewer f.all st r.t r.sim; leaves = r.leaves; spares = r.spares; given = given_fewer s r.t v r.given }
 
-  pub follows_fewer : (f : Frame) (d : Draft) (s : CodeState) (o : Outcome Leaving) (made : Made ℕ) → Follows g (Left g wide f d s) s o made → Follows g (Left g alive f d s) s o made
+  pub follows_fewer : (f : Exits) (d : Draft) (s : CodeState) (o : Outcome Leaving) (made : Made ℕ) → Follows g (Left g wide f d s) s o made → Follows g (Left g alive f d s) s o made
   follows_fewer f d s o made h = follows_other g (Left g wide f d s) (Left g alive f d s) s o made h (λ leaving st m e r. left_fewer f d s leaving st m e r)

@@ -11,7 +11,6 @@ use Rattle.code_lengths.specs.Ready.{HasDeclared, HasStatementCode, IsReady, Num
 use Rattle.code_lengths.proofs.Agreeing.{places}
 use Rattle.code_lengths.proofs.Drafting.{extended}
 use Rattle.lower_base.specs.Drafts.{Draft, Made, Makes, here, then_make, with_instr, with_step}
-use Rattle.lower_stmt.specs.declared.statement.Frame.{Frame}
 use Rattle.lower_stmt.specs.Frames.{has_result}
 use Rattle.lower_stmt.specs.Lengths.{statement_length_of}
 use Rattle.lower_stmt.specs.Statements.{else_of, past, statement_of}
@@ -24,24 +23,24 @@ use Rattle.source_meaning.specs.State.{Outcome, State, then_do}
 use Rattle.source_meaning.specs.Statements.{Broke, Continued, Leaving, Onward, Returned, declared, else_executed, executed, passes}
 use Rattle.source_meaning.specs.Values.{Active, Scope}
 use Rattle.code_follows.specs.Fragment.{IsIn, naming}
-use Rattle.code_follows.proofs.Executing.{Left, TestMade, Tested, follows_from, test_follows, test_made}
+use Rattle.code_follows.proofs.Executing.{Exits, Left, LeftSo, TestMade, Tested, follows_from, test_follows, test_made}
 use Rattle.code_follows.proofs.Callees.{CallsFollow}
 use Rattle.code_follows.proofs.Following.{Extends, Follows, HasRegisters, Ran, Sim, delayed, then_on}
 use Rattle.code_follows.proofs.Jumping.{jumps, moved_to, sim_moved, skips}
 use Rattle.code_follows.proofs.Settings.{At, Begun, Reaches, Setting, Within, and_one, begun_later, code_more, earlier, layout, onto, start}
-use Rattle.code_follows.proofs.Statements.{MadeSo, StandsHere, StandsIn, if_first, if_first_here, if_second, if_second_here, if_test, statement_made}
+use Rattle.code_follows.proofs.Statements.{MadeSo, StandsHere, StandsIn, if_first, if_second, if_test, statement_made}
 
 module _ (g : Setting) (has : HasRegisters g) (alive : Variable → Type 0) (files : (k : ℕ) → alive (V.File k)) (numbers : NumbersVariables g.instance (layout g)) (ready : (n : ℕ) (d : Draft) → IsReady g.typed g.instance (layout g) n d)
     (declares : (n : ℕ) (d : Draft) → d.homes ≡ [] → HasDeclared g.typed g.instance (layout g) n d) (scope : Scope) (active : Active) (calls_follow : CallsFollow g scope active) (contexts : List Field) where
   -- the code of a statement follows it
-  abbrev pub Agrees : ℕ → TStmt → Type 0
+  abbrev pub Agrees : ℕ → TStmt → Type 1
   Agrees n s =
-      (f : Frame) (d : Draft) (s0 : CodeState) (st : State) → StandsIn g f → StandsHere f contexts s → d.homes ≡ [] → Begun g d → At g s0 (length d.code) → Sim g alive st s0 → HasStatementCode g.typed g.instance n s
-      → Follows g (Left g alive f d s0) s0 (executed scope s n active st) (statement_of g.typed (layout g) s f contexts n d)
+      (f : Exits) (d : Draft) (s0 : CodeState) (st : State) → StandsIn g f.frame → StandsHere g f contexts → d.homes ≡ [] → Begun g d → At g s0 (length d.code) → Sim g alive st s0 → HasStatementCode g.typed g.instance n s
+      → Follows g (Left g alive f d s0) s0 (executed scope s n active st) (statement_of g.typed (layout g) s f.frame contexts n d)
 
   -- code that is left at its end jumps over more code
-  jumps_over : (f : Frame) (d e h : Draft) (k target : ℕ) (s0 : CodeState) (o : Outcome Leaving) (m p : ℕ) → Extended (with_instr (I.FrontJump target) e) k h → target ≡ length h.code → Follows g (Left g alive f d s0) s0 o (Makes m e) → Follows g (Left g alive f d s0) s0 o (Makes p h)
-  unfolding Follows Left
+  jumps_over : (f : Exits) (d e h : Draft) (k target : ℕ) (s0 : CodeState) (o : Outcome Leaving) (m p : ℕ) → Extended (with_instr (I.FrontJump target) e) k h → target ≡ length h.code → Follows g (Left g alive f d s0) s0 o (Makes m e) → Follows g (Left g alive f d s0) s0 o (Makes p h)
+  unfolding Follows LeftSo
   jumps_over f d e h k target s0 o m p x is follows = by o follows
     where
       within_jump : Within g h → Within g (with_instr (I.FrontJump target) e)
@@ -68,10 +67,10 @@ module _ (g : Setting) (has : HasRegisters g) (alive : Variable → Type 0) (fil
       by (Source.Ends early st) h1 = λ w. h1 (within_e w)
 
   module _ (n : ℕ) (test : TExpr) (p : Boxed) (first : TStmt) (second : Held-TStmt-If-2) (isin : (IsIn (naming g.may alive)) test) (first_agrees : Agrees n first) where
-    module _ (f : Frame) (d : Draft) (s0 : CodeState) (st : State) (framed : StandsIn g f) (among : StandsHere f contexts (S.If' test p first second)) (none : d.homes ≡ []) (free : Begun g d) (at : At g s0 (length d.code)) (sim : Sim g alive st s0)
+    module _ (f : Exits) (d : Draft) (s0 : CodeState) (st : State) (framed : StandsIn g f.frame) (among : StandsHere g f contexts) (none : d.homes ≡ []) (free : Begun g d) (at : At g s0 (length d.code)) (sim : Sim g alive st s0)
         (c : HasStatementCode g.typed g.instance n (S.If' test p first second)) where
       abbrev long : ℕ
-      long = statement_length_of g.typed (layout g) (has_result f) f.saved first
+      long = statement_length_of g.typed (layout g) (has_result f.frame) f.frame.saved first
 
       tests : TestMade g alive has files n (ready n) scope active calls_follow test d
       tests = test_made g alive has files n (ready n) scope active calls_follow test d isin (if_test g numbers declares n test p first second c)
@@ -86,14 +85,14 @@ module _ (g : Setting) (has : HasRegisters g) (alive : Variable → Type 0) (fil
       unfolding with_instr with_step
       jump_homes = tests.extended.homes ∙ none
 
-      made_first : MadeSo g numbers declares jump long (behind n first) (statement_of g.typed (layout g) first f contexts n jump)
-      made_first = statement_made g numbers declares first f contexts n jump framed among.among (if_first g numbers declares n test p first second c) jump_homes
+      made_first : MadeSo g numbers declares jump long (behind n first) (statement_of g.typed (layout g) first f.frame contexts n jump)
+      made_first = statement_made g numbers declares first f.frame contexts n jump framed among.among (if_first g numbers declares n test p first second c) jump_homes
 
-      code_is : statement_of g.typed (layout g) (S.If' test p first second) f contexts n d ≡ else_of g.typed (layout g) second f contexts place (behind n first) made_first.e
+      code_is : statement_of g.typed (layout g) (S.If' test p first second) f.frame contexts n d ≡ else_of g.typed (layout g) second f.frame contexts place (behind n first) made_first.e
       unfolding statement_of then_make
       code_is =
-          ap (λ (m : Made ℕ). then_make m (λ r after. then_make (statement_of g.typed (layout g) first f contexts n (with_instr (I.FrontJumpZero r (past second (here after + long + 1))) after)) (λ m' behind'. else_of g.typed (layout g) second f contexts (past second (here after + long + 1)) m' behind'))) tests.is
-          ∙ ap (λ (m : Made ℕ). then_make m (λ m' behind'. else_of g.typed (layout g) second f contexts place m' behind')) made_first.is
+          ap (λ (m : Made ℕ). then_make m (λ r after. then_make (statement_of g.typed (layout g) first f.frame contexts n (with_instr (I.FrontJumpZero r (past second (here after + long + 1))) after)) (λ m' behind'. else_of g.typed (layout g) second f.frame contexts (past second (here after + long + 1)) m' behind'))) tests.is
+          ∙ ap (λ (m : Made ℕ). then_make m (λ m' behind'. else_of g.typed (layout g) second f.frame contexts place m' behind')) made_first.is
 
       tested : Follows g (Tested g alive d s0) s0 (passes scope active test st) (Makes tests.r tests.e)
       tested = subst (λ (m : Made ℕ). Follows g (Tested g alive d s0) s0 (passes scope active test st) m) tests.is (test_follows g alive has files n (ready n) scope active calls_follow test isin (if_test g numbers declares n test p first second c) d s0 st free at sim)
@@ -113,25 +112,25 @@ module _ (g : Setting) (has : HasRegisters g) (alive : Variable → Type 0) (fil
           let grown : Extended d (r.grown.0 + 1) jump = extended d tests.e jump r.grown.0 1 r.grown.1 (and_one g (I.FrontJumpZero tests.r place) tests.e) in
           follows_from g alive f d jump (r.grown.0 + 1) s0 t (executed scope first n active st1) (Makes (behind n first) made_first.e) grown go r.keeps
           (subst (λ (made : Made ℕ). Follows g (Left g alive f jump t) t (executed scope first n active st1) made) made_first.is
-          (first_agrees f jump t st1 framed (if_first_here f contexts test p first second among) jump_homes (begun_later g d jump (r.grown.0 + 1) grown free) there (sim_moved g alive st1 r.t (r.t.at + 1) r.sim) (if_first g numbers declares n test p first second c)))
+          (first_agrees f jump t st1 framed among jump_homes (begun_later g d jump (r.grown.0 + 1) grown free) there (sim_moved g alive st1 r.t (r.t.at + 1) r.sim) (if_first g numbers declares n test p first second c)))
 
       -- else the code jumps over it
       over : (st1 : State) (r : Tested g alive d s0 false st1 tests.r tests.e) → Within g jump → Reaches g s0 (moved_to g alive (place + start g) r.t)
       over st1 r within = onto g s0 r.t (moved_to g alive (place + start g) r.t) r.go (skips g alive false tests.r place tests.e r.t r.is within r.at)
 
   pub if_alone : (n : ℕ) (test : TExpr) (p : Boxed) (first : TStmt) → (IsIn (naming g.may alive)) test → Agrees n first → Agrees n (S.If' test p first None')
-  unfolding executed else_of past Left Follows Extends here
+  unfolding executed else_of past LeftSo Follows Extends here
   if_alone n test p first isin first_agrees f d s0 st framed among none free at sim c =
       let tests = tests n test p first None' isin first_agrees f d s0 st framed among none free at sim c in
       let made = made_first n test p first None' isin first_agrees f d s0 st framed among none free at sim c in
       let jump : Draft = jump n test p first None' isin first_agrees f d s0 st framed among none free at sim c in
       let place : ℕ = place n test p first None' isin first_agrees f d s0 st framed among none free at sim c in
-      let grown : (k : ℕ) × Extended tests.e k made.e = (1 + statement_length_of g.typed (layout g) (has_result f) f.saved first, extended tests.e jump made.e 1 _ (and_one g (I.FrontJumpZero tests.r place) tests.e) made.extended) in
+      let grown : (k : ℕ) × Extended tests.e k made.e = (1 + statement_length_of g.typed (layout g) (has_result f.frame) f.frame.saved first, extended tests.e jump made.e 1 _ (and_one g (I.FrontJumpZero tests.r place) tests.e) made.extended) in
       let here_is = here_first n test p first None' isin first_agrees f d s0 st framed among none free at sim c in
       subst (λ (m : Made ℕ). Follows g (Left g alive f d s0) s0 (then_do (passes scope active test st) (λ goes after. elim goes as (λ _. Outcome Leaving) [ true ↦ executed scope first n active after | false ↦ else_executed scope None' (n + declared first) active after ])) m)
       (sym (code_is n test p first None' isin first_agrees f d s0 st framed among none free at sim c))
       (then_on g (Tested g alive d s0) (Left g alive f d s0) s0 (passes scope active test st) _ tests.r tests.e (Makes (behind n first) made.e) (tested n test p first None' isin first_agrees f d s0 st framed among none free at sim c) grown
-      (λ b st1 r. delayed g (Left g alive f d s0) jump s0 _ (Makes (behind n first) made.e) (statement_length_of g.typed (layout g) (has_result f) f.saved first, made.extended) (λ within. by b st1 r within)))
+      (λ b st1 r. delayed g (Left g alive f d s0) jump s0 _ (Makes (behind n first) made.e) (statement_length_of g.typed (layout g) (has_result f.frame) f.frame.saved first, made.extended) (λ within. by b st1 r within)))
     where
       by : (b : Bool) (st1 : State) → Tested g alive d s0 b st1 (tests n test p first None' isin first_agrees f d s0 st framed among none free at sim c).r (tests n test p first None' isin first_agrees f d s0 st framed among none free at sim c).e
           → Within g (jump n test p first None' isin first_agrees f d s0 st framed among none free at sim c)
@@ -144,7 +143,7 @@ module _ (g : Setting) (has : HasRegisters g) (alive : Variable → Type 0) (fil
           let place : ℕ = place n test p first None' isin first_agrees f d s0 st framed among none free at sim c in
           let here_is = here_first n test p first None' isin first_agrees f d s0 st framed among none free at sim c in
           record {
-            grown = (r.grown.0 + (1 + statement_length_of g.typed (layout g) (has_result f) f.saved first), extended d tests.e made.e r.grown.0 _ r.grown.1 (extended tests.e jump made.e 1 _ (and_one g (I.FrontJumpZero tests.r place) tests.e) made.extended));
+            grown = (r.grown.0 + (1 + statement_length_of g.typed (layout g) (has_result f.frame) f.frame.saved first), extended d tests.e made.e r.grown.0 _ r.grown.1 (extended tests.e jump made.e 1 _ (and_one g (I.FrontJumpZero tests.r place) tests.e) made.extended));
             t = moved_to g alive (place + start g) r.t;
             go = over n test p first None' isin first_agrees f d s0 st framed among none free at sim c st1 r within;
             at = omega (arith, here_is);
@@ -153,16 +152,16 @@ module _ (g : Setting) (has : HasRegisters g) (alive : Variable → Type 0) (fil
           }
 
   module _ (n : ℕ) (test : TExpr) (p : Boxed) (first : TStmt) (q : Boxed) (second : TStmt) (isin : (IsIn (naming g.may alive)) test) (first_agrees : Agrees n first) (second_agrees : Agrees (behind n first) second) where
-    module _ (f : Frame) (d : Draft) (s0 : CodeState) (st : State) (framed : StandsIn g f) (among : StandsHere f contexts (S.If' test p first (Some' q second))) (none : d.homes ≡ []) (free : Begun g d) (at : At g s0 (length d.code)) (sim : Sim g alive st s0)
+    module _ (f : Exits) (d : Draft) (s0 : CodeState) (st : State) (framed : StandsIn g f.frame) (among : StandsHere g f contexts) (none : d.homes ≡ []) (free : Begun g d) (at : At g s0 (length d.code)) (sim : Sim g alive st s0)
         (c : HasStatementCode g.typed g.instance n (S.If' test p first (Some' q second))) where
       abbrev condition : TestMade g alive has files n (ready n) scope active calls_follow test d
       condition = tests n test p first (Some' q second) isin first_agrees f d s0 st framed among none free at sim c
 
-      abbrev first_made : MadeSo g numbers declares (jump n test p first (Some' q second) isin first_agrees f d s0 st framed among none free at sim c) (long n test p first (Some' q second) isin first_agrees f d s0 st framed among none free at sim c) (behind n first) (statement_of g.typed (layout g) first f contexts n (jump n test p first (Some' q second) isin first_agrees f d s0 st framed among none free at sim c))
+      abbrev first_made : MadeSo g numbers declares (jump n test p first (Some' q second) isin first_agrees f d s0 st framed among none free at sim c) (long n test p first (Some' q second) isin first_agrees f d s0 st framed among none free at sim c) (behind n first) (statement_of g.typed (layout g) first f.frame contexts n (jump n test p first (Some' q second) isin first_agrees f d s0 st framed among none free at sim c))
       first_made = made_first n test p first (Some' q second) isin first_agrees f d s0 st framed among none free at sim c
 
       abbrev more : ℕ
-      more = statement_length_of g.typed (layout g) (has_result f) f.saved second
+      more = statement_length_of g.typed (layout g) (has_result f.frame) f.frame.saved second
 
       abbrev leap : Draft
       leap = with_instr (I.FrontJump (place n test p first (Some' q second) isin first_agrees f d s0 st framed among none free at sim c + more)) first_made.e
@@ -171,8 +170,8 @@ module _ (g : Setting) (has : HasRegisters g) (alive : Variable → Type 0) (fil
       unfolding with_instr with_step
       leap_homes = first_made.homes
 
-      made_second : MadeSo g numbers declares leap more (behind (behind n first) second) (statement_of g.typed (layout g) second f contexts (behind n first) leap)
-      made_second = statement_made g numbers declares second f contexts (behind n first) leap framed among.among (if_second g numbers declares n test p first q second c) leap_homes
+      made_second : MadeSo g numbers declares leap more (behind (behind n first) second) (statement_of g.typed (layout g) second f.frame contexts (behind n first) leap)
+      made_second = statement_made g numbers declares second f.frame contexts (behind n first) leap framed among.among (if_second g numbers declares n test p first q second c) leap_homes
 
       leads_behind : place n test p first (Some' q second) isin first_agrees f d s0 st framed among none free at sim c + more ≡ length made_second.e.code
       unfolding here past
@@ -194,7 +193,7 @@ module _ (g : Setting) (has : HasRegisters g) (alive : Variable → Type 0) (fil
           (extended (jump n test p first (Some' q second) isin first_agrees f d s0 st framed among none free at sim c) first_made.e leap (long n test p first (Some' q second) isin first_agrees f d s0 st framed among none free at sim c) 1 first_made.extended (and_one g (I.FrontJump (place n test p first (Some' q second) isin first_agrees f d s0 st framed among none free at sim c + more)) first_made.e))) in
           follows_from g alive f d leap (r.grown.0 + (1 + (long n test p first (Some' q second) isin first_agrees f d s0 st framed among none free at sim c + 1))) s0 t (executed scope second (n + declared first) active st1) (Makes (behind (behind n first) second) made_second.e) grown (over n test p first (Some' q second) isin first_agrees f d s0 st framed among none free at sim c st1 r within) r.keeps
           (subst (λ (made : Made ℕ). Follows g (Left g alive f leap t) t (executed scope second (n + declared first) active st1) made) made_second.is
-          (second_agrees f leap t st1 framed (if_second_here f contexts test p first q second among) leap_homes (begun_later g d leap (r.grown.0 + (1 + (long n test p first (Some' q second) isin first_agrees f d s0 st framed among none free at sim c + 1))) grown free) there (sim_moved g alive st1 r.t (place n test p first (Some' q second) isin first_agrees f d s0 st framed among none free at sim c + start g) r.sim) (if_second g numbers declares n test p first q second c)))
+          (second_agrees f leap t st1 framed among leap_homes (begun_later g d leap (r.grown.0 + (1 + (long n test p first (Some' q second) isin first_agrees f d s0 st framed among none free at sim c + 1))) grown free) there (sim_moved g alive st1 r.t (place n test p first (Some' q second) isin first_agrees f d s0 st framed among none free at sim c + start g) r.sim) (if_second g numbers declares n test p first q second c)))
 
     pub if_else : Agrees n (S.If' test p first (Some' q second))
     unfolding executed else_executed else_of Extends

@@ -1,5 +1,5 @@
 -- A called function runs, from its first instruction to where it goes back.
-use Rattle.std.proofs.Common.{◌≡◌, inl, ◌∙◌, ℕ, zero, suc, take, ◌+◌, ◌-◌, ◌<◌, ◌≤◌, ◌^◌, ◌==◌, Bool, true, false, [], ◌∷◌, ◌++◌, List, Vec, Global, length, map, slice_get, slice_index, Option, Some, None, refl, sym, ap, subst, if◌then◌else◌, arith, length-append}
+use Rattle.std.proofs.Common.{◌≡◌, ◌∙◌, ℕ, zero, suc, take, ◌+◌, ◌-◌, ◌<◌, ◌≤◌, ◌^◌, ◌==◌, Bool, true, false, [], ◌∷◌, ◌++◌, List, Vec, Global, length, map, slice_get, slice_index, Option, Some, None, refl, sym, ap, subst, if◌then◌else◌, arith, length-append}
 use Rattle.std.specs.List.{Contains}
 use Rattle.cstar_compile.specs.Compiled.{IsCompiled}
 use Rattle.cstar_link.specs.Linked.{entries_from}
@@ -34,14 +34,14 @@ use Rattle.source_meaning.specs.Values.{Active, Scope, Value, each}
 use Rattle.code_follows.specs.Fragment.{IsBody, Beside, IsProgramBeside, OfFileOrParam, IsInStatement}
 use Rattle.lower_stmt.specs.declared.statement.Frame.{Frame}
 use Rattle.code_follows.proofs.Activations.{activation, callee_known, scalars, words}
-use Rattle.code_follows.proofs.Besides.{BesideFollows}
+use Rattle.code_follows.proofs.Parts.{BesideFollows}
 use Rattle.code_follows.proofs.Induction.{Around, statement_follows}
 use Rattle.code_follows.proofs.Callees.{AreGiven, Callee, CallsFollow, ComesBack, Enters, MayCall, RunsBody, Shared}
 use Rattle.code_follows.proofs.Closed.{NoJump, begins_closed, closed_row, go_closed}
 use Rattle.code_follows.proofs.Endings.{NeverOnward, body_never, never_second}
-use Rattle.code_follows.proofs.Executing.{IsGiven, Left, Returns}
+use Rattle.code_follows.proofs.Executing.{Exits, IsGiven, Left, Returns}
 use Rattle.code_follows.proofs.Following.{Finishes, Follows, HasNumber, HasRegisters, IsScalar, Sim, held}
-use Rattle.code_follows.proofs.Functions.{RunsFunction, among, body_made, declares, ends_by, falls, frame, framed, given_back, has, numbered, ready, runs_function, scope}
+use Rattle.code_follows.proofs.Functions.{RunsFunction, body_made, declares, ends_by, exits, falls, frame, framed, given_back, has, numbered, ready, runs_function, scope, stands_here}
 use Rattle.std.specs.Option.{is_some}
 use Rattle.std.proofs.lemmas.Nat.{pow_pos}
 use Rattle.source_meaning.specs.Reductions.{int_type}
@@ -200,7 +200,7 @@ module _ (t : Typed) (image : Image) {beside : Beside} (p : IsProgramBeside besi
     ends_early : (early : Source.Early) (u : State) → Finishes inner early u s → Finishes caller early u s
     ends_early early u f = record { t = f.t; ends = record { steps = f.ends.steps; is = f.ends.is }; turns = f.turns; output = f.output; input = f.input; memory = f.memory }
 
-    goes_back : (leaving : Leaving) (u : State) → u.turns ≤ st.turns → Returns inner OfFileOrParam s u (given_back leaving) → NoJump (Source.Gives leaving u) → ComesBack caller called_one back s st (result_of b.result leaving) (left st u)
+    goes_back : (leaving : Leaving) (u : State) → u.turns ≤ st.turns → Returns inner OfFileOrParam inner.held s u (given_back leaving) → NoJump (Source.Gives leaving u) → ComesBack caller called_one back s st (result_of b.result leaving) (left st u)
     unfolding left by_owner variable_named register_of callee_known OfFileOrParam
     goes_back leaving u less r closed = record {
       t = there;
@@ -267,13 +267,12 @@ module _ (t : Typed) (image : Image) {beside : Beside} (p : IsProgramBeside besi
           let declared = declares t image p codable compiled holding number b is open_calls m in
           let where_it_is = scope t image p codable compiled holding number b is open_calls m in
           let never_rises = falls t image p codable compiled holding number b is open_calls m in
-          let among_none = among t image p codable compiled holding number b is open_calls m in
-          let around : Around Known inner where_it_is active [] =
-          record { has = h; numbers = numbers; ready = is_ready; declares = declared; calls_follow = calls_follow; falls = never_rises; known = besides.known number b is open_calls m; leaves = λ may. refl } in
-          let runs : Follows inner (Left inner OfFileOrParam f begin s) s (executed where_it_is body 0 active opening_state) (body_of t (layout_of t (words t image p codable compiled holding) number) f body begin) =
-          subst (λ (made : Made ℕ). Follows inner (Left inner OfFileOrParam f begin s) s (executed where_it_is body 0 active opening_state) made) (sym (as_block locals q row))
-          (statement_follows where_it_is (λ g. besides.follows g where_it_is) inner active [] around OfFileOrParam (λ k. tt) 0 before_all body isin.0 f begin s opening_state
-          (framed t image p codable compiled holding number b is open_calls m) (record { among = among_none; jumps = inl (let none = among_none.loop in omega (arith, none)) }) (blank_homes t image (scalars t image p codable compiled holding) codable compiled number b) (record { regs = let regs = blank_regs t image (scalars t image p codable compiled holding) codable compiled number b in omega (arith, regs); code = omega arith; fields = omega arith }) stands sim c) in
+          let around : Around Known inner where_it_is active =
+          record { has = h; numbers = numbers; ready = is_ready; declares = declared; calls_follow = calls_follow; falls = never_rises; known = besides.known number b is open_calls m } in
+          let runs : Follows inner (Left inner OfFileOrParam out begin s) s (executed where_it_is body 0 active opening_state) (body_of t (layout_of t (words t image p codable compiled holding) number) f body begin) =
+          subst (λ (made : Made ℕ). Follows inner (Left inner OfFileOrParam out begin s) s (executed where_it_is body 0 active opening_state) made) (sym (as_block locals q row))
+          (statement_follows where_it_is (λ g. besides.follows g where_it_is) inner active around [] OfFileOrParam (λ k. tt) 0 before_all body isin.0 out begin s opening_state
+          (framed t image p codable compiled holding number b is open_calls m) (stands_here t image p codable compiled holding number b is open_calls m) (blank_homes t image (scalars t image p codable compiled holding) codable compiled number b) (record { regs = let regs = blank_regs t image (scalars t image p codable compiled holding) codable compiled number b in omega (arith, regs); code = omega arith; fields = omega arith }) stands sim c) in
           let made = body_made t image p codable compiled holding number b is open_calls m (body_of t (layout_of t (words t image p codable compiled holding) number) f body begin) (made_so body body_is) in
           let never : ends_in_return b.body ≡ true → NeverOnward (executed where_it_is body 0 active opening_state) =
           λ ends. never_second (initialised where_it_is active 0 locals.items _) _ (λ u. body_never where_it_is active locals q row (sym (ap (λ (x : TStmt). ends_in_return x) body_is) ∙ ends) (0 + length locals.items) u) in
@@ -281,10 +280,13 @@ module _ (t : Typed) (image : Image) {beside : Beside} (p : IsProgramBeside besi
           subst (λ (x : TStmt). RunsBody caller called_one back s st (then_do (executed where_it_is x 0 active opening_state) (λ leaving after. Source.Gives (result_of b.result leaving) (left st after)))) (sym body_is)
           (came (executed where_it_is body 0 active opening_state) (never_rises active body 0 opening_state) closed
           (runs_function t image p codable compiled holding number b is open_calls m begin made.e made.n s (executed where_it_is body 0 active opening_state) (ends_by t image p codable compiled holding number b is open_calls m (executed where_it_is body 0 active opening_state) made.e made.unit never) closed
-          (subst (λ (x : Made ℕ). Follows inner (Left inner OfFileOrParam f begin s) s (executed where_it_is body 0 active opening_state) x) made.is_made runs)))
+          (subst (λ (x : Made ℕ). Follows inner (Left inner OfFileOrParam out begin s) s (executed where_it_is body 0 active opening_state) x) made.is_made runs)))
         where
           f : Frame
           f = frame t image p codable compiled holding number b is open_calls m
+
+          out : Exits
+          out = exits t image p codable compiled holding number b is open_calls m
 
           made_so : (body : TStmt) → b.body ≡ body → then_make (body_of t (layout_of t (words t image p codable compiled holding) number) f body begin) (λ n e. Makes (tt {0}) (ended (number == 0) b.body e)) ≡ Makes (tt {0}) (unit_at t image (scalars t image p codable compiled holding) codable compiled number b is)
           made_so body body_is = made_here body body_is

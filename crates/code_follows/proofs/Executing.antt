@@ -30,8 +30,8 @@ use Rattle.source_meaning.specs.Values.{Active, Scope, Value, nonzero, number}
 use Rattle.code_follows.specs.Fragment.{IsIn, May, elems_of, naming}
 use Rattle.code_follows.proofs.Expressions.{operand}
 use Rattle.code_follows.proofs.Callees.{CallsFollow}
-use Rattle.code_follows.proofs.Following.{Arrives, Extends, Follows, HasNumber, HasRegisters, Keeps, Ran, Sim, finishes_later, keeps_all, keeps_on, then_follows, spared_kept, result_kept, delayed, finished}
-use Rattle.code_follows.proofs.Settings.{At, Begun, Reaches, Setting, layout, onto, stay}
+use Rattle.code_follows.proofs.Following.{Arrives, Extends, Follows, HasNumber, HasRegisters, Keeps, Ran, Sim, finishes_later, follows_other, keeps_all, keeps_on, then_follows, spared_kept, result_kept, delayed, finished}
+use Rattle.code_follows.proofs.Settings.{At, Begun, Held, Reaches, Setting, holding, layout, onto, stay}
 use Rattle.code_follows.proofs.Targets.{variable_in}
 use Rattle.code_follows.proofs.Values.{Value_of, extends_in_register}
 use Rattle.code_follows.proofs.Numbers.{held_nonzero}
@@ -50,13 +50,24 @@ no_return v e = cc
 kept_not : (may : May) (e : TExpr) → IsIn may e → is_kept e ≡ false → ⊥
 kept_not may e isin h = let k : is_kept e ≡ true = kept may e isin in cc
 
+-- Where a statement stands: in a frame, and what is held of the memory where a jump out of its loop leads, and where its
+-- function is left.
+pub record Exits : Type 1 where
+  pub frame : Frame
+  pub loop : Held
+  pub all : Held
+
+-- in the body of a loop around which this is held
+abbrev pub in_body : Frame → Held → Exits → Exits
+in_body frame held f = record { frame = frame; loop = held; all = f.all }
+
 module _ (g : Setting) (alive : Variable → Type 0) where
-  -- a jump led to a place of the unit
-  pub record Jumped (d : Draft) (s : CodeState) (st : State) (place : ℕ) : Type 0 where
+  -- the code led to a place of the unit, where this is held of the memory
+  pub record Jumped (held : Held) (d : Draft) (s : CodeState) (st : State) (place : ℕ) : Type 0 where
     pub t : CodeState
     pub go : Reaches g s t
     pub at : At g t place
-    pub sim : Sim g alive st t
+    pub sim : Sim (holding g held) alive st t
     pub keeps : Keeps g d s t
 
   -- the register of the result, where there is one, has what is given back, or what it had where nothing is
@@ -68,42 +79,55 @@ module _ (g : Setting) (alive : Variable → Type 0) where
   abbrev pub Leaves : CodeState → Type 0
   Leaves t = step g.image t ≡ (if g.is_main then Ends Machine.Done t else Goes (returned t))
 
-  -- the code comes to where the function is left, as it may be
-  pub record Returns (s : CodeState) (st : State) (v : Option Value) : Type 0 where
+  -- the code comes to where the function is left, and there this is held of the memory
+  pub record Returns (held : Held) (s : CodeState) (st : State) (v : Option Value) : Type 0 where
     pub t : CodeState
     pub go : Reaches g s t
-    pub sim : Sim g alive st t
+    pub sim : Sim (holding g held) alive st t
     pub leaves : Leaves t
     pub spares : (r : ℕ) → g.spared r → slice_index t.registers r ≡ slice_index s.registers r
     pub given : IsGiven s t v
-    pub allowed : g.may.leaves
 
   given_from : (s u t : CodeState) (v : Option Value) → slice_index u.registers (result_register (layout g)) ≡ slice_index s.registers (result_register (layout g)) → IsGiven u t v → IsGiven s t v
   unfolding IsGiven
   given_from s u t None same h = h ∙ same
   given_from s u t (Some v) same h = h
 
-  pub returns_from : (d : Draft) (s t : CodeState) (st : State) (v : Option Value) → Reaches g s t → Keeps g d s t → Returns t st v → Returns s st v
-  returns_from d s t st v go keeps r = record {
+  pub returns_from : (held : Held) (d : Draft) (s t : CodeState) (st : State) (v : Option Value) → Reaches g s t → Keeps g d s t → Returns held t st v → Returns held s st v
+  returns_from held d s t st v go keeps r = record {
     t = r.t;
     go = onto g s t r.t go r.go;
     sim = r.sim;
     leaves = r.leaves;
     spares = λ q spared. r.spares q spared ∙ keeps q (spared_kept g d q spared);
     given = given_from s t r.t v (keeps (result_register (layout g)) (result_kept g d)) r.given;
-    allowed = r.allowed;
   }
 
   -- the code arrives behind a draft, and the source goes on
   abbrev pub RanOn : {A : Type 0} → Draft → CodeState → Leaving → State → A → Draft → Type 0
   RanOn d s leaving u y e = (leaving ≡ Onward) × Ran g alive d s u e
 
-  -- how a statement is left: at its end, or where its jump leads
-  unfoldable pub Left : Frame → Draft → CodeState → Leaving → State → ℕ → Draft → Type 0
-  Left f d s Onward st m e = Ran g alive d s st e
-  Left f d s Broke st m e = Jumped d s st f.after
-  Left f d s Continued st m e = Jumped d s st f.next
-  Left f d s (Returned v) st m e = Returns s st v
+  -- how a statement is left: at its end, of which this is said, or where its jump leads
+  unfoldable pub LeftSo : (State → Draft → Type 0) → Exits → Draft → CodeState → Leaving → State → ℕ → Draft → Type 0
+  LeftSo R f d s Onward st m e = R st e
+  LeftSo R f d s Broke st m e = Jumped f.loop d s st f.frame.after
+  LeftSo R f d s Continued st m e = Jumped f.loop d s st f.frame.next
+  LeftSo R f d s (Returned v) st m e = Returns f.all s st v
+
+  -- at its end the code arrives
+  abbrev pub Left : Exits → Draft → CodeState → Leaving → State → ℕ → Draft → Type 0
+  Left f d s leaving st m e = LeftSo (λ u h. Ran g alive d s u h) f d s leaving st m e
+
+  -- what is said of its end follows from what else is said
+  pub left_other : (R Q : State → Draft → Type 0) (f : Exits) (d : Draft) (s : CodeState) (o : Outcome Leaving) (made : Made ℕ) → ((st : State) (e : Draft) → R st e → Q st e) → Follows g (LeftSo R f d s) s o made → Follows g (LeftSo Q f d s) s o made
+  unfolding LeftSo
+  left_other R Q f d s o made next h = follows_other g (LeftSo R f d s) (LeftSo Q f d s) s o made h (λ leaving st m e left. by leaving st m e left)
+    where
+      by : (leaving : Leaving) (st : State) (m : ℕ) (e : Draft) → LeftSo R f d s leaving st m e → LeftSo Q f d s leaving st m e
+      by Onward st m e left = next st e left
+      by Broke st m e left = left
+      by Continued st m e left = left
+      by (Returned v) st m e left = left
 
   -- seen from an earlier draft and state
   pub ran_from : (d e : Draft) (n : ℕ) (s t : CodeState) (st : State) (f : Draft) → Extended d n e → Reaches g s t → Keeps g d s t → Ran g alive e t st f → Ran g alive d s st f
@@ -116,17 +140,17 @@ module _ (g : Setting) (alive : Variable → Type 0) where
     keeps = keeps_on g d e n s t r.t x keeps r.keeps;
   }
 
-  jumped_from : (d e : Draft) (n : ℕ) (s t : CodeState) (st : State) (place : ℕ) → Extended d n e → Reaches g s t → Keeps g d s t → Jumped e t st place → Jumped d s st place
-  jumped_from d e n s t st place x go keeps r = record { t = r.t; go = onto g s t r.t go r.go; at = r.at; sim = r.sim; keeps = keeps_on g d e n s t r.t x keeps r.keeps }
+  pub jumped_from : (held : Held) (d e : Draft) (n : ℕ) (s t : CodeState) (st : State) (place : ℕ) → Extended d n e → Reaches g s t → Keeps g d s t → Jumped held e t st place → Jumped held d s st place
+  jumped_from held d e n s t st place x go keeps r = record { t = r.t; go = onto g s t r.t go r.go; at = r.at; sim = r.sim; keeps = keeps_on g d e n s t r.t x keeps r.keeps }
 
-  left_from : (f : Frame) (d e : Draft) (n : ℕ) (s t : CodeState) (leaving : Leaving) (st : State) (m : ℕ) (h : Draft) → Extended d n e → Reaches g s t → Keeps g d s t → Left f e t leaving st m h → Left f d s leaving st m h
-  unfolding Left
+  left_from : (f : Exits) (d e : Draft) (n : ℕ) (s t : CodeState) (leaving : Leaving) (st : State) (m : ℕ) (h : Draft) → Extended d n e → Reaches g s t → Keeps g d s t → Left f e t leaving st m h → Left f d s leaving st m h
+  unfolding LeftSo
   left_from f d e n s t Onward st m h x go keeps r = ran_from d e n s t st h x go keeps r
-  left_from f d e n s t Broke st m h x go keeps r = jumped_from d e n s t st f.after x go keeps r
-  left_from f d e n s t Continued st m h x go keeps r = jumped_from d e n s t st f.next x go keeps r
-  left_from f d e n s t (Returned v) st m h x go keeps r = returns_from d s t st v go keeps r
+  left_from f d e n s t Broke st m h x go keeps r = jumped_from f.loop d e n s t st f.frame.after x go keeps r
+  left_from f d e n s t Continued st m h x go keeps r = jumped_from f.loop d e n s t st f.frame.next x go keeps r
+  left_from f d e n s t (Returned v) st m h x go keeps r = returns_from f.all d s t st v go keeps r
 
-  pub follows_from : (f : Frame) (d e : Draft) (n : ℕ) (s t : CodeState) (o : Outcome Leaving) (made : Made ℕ) → Extended d n e → Reaches g s t → Keeps g d s t → Follows g (Left f e t) t o made → Follows g (Left f d s) s o made
+  pub follows_from : (f : Exits) (d e : Draft) (n : ℕ) (s t : CodeState) (o : Outcome Leaving) (made : Made ℕ) → Extended d n e → Reaches g s t → Keeps g d s t → Follows g (Left f e t) t o made → Follows g (Left f d s) s o made
   unfolding Follows
   follows_from f d e n s t (Source.Gives leaving st) (Makes m h) x go keeps r = λ w. left_from f d e n s t leaving st m h x go keeps (r w)
   follows_from f d e n s t (Source.Ends early st) (Makes m h) x go keeps r = λ w. finishes_later g early st s t go (r w)
@@ -134,26 +158,26 @@ module _ (g : Setting) (alive : Variable → Type 0) where
   follows_from f d e n s t (Source.Ends early st) Fails x go keeps r = tt
 
   -- one statement whose code is made, and then another
-  pub go_on : (f : Frame) (d : Draft) (s : CodeState) (o : Outcome Leaving) (k : State → Outcome Leaving) (m : ℕ) (e : Draft) (made : Made ℕ) → Follows g (Left f d s) s o (Makes m e) → Extends g e made
-      → ((st : State) → Ran g alive d s st e → Follows g (Left f d s) s (k st) made) → Follows g (Left f d s) s (then_go o k) made
-  unfolding Follows Left then_go
-  go_on f d s (Source.Gives Onward st) k m e made first grows next = delayed g (Left f d s) e s (k st) made grows (λ w. next st (first w))
-  go_on f d s (Source.Gives Broke st) k m e made first grows next = delayed g (Left f d s) e s (Source.Gives Broke st) made grows (λ w. kept_so made (λ p h. first w))
+  pub go_on : (R : State → Draft → Type 0) (f : Exits) (d : Draft) (s : CodeState) (o : Outcome Leaving) (k : State → Outcome Leaving) (m : ℕ) (e : Draft) (made : Made ℕ) → Follows g (LeftSo R f d s) s o (Makes m e) → Extends g e made
+      → ((st : State) → R st e → Follows g (Left f d s) s (k st) made) → Follows g (Left f d s) s (then_go o k) made
+  unfolding Follows LeftSo then_go
+  go_on R f d s (Source.Gives Onward st) k m e made first grows next = delayed g (Left f d s) e s (k st) made grows (λ w. next st (first w))
+  go_on R f d s (Source.Gives Broke st) k m e made first grows next = delayed g (Left f d s) e s (Source.Gives Broke st) made grows (λ w. kept_so made (λ p h. first w))
     where
       kept_so : (made : Made ℕ) → ((p : ℕ) (h : Draft) → Left f d s Broke st p h) → Follows g (Left f d s) s (Source.Gives Broke st) made
       kept_so (Makes p h) j = λ w. j p h
       kept_so Fails j = tt
-  go_on f d s (Source.Gives Continued st) k m e made first grows next = delayed g (Left f d s) e s (Source.Gives Continued st) made grows (λ w. kept_so made (λ p h. first w))
+  go_on R f d s (Source.Gives Continued st) k m e made first grows next = delayed g (Left f d s) e s (Source.Gives Continued st) made grows (λ w. kept_so made (λ p h. first w))
     where
       kept_so : (made : Made ℕ) → ((p : ℕ) (h : Draft) → Left f d s Continued st p h) → Follows g (Left f d s) s (Source.Gives Continued st) made
       kept_so (Makes p h) j = λ w. j p h
       kept_so Fails j = tt
-  go_on f d s (Source.Gives (Returned v) st) k m e made first grows next = delayed g (Left f d s) e s (Source.Gives (Returned v) st) made grows (λ w. kept_so made (λ p h. first w))
+  go_on R f d s (Source.Gives (Returned v) st) k m e made first grows next = delayed g (Left f d s) e s (Source.Gives (Returned v) st) made grows (λ w. kept_so made (λ p h. first w))
     where
       kept_so : (made : Made ℕ) → ((p : ℕ) (h : Draft) → Left f d s (Returned v) st p h) → Follows g (Left f d s) s (Source.Gives (Returned v) st) made
       kept_so (Makes p h) j = λ w. j p h
       kept_so Fails j = tt
-  go_on f d s (Source.Ends early st) k m e made first grows next = finished g (Left f d s) e s early st made grows first
+  go_on R f d s (Source.Ends early st) k m e made first grows next = finished g (Left f d s) e s early st made grows first
 
   -- a condition's word is tested
   pub record Tested (d : Draft) (s : CodeState) (b : Bool) (st : State) (r : ℕ) (e : Draft) : Type 0 where

@@ -1,5 +1,5 @@
 -- `for`, `while` and `do`.
-use Rattle.std.proofs.Common.{◌≡◌, ◌∙◌, ℕ, ◌+◌, ◌≤◌, inl, inr, true, List, [], length, Option, Some, None, refl, sym, ap, subst, arith}
+use Rattle.std.proofs.Common.{◌≡◌, ◌∙◌, ℕ, ◌+◌, ◌≤◌, true, List, [], length, Option, Some, None, refl, sym, ap, subst, arith}
 use Rattle.std.specs.Prelude.{IfSome}
 use Rattle.cstar_tree.specs.declared.typed.TExpr.{TExpr}
 use Rattle.cstar_tree.specs.declared.typed.TStmt.{TStmt}
@@ -37,18 +37,19 @@ use Rattle.source_meaning.specs.State as Source
 use Rattle.source_meaning.specs.State.{Outcome, State, spend_turn, then_do}
 use Rattle.source_meaning.specs.Statements.{Leaving, Onward, done, executed, passes, passes_or_absent, rounds, then_go, then_round}
 use Rattle.source_meaning.specs.Values.{Active, Scope, Value, nonzero, number}
-use Rattle.code_follows.specs.Fragment.{IsClosed, IsEffect, IsIn, IsTested, naming}
+use Rattle.code_follows.specs.Fragment.{IsEffect, IsIn, IsTested, naming}
 use Rattle.code_follows.proofs.Assigning.{effect_follows}
 use Rattle.code_follows.proofs.Choices.{Agrees}
-use Rattle.code_follows.proofs.Executing.{Left, RanOn, follows_from}
+use Rattle.code_follows.proofs.Executing.{Exits, Left, RanOn, follows_from, in_body}
 use Rattle.code_follows.proofs.Callees.{CallsFollow}
 use Rattle.code_follows.proofs.Following.{Extends, Follows, HasRegisters, Ran, Sim, delayed, keeps_all}
 use Rattle.code_follows.proofs.Jumping.{jumps, moved_to, sim_moved}
 use Rattle.code_follows.proofs.Loops.{do_runs, loop_runs}
+use Rattle.code_follows.proofs.Restoring.{restores_none}
 use Rattle.code_follows.proofs.Rounds.{BackMade, back_made}
 use Rattle.code_follows.proofs.Settings.{At, Begun, Setting, and_one, begun_later, code_more, earlier, layout, regs_more, start, stay}
 use Rattle.code_follows.proofs.Starting.{go_after}
-use Rattle.code_follows.proofs.Statements.{MadeSo, StandsIn, do_body, do_test, statement_made}
+use Rattle.code_follows.proofs.Statements.{MadeSo, StandsHere, StandsIn, do_body, do_test, statement_made}
 
 module _ (g : Setting) (has : HasRegisters g) (alive : Variable → Type 0) (files : (k : ℕ) → alive (V.File k)) (numbers : NumbersVariables g.instance (layout g)) (ready : (n : ℕ) (d : Draft) → IsReady g.typed g.instance (layout g) n d)
     (declares : (n : ℕ) (d : Draft) → d.homes ≡ [] → HasDeclared g.typed g.instance (layout g) n d) (scope : Scope) (active : Active) (calls_follow : CallsFollow g scope active)
@@ -131,12 +132,12 @@ module _ (g : Setting) (has : HasRegisters g) (alive : Variable → Type 0) (fil
       body_code = record { shaped = c.shaped.3; lowerable = c.lowerable.3; names = c.names.3; stands = subst (λ (own : List VarInfo). StandFrom (variables_of g.instance.body) n own) (of_for first test step p body) c.stands };
     }
 
-    module _ (f : Frame) (d : Draft) (framed : StandsIn g f) (among : StandsAmong f contexts) (none : d.homes ≡ []) (c : ForCode) where
+    module _ (f : Exits) (d : Draft) (framed : StandsIn g f.frame) (among : StandsHere g f contexts) (none : d.homes ≡ []) (c : ForCode) where
       made_first : PartMade first d
       made_first = part_made n first d c.first_code
 
       abbrev long : ℕ
-      long = statement_length_of g.typed (layout g) (has_result f) (at_loop f.saved) body
+      long = statement_length_of g.typed (layout g) (has_result f.frame) (at_loop f.frame.saved) body
 
       abbrev turn : ℕ
       turn = here made_first.e + 1
@@ -151,7 +152,7 @@ module _ (g : Setting) (has : HasRegisters g) (alive : Variable → Type 0) (fil
       after = place + condition_length_of g.typed (layout g) test + 1
 
       abbrev inner : Frame
-      inner = in_loop next after f
+      inner = in_loop next after f.frame
 
       abbrev enters : Draft
       enters = with_instr (I.FrontJump place) made_first.e
@@ -165,7 +166,11 @@ module _ (g : Setting) (has : HasRegisters g) (alive : Variable → Type 0) (fil
 
       inner_among : StandsAmong inner contexts
       unfolding in_loop at_loop
-      inner_among = record { loop = omega arith; all = among.all }
+      inner_among = record { loop = omega arith; all = among.among.all }
+
+      inner_here : StandsHere g (in_body inner g.held f) contexts
+      unfolding in_loop at_loop
+      inner_here = record { among = inner_among; loop = restores_none g contexts 0 refl; all = among.all }
 
       begin_homes : before_body.homes ≡ []
       unfolding with_instr with_step
@@ -190,7 +195,7 @@ module _ (g : Setting) (has : HasRegisters g) (alive : Variable → Type 0) (fil
           let next = turn + long + 1 in
           let place = next + part_length_of g.typed (layout g) step in
           let after = place + condition_length_of g.typed (layout g) test + 1 in
-          then_make (statement_of g.typed (layout g) body (in_loop next after f) contexts n (with_instr I.FrontTurn (with_instr (I.FrontJump place) begun)))
+          then_make (statement_of g.typed (layout g) body (in_loop next after f.frame) contexts n (with_instr I.FrontTurn (with_instr (I.FrontJump place) begun)))
           (λ m behind. then_make (part_of g.typed (layout g) step behind) (λ u stepped. then_make (jump_back_of g.typed (layout g) test turn stepped) (λ v end. Makes m end)))
 
       loop_is : loop_code made_first.e ≡ Makes (behind n body) behind_loop
@@ -238,27 +243,27 @@ module _ (g : Setting) (has : HasRegisters g) (alive : Variable → Type 0) (fil
           let at_test = so.1 in
           let go_round : Outcome Leaving = rounds u.turns (passes_or_absent scope active test) (λ v. executed scope body n active v) (λ v. done scope active step v) u in
           delayed g (Left g alive f made_first.e t) behind_loop t go_round (Makes (behind n body) behind_loop) (0, as_it_was behind_loop) (λ within.
-          loop_runs g alive scope active (passes_or_absent scope active test) body n (behind n body) (tests_fall n test) inner made_first.e enters made_body.e made_step.e behind_loop turn (λ v. done scope active step v) within so.3 so.0 so.2 long (part_length_of g.typed (layout g) step) (condition_length_of g.typed (layout g) test + 1) made_body.extended made_step.extended made_back.extended (omega (arith, regs1, regs2))
+          loop_runs g alive scope active (passes_or_absent scope active test) body n (behind n body) (tests_fall n test) inner f made_first.e enters made_body.e made_step.e behind_loop turn (λ v. done scope active step v) within so.3 so.0 so.2 long (part_length_of g.typed (layout g) step) (condition_length_of g.typed (layout g) test + 1) made_body.extended made_step.extended made_back.extended (omega (arith, regs1, regs2))
           (falls body n)
-          (λ s v here_s sim_s. subst (λ (m : Made ℕ). Follows g (Left g alive inner before_body s) s (executed scope body n active v) m) made_body.is (agrees inner before_body s v inner_frame (record { among = inner_among; jumps = inl refl }) begin_homes begun_body here_s sim_s c.body_code))
+          (λ s v here_s sim_s. subst (λ (m : Made ℕ). Follows g (Left g alive (in_body inner g.held f) before_body s) s (executed scope body n active v) m) made_body.is (agrees (in_body inner g.held f) before_body s v inner_frame inner_here begin_homes begun_body here_s sim_s c.body_code))
           (part_falls n step)
           (λ s v here_s sim_s. subst (λ (m : Made (Unit {0})). Follows g (RanOn g alive made_body.e s) s (done scope active step v) m) made_step.is (part_follows n step steps c.step_code made_body.e s v begun_step here_s sim_s))
           (λ s v here_s sim_s. made_back.leads begun_back within s v here_s sim_s)
-          f (behind n body) steps_in_all t (moved_to g alive (place + start g) t) u all_grown (jumps g alive place made_first.e t (earlier g enters behind_loop (1 + (long + (part_length_of g.typed (layout g) step + (condition_length_of g.typed (layout g) test + 1)))) enters_grown within) at)
+          (behind n body) steps_in_all t (moved_to g alive (place + start g) t) u all_grown (jumps g alive place made_first.e t (earlier g enters behind_loop (1 + (long + (part_length_of g.typed (layout g) step + (condition_length_of g.typed (layout g) test + 1)))) enters_grown within) at)
           (keeps_all g made_first.e t) (omega (arith, at_test)) (sim_moved g alive u t (place + start g) sim))
 
     pub for_agrees : Agrees g has alive files numbers ready declares scope active calls_follow contexts n whole
     unfolding executed statement_of then_make Extends
     for_agrees f d s0 st framed among none free at sim code =
         let c = for_code code in
-        let b = made_first f d framed among.among none c in
+        let b = made_first f d framed among none c in
         let go_round : State → Outcome Leaving = λ u. rounds u.turns (passes_or_absent scope active test) (λ v. executed scope body n active v) (λ v. done scope active step v) u in
-        subst (λ (m : Made (Unit {0})). Follows g (Left g alive f d s0) s0 (then_go (done scope active first st) go_round) (then_make m (λ u begun. loop_code f d framed among.among none c begun))) (sym b.is)
-        (subst (λ (m : Made ℕ). Follows g (Left g alive f d s0) s0 (then_go (done scope active first st) go_round) m) (sym (loop_is f d framed among.among none c))
-        (go_after g has alive files ready scope active calls_follow d s0 (Left g alive f d s0) (done scope active first st) go_round tt b.e (Makes (behind n body) (behind_loop f d framed among.among none c))
+        subst (λ (m : Made (Unit {0})). Follows g (Left g alive f d s0) s0 (then_go (done scope active first st) go_round) (then_make m (λ u begun. loop_code f d framed among none c begun))) (sym b.is)
+        (subst (λ (m : Made ℕ). Follows g (Left g alive f d s0) s0 (then_go (done scope active first st) go_round) m) (sym (loop_is f d framed among none c))
+        (go_after g has alive files ready scope active calls_follow d s0 (Left g alive f d s0) (done scope active first st) go_round tt b.e (Makes (behind n body) (behind_loop f d framed among none c))
         (subst (λ (m : Made (Unit {0})). Follows g (RanOn g alive d s0) s0 (done scope active first st) m) b.is (part_follows n first begins c.first_code d s0 st free at sim))
-        (steps_in_all f d framed among.among none c, all_grown f d framed among.among none c)
-        (λ u ran. follows_from g alive f d b.e ran.grown.0 s0 ran.t (go_round u) (Makes (behind n body) (behind_loop f d framed among.among none c)) ran.grown.1 ran.go ran.keeps (turns_follow f d framed among.among none c ran.t u (begun_later g d b.e (part_length_of g.typed (layout g) first) b.extended free) ran.at ran.sim))))
+        (steps_in_all f d framed among none c, all_grown f d framed among none c)
+        (λ u ran. follows_from g alive f d b.e ran.grown.0 s0 ran.t (go_round u) (Makes (behind n body) (behind_loop f d framed among none c)) ran.grown.1 ran.go ran.keeps (turns_follow f d framed among none c ran.t u (begun_later g d b.e (part_length_of g.typed (layout g) first) b.extended free) ran.at ran.sim))))
 
   -- `while` is `for` with its condition alone
   module _ (n : ℕ) (test : TExpr) (p : Boxed) (body : TStmt) (isin : (IsIn (naming g.may alive)) test) (agrees : Agrees g has alive files numbers ready declares scope active calls_follow contexts n body) where
@@ -286,16 +291,16 @@ module _ (g : Setting) (has : HasRegisters g) (alive : Variable → Type 0) (fil
         nothing_more k = omega arith
 
     pub while_agrees : Agrees g has alive files numbers ready declares scope active calls_follow contexts n (S.While' test p body)
-    unfolding executed done passes_or_absent then_go IsTested IsClosed
+    unfolding executed done passes_or_absent then_go IsTested
     while_agrees f d s0 st framed among none free at sim c =
-        subst (λ (m : Made ℕ). Follows g (Left g alive f d s0) s0 (rounds st.turns (passes scope active test) (λ u. executed scope body n active u) (λ u. Source.Gives Onward u) st) m) (same_code f d)
-        (for_agrees n None None (Some test) p body tt isin tt agrees f d s0 st framed (record { among = among.among; jumps = inr tt }) none free at sim (while_code c))
+        subst (λ (m : Made ℕ). Follows g (Left g alive f d s0) s0 (rounds st.turns (passes scope active test) (λ u. executed scope body n active u) (λ u. Source.Gives Onward u) st) m) (same_code f.frame d)
+        (for_agrees n None None (Some test) p body tt isin tt agrees f d s0 st framed among none free at sim (while_code c))
 
   -- `do`
   module _ (n : ℕ) (test : TExpr) (p : Boxed) (body : TStmt) (isin : (IsIn (naming g.may alive)) test) (agrees : Agrees g has alive files numbers ready declares scope active calls_follow contexts n body) where
-    module _ (f : Frame) (d : Draft) (framed : StandsIn g f) (among : StandsAmong f contexts) (none : d.homes ≡ []) (c : HasStatementCode g.typed g.instance n (S.Do' p body test)) where
+    module _ (f : Exits) (d : Draft) (framed : StandsIn g f.frame) (among : StandsHere g f contexts) (none : d.homes ≡ []) (c : HasStatementCode g.typed g.instance n (S.Do' p body test)) where
       abbrev do_long : ℕ
-      do_long = statement_length_of g.typed (layout g) (has_result f) (at_loop f.saved) body
+      do_long = statement_length_of g.typed (layout g) (has_result f.frame) (at_loop f.frame.saved) body
 
       abbrev do_turn : ℕ
       do_turn = here d
@@ -307,7 +312,7 @@ module _ (g : Setting) (has : HasRegisters g) (alive : Variable → Type 0) (fil
       do_after = do_next + used_length_of g.typed (layout g) 32 true test + 1
 
       abbrev do_inner : Frame
-      do_inner = in_loop do_next do_after f
+      do_inner = in_loop do_next do_after f.frame
 
       abbrev do_before : Draft
       do_before = with_instr I.FrontTurn d
@@ -318,7 +323,11 @@ module _ (g : Setting) (has : HasRegisters g) (alive : Variable → Type 0) (fil
 
       do_among : StandsAmong do_inner contexts
       unfolding in_loop at_loop
-      do_among = record { loop = omega arith; all = among.all }
+      do_among = record { loop = omega arith; all = among.among.all }
+
+      do_here : StandsHere g (in_body do_inner g.held f) contexts
+      unfolding in_loop at_loop
+      do_here = record { among = do_among; loop = restores_none g contexts 0 refl; all = among.all }
 
       do_homes : do_before.homes ≡ []
       unfolding with_instr with_step
@@ -335,7 +344,7 @@ module _ (g : Setting) (has : HasRegisters g) (alive : Variable → Type 0) (fil
       abbrev behind_do : Draft
       behind_do = made_while.e
 
-      do_is : statement_of g.typed (layout g) (S.Do' p body test) f contexts n d ≡ Makes (behind n body) behind_do
+      do_is : statement_of g.typed (layout g) (S.Do' p body test) f.frame contexts n d ≡ Makes (behind n body) behind_do
       unfolding statement_of then_make
       do_is =
           ap (λ (m : Made ℕ). then_make m (λ m' behind'. then_make (jump_back_of g.typed (layout g) (Some test) do_turn behind') (λ v end. Makes m' end))) made_do.is
@@ -364,16 +373,16 @@ module _ (g : Setting) (has : HasRegisters g) (alive : Variable → Type 0) (fil
           let begun_body : Begun g do_before = begun_later g d do_before 1 (and_one g I.FrontTurn d) free in
           let go_round : Outcome Leaving = then_round (spend_turn u (λ v. executed scope body n active v)) (λ s. rounds s.turns (passes scope active test) (λ v. executed scope body n active v) (λ v. Source.Gives Onward v) s) in
           delayed g (Left g alive f d t) behind_do t go_round (Makes (behind n body) behind_do) (0, as_it_was behind_do) (λ within.
-          do_runs g alive scope active (passes scope active test) body n (behind n body) (test_falls n test) do_inner d d made_do.e made_do.e behind_do do_turn (λ v. Source.Gives Onward v) within so.2 so.0 so.1 do_long 0 (used_length_of g.typed (layout g) 32 true test + 1) made_do.extended (as_it_was made_do.e) made_while.extended (omega (arith, regs1))
+          do_runs g alive scope active (passes scope active test) body n (behind n body) (test_falls n test) do_inner f d d made_do.e made_do.e behind_do do_turn (λ v. Source.Gives Onward v) within so.2 so.0 so.1 do_long 0 (used_length_of g.typed (layout g) 32 true test + 1) made_do.extended (as_it_was made_do.e) made_while.extended (omega (arith, regs1))
           (falls body n)
-          (λ s v here_s sim_s. subst (λ (m : Made ℕ). Follows g (Left g alive do_inner do_before s) s (executed scope body n active v) m) made_do.is (agrees do_inner do_before s v do_frame (record { among = do_among; jumps = inl refl }) do_homes begun_body here_s sim_s (do_body g numbers declares n p body test c)))
+          (λ s v here_s sim_s. subst (λ (m : Made ℕ). Follows g (Left g alive (in_body do_inner g.held f) do_before s) s (executed scope body n active v) m) made_do.is (agrees (in_body do_inner g.held f) do_before s v do_frame do_here do_homes begun_body here_s sim_s (do_body g numbers declares n p body test c)))
           (λ v. omega arith)
           (λ s v here_s sim_s within_s. (refl, record { grown = (0, as_it_was made_do.e); t = s; go = stay g s; at = here_s; sim = sim_s; keeps = keeps_all g made_do.e s }))
           (λ s v here_s sim_s. made_while.leads (begun_later g do_before made_do.e do_long made_do.extended begun_body) within s v here_s sim_s)
-          f (behind n body) _ t u refl do_grown at sim)
+          (behind n body) _ t u refl do_grown at sim)
 
     pub do_agrees : Agrees g has alive files numbers ready declares scope active calls_follow contexts n (S.Do' p body test)
     unfolding executed
     do_agrees f d s0 st framed among none free at sim c =
-        subst (λ (m : Made ℕ). Follows g (Left g alive f d s0) s0 (then_round (spend_turn st (λ v. executed scope body n active v)) (λ s. rounds s.turns (passes scope active test) (λ v. executed scope body n active v) (λ v. Source.Gives Onward v) s)) m) (sym (do_is f d framed among.among none c))
-        (do_follows f d framed among.among none c s0 st free at sim)
+        subst (λ (m : Made ℕ). Follows g (Left g alive f d s0) s0 (then_round (spend_turn st (λ v. executed scope body n active v)) (λ s. rounds s.turns (passes scope active test) (λ v. executed scope body n active v) (λ v. Source.Gives Onward v) s)) m) (sym (do_is f d framed among none c))
+        (do_follows f d framed among none c s0 st free at sim)

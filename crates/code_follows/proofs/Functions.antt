@@ -29,12 +29,13 @@ use Rattle.code_follows.specs.Fragment.{Beside, IsProgramBeside, OfFileOrParam}
 use Rattle.code_follows.proofs.Activations.{activation, registers_there, scalars, words}
 use Rattle.code_follows.proofs.Closed.{NoJump}
 use Rattle.code_follows.proofs.Endings.{NeverOnward}
-use Rattle.code_follows.proofs.Executing.{Left, Returns}
+use Rattle.code_follows.proofs.Executing.{Exits, Left, LeftSo, Returns}
 use Rattle.code_follows.proofs.Following.{Finishes, Follows, HasRegisters}
 use Rattle.code_follows.proofs.Regions.{all_declared, all_numbered, all_ready}
+use Rattle.code_follows.proofs.Restoring.{restores_none}
 use Rattle.code_follows.proofs.Returning.{end_more, left_at_end}
 use Rattle.code_follows.proofs.Settings.{Held, Setting, Within, earlier}
-use Rattle.code_follows.proofs.Statements.{StandsIn}
+use Rattle.code_follows.proofs.Statements.{StandsHere, StandsIn}
 use Rattle.code_follows.proofs.Units.{unit_at, within_all}
 
 -- a result that is scalar, or none, is not parallel
@@ -75,6 +76,10 @@ module _ (t : Typed) (image : Image) {beside : Beside} (p : IsProgramBeside besi
   abbrev pub frame : Frame
   frame = body_frame (number == 0) i
 
+  -- no jump leads out of it
+  abbrev pub exits : Exits
+  exits = record { frame = frame; loop = g.held; all = g.held }
+
   pub framed : StandsIn g frame
   unfolding body_frame
   framed = record { outcome = refl; main = refl; scalar = not_parallel i.result (p.each number i is).result }
@@ -82,6 +87,10 @@ module _ (t : Typed) (image : Image) {beside : Beside} (p : IsProgramBeside besi
   pub among : StandsAmong frame []
   unfolding body_frame
   among = record { loop = omega arith; all = refl }
+
+  pub stands_here : StandsHere g exits []
+  unfolding body_frame
+  stands_here = record { among = among; loop = restores_none g [] 0 refl; all = restores_none g [] 0 refl }
 
   pub falls : (active : Active) (s : TStmt) (n : ℕ) (st : State) → (state_after (executed scope s n active st)).turns ≤ st.turns
   unfolding scope_of
@@ -108,12 +117,12 @@ module _ (t : Typed) (image : Image) {beside : Beside} (p : IsProgramBeside besi
 
   -- the code comes to where the function is left, or the run ends before
   unfoldable pub RunsFunction : CodeState → Outcome Leaving → Type 0
-  RunsFunction s (Source.Gives leaving u) = Returns g OfFileOrParam s u (given_back leaving)
+  RunsFunction s (Source.Gives leaving u) = Returns g OfFileOrParam g.held s u (given_back leaving)
   RunsFunction s (Source.Ends early u) = Finishes g early u s
 
-  pub runs_function : (d e : Draft) (n : ℕ) (s : CodeState) (o : Outcome Leaving) → EndsSo o e → NoJump o → Follows g (Left g OfFileOrParam frame d s) s o (Makes n e) → RunsFunction s o
-  unfolding Follows RunsFunction Left NoJump given_back
-  runs_function d e n s (Source.Gives Onward u) so closed follows = left_at_end g OfFileOrParam d e s u tt (so.last u refl) (follows so.inside)
+  pub runs_function : (d e : Draft) (n : ℕ) (s : CodeState) (o : Outcome Leaving) → EndsSo o e → NoJump o → Follows g (Left g OfFileOrParam exits d s) s o (Makes n e) → RunsFunction s o
+  unfolding Follows RunsFunction LeftSo NoJump given_back
+  runs_function d e n s (Source.Gives Onward u) so closed follows = left_at_end g OfFileOrParam d e s u (so.last u refl) (follows so.inside)
   runs_function d e n s (Source.Gives Broke u) so closed follows = absurd closed
   runs_function d e n s (Source.Gives Continued u) so closed follows = absurd closed
   runs_function d e n s (Source.Gives (Returned v) u) so closed follows = follows so.inside

@@ -1,5 +1,5 @@
 -- Jumps and turns of the code.
-use Rattle.std.proofs.Common.{◌≡◌, ◌∙◌, ℕ, zero, suc, ◌+◌, ◌-◌, ◌==◌, Bool, true, false, not, List, [], take, length, slice_index, refl, ap, if◌then◌else◌, arith}
+use Rattle.std.proofs.Common.{◌≡◌, ◌∙◌, ℕ, suc, ◌+◌, ◌-◌, ◌==◌, Bool, true, false, not, List, length, slice_index, refl, ap, if◌then◌else◌, arith}
 use Rattle.std.proofs.lemmas.Bool.Decides.{nat_tests}
 use Rattle.cstar_tree.specs.declared.typed.Variable.{Variable}
 use Rattle.lower_base.specs.Drafts.{Draft, step as step_of, with_instr}
@@ -13,19 +13,6 @@ use Rattle.source_meaning.specs.State.{State}
 use Rattle.source_meaning.specs.Values.{nonzero}
 use Rattle.code_follows.proofs.Following.{Finishes, Sim}
 use Rattle.code_follows.proofs.Settings.{At, Reaches, Setting, Within, begins_here, ends_now, one, start}
-
-no_fields : List Field
-no_fields = []
-
-nothing_taken : (k : ℕ) → take k no_fields ≡ no_fields
-unfolding no_fields
-nothing_taken zero = refl
-nothing_taken (suc k) = refl
-
--- no context is saved
-pub nothing_restored : (k : ℕ) (d : Draft) → restored [] k d ≡ d
-unfolding restored loaded no_fields
-nothing_restored k d = ap (λ (list : List Field). loaded list d) (nothing_taken k)
 
 -- none of those that are saved is loaded
 pub none_restored : (contexts : List Field) (newest : ℕ) (d : Draft) → newest ≡ 0 → restored contexts newest d ≡ d

@@ -36,11 +36,13 @@ pub mod Nested
 pub mod Numbers
 pub mod Openings
 pub mod Operators
+pub mod Parts
 pub mod Passing
 pub mod Printing
 pub mod Programs
 pub mod Putting
 pub mod Regions
+pub mod Restoring
 pub mod Returning
 pub mod Rounds
 pub mod Settings

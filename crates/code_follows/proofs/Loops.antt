@@ -12,21 +12,24 @@ use Rattle.source_meaning.specs.State as Source
 use Rattle.source_meaning.specs.State.{Outcome, State, spend_turn, then_do}
 use Rattle.source_meaning.specs.Statements.{Broke, Continued, Leaving, Onward, Returned, executed, rounds, then_go, then_round}
 use Rattle.source_meaning.specs.Values.{Active, Scope}
-use Rattle.code_follows.proofs.Executing.{Jumped, Returns, returns_from, Left, RanOn, no_break, no_continue, no_return}
+use Rattle.code_follows.proofs.Executing.{Exits, Jumped, Left, LeftSo, RanOn, Returns, in_body, no_break, no_continue, no_return, returns_from}
 use Rattle.code_follows.proofs.Following.{Finishes, Follows, Keeps, Sim, finishes_later, keeps_all, keeps_less}
 use Rattle.code_follows.proofs.Jumping.{behind_turn, sim_spent, spends, stops}
 use Rattle.code_follows.proofs.Rounds.{Leads}
 use Rattle.code_follows.proofs.Settings.{At, Reaches, Setting, Within, code_more, earlier, onto, start}
 
 -- a loop: the turn stands behind one draft, the body behind it, then the step, the test, and the jump back
-module _ (g : Setting) (alive : Variable → Type 0) (scope : Scope) (active : Active) (tests : State → Outcome Bool) (body : TStmt) (n number : ℕ) (test_falls : (st : State) → (state_after (tests st)).turns ≤ st.turns) (f : Frame) (d before_turn behind_body stepped behind_loop : Draft) (turn : ℕ) (step : State → Outcome Leaving) where
+module _ (g : Setting) (alive : Variable → Type 0) (scope : Scope) (active : Active) (tests : State → Outcome Bool) (body : TStmt) (n number : ℕ) (test_falls : (st : State) → (state_after (tests st)).turns ≤ st.turns) (inner : Frame) (f : Exits) (d before_turn behind_body stepped behind_loop : Draft) (turn : ℕ) (step : State → Outcome Leaving) where
+  abbrev turning : Exits
+  turning = in_body inner g.held f
+
   abbrev before_body : Draft
   before_body = with_instr I.FrontTurn before_turn
 
   -- the loop is left behind it, or the run is over
   unfoldable pub LoopEnds : CodeState → Outcome Leaving → Type 0
-  LoopEnds s (Source.Gives Onward st) = Jumped g alive d s st (length behind_loop.code)
-  LoopEnds s (Source.Gives (Returned v) st) = Returns g alive s st v
+  LoopEnds s (Source.Gives Onward st) = Jumped g alive g.held d s st (length behind_loop.code)
+  LoopEnds s (Source.Gives (Returned v) st) = Returns g alive f.all s st v
   LoopEnds s (Source.Gives Broke st) = ⊥
   LoopEnds s (Source.Gives Continued st) = ⊥
   LoopEnds s (Source.Ends early st) = Finishes g early st s
@@ -34,14 +37,14 @@ module _ (g : Setting) (alive : Variable → Type 0) (scope : Scope) (active : A
   pub ends_from : (s t : CodeState) (o : Outcome Leaving) → Reaches g s t → Keeps g d s t → LoopEnds t o → LoopEnds s o
   unfolding LoopEnds
   ends_from s t (Source.Gives Onward st) go keeps j = record { t = j.t; go = onto g s t j.t go j.go; at = j.at; sim = j.sim; keeps = λ q kept. j.keeps q kept ∙ keeps q kept }
-  ends_from s t (Source.Gives (Returned v) st) go keeps h = returns_from g alive d s t st v go keeps h
+  ends_from s t (Source.Gives (Returned v) st) go keeps h = returns_from g alive f.all d s t st v go keeps h
   ends_from s t (Source.Gives Broke st) go keeps h = absurd h
   ends_from s t (Source.Gives Continued st) go keeps h = absurd h
   ends_from s t (Source.Ends early st) go keeps h = finishes_later g early st s t go h
 
-  module _ (within : Within g behind_loop) (turn_is : turn ≡ length before_turn.code) (next_is : f.next ≡ length behind_body.code) (after_is : f.after ≡ length behind_loop.code) (k j l : ℕ) (body_grows : Extended before_body k behind_body) (step_grows : Extended behind_body j stepped) (test_grows : Extended stepped l behind_loop)
+  module _ (within : Within g behind_loop) (turn_is : turn ≡ length before_turn.code) (next_is : inner.next ≡ length behind_body.code) (after_is : inner.after ≡ length behind_loop.code) (k j l : ℕ) (body_grows : Extended before_body k behind_body) (step_grows : Extended behind_body j stepped) (test_grows : Extended stepped l behind_loop)
       (regs : d.regs ≤ before_body.regs) (falls : (st : State) → (state_after (executed scope body n active st)).turns ≤ st.turns)
-      (body_follows : (t : CodeState) (st : State) → At g t (length before_body.code) → Sim g alive st t → Follows g (Left g alive f before_body t) t (executed scope body n active st) (Makes number behind_body))
+      (body_follows : (t : CodeState) (st : State) → At g t (length before_body.code) → Sim g alive st t → Follows g (Left g alive turning before_body t) t (executed scope body n active st) (Makes number behind_body))
       (step_falls : (st : State) → (state_after (step st)).turns ≤ st.turns) (step_follows : (t : CodeState) (st : State) → At g t (length behind_body.code) → Sim g alive st t → Follows g (RanOn g alive behind_body t) t (step st) (Makes (tt {0}) stepped))
       (test_leads : (t : CodeState) (st : State) → At g t (length stepped.code) → Sim g alive st t → Leads g alive stepped turn (length behind_loop.code) t (tests st)) where
     within_stepped : Within g stepped
@@ -66,10 +69,10 @@ module _ (g : Setting) (alive : Variable → Type 0) (scope : Scope) (active : A
     -- a turn, the body, and what comes next
     pub take_turn : (u : State) (t : CodeState) (next : State → Outcome Leaving) → At g t (length before_turn.code) → Sim g alive u t → ((m : ℕ) (v : State) (w : CodeState) → u.turns ≡ suc m → v.turns ≤ m → At g w (length behind_body.code) → Sim g alive v w → LoopEnds w (next v))
         → LoopEnds t (then_round (spend_turn u (λ s. executed scope body n active s)) next)
-    unfolding LoopEnds then_round spend_turn Follows Left state_after
+    unfolding LoopEnds then_round spend_turn Follows LeftSo state_after
     take_turn u t next here sim again = by_turns u.turns refl
       where
-        by_body : (m : ℕ) → u.turns ≡ suc m → (o : Outcome Leaving) → (state_after o).turns ≤ m → Follows g (Left g alive f before_body (behind_turn g alive t m)) (behind_turn g alive t m) o (Makes number behind_body) → LoopEnds (behind_turn g alive t m) (then_round o next)
+        by_body : (m : ℕ) → u.turns ≡ suc m → (o : Outcome Leaving) → (state_after o).turns ≤ m → Follows g (Left g alive turning before_body (behind_turn g alive t m)) (behind_turn g alive t m) o (Makes number behind_body) → LoopEnds (behind_turn g alive t m) (then_round o next)
         by_body m is (Source.Gives Onward v) few h =
             let ran = h within_body in
             ends_from (behind_turn g alive t m) ran.t (next v) ran.go (kept_by_body (behind_turn g alive t m) ran.t ran.keeps) (again m v ran.t is few ran.at ran.sim)
@@ -142,22 +145,22 @@ module _ (g : Setting) (alive : Variable → Type 0) (scope : Scope) (active : A
         (λ v w fewer here_w sim_w. step_on v w (rounds fuel tests a_round step) here_w sim_w (λ u x less here_x sim_x. rounds_follow fuel u x (omega (arith, fewer, less)) here_x sim_x)) (tests st) refl (test_leads s st here sim)
 
     -- how the loop is left, as a statement
-    loop_left : (h : Frame) (m : ℕ) (j : ℕ) (s : CodeState) (o : Outcome Leaving) → Extended d j behind_loop → LoopEnds s o → Follows g (Left g alive h d s) s o (Makes m behind_loop)
-    unfolding LoopEnds Follows Left
-    loop_left h m j s (Source.Gives Onward st) x e = λ w. record { grown = (j, x); t = e.t; go = e.go; at = e.at; sim = e.sim; keeps = e.keeps }
-    loop_left h m j s (Source.Gives (Returned v) st) x e = λ w. e
-    loop_left h m j s (Source.Gives Broke st) x e = absurd e
-    loop_left h m j s (Source.Gives Continued st) x e = absurd e
-    loop_left h m j s (Source.Ends early st) x e = λ w. e
+    loop_left : (m : ℕ) (j : ℕ) (s : CodeState) (o : Outcome Leaving) → Extended d j behind_loop → LoopEnds s o → Follows g (Left g alive f d s) s o (Makes m behind_loop)
+    unfolding LoopEnds Follows LeftSo
+    loop_left m j s (Source.Gives Onward st) x e = λ w. record { grown = (j, x); t = e.t; go = e.go; at = e.at; sim = e.sim; keeps = e.keeps }
+    loop_left m j s (Source.Gives (Returned v) st) x e = λ w. e
+    loop_left m j s (Source.Gives Broke st) x e = absurd e
+    loop_left m j s (Source.Gives Continued st) x e = absurd e
+    loop_left m j s (Source.Ends early st) x e = λ w. e
 
     -- the loop, from where it is entered
-    pub loop_runs : (h : Frame) (m i : ℕ) (s0 s1 : CodeState) (st : State) → Extended d i behind_loop → Reaches g s0 s1 → Keeps g d s0 s1 → At g s1 (length stepped.code) → Sim g alive st s1
-        → Follows g (Left g alive h d s0) s0 (rounds st.turns tests a_round step st) (Makes m behind_loop)
-    loop_runs h m i s0 s1 st x go keeps here sim = loop_left h m i s0 (rounds st.turns tests a_round step st) x (ends_from s0 s1 (rounds st.turns tests a_round step st) go keeps (rounds_follow st.turns st s1 (omega arith) here sim))
+    pub loop_runs : (m i : ℕ) (s0 s1 : CodeState) (st : State) → Extended d i behind_loop → Reaches g s0 s1 → Keeps g d s0 s1 → At g s1 (length stepped.code) → Sim g alive st s1
+        → Follows g (Left g alive f d s0) s0 (rounds st.turns tests a_round step st) (Makes m behind_loop)
+    loop_runs m i s0 s1 st x go keeps here sim = loop_left m i s0 (rounds st.turns tests a_round step st) x (ends_from s0 s1 (rounds st.turns tests a_round step st) go keeps (rounds_follow st.turns st s1 (omega arith) here sim))
 
     -- the same where the body comes first, and there is no step
-    pub do_runs : (h : Frame) (m i : ℕ) (s0 : CodeState) (st : State) → length stepped.code ≡ length behind_body.code → Extended d i behind_loop → At g s0 (length before_turn.code) → Sim g alive st s0
-        → Follows g (Left g alive h d s0) s0 (then_round (spend_turn st a_round) (λ s. rounds s.turns tests a_round step s)) (Makes m behind_loop)
-    do_runs h m i s0 st same x here sim =
-        loop_left h m i s0 (then_round (spend_turn st a_round) (λ s. rounds s.turns tests a_round step s)) x
+    pub do_runs : (m i : ℕ) (s0 : CodeState) (st : State) → length stepped.code ≡ length behind_body.code → Extended d i behind_loop → At g s0 (length before_turn.code) → Sim g alive st s0
+        → Follows g (Left g alive f d s0) s0 (then_round (spend_turn st a_round) (λ s. rounds s.turns tests a_round step s)) (Makes m behind_loop)
+    do_runs m i s0 st same x here sim =
+        loop_left m i s0 (then_round (spend_turn st a_round) (λ s. rounds s.turns tests a_round step s)) x
         (take_turn st s0 (λ s. rounds s.turns tests a_round step s) here sim (λ k v w is few here_w sim_w. rounds_follow v.turns v w (omega arith) (here_w ∙ ap (λ (q : ℕ). start g + q) (sym same)) sim_w))

@@ -46,7 +46,7 @@ use Rattle.code_follows.proofs.Endings.{NeverOnward, body_never, never_second}
 use Rattle.code_follows.proofs.Entering.{AllBeside, calls_so, enters_so, before_all}
 use Rattle.code_follows.proofs.Executing.{Left}
 use Rattle.code_follows.proofs.Following.{held, Extends, Follows, Sim}
-use Rattle.code_follows.proofs.Functions.{BodyMade, EndsSo, RunsFunction, among, body_made, declares, ends_by, falls, frame, framed, g, has, numbered, own, ready, runs_function, scope}
+use Rattle.code_follows.proofs.Functions.{BodyMade, EndsSo, RunsFunction, among, body_made, declares, ends_by, exits, falls, frame, framed, g, has, numbered, own, ready, runs_function, scope, stands_here}
 use Rattle.code_follows.proofs.Openings.{constants_run}
 use Rattle.std.proofs.lemmas.Nat.{pow_pos}
 use Rattle.source_meaning.specs.Reductions.{int_type}
@@ -230,6 +230,7 @@ module _ (t : Typed) (image : Image) {beside : Beside} (p : IsProgramBeside besi
   unfolding IsBody IsInStatement OfFileOrParam body_of body_frame declared_in then_make executed scope_of zeroed Extends
   runs (S.Block' locals q row) is h =
       let f = frame t image p codable compiled holding 0 p.main p.is_main [] turns in
+      let out = exits t image p codable compiled holding 0 p.main p.is_main [] turns in
       let wide : Variable → Type 0 = λ x. OrAmong OfFileOrParam 0 (length locals.items) x in
       let one : (k : ℕ) → wide (V.File k) = λ k. inl tt in
       let has_it = has t image p codable compiled holding 0 p.main p.is_main [] turns in
@@ -240,8 +241,8 @@ module _ (t : Typed) (image : Image) {beside : Beside} (p : IsProgramBeside besi
       let never_rises = falls t image p codable compiled holding 0 p.main p.is_main [] turns in
       let framed_so = framed t image p codable compiled holding 0 p.main p.is_main [] turns in
       let among_so = among t image p codable compiled holding 0 p.main p.is_main [] turns in
-      let around : Around Known main_setting here active [] =
-      record { has = has_it; numbers = numbers; ready = is_ready; declares = declared; calls_follow = main_calls; falls = never_rises; known = besides.known 0 p.main p.is_main [] turns; leaves = λ may. refl } in
+      let around : Around Known main_setting here active =
+      record { has = has_it; numbers = numbers; ready = is_ready; declares = declared; calls_follow = main_calls; falls = never_rises; known = besides.known 0 p.main p.is_main [] turns } in
       let homes = starts_homes t image (scalars t image p codable compiled holding) codable compiled p.main in
       let regs = starts_regs t image (scalars t image p codable compiled holding) codable compiled p.main in
       let c : HasStatementCode t p.main 0 (S.Block' locals q row) = subst (λ (s : TStmt). HasStatementCode t p.main 0 s) is (codable 0 p.main p.is_main).1 in
@@ -249,7 +250,7 @@ module _ (t : Typed) (image : Image) {beside : Beside} (p : IsProgramBeside besi
       let initial = block_initials main_setting has_it wide one numbers is_ready declared here active main_calls (never_rises active) [] 0 locals q row c in
       let settled = settled_so main_setting has_it wide one is_ready here active main_calls OfFileOrParam locals.items 0 (λ x living. inl living) (λ x own. inr own) before_all h.0.1 in
       let stand = first_part (map info_of locals.items) (row_variables row) (block_stands main_setting has_it wide one numbers is_ready declared here active main_calls (never_rises active) [] 0 locals q row c) in
-      let code : Made ℕ = begun_code main_setting has_it wide one numbers is_ready declared here active main_calls (never_rises active) [] locals.items row f 0 begun_there in
+      let code : Made ℕ = begun_code main_setting has_it wide one numbers is_ready declared here active main_calls (never_rises active) [] locals.items row out 0 begun_there in
       let code_is : body_of t (own t image p codable compiled holding 0 p.main p.is_main [] turns) f p.main.body begun_there ≡ code =
       ap (λ (b : TStmt). body_of t (own t image p codable compiled holding 0 p.main p.is_main [] turns) f b begun_there) is
       ∙ ap (λ (m : Made (Unit {0})). then_make (then_make m (λ u between. then_make (all_initialised t (own t image p codable compiled holding 0 p.main p.is_main [] turns) locals.items 0 between) (λ v after. Makes (0 + length locals.items) after))) (λ number after. statements_of t (own t image p codable compiled holding 0 p.main p.is_main [] turns) row f [] number after))
@@ -260,7 +261,7 @@ module _ (t : Typed) (image : Image) {beside : Beside} (p : IsProgramBeside besi
       let never : ends_in_return p.main.body ≡ true → NeverOnward whole =
       λ ends. never_second (initialised here active 0 locals.items _) _ (λ u. body_never here active locals q row (sym (ap (λ (x : TStmt). ends_in_return x) is) ∙ ends) (0 + length locals.items) u) in
       let ends : EndsSo t image p codable compiled holding 0 p.main p.is_main [] turns whole made.e = ends_by t image p codable compiled holding 0 p.main p.is_main [] turns whole made.e made.unit never in
-      let grown : (j : ℕ) × Extended begun_there j made.e = subst (λ (m : Made ℕ). Extends main_setting begun_there m) made.is_made (begun_grows main_setting has_it wide one numbers is_ready declared here active main_calls (never_rises active) [] locals.items row f 0 begun_there h.0.0 settled initial own_row framed_so among_so homes) in
+      let grown : (j : ℕ) × Extended begun_there j made.e = subst (λ (m : Made ℕ). Extends main_setting begun_there m) made.is_made (begun_grows main_setting has_it wide one numbers is_ready declared here active main_calls (never_rises active) [] locals.items row out 0 begun_there h.0.0 settled initial own_row framed_so among_so homes) in
       let opens = opened_so (earlier main_setting begun_there made.e grown.0 grown.1 ends.inside) in
       let now : Variable → Type 0 = λ x. Now main_setting has_it wide one is_ready here active main_calls locals.items 0 x in
       let sim : Sim main_setting now (begun_body locals.items row) opens.there =
@@ -269,10 +270,10 @@ module _ (t : Typed) (image : Image) {beside : Beside} (p : IsProgramBeside besi
       subst (λ (b : TStmt). Comes holding image opened (run_from (executed here b 0 active in_main))) (sym is)
       (comes opens.there whole opens.go
       (runs_function t image p codable compiled holding 0 p.main p.is_main [] turns begun_there made.e made.n opens.there whole ends closed
-      (subst (λ (m : Made ℕ). Follows main_setting (Left main_setting OfFileOrParam f begun_there opens.there) opens.there whole m) made.is_made
-      (follows_fewer main_setting wide OfFileOrParam (λ x living. inl living) f begun_there opens.there whole code
-      (begun_follows main_setting has_it wide one numbers is_ready declared here active main_calls (never_rises active) [] locals.items row f 0 begun_there opens.there (begun_body locals.items row) h.0.0 stand settled initial own_row framed_so among_so homes (record { regs = omega (arith, regs); code = omega arith; fields = omega arith }) opens.at sim
-      (λ e there u none free at sim_there. row_follows here (λ g. besides.follows g here) main_setting active [] around wide one (0 + length locals.items) (among_before OfFileOrParam 0 (length locals.items) before_all) row h.0.2 f e there u framed_so among_so (inl (let none = among_so.loop in omega (arith, none))) none free at sim_there own_row))))))
+      (subst (λ (m : Made ℕ). Follows main_setting (Left main_setting OfFileOrParam out begun_there opens.there) opens.there whole m) made.is_made
+      (follows_fewer main_setting wide OfFileOrParam (λ x living. inl living) out begun_there opens.there whole code
+      (begun_follows main_setting has_it wide one numbers is_ready declared here active main_calls (never_rises active) [] locals.items row out 0 begun_there opens.there (begun_body locals.items row) h.0.0 stand settled initial own_row framed_so among_so homes (record { regs = omega (arith, regs); code = omega arith; fields = omega arith }) opens.at sim
+      (λ e there u none free at sim_there. row_follows here (λ g. besides.follows g here) main_setting active around [] wide one (0 + length locals.items) (among_before OfFileOrParam 0 (length locals.items) before_all) row h.0.2 out e there u framed_so (stands_here t image p codable compiled holding 0 p.main p.is_main [] turns) none free at sim_there own_row))))))
   runs _ is h = absurd h
 
 -- the code comes to the end of the source's meaning

@@ -27,8 +27,8 @@ use Rattle.code_follows.proofs.Settings.{At, Begun, Setting, Within, and_one, co
 module _ (g : Setting) (alive : Variable → Type 0) where
   -- where a condition passes the code is at the turn, and else behind the loop
   unfoldable pub Leads : Draft → ℕ → ℕ → CodeState → Outcome Bool → Type 0
-  Leads d turn behind s (Source.Gives true u) = Jumped g alive d s u turn
-  Leads d turn behind s (Source.Gives false u) = Jumped g alive d s u behind
+  Leads d turn behind s (Source.Gives true u) = Jumped g alive g.held d s u turn
+  Leads d turn behind s (Source.Gives false u) = Jumped g alive g.held d s u behind
   Leads d turn behind s (Source.Ends early u) = Finishes g early u s
 
   module _ (has : HasRegisters g) (files : (k : ℕ) → alive (V.File k)) (n : ℕ) (ready : (d : Draft) → IsReady g.typed g.instance (layout g) n d) (scope : Scope) (active : Active) (calls_follow : CallsFollow g scope active) where

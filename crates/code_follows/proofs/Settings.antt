@@ -59,6 +59,10 @@ pub record Setting : Type 1 where
   pub entries : ℕ
   pub upto : ℕ
 
+-- the same unit, where this is held of the memory
+abbrev pub holding : Setting → Held → Setting
+holding g held = record g { held = held }
+
 module _ (g : Setting) where
   abbrev pub whole : List Step
   whole = map step_of g.unit.code.items

@@ -1,5 +1,5 @@
 -- The code of statements follows the source.
-use Rattle.std.proofs.Common.{◌≡◌, ◌∙◌, ◌⊎◌, inl, inr, ℕ, Option, Some, None, List, [], ◌∷◌, ◌++◌, length, length-append, refl, sym, ap, subst, arith}
+use Rattle.std.proofs.Common.{◌≡◌, ◌∙◌, ℕ, Option, Some, None, List, [], ◌∷◌, ◌++◌, length, length-append, refl, sym, ap, subst, arith}
 use Rattle.std.specs.Prelude.{IfSome}
 use Rattle.cstar_tree.specs.declared.typed.TExpr.{TExpr}
 use Rattle.cstar_tree.specs.declared.typed.TStmt.{TStmt, Row_of-TStmt, end_of-TStmt, more_of-TStmt, Held-TStmt-If-2, None', Some'}
@@ -24,7 +24,8 @@ use Rattle.lower_stmt.specs.Lengths.{one_more, statement_length_of}
 use Rattle.lower_stmt.specs.Programs.{outcome_of}
 use Rattle.lower_stmt.specs.Statements.{statement_of}
 use Rattle.paris_code.specs.declared.operands.Field.{Field}
-use Rattle.code_follows.specs.Fragment.{IsClosed, IsClosedElse}
+use Rattle.code_follows.proofs.Executing.{Exits}
+use Rattle.code_follows.proofs.Restoring.{Restores}
 use Rattle.code_follows.proofs.Settings.{Setting, layout}
 
 -- the frame of a statement of the function
@@ -38,32 +39,11 @@ pub in_context_too : (g : Setting) (f : Frame) → StandsIn g f → StandsIn g (
 unfolding in_context
 in_context_too g f h = record { outcome = h.outcome; main = h.main; scalar = h.scalar }
 
--- a statement among these saved contexts, of which its jumps out of a loop load none
-pub record StandsHere (f : Frame) (contexts : List Field) (s : TStmt) : Type 0 where
-  pub among : StandsAmong f contexts
-  pub jumps : (f.saved.in_loop ≡ 0) ⊎ IsClosed s
-
--- of a part of it
-module _ (f : Frame) (contexts : List Field) where
-  pub if_first_here : (test : TExpr) (p : Boxed) (first : TStmt) (second : Held-TStmt-If-2) → StandsHere f contexts (S.If' test p first second) → StandsHere f contexts first
-  unfolding IsClosed
-  if_first_here test p first second h = record { among = h.among; jumps = by h.jumps }
-    where
-      by : (f.saved.in_loop ≡ 0) ⊎ IsClosed (S.If' test p first second) → (f.saved.in_loop ≡ 0) ⊎ IsClosed first
-      by (inl none) = inl none
-      by (inr closed) = inr closed.0
-
-  pub if_second_here : (test : TExpr) (p : Boxed) (first : TStmt) (q : Boxed) (second : TStmt) → StandsHere f contexts (S.If' test p first (Some' q second)) → StandsHere f contexts second
-  unfolding IsClosed IsClosedElse
-  if_second_here test p first q second h = record { among = h.among; jumps = by h.jumps }
-    where
-      by : (f.saved.in_loop ≡ 0) ⊎ IsClosed (S.If' test p first (Some' q second)) → (f.saved.in_loop ≡ 0) ⊎ IsClosed second
-      by (inl none) = inl none
-      by (inr closed) = inr closed.1
-
-  pub with_here : (shape : ℕ) (p : Boxed) (body : TStmt) → StandsHere f contexts (S.With' shape p body) → StandsHere f contexts body
-  unfolding IsClosed
-  with_here shape p body h = record { among = h.among; jumps = h.jumps }
+-- a statement among these saved contexts: where those of its loop are loaded, and where all are, this is held
+pub record StandsHere (g : Setting) (f : Exits) (contexts : List Field) : Type 1 where
+  pub among : StandsAmong f.frame contexts
+  pub loop : Restores g f.loop contexts f.frame.saved.in_loop
+  pub all : Restores g f.all contexts f.frame.saved.in_all
 
 -- under one context more
 pub deeper : (f : Frame) (contexts : List Field) (saved : Field) → StandsAmong f contexts → StandsAmong (in_context f) (contexts ++ saved ∷ [])

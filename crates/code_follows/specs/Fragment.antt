@@ -60,22 +60,21 @@ pub record Beside : Type 1 where
   pub variables : VarInfo → Type 0  -- of the file
 
 -- What the body of a function may do: call which functions, by their instances' numbers, with arguments of which
--- types, for a value of which type where it is used; return numbers of which types; name which variables; have which
--- parallel expressions and contexts; and be left before its end.
+-- types, for a value of which type where it is used; return numbers of which types; name which variables; and have
+-- which parallel expressions and contexts.
 pub record May : Type 1 where
   pub calls : Option Elem → ℕ → List Elem → Type 0
   pub returns : Elem → Type 0
   pub names : Variable → Type 0
   pub beside : Beside
-  pub leaves : Type 0
 
 -- the same with other variables to name
 abbrev pub naming : May → (Variable → Type 0) → May
 naming may names = record may { names = names }
 
--- the same under contexts, where nothing is called and the function is not left
+-- the same under contexts, where nothing is called
 abbrev pub under_contexts : May → May
-under_contexts may = record may { calls = λ used index given. ⊥; leaves = ⊥ }
+under_contexts may = record may { calls = λ used index given. ⊥ }
 
 -- the variables of some, and so many of a block from a number on
 abbrev pub OrAmong : (Variable → Type 0) → ℕ → ℕ → Variable → Type 0
@@ -195,8 +194,7 @@ unfoldable mutual
   IsClosedElse (Some' p s) = IsClosed s
 
 -- Statements of these, where so many variables of blocks are declared before. Those of a block may be named in it
--- alone; each function begins with the variables of the file and its parameters. What stands under a context leads
--- nowhere else than to its end.
+-- alone; each function begins with the variables of the file and its parameters.
 unfoldable mutual
   pub IsInStatement : May → ℕ → TStmt → Type 0
   IsInStatement may n (S.Block' locals p statements) = All IsScalarLocal locals.items × AreInitials may n locals.items × AreInStatements (within may n (length locals.items)) (n + length locals.items) statements
@@ -208,13 +206,12 @@ unfoldable mutual
   IsInStatement may n (S.For' first test step p body) = IfSome first (IsEffect may) × IsTested may test × IfSome step (IsEffect may) × IsInStatement may n body
   IsInStatement may n S.Break = Unit {0}
   IsInStatement may n S.Continue = Unit {0}
-  IsInStatement may n (S.Return e) = may.leaves × IfSome e (λ e. IsIn may e × may.returns (type_of e).elem)
+  IsInStatement may n (S.Return e) = IfSome e (λ e. IsIn may e × may.returns (type_of e).elem)
   IsInStatement may n (S.With' shape p body) = IsInStatement may n body
-  IsInStatement may n (S.Everywhere' shape p body) = may.beside.widens shape × IsInStatement (under_contexts may) n body × IsClosed body
+  IsInStatement may n (S.Everywhere' shape p body) = may.beside.widens shape × IsInStatement (under_contexts may) n body
   IsInStatement may n (S.Where' shape test p first second) =
       may.beside.conditions shape test × ScalarsAmong may.names test
-      × IsInStatement (under_contexts may) n first × IsClosed first
-      × IsInElse (under_contexts may) (behind n first) second × IsClosedElse second
+      × IsInStatement (under_contexts may) n first × IsInElse (under_contexts may) (behind n first) second
 
   pub AreInStatements : {k : _} → May → ℕ → Row_of-TStmt k → Type 0
   AreInStatements may n end_of-TStmt = Unit {0}
@@ -263,7 +260,6 @@ may_of beside t i = record {
   returns = λ elem. (info : VarInfo) → i.result ≡ Some info → Takes info.elem elem;
   names = OfFileOrParam;
   beside = beside;
-  leaves = Unit {0};
 }
 
 -- the numbers of the instances that each instance calls

@@ -13,8 +13,8 @@ use Rattle.paris_code.specs.Code.{CodeState}
 use Rattle.source_meaning.specs.Expressions.{evaluated}
 use Rattle.source_meaning.specs.State.{Gives, Outcome, State}
 use Rattle.source_meaning.specs.Values.{Active, Scalar, Scope, Value}
-use Rattle.code_follows.proofs.Besides.{BesideFollows}
 use Rattle.code_follows.proofs.Following.{Follows, HasRegisters, IsKept, Ran, Sim}
+use Rattle.code_follows.proofs.Parts.{BesideFollows}
 use Rattle.code_follows.proofs.Settings.{At, Begun, Setting, Within, layout, onto}
 use Rattle.code_follows.proofs.Values.{Dest}
 use Rattle.fields_follow.specs.Fragment.{IsFold, IsParallelEffect}

@@ -12,7 +12,6 @@ use Rattle.code_lengths.specs.Ready.{HasCode, HasStatementCode, IsReady}
 use Rattle.code_lengths.specs.ShapedStatements.{IsShapedStatement}
 use Rattle.code_lengths.proofs.Drafting.{and_instr, as_it_was, extended}
 use Rattle.lower_base.specs.Drafts.{Draft, Made, Makes, an_entry, step as step_of, then_make, with_instr}
-use Rattle.lower_stmt.specs.declared.statement.Frame.{Frame}
 use Rattle.lower_stmt.specs.Frames.{in_context}
 use Rattle.lower_stmt.specs.Statements.{closing, kept_for, narrowed, otherwise_of, statement_of, turned, with_kept}
 use Rattle.paris_code.specs.declared.instr.Instr.TheVariants as I
@@ -25,8 +24,9 @@ use Rattle.source_meaning.specs.State.{Gives, Outcome, State, then_do}
 use Rattle.source_meaning.specs.Statements.{Leaving, Onward, declared, else_executed, executed, then_go}
 use Rattle.source_meaning.specs.Values.{Active, Parallel, Scope, Value, nonzero}
 use Rattle.source_meaning.proofs.ConstantLaws.{Boxed}
-use Rattle.code_follows.proofs.Besides.{ComesOn, Part, StatementPart}
+use Rattle.code_follows.proofs.Executing.{Exits, Left, go_on}
 use Rattle.code_follows.proofs.Following.{Extends, HasRegisters, at_once, follows_same}
+use Rattle.code_follows.proofs.Parts.{ComesOn, Part, StatementPart, in_one_more}
 use Rattle.code_follows.proofs.Settings.{Setting, Within, and_one, code_more, earlier, layout}
 use Rattle.code_follows.specs.Fragment.{ScalarsAmong}
 use Rattle.fields_follow.specs.Fragment.{IsCondition, KnowsExtents, extents_in}
@@ -34,8 +34,8 @@ use Rattle.fields_follow.proofs.Forms.{HasItsCode}
 use Rattle.fields_follow.proofs.Instructions.{extents}
 use Rattle.fields_follow.proofs.Knowing.{KnowsFields, Lasts, flags_last, lasts_both}
 use Rattle.fields_follow.proofs.Entering.{TestMade, code_more_by, context_led, entered, entries_more, holds, holds_own, saved, saved_own, test_made}
-use Rattle.fields_follow.proofs.Saving.{Arrives, Kept, arrives, arrives_now, kept_lasts, own_below, part_closed, test_below}
-use Rattle.fields_follow.proofs.Leading.{HasTests, Led, TestsAre, keeps_tests, led_weaker, loads_tests, named_next, narrows, then_leads, turns}
+use Rattle.fields_follow.proofs.Saving.{Kept, arrives, arrives_now, kept_lasts, own_below, part_closed, test_below}
+use Rattle.fields_follow.proofs.Leading.{HasTests, Led, TestsAre, keeps_tests, led_weaker, loads_tests, named_next, narrows, turns}
 use Rattle.fields_follow.proofs.Leaving.{EndsBelow}
 use Rattle.fields_follow.proofs.Meaning.{value_in}
 use Rattle.fields_follow.proofs.Narrowing.{among, among_beside, others, others_beside}
@@ -57,14 +57,14 @@ module _ (g : Setting) (has : HasRegisters g) (scope : Scope) (active : Active) 
   where_test shape test p first second c = (c.lowerable.0, record { shaped = c.shaped.0; lowerable = c.lowerable.1; names = c.names.0 })
 
   -- where nothing is behind `else`
-  where_alone : (shape : ℕ) (test : TExpr) (p : Boxed) (first : TStmt) → IsCondition shape test → InField g.typed test → HasItsCode g.typed g.instance alive n test → (f : Frame) (contexts : List Field) → StatementPart KnowsFields g scope alive first n f contexts
+  where_alone : (shape : ℕ) (test : TExpr) (p : Boxed) (first : TStmt) → IsCondition shape test → InField g.typed test → HasItsCode g.typed g.instance alive n test → (f : Exits) (contexts : List Field) → StatementPart KnowsFields g scope alive first n f contexts
       → ComesOn g scope alive active (S.Where' shape test p first None') n f contexts
   unfolding else_executed statement_of an_entry then_make closing narrowed with_kept kept_for otherwise_of step_of Extends
   where_alone shape test p first condition field c f contexts parts d s st none begun at sim =
-      follows_same g (Arrives g scope active known alive d s) s refl
-      (ap (λ (made : Made (Unit {0})). then_make made (λ u known. then_make (closing (saved shape d) (code (inner_of known))) (λ m behind. otherwise_of g.typed (layout g) None' f contexts shape (saved shape d) (holds shape d) m behind))) tests.1.1.0
-      ∙ ap (λ (made : Made ℕ). then_make (closing (saved shape d) made) (λ m behind. otherwise_of g.typed (layout g) None' f contexts shape (saved shape d) (holds shape d) m behind)) made.1.0)
-      (at_once g (Arrives g scope active known alive d s) s o (behind n first) last (λ w.
+      follows_same g (Left g alive f d s) s refl
+      (ap (λ (made : Made (Unit {0})). then_make made (λ u known. then_make (closing (saved shape d) (code (inner_of known))) (λ m behind. otherwise_of g.typed (layout g) None' f.frame contexts shape (saved shape d) (holds shape d) m behind))) tests.1.1.0
+      ∙ ap (λ (made : Made ℕ). then_make (closing (saved shape d) made) (λ m behind. otherwise_of g.typed (layout g) None' f.frame contexts shape (saved shape d) (holds shape d) m behind)) made.1.0)
+      (at_once g (Left g alive f d s) s o (behind n first) last (λ w.
       let w_e : Within g e = earlier g e last 1 (and_one g (I.LoadContext (saved shape d)) e) w in
       let w_inner : Within g inner = earlier g inner e longer.0 longer.1 w_e in
       let w_saves : Within g save = earlier g save inner 1 (and_one g (I.LogandContextWithTest shape) save) w_inner in
@@ -85,11 +85,11 @@ module _ (g : Setting) (has : HasRegisters g) (scope : Scope) (active : Active) 
       context_led g shape d test tests scope active known alive begun s st has n ready condition c at sim (length e.code) w_saves loaded (omega (arith, one, two, long)) in
       let led_inner : Led g scope active known alive (among shape v active) (λ m. Kept g scope active known alive (saved shape d) m) d inner s st =
       narrows g scope active known alive active (λ m. Kept g scope active known alive (saved shape d) m) (length inner.code) (length inner.fields) (length e.code) lasts d save s st shape v w_inner led_save in
-      follows_same g (Arrives g scope active known alive d s) s (where_means scope active shape test p first None' n v st (condition_means g scope known.places known.same_extents alive n active shape test st condition c below.0)) refl
-      (then_leads g scope active known alive active (λ m. Kept g scope active known alive (saved shape d) m) (Arrives g scope active known alive d s) d last s (behind n first) (executed scope first n (among shape v active) st) (λ u. Gives Onward u) (Makes (behind n first) last)
-      (part_closed g scope active known alive (among shape v active) (saved shape d) (λ m. Kept g scope active known alive (saved shape d) m) d inner e s st longer.0 (behind n first) (λ a u. executed scope first n a u) code part made.1.0 inner_homes begun lasts (λ m kept. kept.1)
+      follows_same g (Left g alive f d s) s (where_means scope active shape test p first None' n v st (condition_means g scope known.places known.same_extents alive n active shape test st condition c below.0)) refl
+      (go_on g alive (λ u h. Led g scope active known alive active (λ m. Kept g scope active known alive (saved shape d) m) d h s u) f d s (executed scope first n (among shape v active) st) (λ u. Gives Onward u) (behind n first) last (Makes (behind n first) last)
+      (part_closed g scope active known alive (among shape v active) (saved shape d) (λ m. Kept g scope active known alive (saved shape d) m) f d inner e s st longer.0 (behind n first) (λ a u. executed scope first n a u) code part made.1.0 inner_homes begun lasts (λ m kept. kept.1) (λ m kept. kept.0)
       (λ q x differ. sym (among_beside shape v active q x differ)) longer.1 led_inner) (0, as_it_was last)
-      (λ u led. arrives_now g scope active known alive (λ m. Kept g scope active known alive (saved shape d) m) d s u (behind n first) last (λ m kept. kept.0) led))))
+      (λ u led. arrives_now g scope active known alive (λ m. Kept g scope active known alive (saved shape d) m) f d s u (behind n first) last (λ m kept. kept.0) led))))
     where
       v : ℕ → ℕ
       v = λ q. value_in (extents g shape) st test q
@@ -119,9 +119,9 @@ module _ (g : Setting) (has : HasRegisters g) (scope : Scope) (active : Active) 
       inner_homes = inner_more.homes ∙ tests.1.1.1.1.homes ∙ none
 
       code : Draft → Made ℕ
-      code begin = statement_of g.typed (layout g) first (in_context f) (contexts ++ saved shape d ∷ []) n begin
+      code begin = statement_of g.typed (layout g) first (in_context f.frame) (contexts ++ saved shape d ∷ []) n begin
 
-      part : Part KnowsFields g scope alive (behind n first) (λ a u. executed scope first n a u) code
+      part : Part KnowsFields g scope alive (saved shape d) (in_one_more f) (behind n first) (λ a u. executed scope first n a u) code
       part = parts (saved shape d)
 
       made : (e : Draft) × ((code inner ≡ Makes (behind n first) e) × ((k : ℕ) × Extended inner k e) × (e.homes ≡ []))
@@ -137,14 +137,14 @@ module _ (g : Setting) (has : HasRegisters g) (scope : Scope) (active : Active) 
       last = with_instr (I.LoadContext (saved shape d)) e
 
   -- where something is
-  where_else : (shape : ℕ) (test : TExpr) (p q : Boxed) (first second : TStmt) → IsCondition shape test → InField g.typed test → HasItsCode g.typed g.instance alive n test → (f : Frame) (contexts : List Field) → StatementPart KnowsFields g scope alive first n f contexts
+  where_else : (shape : ℕ) (test : TExpr) (p q : Boxed) (first second : TStmt) → IsCondition shape test → InField g.typed test → HasItsCode g.typed g.instance alive n test → (f : Exits) (contexts : List Field) → StatementPart KnowsFields g scope alive first n f contexts
       → StatementPart KnowsFields g scope alive second (behind n first) f contexts → ComesOn g scope alive active (S.Where' shape test p first (Some' q second)) n f contexts
   unfolding declared else_executed statement_of an_entry then_make closing narrowed with_kept kept_for otherwise_of turned step_of Extends
   where_else shape test p q first second condition field c f contexts parts other_parts d s st none begun at sim =
-      follows_same g (Arrives g scope active known alive d s) s refl
+      follows_same g (Left g alive f d s) s refl
       (ap (λ (made : Made (Unit {0})). then_make made (λ u known. then_make (closing saved_in (code (inner_of known))) rest)) tests.1.1.0
       ∙ ap (λ (made : Made ℕ). then_make (closing saved_in made) rest) made.1.0 ∙ ap (λ (made : Made ℕ). closing saved_in made) other_made.1.0)
-      (at_once g (Arrives g scope active known alive d s) s (executed scope (S.Where' shape test p first (Some' q second)) n active st) m last (λ w.
+      (at_once g (Left g alive f d s) s (executed scope (S.Where' shape test p first (Some' q second)) n active st) m last (λ w.
       let w_f : Within g h = earlier g h last 1 (and_one g (I.LoadContext saved_in) h) w in
       let w_turns : Within g turns_back = earlier g turns_back h far.0 far.1 w_f in
       let w_loads : Within g loads = earlier g loads turns_back 1 (and_one g (I.LogandcContextWithTest shape) loads) w_turns in
@@ -189,15 +189,15 @@ module _ (g : Setting) (has : HasRegisters g) (scope : Scope) (active : Active) 
       let led_keep : Led g scope active known alive active (λ m. KeptTests m × TestsAre g shape active v m) d keep s st =
       keeps_tests g scope active known alive active (λ m. Kept g scope active known alive saved_in m) (length save.code) (length (entered shape d).fields) (length keep.code) lasts_early d save s st v holds_in (length back.code) (omega arith) (omega arith) (omega (arith, two)) own_test refl loaded_test (omega (arith, two, three, long, four)) w_keep led_save in
       let led_inner : Led g scope active known alive (among shape v active) (λ m. KeptTests m) d inner s st = narrows g scope active known alive active (λ m. KeptTests m) (length inner.code) (length inner.fields) (length e.code) lasts d keep s st shape v w_inner led_keep in
-      follows_same g (Arrives g scope active known alive d s) s (where_means scope active shape test p first (Some' q second) n v st (condition_means g scope known.places known.same_extents alive n active shape test st condition c below.0)) refl
-      (then_leads g scope active known alive active (λ m. KeptTests m) (Arrives g scope active known alive d s) d back s (behind n first) (executed scope first n (among shape v active) st) (executed scope second (behind n first) (others shape v active)) (Makes m last)
-      (part_closed g scope active known alive (among shape v active) saved_in (λ m. KeptTests m) d inner e s st longer.0 (behind n first) (λ a u. executed scope first n a u) code (parts saved_in) made.1.0 inner_homes begun lasts (λ m kept. kept.0.1) (λ y x differ. sym (among_beside shape v active y x differ)) longer.1 led_inner)
+      follows_same g (Left g alive f d s) s (where_means scope active shape test p first (Some' q second) n v st (condition_means g scope known.places known.same_extents alive n active shape test st condition c below.0)) refl
+      (go_on g alive (λ u x. Led g scope active known alive active (λ m. KeptTests m) d x s u) f d s (executed scope first n (among shape v active) st) (executed scope second (behind n first) (others shape v active)) (behind n first) back (Makes m last)
+      (part_closed g scope active known alive (among shape v active) saved_in (λ m. KeptTests m) f d inner e s st longer.0 (behind n first) (λ a u. executed scope first n a u) code (parts saved_in) made.1.0 inner_homes begun lasts (λ m kept. kept.0.1) (λ m kept. kept.0.0) (λ y x differ. sym (among_beside shape v active y x differ)) longer.1 led_inner)
       (2 + (far.0 + 1), last_more)
       (λ u led.
       let led_loads : Led g scope active known alive active (λ m. KeptTests m × TestsAre g shape active v m) d loads s u = loads_tests g scope active known alive active (λ m. KeptTests m) (length inner.code) (length inner.fields) (length e.code) lasts d back s u v holds_in (λ m kept. kept.1) w_loads led in
       let led_turns : Led g scope active known alive (others shape v active) (λ m. KeptTests m) d turns_back s u = turns g scope active known alive active (λ m. KeptTests m) (length inner.code) (length inner.fields) (length e.code) lasts d loads s u shape v w_turns led_loads in
-      arrives g scope active known alive (λ m. Kept g scope active known alive saved_in m) d s (executed scope second (behind n first) (others shape v active) u) (Makes m last) (λ m kept. kept.0)
-      (part_closed g scope active known alive (others shape v active) saved_in (λ m. Kept g scope active known alive saved_in m) d turns_back h s u far.0 m (λ a x. executed scope second (behind n first) a x) other_code (other_parts saved_in) other_made.1.0 back_homes begun lasts_late (λ m kept. kept.1) (λ y x differ. sym (others_beside shape v active y x differ)) far.1
+      arrives g scope active known alive (λ m. Kept g scope active known alive saved_in m) f d s (executed scope second (behind n first) (others shape v active) u) (Makes m last) (λ m kept. kept.0)
+      (part_closed g scope active known alive (others shape v active) saved_in (λ m. Kept g scope active known alive saved_in m) f d turns_back h s u far.0 m (λ a x. executed scope second (behind n first) a x) other_code (other_parts saved_in) other_made.1.0 back_homes begun lasts_late (λ m kept. kept.1) (λ m kept. kept.0) (λ y x differ. sym (others_beside shape v active y x differ)) far.1
       (led_weaker g scope active known alive (others shape v active) (λ m. KeptTests m) (λ m. Kept g scope active known alive saved_in m) d turns_back s u (λ m kept. kept.0) led_turns))))))
     where
       v : ℕ → ℕ
@@ -240,7 +240,7 @@ module _ (g : Setting) (has : HasRegisters g) (scope : Scope) (active : Active) 
       inner_homes = inner_more.homes ∙ tests.1.1.1.1.homes ∙ none
 
       code : Draft → Made ℕ
-      code begin = statement_of g.typed (layout g) first (in_context f) (contexts ++ saved_in ∷ []) n begin
+      code begin = statement_of g.typed (layout g) first (in_context f.frame) (contexts ++ saved_in ∷ []) n begin
 
       made : (e : Draft) × ((code inner ≡ Makes (behind n first) e) × ((k : ℕ) × Extended inner k e) × (e.homes ≡ []))
       made = (parts saved_in).made inner inner_homes
@@ -270,10 +270,10 @@ module _ (g : Setting) (has : HasRegisters g) (scope : Scope) (active : Active) 
       back_homes = back_more.homes ∙ inner_homes
 
       other_code : Draft → Made ℕ
-      other_code begin = statement_of g.typed (layout g) second (in_context f) (contexts ++ saved_in ∷ []) (behind n first) begin
+      other_code begin = statement_of g.typed (layout g) second (in_context f.frame) (contexts ++ saved_in ∷ []) (behind n first) begin
 
       rest : ℕ → Draft → Made ℕ
-      rest k begin = otherwise_of g.typed (layout g) (Some' q second) f contexts shape saved_in holds_in k begin
+      rest k begin = otherwise_of g.typed (layout g) (Some' q second) f.frame contexts shape saved_in holds_in k begin
 
       other_made : (h : Draft) × ((other_code turns_back ≡ Makes m h) × ((k : ℕ) × Extended turns_back k h) × (h.homes ≡ []))
       other_made = (other_parts saved_in).made turns_back back_homes
@@ -291,7 +291,7 @@ module _ (g : Setting) (has : HasRegisters g) (scope : Scope) (active : Active) 
       last_more = extended back turns_back last 2 (far.0 + 1) from_back (extended turns_back h last far.0 1 far.1 (and_one g (I.LoadContext saved_in) h))
 
   -- so it follows either way
-  pub where_follows : (shape : ℕ) (test : TExpr) (p : Boxed) (first : TStmt) (second : Held-TStmt-If-2) → IsCondition shape test → KnowsExtents (extents_in g.typed) test → ScalarsAmong alive test → HasStatementCode g.typed g.instance n (S.Where' shape test p first second) → (f : Frame) (contexts : List Field)
+  pub where_follows : (shape : ℕ) (test : TExpr) (p : Boxed) (first : TStmt) (second : Held-TStmt-If-2) → IsCondition shape test → KnowsExtents (extents_in g.typed) test → ScalarsAmong alive test → HasStatementCode g.typed g.instance n (S.Where' shape test p first second) → (f : Exits) (contexts : List Field)
       → StatementPart KnowsFields g scope alive first n f contexts → ((q : Boxed) (s : TStmt) → second ≡ Some' q s → StatementPart KnowsFields g scope alive s (behind n first) f contexts) → ComesOn g scope alive active (S.Where' shape test p first second) n f contexts
   where_follows shape test p first None' condition extents_so among_so c f contexts parts other_parts =
       let (field, code) = where_test shape test p first None' c in where_alone shape test p first condition field (record { code = code; among = among_so; extents = extents_so }) f contexts parts

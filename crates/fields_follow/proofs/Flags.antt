@@ -17,12 +17,13 @@ use Rattle.paris_code.specs.Spans.{IsNamedAt, StandsAt, fields_of}
 use Rattle.paris_code.specs.Writes.{Write, covers, written}
 use Rattle.source_meaning.specs.State.{State}
 use Rattle.source_meaning.specs.Values.{Active}
+use Rattle.code_follows.proofs.Besides.{sim_saying}
 use Rattle.code_follows.proofs.Following.{Sim}
 use Rattle.code_follows.proofs.Settings.{At, Reaches, Setting, Within, at_next, begins_here, one, placed_instr}
 use Rattle.fields_follow.proofs.Bits.{active_apart, covers_flag, field_apart, field_written, if_false, if_true}
 use Rattle.fields_follow.proofs.FileFields.{Apart, apart_back}
 use Rattle.fields_follow.proofs.Instructions.{number_in, place, shapes, wrote}
-use Rattle.fields_follow.proofs.Leaving.{EndsBelow, sim_saying, under}
+use Rattle.fields_follow.proofs.Leaving.{EndsBelow, under}
 use Rattle.fields_follow.proofs.Named.{NamesFields}
 use Rattle.fields_follow.proofs.Places.{IsOwnField, PlacesFields, names_first, of_file, stands_here}
 

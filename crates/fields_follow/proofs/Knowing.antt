@@ -11,13 +11,13 @@ use Rattle.paris_code.specs.Memory.{BitMemory, field_number, processors}
 use Rattle.paris_code.specs.Spans.{IsNamedAt}
 use Rattle.source_meaning.specs.State.{Early, State}
 use Rattle.source_meaning.specs.Values.{Active, Scope}
-use Rattle.code_follows.proofs.Besides.{under_held}
+use Rattle.code_follows.proofs.Besides.{sim_saying, under_held}
 use Rattle.code_follows.proofs.Following.{Finishes, IsKept, Sim}
 use Rattle.code_follows.proofs.Settings.{Held, Setting, Within}
 use Rattle.fields_follow.specs.Fragment.{IsCondition, IsFold, IsParallelEffect, KnowsExtents, extents_in}
 use Rattle.fields_follow.proofs.Fields.{HoldsFields, HoldsNumbers, fields_held}
 use Rattle.fields_follow.proofs.Instructions.{SameExtents, place, shapes}
-use Rattle.fields_follow.proofs.Leaving.{EndsBelow, sim_saying, under}
+use Rattle.fields_follow.proofs.Leaving.{EndsBelow, under}
 use Rattle.fields_follow.proofs.Places.{IsOwnField, PlacesFields}
 
 module _ (g : Setting) where

@@ -1,10 +1,10 @@
 -- The course of code on which contexts are saved and loaded, and other positions become active.
-use Rattle.std.proofs.Common.{◌≡◌, ◌∙◌, ℕ, ◌+◌, ◌<◌, ◌≤◌, Bool, true, not, List, [], ◌∷◌, length, slice_index, refl, sym, ap, subst, arith}
+use Rattle.std.proofs.Common.{◌≡◌, ◌∙◌, ℕ, ◌+◌, ◌<◌, ◌≤◌, Bool, true, not, List, [], ◌∷◌, length, slice_index, refl, sym, ap, arith}
 use Rattle.std.specs.Int.{from_bool}
 use Rattle.cstar_tree.specs.declared.typed.Variable.{Variable}
 use Rattle.code_lengths.specs.Growth.{Extended}
 use Rattle.code_lengths.proofs.Drafting.{as_it_was, extended}
-use Rattle.lower_base.specs.Drafts.{Draft, Made, Makes, Plain, step as step_of, with_instr}
+use Rattle.lower_base.specs.Drafts.{Draft, Plain, step as step_of, with_instr}
 use Rattle.paris_code.specs.declared.instr.Instr.{Instr}
 use Rattle.paris_code.specs.declared.instr.Instr.TheVariants as I
 use Rattle.paris_code.specs.declared.operands.Field.{Field}
@@ -12,16 +12,13 @@ use Rattle.paris_code.specs.declared.program.Owner.{Owner}
 use Rattle.paris_code.specs.Code.{CodeState}
 use Rattle.paris_code.specs.Memory.{BitMemory, is_tested, processors}
 use Rattle.paris_code.specs.Spans.{IsNamedAt, fields_of}
-use Rattle.source_meaning.specs.State.{Ends, Gives, Outcome, State}
-use Rattle.source_meaning.specs.Statements.{Broke, Continued, Leaving, Onward, Returned, then_go}
+use Rattle.source_meaning.specs.State.{State}
 use Rattle.source_meaning.specs.Values.{Active, Scope, nonzero}
-use Rattle.code_follows.proofs.Besides.{Part}
-use Rattle.code_follows.proofs.Executing.{no_break, no_continue, no_return}
-use Rattle.code_follows.proofs.Following.{Extends, Follows, Keeps, Ran, Sim, delayed, finished, finishes_later, keeps_all, keeps_on}
-use Rattle.code_follows.proofs.Settings.{At, Begun, Reaches, Setting, Within, and_one, begun_later, onto, stay}
+use Rattle.code_follows.proofs.Following.{Keeps, Ran, Sim, keeps_all}
+use Rattle.code_follows.proofs.Settings.{At, Reaches, Setting, Within, and_one, onto, stay}
 use Rattle.fields_follow.proofs.Flags.{Stored, Turned, load_context, load_test, narrow_context, set_context, store_context, store_test, turn_context}
 use Rattle.fields_follow.proofs.Instructions.{shapes}
-use Rattle.fields_follow.proofs.Knowing.{HasFlags, KnowsFields, Lasts, finishes_outer, inner, kept_inner, kept_open, knows_inner, sim_close, sim_inner, sim_open, sim_outer, within_inner}
+use Rattle.fields_follow.proofs.Knowing.{HasFlags, KnowsFields, Lasts, kept_open, sim_close, sim_open}
 use Rattle.fields_follow.proofs.Leaving.{under}
 use Rattle.fields_follow.proofs.Narrowing.{widened_beside, widened_there, among, among_active, among_beside, among_inactive, others, others_active, others_beside, others_inactive}
 use Rattle.fields_follow.proofs.Places.{IsOwnField, PlacesFields, names_first, stands_here}
@@ -155,48 +152,3 @@ module _ (g : Setting) (scope : Scope) (active : Active) (known : KnowsFields g 
     loads_tests v holds has within x =
         let loaded = load_test g places alive a holds.set holds e x.t u (λ p. nonzero (v p)) refl (λ p below on. has x.t.memory x.has p below on) within x.at x.sim in
         led_turned a a kept (λ m. kept m × TestsAre g holds.set a v m) (I.LoadTest holds) d e s u x loaded.0 (turned_lasts a a kept from entries upto (I.LoadTest holds) e x.t u lasts loaded.0 x.has, loaded.1)
-
-  -- ---- parts
-
-  -- a statement goes on, where these positions are active and this is kept
-  abbrev pub LedOn : Active → (BitMemory → Type 0) → Draft → CodeState → Leaving → State → ℕ → Draft → Type 0
-  LedOn a kept d s leaving u m e = (leaving ≡ Onward) × Led a kept d e s u
-
-  -- a part under one context more follows, where what is kept lasts as long as its code
-  pub part_leads : (a : Active) (kept : BitMemory → Type 0) (d begin e : Draft) (s : CodeState) (u : State) (n m : ℕ) (run : Active → State → Outcome Leaving) (code : Draft → Made ℕ) → Part KnowsFields g scope alive m run code
-      → code begin ≡ Makes m e → begin.homes ≡ [] → Begun g d → Lasts g (length begin.code) (length begin.fields) (length e.code) kept → Extended begin n e → Led a kept d begin s u → Follows g (LedOn a kept d s) s (run a u) (Makes m e)
-  unfolding Follows
-  part_leads a kept d begin e s u n m run code part is none begun lasts longer x =
-      by (run a u) (subst (λ (made : Made ℕ). Follows there (λ leaving v k f. (leaving ≡ Onward) × Ran there alive begin x.t v f) x.t (run a u) made) is
-      (part.follows there.held (length begin.code) (length begin.fields) (length e.code) a (knows_inner g scope active known a kept (length begin.code) (length begin.fields) (length e.code) lasts) begin x.t u none
-      (record { regs = (begun_later g d begin x.grown.0 x.grown.1 begun).regs; code = omega arith; fields = omega arith }) x.at (sim_inner g scope active known a kept (length begin.code) (length begin.fields) (length e.code) alive u x.t x.sim x.has)))
-    where
-      there : Setting
-      there = inner g scope active known a kept (length begin.code) (length begin.fields) (length e.code)
-
-      by : (o : Outcome Leaving) → Follows there (λ leaving v k f. (leaving ≡ Onward) × Ran there alive begin x.t v f) x.t o (Makes m e) → Follows g (LedOn a kept d s) s o (Makes m e)
-      by (Gives leaving v) h = λ w.
-          let r = h (within_inner g scope active known a kept (length begin.code) (length begin.fields) (length e.code) e (omega arith) w) in
-          let ran : Ran there alive begin x.t v e = r.1 in (
-            r.0,
-            record {
-              grown = (x.grown.0 + ran.grown.0, extended d begin e x.grown.0 ran.grown.0 x.grown.1 ran.grown.1);
-              t = ran.t;
-              go = onto g s x.t ran.t x.go (record { by = ran.go.by });
-              at = ran.at;
-              sim = sim_outer g scope active known a kept (length begin.code) (length begin.fields) (length e.code) alive v ran.t ran.sim;
-              has = ran.sim.memory.1;
-              keeps = keeps_on g d begin x.grown.0 s x.t ran.t x.grown.1 x.keeps (λ r kept_so. ran.keeps r (kept_inner g scope active known a kept (length begin.code) (length begin.fields) (length e.code) begin r kept_so));
-            },
-          )
-      by (Ends early v) h = λ w. finishes_later g early v s x.t x.go (finishes_outer g scope active known a kept (length begin.code) (length begin.fields) (length e.code) early v x.t (h (within_inner g scope active known a kept (length begin.code) (length begin.fields) (length e.code) e (omega arith) w)))
-
-  -- one part whose code is made, and another behind it
-  pub then_leads : (a : Active) (kept : BitMemory → Type 0) (Q : Leaving → State → ℕ → Draft → Type 0) (d e : Draft) (s : CodeState) (m : ℕ) (o : Outcome Leaving) (next : State → Outcome Leaving) (made : Made ℕ) → Follows g (LedOn a kept d s) s o (Makes m e) → Extends g e made
-      → ((u : State) → Led a kept d e s u → Follows g Q s (next u) made) → Follows g Q s (then_go o next) made
-  unfolding Follows then_go
-  then_leads a kept Q d e s m (Gives Onward u) next made h grows then = delayed g Q e s (next u) made grows (λ w. then u (h w).1)
-  then_leads a kept Q d e s m (Gives Broke u) next made h grows then = delayed g Q e s (Gives Broke u) made grows (λ w. absurd (no_break (h w).0))
-  then_leads a kept Q d e s m (Gives Continued u) next made h grows then = delayed g Q e s (Gives Continued u) made grows (λ w. absurd (no_continue (h w).0))
-  then_leads a kept Q d e s m (Gives (Returned v) u) next made h grows then = delayed g Q e s (Gives (Returned v) u) made grows (λ w. absurd (no_return v (h w).0))
-  then_leads a kept Q d e s m (Ends early u) next made h grows then = finished g Q e s early u made grows h

@@ -7,41 +7,18 @@ use Rattle.lower_base.specs.Drafts.{Draft}
 use Rattle.lower_expr.specs.Effects.{effect_of}
 use Rattle.paris_code.specs.declared.operands.Field.{Field}
 use Rattle.paris_code.specs.Code.{CodeState}
-use Rattle.paris_code.specs.Memory.{BitMemory}
 use Rattle.paris_code.specs.Shapes.{bits_at}
 use Rattle.paris_code.specs.Spans.{IsNamedAt}
 use Rattle.source_meaning.specs.Expressions.{evaluated}
 use Rattle.source_meaning.specs.State.{Gives, State}
 use Rattle.source_meaning.specs.Values.{Active, Scope, Value}
-use Rattle.code_follows.specs.Fragment.{May}
 use Rattle.code_follows.proofs.Besides.{registers_as}
 use Rattle.code_follows.proofs.Following.{HasRegisters, Sim}
-use Rattle.code_follows.proofs.Settings.{At, Held, Reaches, Setting, Within, layout}
+use Rattle.code_follows.proofs.Settings.{At, Reaches, Setting, Within, layout}
 use Rattle.fields_follow.proofs.Fields.{fields_held}
 use Rattle.fields_follow.proofs.Instructions.{number_in, place, shapes}
 use Rattle.fields_follow.proofs.Passing.{After}
 use Rattle.fields_follow.proofs.Places.{HoldsTheFields, IsOwnField, PlacesFields}
-
--- the same unit, of which other things are said
-abbrev pub saying : Setting → May → Held → ℕ → ℕ → ℕ → Setting
-saying g may held from entries upto = record g { may = may; held = held; from = from; entries = entries; upto = upto }
-
--- its state agrees too at another place, where its memory holds what is to be held
-pub sim_saying : (g : Setting) {may other : May} {held more : Held} {from entries upto first fields last : ℕ} (alive : Variable → Type 0) (st : State) (s : CodeState) (at : ℕ) (m : BitMemory) → more.holds st m
-    → Sim (saying g may held from entries upto) alive st s → Sim (saying g other more first fields last) alive st (record s { at = at; memory = m })
-sim_saying g alive st s at m holds h = record {
-  registers = h.registers;
-  scalars = h.scalars;
-  small = h.small;
-  constants = h.constants;
-  turns = h.turns;
-  output = h.output;
-  input = h.input;
-  returns = h.returns;
-  few = h.few;
-  bytes = h.bytes;
-  memory = holds;
-}
 
 module _ (g : Setting) where
   -- the field ends below the flags of its set

@@ -23,12 +23,13 @@ use Rattle.paris_code.specs.Shapes.{bits_at}
 use Rattle.paris_code.specs.Writes.{Write, written}
 use Rattle.source_meaning.specs.State.{State}
 use Rattle.source_meaning.specs.Values.{nonzero}
+use Rattle.code_follows.proofs.Besides.{sim_saying}
 use Rattle.code_follows.proofs.Settings.{Setting, Within, and_one, at_next, begins_here, code_more, one, onto, placed_instr}
 use Rattle.fields_follow.proofs.Bits.{field_apart}
 use Rattle.fields_follow.proofs.Fields.{HoldsFields}
 use Rattle.fields_follow.proofs.Flags.{above_fields, bit_is, context_under_test, test_taken, written_to}
 use Rattle.fields_follow.proofs.Instructions.{HasNumbers, number_in, place, shapes, wrote}
-use Rattle.fields_follow.proofs.Leaving.{Leaves, PassesTests, sim_saying}
+use Rattle.fields_follow.proofs.Leaving.{Leaves, PassesTests}
 use Rattle.fields_follow.proofs.Passing.{Passes}
 use Rattle.fields_follow.proofs.PassingTests.{tests_passed}
 use Rattle.fields_follow.proofs.Places.{HoldsTheFields, PlacesFields, of_file}

@@ -18,11 +18,12 @@ use Rattle.paris_code.specs.Operators.{operator_of}
 use Rattle.paris_code.specs.Spans.{IsNamedAt, StandsAt, fields_of}
 use Rattle.source_meaning.specs.State.{State}
 use Rattle.source_meaning.specs.Values.{nonzero}
+use Rattle.code_follows.proofs.Besides.{sim_saying}
 use Rattle.code_follows.proofs.Following.{Sim}
 use Rattle.code_follows.proofs.Settings.{Setting, Within, and_one, code_more, onto, placed_instr}
 use Rattle.fields_follow.proofs.Flags.{Stored, bit_fits, stored, written_to}
 use Rattle.fields_follow.proofs.Instructions.{number_in, place, shapes, wrote}
-use Rattle.fields_follow.proofs.Leaving.{EndsBelow, PassesTests, sim_saying, under}
+use Rattle.fields_follow.proofs.Leaving.{EndsBelow, PassesTests, under}
 use Rattle.fields_follow.proofs.Named.{NamesFields}
 use Rattle.fields_follow.proofs.Passing.{Behind, GivesField, code_longer, fields_longer, flags_of, gives_numbers, names_second, names_third}
 use Rattle.fields_follow.proofs.PassingTests.{tests_behind_entry, tests_on, tests_passed}

@@ -7,7 +7,6 @@ use Rattle.code_lengths.specs.Growth.{Extended}
 use Rattle.code_lengths.specs.NamingStatements.{behind}
 use Rattle.code_lengths.proofs.Drafting.{and_instr}
 use Rattle.lower_base.specs.Drafts.{Draft, Made, Makes, an_entry, step as step_of, then_make, with_instr}
-use Rattle.lower_stmt.specs.declared.statement.Frame.{Frame}
 use Rattle.lower_stmt.specs.Frames.{in_context}
 use Rattle.lower_stmt.specs.Statements.{closing, statement_of, widened}
 use Rattle.paris_code.specs.declared.instr.Instr.TheVariants as I
@@ -19,11 +18,12 @@ use Rattle.source_meaning.specs.State.{Outcome}
 use Rattle.source_meaning.specs.Statements.{Leaving, executed}
 use Rattle.source_meaning.specs.Values.{Active, Scope}
 use Rattle.source_meaning.proofs.ConstantLaws.{Boxed}
-use Rattle.code_follows.proofs.Besides.{ComesOn, Part, StatementPart}
+use Rattle.code_follows.proofs.Executing.{Exits, Left}
 use Rattle.code_follows.proofs.Following.{at_once, follows_same}
+use Rattle.code_follows.proofs.Parts.{ComesOn, Part, StatementPart, in_one_more}
 use Rattle.code_follows.proofs.Settings.{Setting, Within, and_one, code_more, earlier, layout}
 use Rattle.fields_follow.proofs.Knowing.{KnowsFields, Lasts}
-use Rattle.fields_follow.proofs.Saving.{Arrives, Kept, arrives, kept_lasts, own_below, part_closed}
+use Rattle.fields_follow.proofs.Saving.{Kept, arrives, kept_lasts, own_below, part_closed}
 use Rattle.fields_follow.proofs.Leading.{Led, led_entry, led_nowhere, led_weaker, named_next, saves_context, widens}
 use Rattle.fields_follow.proofs.Narrowing.{widened_beside}
 use Rattle.fields_follow.proofs.Passing.{code_longer, fields_longer}
@@ -32,11 +32,11 @@ use Rattle.fields_follow.proofs.Values.{next_field, one_more, taken, with_entry}
 
 module _ (g : Setting) (scope : Scope) (active : Active) (known : KnowsFields g scope active) (alive : Variable → Type 0) (n : ℕ) where
   -- the context is saved, all positions become active, and behind the part it is loaded
-  pub widening_follows : (shape : ℕ) (p : Boxed) (body : TStmt) (f : Frame) (contexts : List Field) → StatementPart KnowsFields g scope alive body n f contexts → ComesOn g scope alive active (S.Everywhere' shape p body) n f contexts
+  pub widening_follows : (shape : ℕ) (p : Boxed) (body : TStmt) (f : Exits) (contexts : List Field) → StatementPart KnowsFields g scope alive body n f contexts → ComesOn g scope alive active (S.Everywhere' shape p body) n f contexts
   unfolding executed statement_of an_entry then_make widened closing step_of
   widening_follows shape p body f contexts parts d s st none begun at sim =
-      follows_same g (Arrives g scope active known alive d s) s refl (ap (λ (made : Made ℕ). closing saved made) made.1.0)
-      (at_once g (Arrives g scope active known alive d s) s o (behind n body) (with_instr (I.LoadContext saved) e) (λ w.
+      follows_same g (Left g alive f d s) s refl (ap (λ (made : Made ℕ). closing saved made) made.1.0)
+      (at_once g (Left g alive f d s) s o (behind n body) (with_instr (I.LoadContext saved) e) (λ w.
       let w_e : Within g e = earlier g e (with_instr (I.LoadContext saved) e) 1 (and_one g (I.LoadContext saved) e) w in
       let w_inner : Within g inner = earlier g inner e longer.0 longer.1 w_e in
       let w_stores : Within g stores = earlier g stores inner 1 (and_one g (I.SetContext shape) stores) w_inner in
@@ -57,8 +57,8 @@ module _ (g : Setting) (scope : Scope) (active : Active) (known : KnowsFields g 
       saves_context g scope active known alive active known.kept g.from g.entries g.upto known.lasts d start s st (λ m. Unit {0}) saved (length e.code) begun.code begun.fields (let up = w_stores.upto in omega (arith, up, stored)) own refl last (omega (arith, stored, set, long)) (λ m other same kept. kept) w_stores led_start in
       let led_inner : Led g scope active known alive (all_active shape active) (λ m. Kept g scope active known alive saved m) d inner s st =
       widens g scope active known alive active (λ m. Kept g scope active known alive saved m) (length inner.code) (length inner.fields) (length e.code) lasts d stores s st shape w_inner (led_weaker g scope active known alive active (λ m. Kept g scope active known alive saved m × Unit {0}) (λ m. Kept g scope active known alive saved m) d stores s st (λ m kept. kept.0) led_stores) in
-      arrives g scope active known alive (λ m. Kept g scope active known alive saved m) d s o (Makes (behind n body) (with_instr (I.LoadContext saved) e)) (λ m kept. kept.0)
-      (part_closed g scope active known alive (all_active shape active) saved (λ m. Kept g scope active known alive saved m) d inner e s st longer.0 (behind n body) (λ a u. executed scope body n a u) code part made.1.0 inner_homes begun lasts (λ m kept. kept.1) (λ q x differ. sym (widened_beside shape active q x differ)) longer.1 led_inner)))
+      arrives g scope active known alive (λ m. Kept g scope active known alive saved m) f d s o (Makes (behind n body) (with_instr (I.LoadContext saved) e)) (λ m kept. kept.0)
+      (part_closed g scope active known alive (all_active shape active) saved (λ m. Kept g scope active known alive saved m) f d inner e s st longer.0 (behind n body) (λ a u. executed scope body n a u) code part made.1.0 inner_homes begun lasts (λ m kept. kept.1) (λ m kept. kept.0) (λ q x differ. sym (widened_beside shape active q x differ)) longer.1 led_inner)))
     where
       start : Draft
       start = with_entry shape 1 W.Own d
@@ -79,9 +79,9 @@ module _ (g : Setting) (scope : Scope) (active : Active) (known : KnowsFields g 
       inner_homes = inner_more.homes ∙ none
 
       code : Draft → Made ℕ
-      code after = statement_of g.typed (layout g) body (in_context f) (contexts ++ saved ∷ []) n after
+      code after = statement_of g.typed (layout g) body (in_context f.frame) (contexts ++ saved ∷ []) n after
 
-      part : Part KnowsFields g scope alive (behind n body) (λ a u. executed scope body n a u) code
+      part : Part KnowsFields g scope alive saved (in_one_more f) (behind n body) (λ a u. executed scope body n a u) code
       part = parts saved
 
       made : (e : Draft) × ((code inner ≡ Makes (behind n body) e) × ((k : ℕ) × Extended inner k e) × (e.homes ≡ []))

@@ -155,7 +155,7 @@ mutual
   statement_open may alone names blocks fits n (S.With' shape p body) h m = statement_open may alone names blocks fits n body h m
   statement_open may alone names blocks fits n S.Break h m = tt
   statement_open may alone names blocks fits n S.Continue h m = tt
-  statement_open may alone names blocks fits n (S.Return e) h m = (h.0, if_both e (λ e is known. (expression_open may names blocks fits e is.0 known, is.1)) h.1 m)
+  statement_open may alone names blocks fits n (S.Return e) h m = if_both e (λ e is known. (expression_open may names blocks fits e is.0 known, is.1)) h m
   statement_open may alone names blocks fits n (S.Everywhere' shape p body) h m = absurd (alone.1 shape h.0)
   statement_open may alone names blocks fits n (S.Where' shape test p first second) h m = absurd (alone.0 shape test h.0)
 

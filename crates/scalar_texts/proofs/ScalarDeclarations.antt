@@ -61,11 +61,10 @@ module _ (program : Program) (shapes : List (List ℕ)) (around : ℕ) (Called :
     pub every : (x : Variable) → may.names x
     pub calls : AllowsCalls program shapes around Called may.calls
     pub returned : (ty : ValueType) → returns ≡ a_value ty → may.returns ty.elem
-    pub leaves : may.leaves
 
   -- within a block no less is allowed
   pub inside : {may : May} (n many : ℕ) → IsAllowing may → IsAllowing (within may n many)
-  inside n many a = record { every = λ x. inl (a.every x); calls = a.calls; returned = a.returned; leaves = a.leaves }
+  inside n many a = record { every = λ x. inl (a.every x); calls = a.calls; returned = a.returned }
 
   abbrev HasInitials : List LocalVar → Type 1
   HasInitials ls = (may : May) (n : ℕ) → IsAllowing may → AreInitials may n ls

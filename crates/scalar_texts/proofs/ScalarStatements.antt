@@ -178,10 +178,10 @@ module _ (program : Program) (shapes : List (List ℕ)) (around : ℕ) (Called :
         record { is_in = λ m. (first, tested, step, looped.is_in m); closed = λ none. tt }
     statement_is may a s n w c (Y.break loop) = record { is_in = λ m. tt; closed = λ none. absurd (cc) }
     statement_is may a s n w c (Y.continue loop) = record { is_in = λ m. tt; closed = λ none. absurd (cc) }
-    statement_is may a s n w c Y.return_alone = record { is_in = λ m. (a.leaves, tt); closed = λ none. tt }
+    statement_is may a s n w c Y.return_alone = record { is_in = λ m. tt; closed = λ none. tt }
     statement_is may a s n w c (Y.return_value {f = f} typed is) =
         let given = returned_is may a s n w (called_if Called (Some f) (same_called Called (return_calls _ (Some f) refl) c)) typed is in
-        record { is_in = λ m. (a.leaves, given); closed = λ none. tt }
+        record { is_in = λ m. given; closed = λ none. tt }
     statement_is may a s n w c (Y.with {written = written} {shape = shape} body b is typed) = elim (none-some shape (sym (no_shape _ written s.means s.current) ∙ is)) [ ]
     statement_is may a s n w c (Y.everywhere {shape = shape} body b is typed) = elim (none-some shape (sym s.current ∙ is)) [ ]
     statement_is may a s n w c (Y.where_alone {shape = shape} second b is test parallel typed) = elim (none-some shape (sym s.current ∙ is)) [ ]
@@ -206,13 +206,13 @@ module _ (program : Program) (shapes : List (List ℕ)) (around : ℕ) (Called :
               (statements_are inner (inside program shapes around Called returns m (length locals) a) declared.place n.1 w.1 d typed),
         )
 
-module _ (program : Program) (shapes : List (List ℕ)) (around : ℕ) (Called : ℕ → Type 0) (may : May) (alone : HasNoContexts may) (every : (x : Variable) → may.names x) (allows : AllowsCalls program shapes around Called may.calls) (leaves : may.leaves) where
+module _ (program : Program) (shapes : List (List ℕ)) (around : ℕ) (Called : ℕ → Type 0) (may : May) (alone : HasNoContexts may) (every : (x : Variable) → may.names x) (allows : AllowsCalls program shapes around Called may.calls) where
   -- the body of a function, in the scope of its parameters
   pub body_is : {returns : Returns} {here : Here} {block : Block} {locals : List LocalVar} {statements : List TStmt} {body : TStmt} → IsScalarPlace shapes around here → TypesBlock program returns here block locals statements → Z.IsBody locals statements body →
       InBlock Plainly here block → BlockNamesShapes block → ((k : ℕ) → Contains (calls_within body) k → Called k) → ((ty : ValueType) → returns ≡ a_value ty → may.returns ty.elem) → here.loop ≡ false → IsBody may body × All IsScalarVariable (variables_of body)
   body_is {returns = returns} {here = here} {block = block} {statements = statements} s typed (Z.body ls ss same_locals same_statements) n w c returned no_loop =
       let calls = both_called Called (initial_calls ls.items) (concat (map calls_within ss.items)) (block_calls _ ls ss refl) c in
       let own = subst (λ (ts : List TStmt). TypesBlock program returns here block ls.items ts) (sym same_statements) (subst (λ (locals : List LocalVar). TypesBlock program returns here block locals statements) (sym same_locals) typed) in
-      let allowing : IsAllowing program shapes around Called returns may = record { every = every; calls = allows; returned = returned; leaves = leaves } in
+      let allowing : IsAllowing program shapes around Called returns may = record { every = every; calls = allows; returned = returned } in
       let parts = parts_are program shapes around Called returns may 0 allowing s n w calls.0 calls.1 own in
       block_body may alone ls ss (subst (λ (loop : Bool). AreParts may 0 loop ls.items ss.items) no_loop parts)
