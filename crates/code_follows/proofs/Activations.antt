@@ -17,6 +17,7 @@ use Rattle.lower_base.specs.Constants.{constant_register, first_free}
 use Rattle.lower_base.specs.Layouts.{layout_of, register_of}
 use Rattle.paris_code.specs.declared.program.Image.{Image}
 use Rattle.code_follows.specs.Fragment.{Beside, IsProgramBeside, IsScalarVariable, called_in, may_of}
+use Rattle.code_follows.proofs.Besides.{under_held}
 use Rattle.code_follows.proofs.Callees.{Callee}
 use Rattle.code_follows.proofs.ConstantRegisters.{behind_variables, below_values}
 use Rattle.code_follows.proofs.Following.{HasRegisters}
@@ -29,7 +30,7 @@ begins_as_scalar : (beside : Beside) (info : VarInfo) → IsScalarVariable info 
 begins_as_scalar beside info (inl scalar) = inl scalar
 begins_as_scalar beside info (inr parallel) = inr parallel.1
 
-module _ (t : Typed) (image : Image) {beside : Beside} (p : IsProgramBeside beside t) (codable : IsCodable t) (compiled : IsCompiled t image) (holding : Held) where
+module _ (t : Typed) (image : Image) {beside : Beside} (p : IsProgramBeside beside t) (codable : IsCodable t) (compiled : IsCompiled t image) where
   pub scalars : HasScalarInstances t
   scalars = record {
     each = λ k i is. let f = p.each k i is in (f.params, f.result, f.locals);
@@ -66,8 +67,8 @@ module _ (t : Typed) (image : Image) {beside : Beside} (p : IsProgramBeside besi
   touched number i r is of = record { by = number; instance = i; is = is; leads = is_it; of = of }
 
   -- an instance in a run, with the calls that are open and the turns that are left at most
-  abbrev pub activation : (number : ℕ) (i : Instance) → slice_get t.instances.items number ≡ Some i → List ℕ → ℕ → Setting
-  activation number i is returns most = setting t image scalars codable compiled number i is (λ r. Spares number r) returns most (may_of beside t i) holding
+  abbrev pub activation : Held → (number : ℕ) (i : Instance) → slice_get t.instances.items number ≡ Some i → List ℕ → ℕ → Setting
+  activation holding number i is returns most = setting t image scalars codable compiled number i is (λ r. Spares number r) returns most (may_of beside t i) holding
 
   -- a value stands behind all variables and constants
   behind_all : (number k r : ℕ) → first_of k ≤ r → first_free (layout_of t words number) ≤ r
@@ -88,8 +89,8 @@ module _ (t : Typed) (image : Image) {beside : Beside} (p : IsProgramBeside besi
   variable_of number i is (V.Param k) info named = inr (param_own t scalars words number i k info is named)
   variable_of number i is (V.Local k) info named = inr (local_own t scalars words number i k info is named)
 
-  pub registers_there : (number : ℕ) (i : Instance) (is : slice_get t.instances.items number ≡ Some i) (returns : List ℕ) (most : ℕ) → HasRegisters (activation number i is returns most)
-  registers_there number i is returns most =
+  pub registers_there : (holding : Held) (number : ℕ) (i : Instance) (is : slice_get t.instances.items number ≡ Some i) (returns : List ℕ) (most : ℕ) → HasRegisters (activation holding number i is returns most)
+  registers_there holding number i is returns most =
       has_registers t image scalars codable compiled number i is (λ r. Spares number r) returns most (may_of beside t i) holding variables (λ r spared low high. spared.1 (touched number i r is (inr (low, high))))
       (λ spared. spared.1 (touched number i _ is (inl (result_own t scalars words number i is))))
     where
@@ -149,9 +150,9 @@ module _ (t : Typed) (image : Image) {beside : Beside} (p : IsProgramBeside besi
         by (inl own) = let inside = own_inside t scalars words h.by h.instance r h.is own in let same = same_end t scalars words me h.by in let low = low in omega (arith, inside, same, low)
         by (inr value) = let free = behind_all me h.by r value.0 in let high = high in omega (arith, free, high)
 
-    unfoldable pub callee_known : Callee (activation me a is_me returns most) number
+    unfoldable pub callee_known : (holding : Held) (from entries upto : ℕ) → Callee (under_held (activation holding me a is_me returns most) holding from entries upto) number
     unfolding first_free size_of
-    callee_known = record {
+    callee_known holding from entries upto = record {
       callee = b;
       is = is;
       base = (layout_of t words number).base;

@@ -93,8 +93,8 @@ module _ (l : Layout) where
             let at1 : At g s1 (length between.code) = at_next g (I.FrontConst n info.start) d s (s.at + 1) here refl in
             record {
               t = s2;
-              go = onto g s s1 s2 (one g s s1 (begins_here g (I.FrontConst n info.start) d s first refl here))
-                  (one g s1 s2 (begins_here g (I.FrontConvert n n info.elem) between s1 within refl at1 ∙ ap (λ (x : ℕ). Goes (with_register n x s1)) word));
+              go = onto g s s1 s2 (one g s s1 (begins_here g (I.FrontConst n info.start) d s first refl here) refl)
+                  (one g s1 s2 (begins_here g (I.FrontConvert n n info.elem) between s1 within refl at1 ∙ ap (λ (x : ℕ). Goes (with_register n x s1)) word) refl);
               at = at_next g (I.FrontConvert n n info.elem) between s1 (s1.at + 1) at1 refl;
               registers = length-set s1.registers n (held info.elem info.start) ∙ long;
               is = get_or-set_same s1.registers n (held info.elem info.start) 0 (omega (arith, room, long));

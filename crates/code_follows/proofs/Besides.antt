@@ -1,5 +1,5 @@
 -- Parallel expressions beside scalar ones: what is known of the code of those that a program may have; and the same unit
--- under contexts.
+-- where something else is held.
 use Rattle.std.proofs.Common.{ℕ, length}
 use Rattle.cstar_tree.specs.declared.typed.TExpr.{TExpr}
 use Rattle.cstar_tree.specs.declared.typed.Variable.{Variable}
@@ -15,7 +15,7 @@ use Rattle.paris_code.specs.Memory.{BitMemory}
 use Rattle.source_meaning.specs.Expressions.{evaluated}
 use Rattle.source_meaning.specs.State.{State}
 use Rattle.source_meaning.specs.Values.{Active, Scope, Value}
-use Rattle.code_follows.specs.Fragment.{May, ScalarsAmong, under_contexts}
+use Rattle.code_follows.specs.Fragment.{ScalarsAmong}
 use Rattle.code_follows.proofs.Following.{Follows, HasRegisters, Ran, Sim}
 use Rattle.code_follows.proofs.Settings.{At, Begun, Held, Setting, layout}
 use Rattle.code_follows.proofs.Values.{Dest}
@@ -33,13 +33,14 @@ module _ (g : Setting) (has : HasRegisters g) (scope : Scope) (active : Active) 
         → (d : Draft) (s : CodeState) (st : State) (R : Value → State → Out → Draft → Type 0) (r : ℕ) → Begun g d → At g s (length d.code) → Sim g alive st s
         → Dest g has alive (type_of e).elem d s R r → Follows g R s (evaluated scope e active st) (computed_to g.typed (layout g) (O.Scalar r) e d)
 
--- the same unit, of which other things are said
-abbrev pub saying : Setting → May → Held → ℕ → ℕ → ℕ → Setting
-saying g may held from entries upto = record g { may = may; held = held; from = from; entries = entries; upto = upto }
+-- the same unit, where this is held of the memory and what is said of the code holds between these places, with so many
+-- entries at the first
+abbrev pub under_held : Setting → Held → ℕ → ℕ → ℕ → Setting
+under_held g held from entries upto = record g { held = held; from = from; entries = entries; upto = upto }
 
 -- its state agrees too at another place, where its memory holds what is to be held
-pub sim_saying : (g : Setting) {may other : May} {held more : Held} {from entries upto first fields last : ℕ} (alive : Variable → Type 0) (st : State) (s : CodeState) (at : ℕ) (m : BitMemory) → more.holds st m
-    → Sim (saying g may held from entries upto) alive st s → Sim (saying g other more first fields last) alive st (record s { at = at; memory = m })
+pub sim_saying : (g : Setting) {held more : Held} {from entries upto first fields last : ℕ} (alive : Variable → Type 0) (st : State) (s : CodeState) (at : ℕ) (m : BitMemory) → more.holds st m
+    → Sim (under_held g held from entries upto) alive st s → Sim (under_held g more first fields last) alive st (record s { at = at; memory = m })
 sim_saying g alive st s at m holds h = record {
   registers = h.registers;
   scalars = h.scalars;
@@ -54,14 +55,9 @@ sim_saying g alive st s at m holds h = record {
   memory = holds;
 }
 
--- the same unit under contexts, where this is held of the memory and what is said of the code holds between these
--- places, with so many entries at the first
-abbrev pub under_held : Setting → Held → ℕ → ℕ → ℕ → Setting
-under_held g held from entries upto = record g { may = under_contexts g.may; held = held; from = from; entries = entries; upto = upto }
-
--- the same registers, whatever may be done and is held
-pub registers_as : (g : Setting) (may : May) (held : Held) (from entries upto : ℕ) → HasRegisters g → HasRegisters (record g { may = may; held = held; from = from; entries = entries; upto = upto })
-registers_as g may held from entries upto h = record {
+-- its registers are the same
+pub registers_under : (g : Setting) (held : Held) (from entries upto : ℕ) → HasRegisters g → HasRegisters (under_held g held from entries upto)
+registers_under g held from entries upto h = record {
   below = h.below;
   free = h.free;
   behind_files = h.behind_files;
@@ -73,6 +69,3 @@ registers_as g may held from entries upto h = record {
   spared_own = h.spared_own;
   apart = h.apart;
 }
-
-pub registers_under : (g : Setting) (held : Held) (from entries upto : ℕ) → HasRegisters g → HasRegisters (under_held g held from entries upto)
-registers_under g held from entries upto h = registers_as g (under_contexts g.may) held from entries upto h

@@ -77,9 +77,9 @@ module _ (g : Setting) (has : HasRegisters g) (alive : Variable → Type 0) wher
           ]) (Makes (O.Scalar r) (with_instr (I.FrontGetByte r) e))
       by (byte ∷ more) rest one_is two_is = λ within.
           next byte (record { bytes = more; mark = mark_of st.rest }) (record st { input = more }) (first_byte byte more (subst (λ (xs : List ℕ). AreBytes xs) one_is sim.bytes)) (sim_read byte more st s one_is sim) within
-          (one g s (with_register r byte (reading (record { bytes = more; mark = mark_of st.rest }) s)) (begins_here g (I.FrontGetByte r) e s within refl here ∙ given_so r st s (byte ∷ more) st.rest one_is refl sim))
+          (one g s (with_register r byte (reading (record { bytes = more; mark = mark_of st.rest }) s)) (begins_here g (I.FrontGetByte r) e s within refl here ∙ given_so r st s (byte ∷ more) st.rest one_is refl sim) refl)
       by [] Source.InputEnds one_is two_is = λ within.
-          next (2 ^ 32 - 1) s.input st (omega arith) sim within (one g s (with_register r (2 ^ 32 - 1) s) (begins_here g (I.FrontGetByte r) e s within refl here ∙ given_so r st s [] Source.InputEnds one_is two_is sim))
+          next (2 ^ 32 - 1) s.input st (omega arith) sim within (one g s (with_register r (2 ^ 32 - 1) s) (begins_here g (I.FrontGetByte r) e s within refl here ∙ given_so r st s [] Source.InputEnds one_is two_is sim) refl)
       by [] Source.InputFails one_is two_is = λ within.
           record {
             t = Machine.onward s;

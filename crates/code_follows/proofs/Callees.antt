@@ -20,7 +20,7 @@ use Rattle.code_follows.specs.Agreement.{AreBytes}
 use Rattle.code_follows.specs.Fragment.{AreTaken, IsResult, IsScalarVariable, Takes}
 use Rattle.code_follows.proofs.Besides.{ExpressionsFollow}
 use Rattle.code_follows.proofs.Following.{Finishes, HasNumber, HasRegisters, held, input_of}
-use Rattle.code_follows.proofs.Settings.{Reaches, Setting, layout}
+use Rattle.code_follows.proofs.Settings.{CallStands, Reaches, Setting, layout}
 
 module _ (g : Setting) where
   -- A function with scalar parameters, and a scalar result or none. Its code, and that of what it calls, may
@@ -89,10 +89,10 @@ module _ (g : Setting) where
         (arguments : List Value) (st : State) (s : CodeState) (back : ℕ) → s.at ≡ start_at g.image index → s.returns ≡ g.returns ++ back ∷ [] → Shared st s → st.turns ≤ m → AreGiven arguments s → ((info : VarInfo) → c.callee.result ≡ Some info → slice_index s.registers given_in ≡ 0)
         → RunsBody back s st (run_body g.typed (calls g.typed m) (Some c.callee) arguments active st)
 
-  -- each function that may be called runs so, with one turn fewer left
+  -- each function that may be called runs so wherever it is called, with one turn fewer left
   pub record MayCall (active : Active) (index : ℕ) : Type 1 where
     pub callee : Callee index
-    pub enters : (m : ℕ) → g.most ≡ suc m → Enters callee m active
+    pub enters : (m : ℕ) → g.most ≡ suc m → CallStands g index → Enters callee m active
 
   -- one whose parameters take arguments of these types
   abbrev pub TakesThese : Active → ℕ → List Elem → Type 1

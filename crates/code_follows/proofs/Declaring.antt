@@ -283,7 +283,7 @@ module _ (g : Setting) (has : HasRegisters g) where
             let sim1 : Sim g now st1 s1 = subst (λ (w : ℕ). Sim g now st1 (with_register r w s)) zero_held (sim_begun g has (V.Local n) local.info scalar before now (λ y living other. was_alive y living other) st s 0 (pow_pos local.info.elem.bits) inside sim) in
             let kept : Keeps g d s s1 = variable_kept g d s (V.Local n) local.info 0 has scalar.0 in
             let ran = rest.runs s1 st1 (omega (arith, free, more)) (at_next g (I.FrontConst r 0) d s (s.at + 1) at refl) sim1 within in
-            let all = ran_from g (λ x. Alive now locals (n + 1) x) d between 1 s s1 (zeroed (n + 1) (length locals) st1) rest.e (and_one g (I.FrontConst r 0) d) (one g s s1 (begins_here g (I.FrontConst r 0) d s first_within refl at)) kept ran in
+            let all = ran_from g (λ x. Alive now locals (n + 1) x) d between 1 s s1 (zeroed (n + 1) (length locals) st1) rest.e (and_one g (I.FrontConst r 0) d) (one g s s1 (begins_here g (I.FrontConst r 0) d s first_within refl at) refl) kept ran in
             ran_fewer g (λ x. Alive now locals (n + 1) x) (λ x. Alive before (local ∷ locals) n x) d s (zeroed (n + 1) (length locals) st1) (zeroed n (suc (length locals)) st) rest.e
             (λ x h. (is_now x (first_or_later before n (length locals) x h.0), h.1.1)) (zeroed_more n (length locals) st) (λ k e p. same_zeroed g n (suc (length locals)) (n + 1) (length locals) n 0 st k e p) refl refl refl refl all;
       }

@@ -34,6 +34,7 @@ use Rattle.source_meaning.specs.Values.{Active, Scope, Value, each}
 use Rattle.code_follows.specs.Fragment.{IsBody, Beside, IsProgramBeside, OfFileOrParam, IsInStatement}
 use Rattle.lower_stmt.specs.declared.statement.Frame.{Frame}
 use Rattle.code_follows.proofs.Activations.{activation, callee_known, scalars, words}
+use Rattle.code_follows.proofs.Besides.{under_held}
 use Rattle.code_follows.proofs.Parts.{BesideFollows}
 use Rattle.code_follows.proofs.Induction.{Around, statement_follows}
 use Rattle.code_follows.proofs.Callees.{AreGiven, Callee, CallsFollow, ComesBack, Enters, MayCall, RunsBody, Shared}
@@ -47,7 +48,7 @@ use Rattle.std.proofs.lemmas.Nat.{pow_pos}
 use Rattle.source_meaning.specs.Reductions.{int_type}
 use Rattle.code_follows.proofs.Numbers.{zero_converted}
 use Rattle.code_follows.proofs.Regions.{result_is, same_constants, same_end}
-use Rattle.code_follows.proofs.Settings.{At, Held, Setting, one, onto, start}
+use Rattle.code_follows.proofs.Settings.{At, CallStands, Held, Setting, called_below, one, onto, start}
 use Rattle.code_follows.proofs.Standing.{start_in, unit_there}
 use Rattle.code_follows.proofs.Units.{blank_homes, blank_regs, not_main, other_is, unit_at}
 
@@ -89,16 +90,16 @@ before_all (V.Local k) h = absurd h
 -- what stands in the register of the result of a function that was left
 module _ (image : Image) (t : Typed) {beside : Beside} (p : IsProgramBeside beside t) (codable : IsCodable t) (compiled : IsCompiled t image) (holding : Held) (number : ℕ) (b : Instance) (is : slice_get t.instances.items number ≡ Some b) (calls_open : List ℕ) (m : ℕ) (s r : CodeState) where
   abbrev result_there : ℕ
-  result_there = (layout_of t (words t image p codable compiled holding) number).base + length b.params.items
+  result_there = (layout_of t (words t image p codable compiled) number).base + length b.params.items
 
   abbrev function : Setting
   function = activation t image p codable compiled holding number b is calls_open m
 
-  where_it_is : result_register (layout_of t (words t image p codable compiled holding) number) ≡ result_there
-  where_it_is = result_is t (scalars t image p codable compiled holding) (words t image p codable compiled holding) number b is
+  where_it_is : result_register (layout_of t (words t image p codable compiled) number) ≡ result_there
+  where_it_is = result_is t (scalars t image p codable compiled) (words t image p codable compiled) number b is
 
   -- 0 where it was left without a value
-  zero_given : (leaving : Leaving) (info : VarInfo) → b.result ≡ Some info → result_of (Some info) leaving ≡ each info.shape (λ q. 0) → slice_index r.registers (result_register (layout_of t (words t image p codable compiled holding) number)) ≡ slice_index s.registers (result_register (layout_of t (words t image p codable compiled holding) number))
+  zero_given : (leaving : Leaving) (info : VarInfo) → b.result ≡ Some info → result_of (Some info) leaving ≡ each info.shape (λ q. 0) → slice_index r.registers (result_register (layout_of t (words t image p codable compiled) number)) ≡ slice_index s.registers (result_register (layout_of t (words t image p codable compiled) number))
       → slice_index s.registers result_there ≡ 0 → HasNumber info.elem (result_of b.result leaving) result_there r
   unfolding each
   zero_given leaving info found gives same zero_there = (
@@ -119,26 +120,30 @@ module _ (image : Image) (t : Typed) {beside : Beside} (p : IsProgramBeside besi
   result_given Broke u info found h closed zero_there = absurd closed
   result_given Continued u info found h closed zero_there = absurd closed
 
-module _ (t : Typed) (image : Image) {beside : Beside} (p : IsProgramBeside beside t) (codable : IsCodable t) (compiled : IsCompiled t image) (holding : Held) (active : Active) where
-  abbrev running : (number : ℕ) (i : Instance) → slice_get t.instances.items number ≡ Some i → List ℕ → ℕ → Setting
-  running number i is opens most = activation t image p codable compiled holding number i is opens most
+module _ (t : Typed) (image : Image) {beside : Beside} (p : IsProgramBeside beside t) (codable : IsCodable t) (compiled : IsCompiled t image) where
+  -- a function that runs where this is held, and between such places
+  abbrev pub running : Held → ℕ → ℕ → ℕ → (number : ℕ) (i : Instance) → slice_get t.instances.items number ≡ Some i → List ℕ → ℕ → Setting
+  running held from entries upto number i is opens most = under_held (activation t image p codable compiled held number i is opens most) held from entries upto
 
-  -- where this is known parallel expressions and statements under contexts follow, and it is known of each function
+  -- where this is known parallel expressions and statements under contexts follow, and it is known of each function that
+  -- is called there
   pub record AllBeside (Known : Setting → Scope → Active → Type 1) : Type 1 where
     pub follows : (g : Setting) (scope : Scope) (a : Active) → Known g scope a → (has : HasRegisters g) → BesideFollows Known g has scope a
-    pub known : (number : ℕ) (i : Instance) (is : slice_get t.instances.items number ≡ Some i) (opens : List ℕ) (most : ℕ) → Known (running number i is opens most) (scope_of t i (calls t most)) active
+    pub called : (held : Held) (from entries upto : ℕ) (a : Active) (me : ℕ) (i : Instance) (is_me : slice_get t.instances.items me ≡ Some i) (opens : List ℕ) (most : ℕ) → Known (running held from entries upto me i is_me opens most) (scope_of t i (calls t most)) a
+        → (number : ℕ) (b : Instance) (is : slice_get t.instances.items number ≡ Some b) (back : List ℕ) (m : ℕ) → CallStands (running held from entries upto me i is_me opens most) number
+        → Known (activation t image p codable compiled held number b is back m) (scope_of t b (calls t m)) a
 
-module _ (t : Typed) (image : Image) {beside : Beside} (p : IsProgramBeside beside t) (codable : IsCodable t) (compiled : IsCompiled t image) (holding : Held) (me : ℕ) (a : Instance) (is_me : slice_get t.instances.items me ≡ Some a) (back_to : List ℕ) (number : ℕ) (b : Instance) (is : slice_get t.instances.items number ≡ Some b)
+module _ (t : Typed) (image : Image) {beside : Beside} (p : IsProgramBeside beside t) (codable : IsCodable t) (compiled : IsCompiled t image) (holding : Held) (from entries upto : ℕ) (me : ℕ) (a : Instance) (is_me : slice_get t.instances.items me ≡ Some a) (back_to : List ℕ) (number : ℕ) (b : Instance) (is : slice_get t.instances.items number ≡ Some b)
     (some : 0 < number) (called : Contains (calls_within a.body) number) (m : ℕ) where
   -- the caller, and the function that is called as the caller knows it
   abbrev caller : Setting
-  caller = activation t image p codable compiled holding me a is_me back_to (suc m)
+  caller = running t image p codable compiled holding from entries upto me a is_me back_to (suc m)
 
   abbrev called_one : Callee caller number
-  called_one = callee_known t image p codable compiled holding me a is_me back_to (suc m) number b is called
+  called_one = callee_known t image p codable compiled me a is_me back_to (suc m) number b is called holding from entries upto
 
-  module _ (active : Active) (arguments : List Value) (st : State) (s : CodeState) (back : ℕ) (starts : s.at ≡ start_at image number) (stacked : s.returns ≡ back_to ++ back ∷ []) (shared : Shared caller st s) (few : st.turns ≤ m) (given : AreGiven caller called_one arguments s)
-      (zero_there : (info : VarInfo) → b.result ≡ Some info → slice_index s.registers ((layout_of t (words t image p codable compiled holding) number).base + length b.params.items) ≡ 0) where
+  module _ (here : CallStands caller number) (active : Active) (arguments : List Value) (st : State) (s : CodeState) (back : ℕ) (starts : s.at ≡ start_at image number) (stacked : s.returns ≡ back_to ++ back ∷ []) (shared : Shared caller st s) (few : st.turns ≤ m) (given : AreGiven caller called_one arguments s)
+      (zero_there : (info : VarInfo) → b.result ≡ Some info → slice_index s.registers ((layout_of t (words t image p codable compiled) number).base + length b.params.items) ≡ 0) where
     abbrev open_calls : List ℕ
     open_calls = back_to ++ back ∷ []
 
@@ -150,7 +155,7 @@ module _ (t : Typed) (image : Image) {beside : Beside} (p : IsProgramBeside besi
     opening_state = entered b arguments active st
 
     is_other : (number == 0) ≡ false
-    is_other = not_main t image (scalars t image p codable compiled holding) codable compiled number (λ e. omega (arith, some, e))
+    is_other = not_main t image (scalars t image p codable compiled) codable compiled number (λ e. omega (arith, some, e))
 
     abbrev begin : Draft
     begin = blank b.name inner.begins
@@ -162,11 +167,11 @@ module _ (t : Typed) (image : Image) {beside : Beside} (p : IsProgramBeside besi
         let there = ap (λ (es : List Entry). slice_index (map start_of es) number) compiled.linked.units ∙ starts_there compiled.after.units.items number 0 u.0 u.1.0 in
         omega (arith, starts, there)
 
-    constants_same : (word : ℕ) → constant_register (layout_of t (words t image p codable compiled holding) number) word ≡ constant_register (layout_of t (words t image p codable compiled holding) me) word
+    constants_same : (word : ℕ) → constant_register (layout_of t (words t image p codable compiled) number) word ≡ constant_register (layout_of t (words t image p codable compiled) me) word
     unfolding constant_register
     constants_same word =
-        ap (λ (ws : List ℕ). register_with word ws (layout_of t (words t image p codable compiled holding) number).end) (same_constants t (scalars t image p codable compiled holding) (words t image p codable compiled holding) number me)
-        ∙ ap (λ (n : ℕ). register_with word (layout_of t (words t image p codable compiled holding) me).constants n) (same_end t (scalars t image p codable compiled holding) (words t image p codable compiled holding) number me)
+        ap (λ (ws : List ℕ). register_with word ws (layout_of t (words t image p codable compiled) number).end) (same_constants t (scalars t image p codable compiled) (words t image p codable compiled) number me)
+        ∙ ap (λ (n : ℕ). register_with word (layout_of t (words t image p codable compiled) me).constants n) (same_end t (scalars t image p codable compiled) (words t image p codable compiled) number me)
 
     sim : Sim inner OfFileOrParam opening_state s
     unfolding entered by_owner scalar_given OfFileOrParam variable_named register_of callee_known
@@ -184,7 +189,7 @@ module _ (t : Typed) (image : Image) {beside : Beside} (p : IsProgramBeside besi
       memory = inner.held.still st opening_state s.memory (λ k e p. refl) refl shared.memory;
     }
       where
-        value : (x : Variable) (info : VarInfo) → OfFileOrParam x → IsScalar inner x info → slice_index s.registers (register_of (layout_of t (words t image p codable compiled holding) number) x) ≡ held info.elem (opening_state.scalar x)
+        value : (x : Variable) (info : VarInfo) → OfFileOrParam x → IsScalar inner x info → slice_index s.registers (register_of (layout_of t (words t image p codable compiled) number) x) ≡ held info.elem (opening_state.scalar x)
         value (V.File k) info living named = shared.files k info named.0 named.1
         value (V.Param k) info living named = given.words k info named.0
         value (V.Local k) info living named = absurd living
@@ -204,7 +209,7 @@ module _ (t : Typed) (image : Image) {beside : Beside} (p : IsProgramBeside besi
     unfolding left by_owner variable_named register_of callee_known OfFileOrParam
     goes_back leaving u less r closed = record {
       t = there;
-      go = record { by = (onto inner s r.t there r.go (one inner r.t there leaves)).by };
+      go = let gone = onto inner s r.t there r.go (one inner r.t there leaves refl) in record { by = gone.by; below = λ f k low. gone.below f k (called_below caller number here f low) };
       at = ap (λ (places : List ℕ). slice_index places (length places - 1)) r.sim.returns ∙ last_place back_to back;
       returns = ap (λ (places : List ℕ). take (length places - 1) places) r.sim.returns ∙ below_place back_to back;
       shared = record {
@@ -232,24 +237,25 @@ module _ (t : Typed) (image : Image) {beside : Beside} (p : IsProgramBeside besi
         leaves = r.leaves ∙ ap (λ (c : Bool). if c then Rattle.paris_code.specs.Code.Ends Rattle.paris_code.specs.Code.Done r.t else Goes there) is_other
 
         given_so : (leaving : Leaving) (info : VarInfo) → b.result ≡ Some info → IsGiven inner OfFileOrParam s r.t (given_back leaving) → NoJump (Source.Gives leaving u)
-            → HasNumber info.elem (result_of b.result leaving) ((layout_of t (words t image p codable compiled holding) number).base + length b.params.items) r.t
+            → HasNumber info.elem (result_of b.result leaving) ((layout_of t (words t image p codable compiled) number).base + length b.params.items) r.t
         given_so leaving info found h closed = result_given image t p codable compiled holding number b is open_calls m s r.t leaving u info found h closed (zero_there info found)
 
     -- the code of the body, as that of a block whose variables are cleared
-    as_block : (locals : Vec LocalVar Global) (q : Vec (Unit {0}) Global) (row : _) → body_of t (layout_of t (words t image p codable compiled holding) number) (frame t image p codable compiled holding number b is open_calls m) (S.Block' locals q row) begin
-        ≡ then_make (declared_in t (layout_of t (words t image p codable compiled holding) number) false locals.items 0 begin) (λ n after. statements_of t (layout_of t (words t image p codable compiled holding) number) row (frame t image p codable compiled holding number b is open_calls m) [] n after)
+    as_block : (locals : Vec LocalVar Global) (q : Vec (Unit {0}) Global) (row : _) → body_of t (layout_of t (words t image p codable compiled) number) (frame t image p codable compiled holding number b is open_calls m) (S.Block' locals q row) begin
+        ≡ then_make (declared_in t (layout_of t (words t image p codable compiled) number) false locals.items 0 begin) (λ n after. statements_of t (layout_of t (words t image p codable compiled) number) row (frame t image p codable compiled holding number b is open_calls m) [] n after)
     unfolding body_of body_frame
-    as_block locals q row = ap (λ (c : Bool). then_make (declared_in t (layout_of t (words t image p codable compiled holding) number) c locals.items 0 begin) (λ n after. statements_of t (layout_of t (words t image p codable compiled holding) number) row (frame t image p codable compiled holding number b is open_calls m) [] n after)) is_other
+    as_block locals q row = ap (λ (c : Bool). then_make (declared_in t (layout_of t (words t image p codable compiled) number) c locals.items 0 begin) (λ n after. statements_of t (layout_of t (words t image p codable compiled) number) row (frame t image p codable compiled holding number b is open_calls m) [] n after)) is_other
 
-    made_here : (body : TStmt) → b.body ≡ body → then_make (body_of t (layout_of t (words t image p codable compiled holding) number) (frame t image p codable compiled holding number b is open_calls m) body begin) (λ n e. Makes (tt {0}) (ended (number == 0) b.body e)) ≡ Makes (tt {0}) (unit_at t image (scalars t image p codable compiled holding) codable compiled number b is)
+    made_here : (body : TStmt) → b.body ≡ body → then_make (body_of t (layout_of t (words t image p codable compiled) number) (frame t image p codable compiled holding number b is open_calls m) body begin) (λ n e. Makes (tt {0}) (ended (number == 0) b.body e)) ≡ Makes (tt {0}) (unit_at t image (scalars t image p codable compiled) codable compiled number b is)
     unfolding body_frame
     made_here body body_is =
-        ap (λ (x : TStmt). then_make (body_of t (layout_of t (words t image p codable compiled holding) number) (frame t image p codable compiled holding number b is open_calls m) x begin) (λ n e. Makes (tt {0}) (ended (number == 0) b.body e))) (sym body_is)
-        ∙ ap (λ (c : Bool). then_make (body_of t (layout_of t (words t image p codable compiled holding) number) (body_frame c b) b.body begin) (λ n e. Makes (tt {0}) (ended c b.body e))) is_other
-        ∙ other_is t image (scalars t image p codable compiled holding) codable compiled number b is is_other
+        ap (λ (x : TStmt). then_make (body_of t (layout_of t (words t image p codable compiled) number) (frame t image p codable compiled holding number b is open_calls m) x begin) (λ n e. Makes (tt {0}) (ended (number == 0) b.body e))) (sym body_is)
+        ∙ ap (λ (c : Bool). then_make (body_of t (layout_of t (words t image p codable compiled) number) (body_frame c b) b.body begin) (λ n e. Makes (tt {0}) (ended c b.body e))) is_other
+        ∙ other_is t image (scalars t image p codable compiled) codable compiled number b is is_other
 
     -- the body of the function follows, where its own calls do
-    module _ {Known : Setting → Scope → Active → Type 1} (besides : AllBeside t image p codable compiled holding active Known) (calls_follow : CallsFollow inner (scope t image p codable compiled holding number b is open_calls m) active) where
+    module _ {Known : Setting → Scope → Active → Type 1} (besides : AllBeside t image p codable compiled Known) (known : Known inner (scope t image p codable compiled holding number b is open_calls m) active)
+        (calls_follow : (held : Held) (from entries upto : ℕ) (a : Active) → Known (under_held inner held from entries upto) (scope t image p codable compiled holding number b is open_calls m) a → CallsFollow (under_held inner held from entries upto) (scope t image p codable compiled holding number b is open_calls m) a) where
       came : (o : Outcome Leaving) → (state_after o).turns ≤ st.turns → NoJump o → RunsFunction t image p codable compiled holding number b is open_calls m s o → RunsBody caller called_one back s st (then_do o (λ leaving after. Source.Gives (result_of b.result leaving) (left st after)))
       unfolding RunsFunction RunsBody then_do state_after left
       came (Source.Gives leaving u) less closed runs = goes_back leaving u less runs closed
@@ -268,12 +274,12 @@ module _ (t : Typed) (image : Image) {beside : Beside} (p : IsProgramBeside besi
           let where_it_is = scope t image p codable compiled holding number b is open_calls m in
           let never_rises = falls t image p codable compiled holding number b is open_calls m in
           let around : Around Known inner where_it_is active =
-          record { has = h; numbers = numbers; ready = is_ready; declares = declared; calls_follow = calls_follow; falls = never_rises; known = besides.known number b is open_calls m } in
-          let runs : Follows inner (Left inner OfFileOrParam out begin s) s (executed where_it_is body 0 active opening_state) (body_of t (layout_of t (words t image p codable compiled holding) number) f body begin) =
+          record { has = h; numbers = numbers; ready = is_ready; declares = declared; calls = calls_follow; falls = never_rises; known = known } in
+          let runs : Follows inner (Left inner OfFileOrParam out begin s) s (executed where_it_is body 0 active opening_state) (body_of t (layout_of t (words t image p codable compiled) number) f body begin) =
           subst (λ (made : Made ℕ). Follows inner (Left inner OfFileOrParam out begin s) s (executed where_it_is body 0 active opening_state) made) (sym (as_block locals q row))
           (statement_follows where_it_is (λ g. besides.follows g where_it_is) inner active around [] OfFileOrParam (λ k. tt) 0 before_all body isin.0 out begin s opening_state
-          (framed t image p codable compiled holding number b is open_calls m) (stands_here t image p codable compiled holding number b is open_calls m) (blank_homes t image (scalars t image p codable compiled holding) codable compiled number b) (record { regs = let regs = blank_regs t image (scalars t image p codable compiled holding) codable compiled number b in omega (arith, regs); code = omega arith; fields = omega arith }) stands sim c) in
-          let made = body_made t image p codable compiled holding number b is open_calls m (body_of t (layout_of t (words t image p codable compiled holding) number) f body begin) (made_so body body_is) in
+          (framed t image p codable compiled holding number b is open_calls m) (stands_here t image p codable compiled holding number b is open_calls m) (blank_homes t image (scalars t image p codable compiled) codable compiled number b) (record { regs = let regs = blank_regs t image (scalars t image p codable compiled) codable compiled number b in omega (arith, regs); code = omega arith; fields = omega arith }) stands sim c) in
+          let made = body_made t image p codable compiled holding number b is open_calls m (body_of t (layout_of t (words t image p codable compiled) number) f body begin) (made_so body body_is) in
           let never : ends_in_return b.body ≡ true → NeverOnward (executed where_it_is body 0 active opening_state) =
           λ ends. never_second (initialised where_it_is active 0 locals.items _) _ (λ u. body_never where_it_is active locals q row (sym (ap (λ (x : TStmt). ends_in_return x) body_is) ∙ ends) (0 + length locals.items) u) in
           let closed : NoJump (executed where_it_is body 0 active opening_state) = go_closed _ _ (begins_closed where_it_is active 0 locals.items _) (λ u. closed_row where_it_is row isin.1 (0 + length locals.items) active u) in
@@ -288,40 +294,48 @@ module _ (t : Typed) (image : Image) {beside : Beside} (p : IsProgramBeside besi
           out : Exits
           out = exits t image p codable compiled holding number b is open_calls m
 
-          made_so : (body : TStmt) → b.body ≡ body → then_make (body_of t (layout_of t (words t image p codable compiled holding) number) f body begin) (λ n e. Makes (tt {0}) (ended (number == 0) b.body e)) ≡ Makes (tt {0}) (unit_at t image (scalars t image p codable compiled holding) codable compiled number b is)
+          made_so : (body : TStmt) → b.body ≡ body → then_make (body_of t (layout_of t (words t image p codable compiled) number) f body begin) (λ n e. Makes (tt {0}) (ended (number == 0) b.body e)) ≡ Makes (tt {0}) (unit_at t image (scalars t image p codable compiled) codable compiled number b is)
           made_so body body_is = made_here body body_is
       body_follows _ body_is isin = absurd isin
 
-module _ (t : Typed) (image : Image) {beside : Beside} (p : IsProgramBeside beside t) (codable : IsCodable t) (compiled : IsCompiled t image) (holding : Held) (active : Active) {Known : Setting → Scope → Active → Type 1} (besides : AllBeside t image p codable compiled holding active Known) where
-  abbrev known : (number : ℕ) (i : Instance) (is : slice_get t.instances.items number ≡ Some i) (opens : List ℕ) (most index : ℕ) (c : Instance) (is_c : slice_get t.instances.items index ≡ Some c) (called : Contains (calls_within i.body) index) → Callee (running t image p codable compiled holding active number i is opens most) index
-  known number i is opens most index c is_c called = callee_known t image p codable compiled holding number i is opens most index c is_c called
+module _ (t : Typed) (image : Image) {beside : Beside} (p : IsProgramBeside beside t) (codable : IsCodable t) (compiled : IsCompiled t image) {Known : Setting → Scope → Active → Type 1} (besides : AllBeside t image p codable compiled Known) where
+  -- a function that an instance calls enters its code as the source does, wherever it is called
+  abbrev pub EntersThere : (number : ℕ) (i : Instance) → slice_get t.instances.items number ≡ Some i → List ℕ → ℕ → (index : ℕ) (c : Instance) → slice_get t.instances.items index ≡ Some c → Contains (calls_within i.body) index → ℕ → Type 1
+  EntersThere number i is opens most index c is_c called m =
+      (held : Held) (from entries upto : ℕ) (a : Active) → Known (running t image p codable compiled held from entries upto number i is opens most) (scope_of t i (calls t most)) a → CallStands (running t image p codable compiled held from entries upto number i is opens most) index
+      → Enters (running t image p codable compiled held from entries upto number i is opens most) (callee_known t image p codable compiled number i is opens most index c is_c called held from entries upto) m a
 
   -- the calls in a function follow, where those with one turn fewer do
   pub calls_so : (most number : ℕ) (i : Instance) (is : slice_get t.instances.items number ≡ Some i) (opens : List ℕ)
-      → ((index : ℕ) (c : Instance) (is_c : slice_get t.instances.items index ≡ Some c) → 0 < index → (called : Contains (calls_within i.body) index) (m : ℕ) → most ≡ suc m → Enters (running t image p codable compiled holding active number i is opens most) (known number i is opens most index c is_c called) m active)
-      → CallsFollow (running t image p codable compiled holding active number i is opens most) (scope_of t i (calls t most)) active
+      → ((index : ℕ) (c : Instance) (is_c : slice_get t.instances.items index ≡ Some c) → 0 < index → (called : Contains (calls_within i.body) index) (m : ℕ) → most ≡ suc m → EntersThere number i is opens most index c is_c called m)
+      → (held : Held) (from entries upto : ℕ) (a : Active) → Known (running t image p codable compiled held from entries upto number i is opens most) (scope_of t i (calls t most)) a
+      → CallsFollow (running t image p codable compiled held from entries upto number i is opens most) (scope_of t i (calls t most)) a
   unfolding scope_of callee_known
-  calls_so most number i is opens enters = record {
+  calls_so most number i is opens enters held from entries upto a known = record {
     meant = refl;
     value = λ elem index given h. ((may_call index h.0 h.1.0 h.1.1 h.1.2, h.1.4), ((h.0, h.1.0, ap is_some h.1.3.1.0), h.1.3));
     effect = λ index given h. (may_call index h.0 h.1.0 h.1.1 h.1.2, h.1.4);
     returns = λ elem h. h;
-    beside = λ has. (besides.follows (running t image p codable compiled holding active number i is opens most) (scope_of t i (calls t most)) active (besides.known number i is opens most) has).expressions;
+    beside = λ has. (besides.follows (running t image p codable compiled held from entries upto number i is opens most) (scope_of t i (calls t most)) a known has).expressions;
   }
     where
-      may_call : (index : ℕ) (c : Instance) (is_c : slice_get t.instances.items index ≡ Some c) → 0 < index → Contains (calls_within i.body) index → MayCall (running t image p codable compiled holding active number i is opens most) active index
-      may_call index c is_c some called = record { callee = known number i is opens most index c is_c called; enters = λ m e. enters index c is_c some called m e }
+      may_call : (index : ℕ) (c : Instance) (is_c : slice_get t.instances.items index ≡ Some c) → 0 < index → Contains (calls_within i.body) index → MayCall (running t image p codable compiled held from entries upto number i is opens most) a index
+      may_call index c is_c some called = record {
+        callee = callee_known t image p codable compiled number i is opens most index c is_c called held from entries upto;
+        enters = λ m e here. enters index c is_c some called m e held from entries upto a known here;
+      }
 
-  pub enters_so : (m me : ℕ) (a : Instance) (is_me : slice_get t.instances.items me ≡ Some a) (back_to : List ℕ) (number : ℕ) (b : Instance) (is : slice_get t.instances.items number ≡ Some b) → 0 < number → (called : Contains (calls_within a.body) number)
-      → Enters (running t image p codable compiled holding active me a is_me back_to (suc m)) (known me a is_me back_to (suc m) number b is called) m active
+  pub enters_so : (m me : ℕ) (a : Instance) (is_me : slice_get t.instances.items me ≡ Some a) (back_to : List ℕ) (number : ℕ) (b : Instance) (is : slice_get t.instances.items number ≡ Some b) → 0 < number → (called : Contains (calls_within a.body) number) → EntersThere me a is_me back_to (suc m) number b is called m
   unfolding callee_known Enters
-  enters_so zero me a is_me back_to number b is some called arguments st s back starts stacked shared few given zero_there =
-      body_follows t image p codable compiled holding me a is_me back_to number b is some called zero active arguments st s back starts stacked shared few given zero_there besides
+  enters_so zero me a is_me back_to number b is some called held from entries upto active known here arguments st s back starts stacked shared few given zero_there =
+      body_follows t image p codable compiled held from entries upto me a is_me back_to number b is some called zero here active arguments st s back starts stacked shared few given zero_there besides
+      (besides.called held from entries upto active me a is_me back_to (suc zero) known number b is (back_to ++ back ∷ []) zero here)
       (calls_so zero number b is (back_to ++ back ∷ []) (λ index c is_c some_c called_c m e. absurd (omega (arith, e)))) b.body refl (p.each number b is).body
-  enters_so (suc m) me a is_me back_to number b is some called arguments st s back starts stacked shared few given zero_there =
-      body_follows t image p codable compiled holding me a is_me back_to number b is some called (suc m) active arguments st s back starts stacked shared few given zero_there besides
+  enters_so (suc m) me a is_me back_to number b is some called held from entries upto active known here arguments st s back starts stacked shared few given zero_there =
+      body_follows t image p codable compiled held from entries upto me a is_me back_to number b is some called (suc m) here active arguments st s back starts stacked shared few given zero_there besides
+      (besides.called held from entries upto active me a is_me back_to (suc (suc m)) known number b is (back_to ++ back ∷ []) (suc m) here)
       (calls_so (suc m) number b is (back_to ++ back ∷ []) (λ index c is_c some_c called_c k e.
-      subst (λ (n : ℕ). Enters (running t image p codable compiled holding active number b is (back_to ++ back ∷ []) (suc m)) (known number b is (back_to ++ back ∷ []) (suc m) index c is_c called_c) n active) (fewer m k e) (enters_so m number b is (back_to ++ back ∷ []) index c is_c some_c called_c)))
+      subst (λ (n : ℕ). EntersThere number b is (back_to ++ back ∷ []) (suc m) index c is_c called_c n) (fewer m k e) (enters_so m number b is (back_to ++ back ∷ []) index c is_c some_c called_c)))
       b.body refl (p.each number b is).body
     where
       fewer : (m k : ℕ) → suc m ≡ suc k → m ≡ k

@@ -59,19 +59,19 @@ module _ (t : Typed) (image : Image) {beside : Beside} (p : IsProgramBeside besi
   has = registers_there t image p codable compiled holding number i is returns most
 
   abbrev pub own : Layout
-  own = layout_of t (words t image p codable compiled holding) number
+  own = layout_of t (words t image p codable compiled) number
 
   abbrev pub scope : Scope
   scope = scope_of t i (calls t most)
 
   pub ready : (n : ℕ) (d : Draft) → IsReady t i own n d
-  ready n d = all_ready t (scalars t image p codable compiled holding) (words t image p codable compiled holding) number i is n d
+  ready n d = all_ready t (scalars t image p codable compiled) (words t image p codable compiled) number i is n d
 
   pub numbered : NumbersVariables i own
-  numbered = all_numbered t (scalars t image p codable compiled holding) (words t image p codable compiled holding) number i is
+  numbered = all_numbered t (scalars t image p codable compiled) (words t image p codable compiled) number i is
 
   pub declares : (n : ℕ) (d : Draft) → d.homes ≡ [] → HasDeclared t i own n d
-  declares n d none = all_declared t (scalars t image p codable compiled holding) (words t image p codable compiled holding) number i is n d none
+  declares n d none = all_declared t (scalars t image p codable compiled) (words t image p codable compiled) number i is n d none
 
   abbrev pub frame : Frame
   frame = body_frame (number == 0) i
@@ -102,17 +102,17 @@ module _ (t : Typed) (image : Image) {beside : Beside} (p : IsProgramBeside besi
     pub inside : Within g e
     pub last : (u : State) → o ≡ Source.Gives Onward u → Within g (with_end g.is_main e)
 
-  pub ends_by : (o : Outcome Leaving) (e : Draft) → ended (number == 0) i.body e ≡ unit_at t image (scalars t image p codable compiled holding) codable compiled number i is → (ends_in_return i.body ≡ true → NeverOnward o) → EndsSo o e
+  pub ends_by : (o : Outcome Leaving) (e : Draft) → ended (number == 0) i.body e ≡ unit_at t image (scalars t image p codable compiled) codable compiled number i is → (ends_in_return i.body ≡ true → NeverOnward o) → EndsSo o e
   unfolding NeverOnward ended
   ends_by o e unit never = by (ends_in_return i.body) unit never
     where
-      by : (b : Bool) → (if b then e else with_end (number == 0) e) ≡ unit_at t image (scalars t image p codable compiled holding) codable compiled number i is → (b ≡ true → NeverOnward o) → EndsSo o e
+      by : (b : Bool) → (if b then e else with_end (number == 0) e) ≡ unit_at t image (scalars t image p codable compiled) codable compiled number i is → (b ≡ true → NeverOnward o) → EndsSo o e
       by true unit never = record {
-        inside = subst (λ (d : Draft). Within g d) (sym unit) (within_all t image (scalars t image p codable compiled holding) codable compiled number i is g.spared returns most g.may holding);
+        inside = subst (λ (d : Draft). Within g d) (sym unit) (within_all t image (scalars t image p codable compiled) codable compiled number i is g.spared returns most g.may holding);
         last = λ u is. absurd (subst NeverOnward is (never refl));
       }
       by false unit never =
-          let whole : Within g (with_end g.is_main e) = subst (λ (d : Draft). Within g d) (sym unit) (within_all t image (scalars t image p codable compiled holding) codable compiled number i is g.spared returns most g.may holding) in
+          let whole : Within g (with_end g.is_main e) = subst (λ (d : Draft). Within g d) (sym unit) (within_all t image (scalars t image p codable compiled) codable compiled number i is g.spared returns most g.may holding) in
           record { inside = earlier g e (with_end g.is_main e) 1 (end_more g e) whole; last = λ u is. whole }
 
   -- the code comes to where the function is left, or the run ends before
@@ -133,9 +133,9 @@ module _ (t : Typed) (image : Image) {beside : Beside} (p : IsProgramBeside besi
     pub n : ℕ
     pub e : Draft
     pub is_made : made ≡ Makes n e
-    pub unit : ended (number == 0) i.body e ≡ unit_at t image (scalars t image p codable compiled holding) codable compiled number i is
+    pub unit : ended (number == 0) i.body e ≡ unit_at t image (scalars t image p codable compiled) codable compiled number i is
 
-  pub body_made : (made : Made ℕ) → then_make made (λ n e. Makes (tt {0}) (ended (number == 0) i.body e)) ≡ Makes (tt {0}) (unit_at t image (scalars t image p codable compiled holding) codable compiled number i is) → BodyMade made
+  pub body_made : (made : Made ℕ) → then_make made (λ n e. Makes (tt {0}) (ended (number == 0) i.body e)) ≡ Makes (tt {0}) (unit_at t image (scalars t image p codable compiled) codable compiled number i is) → BodyMade made
   unfolding then_make
   body_made (Makes n e) is_unit = record { n = n; e = e; is_made = refl; unit = ap (λ (m : Made (Unit {0})). elim m as (λ _. Draft) [ Makes u x ↦ x | Fails ↦ e ]) is_unit }
   body_made Fails is_unit = cc

@@ -30,13 +30,13 @@ module _ (g : Setting) (alive : Variable → Type 0) where
   -- a jump
   pub jumps : (target : ℕ) (e : Draft) (s : CodeState) → Within g (with_instr (I.FrontJump target) e) → At g s (length e.code) → Reaches g s (moved_to (target + start g) s)
   unfolding begun step_of
-  jumps target e s within here = one g s (moved_to (target + start g) s) (begins_here g (I.FrontJump target) e s within refl here)
+  jumps target e s within here = one g s (moved_to (target + start g) s) (begins_here g (I.FrontJump target) e s within refl here) refl
 
   -- a jump where a word is zero, and one where it is not
   pub skips : (b : Bool) (x target : ℕ) (e : Draft) (s : CodeState) → nonzero (slice_index s.registers x) ≡ b → Within g (with_instr (I.FrontJumpZero x target) e) → At g s (length e.code) → Reaches g s (moved_to (if b then s.at + 1 else target + start g) s)
   unfolding begun step_of
   skips b x target e s is within here =
-      one g s (moved_to (if b then s.at + 1 else target + start g) s) (begins_here g (I.FrontJumpZero x target) e s within refl here ∙ ap (λ (n : ℕ). Goes (moved_to n s)) (by (slice_index s.registers x == 0) b is))
+      one g s (moved_to (if b then s.at + 1 else target + start g) s) (begins_here g (I.FrontJumpZero x target) e s within refl here ∙ ap (λ (n : ℕ). Goes (moved_to n s)) (by (slice_index s.registers x == 0) b is)) refl
     where
       by : (z b : Bool) → not z ≡ b → (if z then target + start g else s.at + 1) ≡ (if b then s.at + 1 else target + start g)
       by true true e = cc
@@ -47,7 +47,7 @@ module _ (g : Setting) (alive : Variable → Type 0) where
   pub returns_to : (b : Bool) (x target : ℕ) (e : Draft) (s : CodeState) → nonzero (slice_index s.registers x) ≡ b → Within g (with_instr (I.FrontJumpNonzero x target) e) → At g s (length e.code) → Reaches g s (moved_to (if b then target + start g else s.at + 1) s)
   unfolding begun step_of
   returns_to b x target e s is within here =
-      one g s (moved_to (if b then target + start g else s.at + 1) s) (begins_here g (I.FrontJumpNonzero x target) e s within refl here ∙ ap (λ (c : Bool). Goes (jumped c (target + start g) s)) is)
+      one g s (moved_to (if b then target + start g else s.at + 1) s) (begins_here g (I.FrontJumpNonzero x target) e s within refl here ∙ ap (λ (c : Bool). Goes (jumped c (target + start g) s)) is) refl
 
   -- a turn with none left, and one that is spent
   pub stops : (e : Draft) (s : CodeState) (st : State) → Within g (with_instr I.FrontTurn e) → At g s (length e.code) → Sim g alive st s → st.turns ≡ 0 → Finishes g Source.Stopped st s
@@ -73,7 +73,7 @@ module _ (g : Setting) (alive : Variable → Type 0) where
       let some_left : (s.turns == 0) ≡ false = let t = sim.turns in grind (arith, nat_tests, t, some) in
       let one_less : s.turns - 1 ≡ left = omega (arith, sim.turns, some) in
       one g s (behind_turn s left) (begins_here g I.FrontTurn e s within refl here ∙ ap (λ (b : Bool). if b then Ends Machine.Stopped s else Goes (record s { at = s.at + 1; turns = s.turns - 1 })) some_left
-      ∙ ap (λ (n : ℕ). Goes (behind_turn s n)) one_less)
+      ∙ ap (λ (n : ℕ). Goes (behind_turn s n)) one_less) refl
 
   pub sim_spent : (st : State) (s : CodeState) (left : ℕ) → st.turns ≡ suc left → Sim g alive st s → Sim g alive (record st { turns = left }) (behind_turn s left)
   sim_spent st s left some h = record { registers = h.registers; scalars = h.scalars; small = h.small; constants = h.constants; turns = refl; output = h.output; input = h.input; bytes = h.bytes; returns = h.returns; few = let m = h.few in omega (arith, m, some); memory = g.held.still st (record st { turns = left }) s.memory (λ k e p. refl) refl h.memory }

@@ -233,7 +233,7 @@ module _ (g : Setting) (has : HasRegisters g) (alive : Variable → Type 0) (x :
           record {
             grown = (c.grown.0 + 1, extended e1 e (with_instr i e) c.grown.0 1 c.grown.1 (and_one g i e));
             t = t2;
-            go = onto g s c.t t2 c.go (one g c.t t2 (begins_here g i e c.t inner refl c.at ∙ ap (λ (k : ℕ). Goes (with_register r (rounded info.elem k) c.t)) c.there ∙ ap (λ (k : ℕ). Goes (with_register r k c.t)) (rounded_is info.elem at_type c.word c.few)));
+            go = onto g s c.t t2 c.go (one g c.t t2 (begins_here g i e c.t inner refl c.at ∙ ap (λ (k : ℕ). Goes (with_register r (rounded info.elem k) c.t)) c.there ∙ ap (λ (k : ℕ). Goes (with_register r k c.t)) (rounded_is info.elem at_type c.word c.few)) refl);
             at = at_next g i e c.t (c.t.at + 1) c.at refl;
             sim = register_set g alive u c.t r (held info.elem number_there) has (omega (arith, free, low)) c.sim;
             keeps = keeps_on g d d 0 s c.t t2 (as_it_was d) c.keeps (register_kept g d c.t r (held info.elem number_there) has free.regs low (omega (arith, high, more, regs, inner.own)));
@@ -292,7 +292,7 @@ module _ (g : Setting) (has : HasRegisters g) (alive : Variable → Type 0) (x :
       let own_is : slice_index s.registers own ≡ old = sim.scalars x info living scalar ∙ sym is in
       record {
         t = with_register r old s;
-        go = one g s (with_register r old s) (begins_here g load e s within refl here ∙ ap (λ (y : ℕ). Goes (with_register r y s)) own_is);
+        go = one g s (with_register r old s) (begins_here g load e s within refl here ∙ ap (λ (y : ℕ). Goes (with_register r y s)) own_is) refl;
         at = at_next g load e s (s.at + 1) here refl;
         sim = register_set g alive u s r old has free sim;
         keeps = register_kept g d s r old has room.regs low (omega (arith, high, regs, within.own));

@@ -35,7 +35,7 @@ module _ (g : Setting) where
       let rest = constants_run words (r + 1) e s1 (at_next g (I.FrontConst r w) d s (s.at + 1) here refl) within (fits (length words) room long) in
       record {
         t = rest.t;
-        go = onto g s s1 rest.t (one g s s1 (begins_here g (I.FrontConst r w) d s early refl here)) rest.go;
+        go = onto g s s1 rest.t (one g s s1 (begins_here g (I.FrontConst r w) d s early refl here) refl) rest.go;
         at = rest.at;
         registers = rest.registers ∙ long;
         below = λ q b. rest.below q (omega (arith, b)) ∙ get_or-set_other s.registers r q w 0 (λ e. omega (arith, e, b));

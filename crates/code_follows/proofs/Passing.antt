@@ -193,7 +193,7 @@ module _ (g : Setting) (has : HasRegisters g) (alive : Variable → Type 0) wher
           subst (λ (made : Made Out). Follows g R s o made) (sym (passed_is index outcome param params out outs register dest e (all_first IsScalarVariable param params plain)))
           (subst (λ (w : Out). Follows g R s o (in_register w (λ a. move_behind index outcome params outs register dest a e))) (sym holds.is)
           (delayed g R next s o _ (extends_passed index outcome params outs (register + 1) dest next (all_rest IsScalarVariable param params plain) scalar) (λ within.
-          let goes : Reaches g s t = one g s t (begins_here g (I.FrontMove register holds.register) e s within refl here ∙ ap (λ (w : ℕ). Goes (with_register register w s)) stands) in
+          let goes : Reaches g s t = one g s t (begins_here g (I.FrontMove register holds.register) e s within refl here ∙ ap (λ (w : ℕ). Goes (with_register register w s)) stands) refl in
           let touched : c.touches register = touch register (omega arith) (omega arith) in
           let high : e0.regs ≤ g.ends = let own = within.own in let more = regs_more g (I.FrontMove register holds.register) e in let regs = ext.regs in omega (arith, own, more, regs) in
           follows_back g R s t o _ goes
@@ -229,10 +229,10 @@ module _ (g : Setting) (has : HasRegisters g) (alive : Variable → Type 0) wher
 
     -- ---- the result
 
-    result_follows : (info : VarInfo) → c.callee.result ≡ Some info → (elem : Elem) → Takes elem info.elem → (d : Draft) (s0 : CodeState) (R : Value → State → Out → Draft → Type 0) (r : ℕ) → Dest g has alive elem d s0 R r → (f : Draft) (n : ℕ) (t : CodeState) (u : State) (arguments : List Value) → Extended d n f → Reaches g s0 t
+    result_follows : (info : VarInfo) → c.callee.result ≡ Some info → (elem : Elem) → Takes elem info.elem → (d : Draft) (s0 : CodeState) (R : Value → State → Out → Draft → Type 0) (r : ℕ) → Begun g d → Dest g has alive elem d s0 R r → (f : Draft) (n : ℕ) (t : CodeState) (u : State) (arguments : List Value) → Extended d n f → Reaches g s0 t
         → At g t (length f.code) → Sim g alive u t → Keeps g d s0 t → AreGiven g c arguments t → Follows g R t (called_so arguments u) (Makes (O.Scalar r) (register_result index source r f))
     unfolding begun step_of
-    result_follows info found elem takes d s0 R r dest f n t u arguments ext go here sim keeps given = at_once g R t (called_so arguments u) (O.Scalar r) (register_result index source r f) (λ within. all within)
+    result_follows info found elem takes d s0 R r free dest f n t u arguments ext go here sim keeps given = at_once g R t (called_so arguments u) (O.Scalar r) (register_result index source r f) (λ within. all within)
       where
         zeroed : Draft
         zeroed = with_instr (I.FrontConst source 0) f
@@ -260,11 +260,11 @@ module _ (g : Setting) (has : HasRegisters g) (alive : Variable → Type 0) wher
         all within =
             let within_call : Within g (turn_and_call index zeroed) = earlier g (turn_and_call index zeroed) (register_result index source r f) 1 (and_one g (I.FrontMove r source) (turn_and_call index zeroed)) within in
             let within_zero : Within g zeroed = earlier g zeroed (turn_and_call index zeroed) 2 (turn_more index zeroed) within_call in
-            let goes : Reaches g t t1 = one g t t1 (begins_here g (I.FrontConst source 0) f t within_zero refl here) in
+            let goes : Reaches g t t1 = one g t t1 (begins_here g (I.FrontConst source 0) f t within_zero refl here) refl in
             let high : d.regs ≤ g.ends = let own = within_zero.own in let more = regs_more g (I.FrontConst source 0) f in let regs = ext.regs in omega (arith, own, more, regs) in
             follows_back g R t t1 (called_so arguments u) _ goes
             (with_more g (CameBack g has alive files_live scope active calls_follow m d s0) R t1 (called_so arguments u) tt (O.Scalar r) (turn_and_call index zeroed) (register_result index source r f) 1 (and_one g (I.FrontMove r source) (turn_and_call index zeroed))
-            (turn_follows g has alive files_live scope active calls_follow m d s0 zeroed (n + 1) t1 u arguments (extended d f zeroed n 1 ext (and_one g (I.FrontConst source 0) f)) (onto g s0 t t1 go goes) (at_next g (I.FrontConst source 0) f t (t.at + 1) here refl)
+            (turn_follows g has alive files_live scope active calls_follow m d free s0 zeroed (n + 1) t1 u arguments (extended d f zeroed n 1 ext (and_one g (I.FrontConst source 0) f)) (onto g s0 t t1 go goes) (at_next g (I.FrontConst source 0) f t (t.at + 1) here refl)
             (sim_passed g has alive files_live scope active calls_follow m u t source 0 touched sim) (λ q kept. keeps_passed g has alive files_live scope active calls_follow m d t source 0 touched high q kept ∙ keeps q kept) given_still (λ info is. register_is g t source 0 inside))
             (λ v w back within. puts v w back within))
 
@@ -286,7 +286,7 @@ module _ (g : Setting) (has : HasRegisters g) (alive : Variable → Type 0) wher
         (λ given u all e x. with_arguments (are_quiet row) (elems_of row) R (O.Scalar r) d s st given u all e x taken (λ f k t ext go at_t sim_t keeps given_t.
         subst (λ (o : Option VarInfo). Follows g R t (called_so (given_values given) u) (finished index o source 0 (O.Scalar r) f)) (sym is)
         (subst (λ (made : Made Out). Follows g R t (called_so (given_values given) u) made) (sym (result_is index info source (O.Scalar r) f (scalar_result m info is)))
-        (result_follows info is elem takes d s R r dest f k t u (given_values given) ext go at_t sim_t keeps given_t))))
+        (result_follows info is elem takes d s R r free dest f k t u (given_values given) ext go at_t sim_t keeps given_t))))
 
     -- a call without one
     pub call_runs : {k : Count} (row : Row_of-TExpr k) → AreDone g has alive scope active true (are_quiet row) row → AreTaken c.callee.params.items (elems_of row) → c.callee.result ≡ None
@@ -298,5 +298,5 @@ module _ (g : Setting) (has : HasRegisters g) (alive : Variable → Type 0) wher
         (λ given u all e x. with_arguments (are_quiet row) (elems_of row) (λ v w out f. Ran g alive d s w f) dest d s st given u all e x taken (λ f k t ext go at_t sim_t keeps given_t.
         subst (λ (o : Option VarInfo). Follows g (λ v w out h. Ran g alive d s w h) t (called_so (given_values given) u) (finished index o source 0 dest f)) (sym is)
         (with_more g (CameBack g has alive files_live scope active calls_follow m d s) (λ v w out h. Ran g alive d s w h) t (called_so (given_values given) u) tt O.Nothing (turn_and_call index f) (turn_and_call index f) 0 (as_it_was (turn_and_call index f))
-        (turn_follows g has alive files_live scope active calls_follow m d s f k t u (given_values given) ext go at_t sim_t keeps given_t (λ info found. absurd (let no : Some info ≡ None = sym found ∙ is in cc)))
+        (turn_follows g has alive files_live scope active calls_follow m d free s f k t u (given_values given) ext go at_t sim_t keeps given_t (λ info found. absurd (let no : Some info ≡ None = sym found ∙ is in cc)))
         (λ v w back within. record { grown = back.grown; t = back.t; go = back.go; at = back.at; sim = back.sim; keeps = back.keeps }))))

@@ -105,7 +105,7 @@ module _ (g : Setting) (has : HasRegisters g) (alive : Variable → Type 0) (n :
       → Prints rest (with_instr instr d) (with_printed text s) (with_output text st) made → Prints (text ++ rest) d s st made
   prints_one instr text rest d s st made plain begins here grows later =
       delayed g (λ v u out f. Ran g alive d s u f) (with_instr instr d) s (Source.Gives Nothing (with_output (text ++ rest) st)) made grows (λ within.
-      from_before d (with_instr instr d) 1 s (with_printed text s) (Source.Gives Nothing (with_output (text ++ rest) st)) made (and_one g instr d) (one g s (with_printed text s) (begins_here g instr d s within plain here ∙ begins)) (λ r kept. refl)
+      from_before d (with_instr instr d) 1 s (with_printed text s) (Source.Gives Nothing (with_output (text ++ rest) st)) made (and_one g instr d) (one g s (with_printed text s) (begins_here g instr d s within plain here ∙ begins) refl) (λ r kept. refl)
       (subst (λ (u : State). Follows g (λ v w out f. Ran g alive (with_instr instr d) (with_printed text s) w f) (with_printed text s) (Source.Gives Nothing u) made) (sym (printed_on text rest st)) later))
 
   pieces_follow : (pieces : List Piece) (words : List ℕ) (outs : List Out) (d : Draft) (s : CodeState) (st : State) → At g s (length d.code) → Sim g alive st s → Stand words outs s.registers

@@ -35,7 +35,8 @@ use Rattle.source_meaning.specs.Statements.{Leaving, executed, initialised}
 use Rattle.source_meaning.specs.Values.{Active, Scope, number}
 use Rattle.code_follows.specs.Agreement.{AreBytes, CodeMeansSource, ComesTo, end_of, mark_of}
 use Rattle.code_follows.specs.Fragment.{IsBody, IsFileVariable, Beside, IsProgramBeside, IsInStatement, OfFileOrParam, OrAmong}
-use Rattle.code_follows.proofs.Activations.{scalars, words}
+use Rattle.code_follows.proofs.Activations.{activation, scalars, words}
+use Rattle.code_follows.proofs.Besides.{under_held}
 use Rattle.code_follows.proofs.Beginnings.{starts_grow, starts_run}
 use Rattle.code_follows.proofs.Bodies.{begun_code, begun_follows, begun_grows, block_code, block_initials, block_stands, follows_fewer}
 use Rattle.code_follows.proofs.Callees.{CallsFollow}
@@ -43,7 +44,7 @@ use Rattle.code_follows.proofs.Closed.{NoJump, begins_closed, closed_row, go_clo
 use Rattle.code_follows.proofs.ConstantRegisters.{constant_at}
 use Rattle.code_follows.proofs.Declaring.{among_before, sim_fewer, sim_same, zeroed_files}
 use Rattle.code_follows.proofs.Endings.{NeverOnward, body_never, never_second}
-use Rattle.code_follows.proofs.Entering.{AllBeside, calls_so, enters_so, before_all}
+use Rattle.code_follows.proofs.Entering.{AllBeside, EntersThere, before_all, calls_so, enters_so}
 use Rattle.code_follows.proofs.Executing.{Left}
 use Rattle.code_follows.proofs.Following.{held, Extends, Follows, Sim}
 use Rattle.code_follows.proofs.Functions.{BodyMade, EndsSo, RunsFunction, among, body_made, declares, ends_by, exits, falls, frame, framed, g, has, numbered, own, ready, runs_function, scope, stands_here}
@@ -73,7 +74,7 @@ unfolding start_in
 starts_at_zero [] = refl
 starts_at_zero (u ∷ us) = refl
 
-module _ (t : Typed) (image : Image) {beside : Beside} (p : IsProgramBeside beside t) (codable : IsCodable t) (compiled : IsCompiled t image) (holding : Held) (memory : BitMemory) (input : List ℕ) (rest : Source.Rest) (turns : ℕ) (winner : Winner) (are : AreBytes input) (begins : holding.holds (start_state t input rest turns winner) memory) {Known : Setting → Scope → Active → Type 1} (besides : AllBeside t image p codable compiled holding (λ s p. true) Known) where
+module _ (t : Typed) (image : Image) {beside : Beside} (p : IsProgramBeside beside t) (codable : IsCodable t) (compiled : IsCompiled t image) (holding : Held) (memory : BitMemory) (input : List ℕ) (rest : Source.Rest) (turns : ℕ) (winner : Winner) (are : AreBytes input) (begins : holding.holds (start_state t input rest turns winner) memory) {Known : Setting → Scope → Active → Type 1} (besides : AllBeside t image p codable compiled Known) (known : Known (activation t image p codable compiled holding 0 p.main p.is_main [] turns) (scope_of t p.main (calls t turns)) (λ s p. true)) where
   abbrev main_setting : Setting
   main_setting = g t image p codable compiled holding 0 p.main p.is_main [] turns
 
@@ -93,10 +94,10 @@ module _ (t : Typed) (image : Image) {beside : Beside} (p : IsProgramBeside besi
   in_main = entered p.main [] active first_state
 
   abbrev constants_there : Draft
-  constants_there = with_constants t image (scalars t image p codable compiled holding) codable compiled p.main
+  constants_there = with_constants t image (scalars t image p codable compiled) codable compiled p.main
 
   abbrev begun_there : Draft
-  begun_there = with_starts t image (scalars t image p codable compiled holding) codable compiled p.main
+  begun_there = with_starts t image (scalars t image p codable compiled) codable compiled p.main
 
   starts_grown : (k : ℕ) × Extended constants_there k begun_there
   starts_grown = starts_grow (own t image p codable compiled holding 0 p.main p.is_main [] turns) t.vars.items 0 main_setting constants_there
@@ -119,10 +120,10 @@ module _ (t : Typed) (image : Image) {beside : Beside} (p : IsProgramBeside besi
   -- a parameter of `main`, if it has any, and a variable of its blocks is 0
   own_zero : (x : Variable) (info : VarInfo) → variable_named t p.main x ≡ Some info → (u : CodeState)
       → ((q : ℕ) → 0 + length t.vars.items ≤ q → q < (own t image p codable compiled holding 0 p.main p.is_main [] turns).end → slice_index u.registers q ≡ 0)
-      → IsOwn t (scalars t image p codable compiled holding) (words t image p codable compiled holding) 0 p.main (register_of (own t image p codable compiled holding 0 p.main p.is_main [] turns) x) → slice_index u.registers (register_of (own t image p codable compiled holding 0 p.main p.is_main [] turns) x) ≡ held info.elem 0
+      → IsOwn t (scalars t image p codable compiled) (words t image p codable compiled) 0 p.main (register_of (own t image p codable compiled holding 0 p.main p.is_main [] turns) x) → slice_index u.registers (register_of (own t image p codable compiled holding 0 p.main p.is_main [] turns) x) ≡ held info.elem 0
   own_zero x info is u zeros mine =
-      let behind = own_behind t (scalars t image p codable compiled holding) (words t image p codable compiled holding) 0 p.main _ p.is_main mine in
-      zeros _ (omega (arith, behind)) (below t (scalars t image p codable compiled holding) (words t image p codable compiled holding) 0 p.main p.is_main x info is) ∙ sym (zero_converted int_type info.elem)
+      let behind = own_behind t (scalars t image p codable compiled) (words t image p codable compiled) 0 p.main _ p.is_main mine in
+      zeros _ (omega (arith, behind)) (below t (scalars t image p codable compiled) (words t image p codable compiled) 0 p.main p.is_main x info is) ∙ sym (zero_converted int_type info.elem)
 
   register_value : (x : Variable) (info : VarInfo) → variable_named t p.main x ≡ Some info → (u : CodeState) → ((k : ℕ) (info : VarInfo) → slice_get t.vars.items k ≡ Some info → slice_index u.registers (0 + k) ≡ held info.elem info.start)
       → ((q : ℕ) → 0 + length t.vars.items ≤ q → q < (own t image p codable compiled holding 0 p.main p.is_main [] turns).end → slice_index u.registers q ≡ 0) → slice_index u.registers (register_of (own t image p codable compiled holding 0 p.main p.is_main [] turns) x) ≡ held info.elem (in_main.scalar x)
@@ -132,8 +133,8 @@ module _ (t : Typed) (image : Image) {beside : Beside} (p : IsProgramBeside besi
       front : (k : ℕ) → k ≡ 0 + k
       front k = omega arith
   register_value (V.Param k) info is u files zeros =
-      own_zero (V.Param k) info is u zeros (param_own t (scalars t image p codable compiled holding) (words t image p codable compiled holding) 0 p.main k info p.is_main is) ∙ ap (held info.elem) (sym (none_given k))
-  register_value (V.Local k) info is u files zeros = own_zero (V.Local k) info is u zeros (local_own t (scalars t image p codable compiled holding) (words t image p codable compiled holding) 0 p.main k info p.is_main is)
+      own_zero (V.Param k) info is u zeros (param_own t (scalars t image p codable compiled) (words t image p codable compiled) 0 p.main k info p.is_main is) ∙ ap (held info.elem) (sym (none_given k))
+  register_value (V.Local k) info is u files zeros = own_zero (V.Local k) info is u zeros (local_own t (scalars t image p codable compiled) (words t image p codable compiled) 0 p.main k info p.is_main is)
 
   zero_or_started : (x : Variable) (info : VarInfo) → variable_named t p.main x ≡ Some info → in_main.scalar x < 2 ^ info.elem.bits
   unfolding entered start_state by_owner start_of scalar_given variable_named
@@ -157,12 +158,12 @@ module _ (t : Typed) (image : Image) {beside : Beside} (p : IsProgramBeside besi
       let before : Within main_setting constants_there = earlier main_setting constants_there begun_there starts_grown.0 starts_grown.1 within in
       let has_it = has t image p codable compiled holding 0 p.main p.is_main [] turns in
       let free = has_it.free in
-      let least = (constants_grow t image (scalars t image p codable compiled holding) codable compiled p.main).regs in
+      let least = (constants_grow t image (scalars t image p codable compiled) codable compiled p.main).regs in
       let inside = before.regs in
       let room = has_it.room in
-      let base = base_behind t (scalars t image p codable compiled holding) (words t image p codable compiled holding) 0 p.main p.is_main in
-      let end = base_inside t (scalars t image p codable compiled holding) (words t image p codable compiled holding) 0 p.main p.is_main in
-      let c = constants_run main_setting l.constants l.end (empty_unit t image (scalars t image p codable compiled holding) codable compiled p.main) opened (omega (arith, at)) before (omega (arith, many, free, least, inside)) in
+      let base = base_behind t (scalars t image p codable compiled) (words t image p codable compiled) 0 p.main p.is_main in
+      let end = base_inside t (scalars t image p codable compiled) (words t image p codable compiled) 0 p.main p.is_main in
+      let c = constants_run main_setting l.constants l.end (empty_unit t image (scalars t image p codable compiled) codable compiled p.main) opened (omega (arith, at)) before (omega (arith, many, free, least, inside)) in
       let long = c.registers in
       let zeros : (q : ℕ) → q < l.end → slice_index c.t.registers q ≡ 0 = λ q low. c.below q low ∙ get_or-replicate image.slots q 0 0 (omega (arith, low, room)) in
       let b = starts_run l main_setting t.vars.items 0 constants_there c.t (λ k info inside. (p.variables k info inside).1) c.at within (omega (arith, base, end, long, many, room)) (λ q lo hi. zeros q (omega (arith, hi, base, end))) in
@@ -207,10 +208,13 @@ module _ (t : Typed) (image : Image) {beside : Beside} (p : IsProgramBeside besi
       record { to = record { steps = x.steps; last = h.t; ends = x.is; turns = h.turns; output = h.output }; memory = h.memory }
 
   -- every call in `main` follows
-  main_calls : CallsFollow main_setting (scope t image p codable compiled holding 0 p.main p.is_main [] turns) active
-  main_calls = calls_so t image p codable compiled holding active besides turns 0 p.main p.is_main [] (λ index c is_c some called m e.
-      subst (λ (most : ℕ). Rattle.code_follows.proofs.Callees.Enters (g t image p codable compiled holding 0 p.main p.is_main [] most) (Rattle.code_follows.proofs.Activations.callee_known t image p codable compiled holding 0 p.main p.is_main [] most index c is_c called) m active) (sym e)
-      (enters_so t image p codable compiled holding active besides m 0 p.main p.is_main [] index c is_c some called))
+  main_calls : (held : Held) (from entries upto : ℕ) (a : Active) → Known (under_held main_setting held from entries upto) (scope t image p codable compiled holding 0 p.main p.is_main [] turns) a
+      → CallsFollow (under_held main_setting held from entries upto) (scope t image p codable compiled holding 0 p.main p.is_main [] turns) a
+  main_calls = calls_so t image p codable compiled besides turns 0 p.main p.is_main [] (λ index c is_c some called m e.
+      subst (λ (most : ℕ). EntersThere t image p codable compiled besides 0 p.main p.is_main [] most index c is_c called m) (sym e) (enters_so t image p codable compiled besides m 0 p.main p.is_main [] index c is_c some called))
+
+  abbrev calls_in_main : CallsFollow main_setting (scope t image p codable compiled holding 0 p.main p.is_main [] turns) active
+  calls_in_main = main_calls holding main_setting.from main_setting.entries main_setting.upto active known
 
   module _ {k : Count} (locals : List LocalVar) (row : Row_of-TStmt k) where
     abbrev begun_body : State
@@ -242,28 +246,28 @@ module _ (t : Typed) (image : Image) {beside : Beside} (p : IsProgramBeside besi
       let framed_so = framed t image p codable compiled holding 0 p.main p.is_main [] turns in
       let among_so = among t image p codable compiled holding 0 p.main p.is_main [] turns in
       let around : Around Known main_setting here active =
-      record { has = has_it; numbers = numbers; ready = is_ready; declares = declared; calls_follow = main_calls; falls = never_rises; known = besides.known 0 p.main p.is_main [] turns } in
-      let homes = starts_homes t image (scalars t image p codable compiled holding) codable compiled p.main in
-      let regs = starts_regs t image (scalars t image p codable compiled holding) codable compiled p.main in
+      record { has = has_it; numbers = numbers; ready = is_ready; declares = declared; calls = main_calls; falls = never_rises; known = known } in
+      let homes = starts_homes t image (scalars t image p codable compiled) codable compiled p.main in
+      let regs = starts_regs t image (scalars t image p codable compiled) codable compiled p.main in
       let c : HasStatementCode t p.main 0 (S.Block' locals q row) = subst (λ (s : TStmt). HasStatementCode t p.main 0 s) is (codable 0 p.main p.is_main).1 in
-      let own_row = block_code main_setting has_it wide one numbers is_ready declared here active main_calls (never_rises active) [] 0 locals q row c in
-      let initial = block_initials main_setting has_it wide one numbers is_ready declared here active main_calls (never_rises active) [] 0 locals q row c in
-      let settled = settled_so main_setting has_it wide one is_ready here active main_calls OfFileOrParam locals.items 0 (λ x living. inl living) (λ x own. inr own) before_all h.0.1 in
-      let stand = first_part (map info_of locals.items) (row_variables row) (block_stands main_setting has_it wide one numbers is_ready declared here active main_calls (never_rises active) [] 0 locals q row c) in
-      let code : Made ℕ = begun_code main_setting has_it wide one numbers is_ready declared here active main_calls (never_rises active) [] locals.items row out 0 begun_there in
+      let own_row = block_code main_setting has_it wide one numbers is_ready declared here active calls_in_main (never_rises active) [] 0 locals q row c in
+      let initial = block_initials main_setting has_it wide one numbers is_ready declared here active calls_in_main (never_rises active) [] 0 locals q row c in
+      let settled = settled_so main_setting has_it wide one is_ready here active calls_in_main OfFileOrParam locals.items 0 (λ x living. inl living) (λ x own. inr own) before_all h.0.1 in
+      let stand = first_part (map info_of locals.items) (row_variables row) (block_stands main_setting has_it wide one numbers is_ready declared here active calls_in_main (never_rises active) [] 0 locals q row c) in
+      let code : Made ℕ = begun_code main_setting has_it wide one numbers is_ready declared here active calls_in_main (never_rises active) [] locals.items row out 0 begun_there in
       let code_is : body_of t (own t image p codable compiled holding 0 p.main p.is_main [] turns) f p.main.body begun_there ≡ code =
       ap (λ (b : TStmt). body_of t (own t image p codable compiled holding 0 p.main p.is_main [] turns) f b begun_there) is
       ∙ ap (λ (m : Made (Unit {0})). then_make (then_make m (λ u between. then_make (all_initialised t (own t image p codable compiled holding 0 p.main p.is_main [] turns) locals.items 0 between) (λ v after. Makes (0 + length locals.items) after))) (λ number after. statements_of t (own t image p codable compiled holding 0 p.main p.is_main [] turns) row f [] number after))
-      (none_cleared main_setting has_it wide one is_ready here active main_calls locals.items 0 begun_there h.0.0) in
+      (none_cleared main_setting has_it wide one is_ready here active calls_in_main locals.items 0 begun_there h.0.0) in
       let made : BodyMade t image p codable compiled holding 0 p.main p.is_main [] turns code = body_made t image p codable compiled holding 0 p.main p.is_main [] turns code
-      (sym (ap (λ (m : Made ℕ). then_make m (λ n e. Makes (tt {0}) (ended true p.main.body e))) code_is) ∙ main_is t image (scalars t image p codable compiled holding) codable compiled p.main p.is_main) in
+      (sym (ap (λ (m : Made ℕ). then_make m (λ n e. Makes (tt {0}) (ended true p.main.body e))) code_is) ∙ main_is t image (scalars t image p codable compiled) codable compiled p.main p.is_main) in
       let whole : Outcome Leaving = executed here (S.Block' locals q row) 0 active in_main in
       let never : ends_in_return p.main.body ≡ true → NeverOnward whole =
       λ ends. never_second (initialised here active 0 locals.items _) _ (λ u. body_never here active locals q row (sym (ap (λ (x : TStmt). ends_in_return x) is) ∙ ends) (0 + length locals.items) u) in
       let ends : EndsSo t image p codable compiled holding 0 p.main p.is_main [] turns whole made.e = ends_by t image p codable compiled holding 0 p.main p.is_main [] turns whole made.e made.unit never in
-      let grown : (j : ℕ) × Extended begun_there j made.e = subst (λ (m : Made ℕ). Extends main_setting begun_there m) made.is_made (begun_grows main_setting has_it wide one numbers is_ready declared here active main_calls (never_rises active) [] locals.items row out 0 begun_there h.0.0 settled initial own_row framed_so among_so homes) in
+      let grown : (j : ℕ) × Extended begun_there j made.e = subst (λ (m : Made ℕ). Extends main_setting begun_there m) made.is_made (begun_grows main_setting has_it wide one numbers is_ready declared here active calls_in_main (never_rises active) [] locals.items row out 0 begun_there h.0.0 settled initial own_row framed_so among_so homes) in
       let opens = opened_so (earlier main_setting begun_there made.e grown.0 grown.1 ends.inside) in
-      let now : Variable → Type 0 = λ x. Now main_setting has_it wide one is_ready here active main_calls locals.items 0 x in
+      let now : Variable → Type 0 = λ x. Now main_setting has_it wide one is_ready here active calls_in_main locals.items 0 x in
       let sim : Sim main_setting now (begun_body locals.items row) opens.there =
       sim_fewer main_setting alive now (begun_body locals.items row) opens.there (λ x info named h. tt) (sim_same main_setting alive in_main (begun_body locals.items row) opens.there (same_scalars locals.items row) (λ k e p. zeroed_files main_setting 0 (length locals.items) in_main k e p) refl refl refl refl opens.sim) in
       let closed : NoJump whole = go_closed _ _ (begins_closed here active 0 locals.items _) (λ u. closed_row here row h.1 (0 + length locals.items) active u) in
@@ -272,18 +276,18 @@ module _ (t : Typed) (image : Image) {beside : Beside} (p : IsProgramBeside besi
       (runs_function t image p codable compiled holding 0 p.main p.is_main [] turns begun_there made.e made.n opens.there whole ends closed
       (subst (λ (m : Made ℕ). Follows main_setting (Left main_setting OfFileOrParam out begun_there opens.there) opens.there whole m) made.is_made
       (follows_fewer main_setting wide OfFileOrParam (λ x living. inl living) out begun_there opens.there whole code
-      (begun_follows main_setting has_it wide one numbers is_ready declared here active main_calls (never_rises active) [] locals.items row out 0 begun_there opens.there (begun_body locals.items row) h.0.0 stand settled initial own_row framed_so among_so homes (record { regs = omega (arith, regs); code = omega arith; fields = omega arith }) opens.at sim
+      (begun_follows main_setting has_it wide one numbers is_ready declared here active calls_in_main (never_rises active) [] locals.items row out 0 begun_there opens.there (begun_body locals.items row) h.0.0 stand settled initial own_row framed_so among_so homes (record { regs = omega (arith, regs); code = omega arith; fields = omega arith }) opens.at sim
       (λ e there u none free at sim_there. row_follows here (λ g. besides.follows g here) main_setting active around [] wide one (0 + length locals.items) (among_before OfFileOrParam 0 (length locals.items) before_all) row h.0.2 out e there u framed_so (stands_here t image p codable compiled holding 0 p.main p.is_main [] turns) none free at sim_there own_row))))))
   runs _ is h = absurd h
 
 -- the code comes to the end of the source's meaning
 pub program_follows : (t : Typed) (image : Image) {beside : Beside} (p : IsProgramBeside beside t) (codable : IsCodable t) (compiled : IsCompiled t image) (holding : Held)
-    {Known : Setting → Scope → Active → Type 1} (memory : BitMemory) (input : List ℕ) (rest : Source.Rest) (turns : ℕ) (winner : Winner) → AreBytes input → holding.holds (start_state t input rest turns winner) memory → AllBeside t image p codable compiled holding (λ s p. true) Known
+    {Known : Setting → Scope → Active → Type 1} (memory : BitMemory) (input : List ℕ) (rest : Source.Rest) (turns : ℕ) (winner : Winner) → AreBytes input → holding.holds (start_state t input rest turns winner) memory → AllBeside t image p codable compiled Known → Known (activation t image p codable compiled holding 0 p.main p.is_main [] turns) (scope_of t p.main (calls t turns)) (λ s p. true)
     → Comes holding image (opening image memory turns (record { bytes = input; mark = mark_of rest })) (meaning t input rest turns winner)
 unfolding meaning run_body
-program_follows t image p codable compiled holding memory input rest turns winner are begins besides =
+program_follows t image p codable compiled holding memory input rest turns winner are begins besides known =
     subst (λ (o : Option Instance). Comes holding image (opening image memory turns (record { bytes = input; mark = mark_of rest })) (run_of (run_body t (calls t turns) o [] (λ s p. true) (start_state t input rest turns winner)))) (sym p.is_main)
-    (runs t image p codable compiled holding memory input rest turns winner are begins besides p.main.body refl (p.each 0 p.main p.is_main).body)
+    (runs t image p codable compiled holding memory input rest turns winner are begins besides known p.main.body refl (p.each 0 p.main p.is_main).body)
 
 -- a unit of a program that has nothing beside scalars
 record NothingBeside (g : Setting) : Type 1 where
@@ -300,5 +304,8 @@ means_source t image p codable compiled memory input rest turns winner are =
         wheres = λ alive files n ready shape test q first second h. absurd (known.conditions shape test h);
         widenings = λ alive files n ready shape q body h. absurd (known.widens shape h);
       };
-      known = λ number i is opens most. record { effects = λ e h. h; folds = λ e h. h; conditions = λ shape e h. h; widens = λ shape h. h };
-    })).to
+      called = λ held from entries upto a me i is_me opens most known number b is back m here. nothing held number b is back m;
+    }) (nothing nothing_held 0 p.main p.is_main [] turns)).to
+  where
+    nothing : (held : Held) (number : ℕ) (i : Instance) (is : slice_get t.instances.items number ≡ Some i) (opens : List ℕ) (most : ℕ) → NothingBeside (activation t image p codable compiled held number i is opens most)
+    nothing held number i is opens most = record { effects = λ e h. h; folds = λ e h. h; conditions = λ shape e h. h; widens = λ shape h. h }

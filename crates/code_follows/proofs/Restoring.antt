@@ -85,7 +85,7 @@ module _ (g : Setting) (saved : Field) (held : Held) (from entries upto : ℕ) w
         let rest = outer.loads alive back first.t st (begun_later g d back 1 (and_one g (I.LoadContext saved) d) begun) first.at first.sim whole in
         subst (λ (e : Draft). Jumped there alive out d s st (length e.code)) (sym same) (record {
           t = rest.t;
-          go = record { by = (onto g s first.t rest.t first.go rest.go).by };
+          go = let go = onto g s first.t rest.t first.go rest.go in record { by = go.by; below = go.below };
           at = rest.at;
           sim = sim_saying g alive st rest.t rest.t.at rest.t.memory rest.sim.memory rest.sim;
           keeps = λ r kept. keeps_on g d back 1 s first.t rest.t (and_one g (I.LoadContext saved) d) first.keeps rest.keeps r (kept_so d r kept);

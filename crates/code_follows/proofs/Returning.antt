@@ -133,7 +133,7 @@ module _ (g : Setting) (has : HasRegisters g) (alive : Variable → Type 0) (fil
       let (j, ends) = leads_out moves t1 u (begun_later g e moves 1 (and_one g i e) begun) (at_next g i e t (t.at + 1) at refl) (result_set u t (slice_index t.registers r) sim) within in
       record {
         t = j.t;
-        go = onto g s0 t j.t go (onto g t t1 j.t (one g t t1 (begins_here g i e t before refl at)) j.go);
+        go = onto g s0 t j.t go (onto g t t1 j.t (one g t t1 (begins_here g i e t before refl at) refl) j.go);
         sim = j.sim;
         leaves = ends;
         spares = λ k spared. j.keeps k (spared_kept g moves k spared) ∙ get_or-set_other t.registers q k (slice_index t.registers r) 0 (λ e. has.spared_result (subst (λ (m : ℕ). g.spared m) e spared)) ∙ keeps k (spared_kept g d k spared);

@@ -1,5 +1,5 @@
 -- A unit of a compiled program, and how the code of its image stands for its drafts.
-use Rattle.std.proofs.Common.{◌≡◌, ◌∙◌, ℕ, suc, ◌+◌, ◌≤◌, List, [], ◌∷◌, ◌++◌, length, map, slice_get, Option, Some, refl, ap, arith, append_assoc, length-append, Bool}
+use Rattle.std.proofs.Common.{◌≡◌, ◌∙◌, ℕ, suc, ◌+◌, ◌<◌, ◌≤◌, List, [], ◌∷◌, ◌++◌, length, map, slice_get, Option, Some, refl, ap, arith, append_assoc, length-append, Bool}
 use Rattle.std.specs.List.{slice_index_or}
 use Rattle.cstar_link.specs.Linked.{code_from, moved_by}
 use Rattle.cstar_tree.specs.declared.typed.Instance.{Instance}
@@ -7,18 +7,23 @@ use Rattle.cstar_tree.specs.declared.typed.Typed.{Typed}
 use Rattle.cstar_tree.specs.declared.typed.Variable.TheVariants as V
 use Rattle.code_lengths.specs.Growth.{Extended}
 use Rattle.code_lengths.proofs.Drafting.{and_instr, as_it_was}
-use Rattle.field_alloc.specs.Placed.{IsPlaced}
+use Rattle.field_alloc.specs.Placed.{IsPlaced, of_set}
 use Rattle.lower_base.specs.Drafts.{Draft, Plain, Step, step as step_of, with_instr, with_step}
 use Rattle.lower_base.specs.Layouts.{Layout, layout_of}
 use Rattle.paris_code.specs.declared.instr.Instr.{Instr}
+use Rattle.paris_code.specs.declared.instr.Instr.TheVariants as I
+use Rattle.paris_code.specs.declared.operands.Field.{Field}
+use Rattle.paris_code.specs.declared.program.Final.{Final}
 use Rattle.paris_code.specs.declared.program.Image.{Image}
 use Rattle.paris_code.specs.declared.program.Program.{Program}
 use Rattle.paris_code.specs.declared.program.Unit.{Unit as CodeUnit}
 use Rattle.paris_code.specs.declared.program.Virtual.{Virtual}
 use Rattle.paris_code.specs.Code.{CodeEnd, CodeState, Ends, Goes, Next, begun, begun_at, code, go_on, step}
-use Rattle.paris_code.specs.Memory.{BitMemory}
+use Rattle.paris_code.specs.Memory.{BitMemory, field_number}
 use Rattle.paris_code.specs.Moving.{moved_instr}
 use Rattle.paris_code.specs.Proper.{IsUnit}
+use Rattle.paris_code.specs.Shapes.{bits_at, shapes_of}
+use Rattle.paris_code.specs.Spans.{StandsAt}
 use Rattle.source_meaning.specs.State.{State}
 use Rattle.code_follows.specs.Fragment.{May}
 use Rattle.code_follows.proofs.Standing.{stands, start_in}
@@ -30,6 +35,18 @@ pub record Held : Type 1 where
   pub ends : State → BitMemory → Type 0
   pub finally : (st : State) (m : BitMemory) → holds st m → ends st m
   pub still : (st u : State) (m : BitMemory) → ((k e p : ℕ) → u.parallel (V.File k) e p ≡ st.parallel (V.File k) e p) → u.winner ≡ st.winner → holds st m → holds u m
+
+-- A field stands below the own entries of a unit, above the file's fields and below the flags: so do those of the units
+-- whose calls are open.
+pub record StandsBelow (image : Image) {before after : Program} (placed : IsPlaced before after) (number : ℕ) (f : Field) : Type 0 where
+  pub exists : f.set < length before.shapes.items
+  pub low : f.offset + f.len ≤ of_set placed.bases number f.set
+  pub ends : f.offset + f.len ≤ bits_at (shapes_of image) f.set
+  pub files : (file : ℕ) (last : Final) → slice_get after.finals.items file ≡ Some last → last.field.set ≡ f.set → last.field.offset + last.field.len ≤ f.offset
+
+-- what stands in such fields is the same
+abbrev pub SameBelow : (image : Image) {before after : Program} → IsPlaced before after → ℕ → BitMemory → BitMemory → Type 0
+SameBelow image placed number m other = (f : Field) (p : ℕ) → StandsBelow image placed number f → field_number other f p ≡ field_number m f p
 
 pub record Setting : Type 1 where
   pub typed : Typed
@@ -112,23 +129,44 @@ module _ (g : Setting) where
   pub begun_later : (d e : Draft) (n : ℕ) → Extended d n e → Begun d → Begun e
   begun_later d e n x b = record { regs = omega (arith, x.regs, b.regs); code = omega (arith, longer d e n x, b.code); fields = omega (arith, more_entries d e n x, b.fields) }
 
+  -- a function is called at a place between those of which is spoken
+  pub record CallStands (index : ℕ) : Type 0 where
+    pub at : ℕ
+    pub stands : StandsAt g.unit at (I.FrontCall index)
+    pub low : g.from ≤ at
+    pub high : at < g.upto
+
+  -- what stands below the entries of the unit stands below those of what it calls
+  pub called_below : (index : ℕ) → CallStands index → (f : Field) → StandsBelow g.image g.placed g.number f → StandsBelow g.image g.placed index f
+  called_below index here f below = record {
+    exists = below.exists;
+    low = let behind = g.placed.behind g.number index here.at f.set g.unit g.is_unit here.stands below.exists in let low = below.low in omega (arith, behind, low);
+    ends = below.ends;
+    files = below.files;
+  }
+
   -- the code stands at a place of the unit
   abbrev pub At : CodeState → ℕ → Type 0
   At s at = s.at ≡ start + at
 
-  -- the code goes on from one state as from the other
+  -- the code goes on from one state as from the other, and leaves what stands below the unit's entries
   pub record Reaches (s t : CodeState) : Type 0 where
     pub by : (k : ℕ) → (j : ℕ) × ((code g.image j s).next ≡ (code g.image k t).next)
+    pub below : SameBelow g.image g.placed g.number s.memory t.memory
 
   pub stay : (s : CodeState) → Reaches s s
-  stay s = record { by = λ k. (k, refl) }
+  stay s = record { by = λ k. (k, refl); below = λ f p low. refl }
 
   pub onto : (s t u : CodeState) → Reaches s t → Reaches t u → Reaches s u
-  onto s t u a b = record { by = λ k. let y = b.by k in let x = a.by y.0 in (x.0, x.1 ∙ y.1) }
+  onto s t u a b = record { by = λ k. let y = b.by k in let x = a.by y.0 in (x.0, x.1 ∙ y.1); below = λ f p low. b.below f p low ∙ a.below f p low }
 
-  pub one : (s t : CodeState) → step g.image s ≡ Goes t → Reaches s t
+  -- an instruction that writes the memory, and one that leaves it
+  pub one_writes : (s t : CodeState) → step g.image s ≡ Goes t → SameBelow g.image g.placed g.number s.memory t.memory → Reaches s t
   unfolding code
-  one s t e = record { by = λ k. (suc k, ap (λ (n : Next). (go_on (λ u. code g.image k u) n).next) e) }
+  one_writes s t e same = record { by = λ k. (suc k, ap (λ (n : Next). (go_on (λ u. code g.image k u) n).next) e); below = same }
+
+  pub one : (s t : CodeState) → step g.image s ≡ Goes t → t.memory ≡ s.memory → Reaches s t
+  one s t e same = one_writes s t e (λ f p low. ap (λ (m : BitMemory). field_number m f p) same)
 
   -- so many instructions end the run so
   pub record EndsIn (s : CodeState) (end : CodeEnd) (t : CodeState) : Type 0 where
@@ -150,16 +188,20 @@ module _ (g : Setting) where
   seam [] y ys = refl
   seam (x ∷ xs) y ys = seam xs y ys
 
-  stands_here : (i : Instr) (d : Draft) → Within (with_instr i d) → slice_get whole (length d.code) ≡ Some (step_of i)
+  step_here : (i : Instr) (d : Draft) → Within (with_instr i d) → slice_get whole (length d.code) ≡ Some (step_of i)
   unfolding with_instr with_step
-  stands_here i d w = ap (λ (c : List Step). slice_get c (length d.code)) (w.code ∙ append_assoc d.code (step_of i ∷ []) w.more) ∙ seam d.code (step_of i) w.more
+  step_here i d w = ap (λ (c : List Step). slice_get c (length d.code)) (w.code ∙ append_assoc d.code (step_of i ∷ []) w.more) ∙ seam d.code (step_of i) w.more
 
   -- the instruction that the draft gets next is the one at which the code stands
   pub begins_here : (i : Instr) (d : Draft) (s : CodeState) → Within (with_instr i d) → step_of i ≡ Plain i → At s (length d.code) → step g.image s ≡ begun g.image (placed_instr i) s
   unfolding step
   begins_here i d s w plain at =
-      let there = (stands g.image g.before g.after g.placed g.number g.unit g.linked g.is_unit (length d.code) i (stands_here i d w ∙ ap Some plain)).1 in
+      let there = (stands g.image g.before g.after g.placed g.number g.unit g.linked g.is_unit (length d.code) i (step_here i d w ∙ ap Some plain)).1 in
       ap (λ (o : Option Instr). begun_at g.image s o) (ap (λ (n : ℕ). slice_get g.image.code.items n) at ∙ there)
+
+  -- it stands in the unit
+  pub stands_here : (i : Instr) (d : Draft) → Within (with_instr i d) → step_of i ≡ Plain i → StandsAt g.unit (length d.code) i
+  stands_here i d w plain = (stands g.image g.before g.after g.placed g.number g.unit g.linked g.is_unit (length d.code) i (step_here i d w ∙ ap Some plain)).0
 
   pub and_one : (i : Instr) (d : Draft) → Extended d 1 (with_instr i d)
   and_one i d = and_instr i d d 0 (as_it_was d)

@@ -246,7 +246,7 @@ module _ (g : Setting) (has : HasRegisters g) (alive : Variable → Type 0) (fil
           record {
             grown = (1, and_one g i d);
             t = t;
-            go = one g s t (begins_here g i d s within refl at);
+            go = one g s t (begins_here g i d s within refl at) refl;
             at = at_next g i d s (s.at + 1) at refl;
             keeps = variable_kept g d s (V.Local n) local.info word has scalar.0;
             sim = subst (λ (w : ℕ). Sim g (λ z. Now locals (n + 1) z) (with_scalar (V.Local n) c.value st) (with_register r w s)) is_held

@@ -91,7 +91,7 @@ module _ (g : Setting) (has : HasRegisters g) (alive : Variable → Type 0) wher
       record {
         grown = (n + 1, extended d e (with_instr i e) n 1 grows (and_one g i e));
         t = t;
-        go = onto g s0 s t go (one g s t (begins_here g i e s within plain here ∙ does));
+        go = onto g s0 s t go (one g s t (begins_here g i e s within plain here ∙ does) refl);
         at = at_next g i e s (s.at + 1) here refl;
         sim = register_set g alive st s r word has low_free sim;
         keeps = keeps_on g d d 0 s0 s t (as_it_was d) keeps (register_kept g d s r word has free.regs low (omega (arith, high, regs, within.own)));
@@ -122,7 +122,7 @@ module _ (g : Setting) (has : HasRegisters g) (alive : Variable → Type 0) wher
     pub put_by : (e : Draft) (n : ℕ) (i : Instr) (s : CodeState) (st : State) (w : ℕ) → Reaches g s0 s → At g s (length e.code) → Sim g alive st s → Extended d n e → Keeps g d s0 s → Within g (with_instr i e) → step_of i ≡ Plain i
         → begun g.image (placed_instr g i) s ≡ Goes (with_register r (held elem w) s) → w < 2 ^ elem.bits → R (Scalar w) st (O.Scalar r) (with_instr i e)
     put_by e n i s st w go here sim grows keeps within plain does few =
-        dest.takes e (with_instr i e) n 1 s (s.at + 1) st w go sim grows keeps (and_one g i e) within (one g s (with_register r (held elem w) s) (begins_here g i e s within plain here ∙ does)) (at_next g i e s (s.at + 1) here refl) few
+        dest.takes e (with_instr i e) n 1 s (s.at + 1) st w go sim grows keeps (and_one g i e) within (one g s (with_register r (held elem w) s) (begins_here g i e s within plain here ∙ does) refl) (at_next g i e s (s.at + 1) here refl) few
 
   -- a fresh one
   pub fresh_dest : (elem : Elem) (quiet : Bool) (d : Draft) (s0 : CodeState) → Begun g d → Dest elem (with_reg d) s0 (λ v st out e. Arrives g alive elem quiet d s0 v st out e) d.regs
@@ -291,7 +291,7 @@ module _ (g : Setting) (has : HasRegisters g) (alive : Variable → Type 0) wher
       by true false is_c is_z = λ within.
           let checks : Draft = with_instr (I.FrontCheckDivisor place b) e in
           let early : Within g checks = earlier g checks _ 1 (on_registers_more (machine_of op signed) r a b checks) within in
-          let goes : Reaches g s (Machine.onward s) = one g s (Machine.onward s) (begins_here g (I.FrontCheckDivisor place b) e s early refl here ∙ checked_so b y s place false is_b is_z) in
+          let goes : Reaches g s (Machine.onward s) = one g s (Machine.onward s) (begins_here g (I.FrontCheckDivisor place b) e s early refl here ∙ checked_so b y s place false is_b is_z) refl in
           subst (λ (v : ℕ). R (Scalar v) st (O.Scalar r) (on_registers (machine_of op signed) r a b checks)) (same (λ h. is_z))
           (computes ty.elem d checks (n + 1) s0 (Machine.onward s) st R (machine_of op signed) r a b x y word.1 dest (onto g s0 s (Machine.onward s) go goes) (at_next g (I.FrontCheckDivisor place b) e s (s.at + 1) here refl) (sim_onward st s sim)
           (extended d e checks n 1 grows (and_one g (I.FrontCheckDivisor place b) e)) keeps is_a is_b few small within)

@@ -72,10 +72,6 @@ pub record May : Type 1 where
 abbrev pub naming : May → (Variable → Type 0) → May
 naming may names = record may { names = names }
 
--- the same under contexts, where nothing is called
-abbrev pub under_contexts : May → May
-under_contexts may = record may { calls = λ used index given. ⊥ }
-
 -- the variables of some, and so many of a block from a number on
 abbrev pub OrAmong : (Variable → Type 0) → ℕ → ℕ → Variable → Type 0
 OrAmong names n many x = names x ⊎ (is_among n many x ≡ true)
@@ -208,10 +204,10 @@ unfoldable mutual
   IsInStatement may n S.Continue = Unit {0}
   IsInStatement may n (S.Return e) = IfSome e (λ e. IsIn may e × may.returns (type_of e).elem)
   IsInStatement may n (S.With' shape p body) = IsInStatement may n body
-  IsInStatement may n (S.Everywhere' shape p body) = may.beside.widens shape × IsInStatement (under_contexts may) n body
+  IsInStatement may n (S.Everywhere' shape p body) = may.beside.widens shape × IsInStatement may n body
   IsInStatement may n (S.Where' shape test p first second) =
       may.beside.conditions shape test × ScalarsAmong may.names test
-      × IsInStatement (under_contexts may) n first × IsInElse (under_contexts may) (behind n first) second
+      × IsInStatement may n first × IsInElse may (behind n first) second
 
   pub AreInStatements : {k : _} → May → ℕ → Row_of-TStmt k → Type 0
   AreInStatements may n end_of-TStmt = Unit {0}

@@ -65,7 +65,7 @@ use Rattle.fields_follow.proofs.Places.{HoldsTheFields, IsFileField, PlacesField
 use Rattle.fields_follow.proofs.Pure.{are_grids, pure_means}
 use Rattle.fields_follow.proofs.Updates.{AssignsByNoZero, IsFileTarget, assign_means, file_target, promoted_wide, step_means, updated_is}
 use Rattle.fields_follow.proofs.Values.{and_entry, next_field, one_more, taken, with_entry}
-use Rattle.fields_follow.proofs.Writing.{TakesBehind, few, entry_ends, file_sim, instr_takes, own_stays}
+use Rattle.fields_follow.proofs.Writing.{TakesBehind, entry_and_below, entry_ends, few, file_sim, instr_takes, own_stays}
 use Rattle.fields_follow.proofs.Effects.{IsEntryFor, in_place_last, put_last}
 use Rattle.fields_follow.proofs.Expressions.{operand_type}
 use Rattle.code_follows.specs.Fragment.{ScalarsAmong}
@@ -114,7 +114,8 @@ module _ (g : Setting) (has : HasRegisters g) (alive : Variable → Type 0) (n :
         → Leaves g alive d (with_instr i e2) s (with_positions (V.File k) 0 (fields.active set) w st)
     unfolding tests_passed
     leaves_value v w same e2 i within p puts =
-        leaves v w same e2 (with_instr i e2) (Unit {0}) within (tests_passed g alive (length entered.fields) entered e2 s st (Unit {0}) (omega arith) p) tt (instr_takes g set i variable e2 p.t v within p.at puts)
+        let file : IsFileField g k 0 variable = entry_for (with_instr i e2) (p.grown.0 + 1) (extended entered e2 (with_instr i e2) p.grown.0 1 p.grown.1 (and_one g i e2)) within in
+        leaves v w same e2 (with_instr i e2) (Unit {0}) within (tests_passed g alive (length entered.fields) entered e2 s st (Unit {0}) (omega arith) p) tt (instr_takes g set i variable e2 p.t v (entry_and_below g places fields alive set k 0 info variable is word file refl refl) within p.at puts)
 
     -- the variable with all its bits is that entry
     variable_is : (target : TExpr) (next : Out → Draft → Made Out) → (type_of target).elem.bits ≡ 32

@@ -15,7 +15,7 @@ use Rattle.source_meaning.specs.State.{Gives, Outcome, State}
 use Rattle.source_meaning.specs.Values.{Active, Scalar, Scope, Value}
 use Rattle.code_follows.proofs.Following.{Follows, HasRegisters, IsKept, Ran, Sim}
 use Rattle.code_follows.proofs.Parts.{BesideFollows}
-use Rattle.code_follows.proofs.Settings.{At, Begun, Setting, Within, layout, onto}
+use Rattle.code_follows.proofs.Settings.{At, Begun, Reaches, Setting, Within, layout, onto}
 use Rattle.code_follows.proofs.Values.{Dest}
 use Rattle.fields_follow.specs.Fragment.{IsFold, IsParallelEffect}
 use Rattle.fields_follow.proofs.Assigning.{updates_leave}
@@ -35,9 +35,9 @@ use Rattle.fields_follow.proofs.Values.{operand_after}
 module _ (g : Setting) (scope : Scope) (active : Active) (known : KnowsFields g scope active) (has : HasRegisters g) where
   module _ (alive : Variable → Type 0) (n : ℕ) (ready : (d : Draft) → IsReady g.typed g.instance (layout g) n d) (e : TExpr) (c : HasItsCode g.typed g.instance alive n e) (d : Draft) (s : CodeState) (st : State) (begun : Begun g d) (here : At g s (length d.code)) (sim : Sim g alive st s) where
     -- what is kept of the memory lasts over code behind the draft
-    kept_behind : (f : Draft) (t : CodeState) → Within g f → StaysNamed g (length d.code) (length d.fields) (length f.code) s.memory t.memory → known.kept t.memory
-    kept_behind f t within stays =
-        lasts_within g g.from g.entries g.upto (length d.code) (length d.fields) (length f.code) known.kept begun.code begun.fields within.upto known.lasts s.memory t.memory stays (kept_open g scope active known alive st s sim)
+    kept_behind : (f : Draft) (t : CodeState) → Within g f → Reaches (under g active) s t → StaysNamed g (length d.code) (length d.fields) (length f.code) s.memory t.memory → known.kept t.memory
+    kept_behind f t within go stays =
+        (lasts_within g g.from g.entries g.upto (length d.code) (length d.fields) (length f.code) known.kept begun.code begun.fields within.upto known.lasts).code s.memory t.memory stays go.below (kept_open g scope active known alive st s sim)
 
     -- what code leaves that is of an update, the unit's code follows
     leaves_ran : (f : Draft) (u : State) → Within g f → Leaves (under g active) alive d f s u → Ran g alive d s u f
@@ -46,7 +46,7 @@ module _ (g : Setting) (scope : Scope) (active : Active) (known : KnowsFields g 
       t = l.t;
       go = reaches_again g active l.go;
       at = l.at;
-      sim = sim_close g scope active known alive u l.t l.sim (kept_behind f l.t within (l.stays tt));
+      sim = sim_close g scope active known alive u l.t l.sim (kept_behind f l.t within l.go (l.stays tt));
       keeps = λ r kept. ap (λ (registers : List ℕ). slice_index registers r) l.registers;
     }
 
@@ -58,7 +58,7 @@ module _ (g : Setting) (scope : Scope) (active : Active) (known : KnowsFields g 
       t = l.t;
       go = reaches_again g active (onto (under g active) s l.passes.t l.t l.passes.go l.writes.go);
       at = l.writes.at;
-      sim = sim_close g scope active known alive u l.t l.writes.sim (kept_behind f l.t within (λ h first last p inside own ends before early after late. scalars_stay (under g active) alive d s st u f l h first last p inside own before early after late));
+      sim = sim_close g scope active known alive u l.t l.writes.sim (kept_behind f l.t within (onto (under g active) s l.passes.t l.t l.passes.go l.writes.go) (λ h first last p inside own ends before early after late. scalars_stay (under g active) alive d s st u f l h first last p inside own before early after late));
       keeps = λ r kept. l.writes.keeps r kept ∙ ap (λ (registers : List ℕ). slice_index registers r) l.passes.registers;
     }
 
@@ -101,7 +101,7 @@ module _ (g : Setting) (scope : Scope) (active : Active) (known : KnowsFields g 
             go = reaches_again g active p.go;
             at = p.at;
             registers = p.registers;
-            sim = sim_close g scope active known alive st p.t p.sim (kept_behind f p.t within (λ h first last q inside own ends before early after late. p.stays tt h first last q inside own before early after (omega (arith, late, longer))));
+            sim = sim_close g scope active known alive st p.t p.sim (kept_behind f p.t within p.go (λ h first last q inside own ends before early after late. p.stays tt h first last q inside own before early after (omega (arith, late, longer))));
             stays = p.stays;
           };
           puts = record { more = given.puts.more; place = given.puts.place; go = reaches_again g active given.puts.go; at = given.puts.at; few = given.puts.few };

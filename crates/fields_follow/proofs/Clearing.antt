@@ -1,5 +1,5 @@
 -- A variable that is cleared, and whose lowest bit then is written by an operation on two bits, takes a truth value.
-use Rattle.std.proofs.Common.{◌≡◌, ◌∙◌, ℕ, zero, suc, ◌+◌, ◌-◌, ◌%◌, ◌^◌, ◌<◌, ◌≤◌, ◌==◌, ◌&&◌, Bool, true, false, [], ◌∷◌, length, refl, sym, ap, subst, arith, if◌then◌else◌}
+use Rattle.std.proofs.Common.{◌≡◌, ◌∙◌, ℕ, zero, suc, ◌+◌, ◌-◌, ◌%◌, ◌^◌, ◌<◌, ◌≤◌, ◌==◌, ◌&&◌, inl, inr, Bool, true, false, [], ◌∷◌, length, refl, sym, ap, subst, arith, if◌then◌else◌}
 use Rattle.std.proofs.lemmas.Bool.Decides.{nat_tests}
 use Rattle.std.proofs.lemmas.Nat.Bits.{bit_at-zero, bit_at_lowest}
 use Rattle.std.proofs.Math.Nat.{div-eq_of_lt, pow-suc}
@@ -27,7 +27,7 @@ use Rattle.paris_code.specs.Spans.{IsNamedAt, StandsAt}
 use Rattle.paris_code.specs.Writes.{Write, covers, written}
 use Rattle.source_meaning.specs.State.{State}
 use Rattle.source_meaning.specs.Values.{nonzero}
-use Rattle.code_follows.proofs.Settings.{At, Reaches, Setting, Within, and_one, at_next, begins_here, code_more, earlier, one, onto, placed_instr}
+use Rattle.code_follows.proofs.Settings.{At, Reaches, Setting, StandsBelow, Within, and_one, at_next, begins_here, code_more, earlier, one_writes, onto, placed_instr}
 use Rattle.fields_follow.specs.Fields.{IsElement}
 use Rattle.fields_follow.proofs.Bits.{active_apart, field_apart}
 use Rattle.fields_follow.proofs.FileFields.{Apart, apart_back}
@@ -38,7 +38,7 @@ use Rattle.fields_follow.proofs.Passing.{Behind, code_longer, flags_of, names_se
 use Rattle.fields_follow.proofs.PassingTests.{tests_on}
 use Rattle.fields_follow.proofs.Places.{HoldsTheFields, IsFileField, IsOwnField, PlacesFields, of_file, stands_here}
 use Rattle.fields_follow.proofs.Truths.{GivesTruth, either_or_both, joined_bits}
-use Rattle.fields_follow.proofs.Writing.{TakesBehind, entry_ends, entry_place}
+use Rattle.fields_follow.proofs.Writing.{TakesBehind, entry_and_below, entry_ends, entry_place}
 
 -- ---- two writes are one
 
@@ -140,8 +140,8 @@ module _ (g : Setting) (places : PlacesFields g) (fields : HoldsTheFields g) (al
     more = (2, joined_more g is_or set offset a b e);
     place = s.at + 1 + 1;
     go = subst (λ (m : BitMemory). Reaches g s (record s { at = s.at + 1 + 1; memory = m })) (two_writes (place g dest) on (λ q. is_active (shapes g) s1.memory set q) number s.memory (omega arith) still_active)
-        (onto g s s1 (wrote g joins s1) (one g s s1 (begins_here g (clear set offset) e s (earlier g (cleared_behind set offset e) (joined_behind is_or set offset a b e) 1 (and_one g (join is_or set offset a b) (cleared_behind set offset e)) within) refl here ∙ clear_goes))
-        (one g s1 (wrote g joins s1) (begins_here g (join is_or set offset a b) (cleared_behind set offset e) s1 within refl at_join ∙ join_goes)));
+        (onto g s s1 (wrote g joins s1) (one_writes g s s1 (begins_here g (clear set offset) e s (earlier g (cleared_behind set offset e) (joined_behind is_or set offset a b e) 1 (and_one g (join is_or set offset a b) (cleared_behind set offset e)) within) refl here ∙ clear_goes) (λ f q there. field_apart clears s.memory f q (apart f there)))
+        (one_writes g s1 (wrote g joins s1) (begins_here g (join is_or set offset a b) (cleared_behind set offset e) s1 within refl at_join ∙ join_goes) (λ f q there. field_apart joins s1.memory f q (lowest_apart f (apart f there)))));
     at = at_next g (join is_or set offset a b) (cleared_behind set offset e) s1 (s1.at + 1) at_join refl;
   }
     where
@@ -150,6 +150,14 @@ module _ (g : Setting) (places : PlacesFields g) (fields : HoldsTheFields g) (al
 
       ends : (dest.set < length (shapes g)) × ((place g dest).offset + dest.len ≤ bits_at (shapes g) dest.set)
       ends = entry_ends g places fields alive set k 0 info dest is word file refl refl
+
+      apart : (f : Field) → StandsBelow g.image g.placed g.number f → Apart (place g dest) f
+      apart f there = entry_and_below g places fields alive set k 0 info dest is word file refl refl f there
+
+      lowest_apart : (f : Field) → Apart (place g dest) f → Apart (place g (lowest_bit dest)) f
+      lowest_apart f (inl differ) = inl differ
+      lowest_apart f (inr (inl low)) = inr (inl (omega (arith, low)))
+      lowest_apart f (inr (inr high)) = inr (inr high)
 
       still_active : (q : ℕ) → is_active (shapes g) s1.memory set q ≡ on q
       still_active q = active_apart (shapes g) clears s.memory set q ends.1

@@ -1,5 +1,5 @@
 -- `where` follows where what stands under it does.
-use Rattle.std.proofs.Common.{◌≡◌, ◌∙◌, ℕ, ◌+◌, ◌≤◌, true, List, [], ◌∷◌, ◌++◌, length, refl, sym, ap, arith}
+use Rattle.std.proofs.Common.{◌≡◌, ◌∙◌, ℕ, ◌+◌, ◌<◌, ◌≤◌, true, List, [], ◌∷◌, ◌++◌, length, refl, sym, ap, arith}
 use Rattle.cstar_tree.specs.declared.typed.TExpr.{TExpr}
 use Rattle.cstar_tree.specs.declared.typed.TStmt.{TStmt, Held-TStmt-If-2, None', Some'}
 use Rattle.cstar_tree.specs.declared.typed.TStmt as S
@@ -31,7 +31,7 @@ use Rattle.code_follows.proofs.Settings.{Setting, Within, and_one, code_more, ea
 use Rattle.code_follows.specs.Fragment.{ScalarsAmong}
 use Rattle.fields_follow.specs.Fragment.{IsCondition, KnowsExtents, extents_in}
 use Rattle.fields_follow.proofs.Forms.{HasItsCode}
-use Rattle.fields_follow.proofs.Instructions.{extents}
+use Rattle.fields_follow.proofs.Instructions.{extents, shapes}
 use Rattle.fields_follow.proofs.Knowing.{KnowsFields, Lasts, flags_last, lasts_both}
 use Rattle.fields_follow.proofs.Entering.{TestMade, code_more_by, context_led, entered, entries_more, holds, holds_own, saved, saved_own, test_made}
 use Rattle.fields_follow.proofs.Saving.{Kept, arrives, arrives_now, kept_lasts, own_below, part_closed, test_below}
@@ -80,7 +80,7 @@ module _ (g : Setting) (has : HasRegisters g) (scope : Scope) (active : Active) 
       let fields : length after.fields ≤ length inner.fields = fields_longer after inner 2 inner_more in
       let long : length inner.code ≤ length e.code = code_longer inner e longer.0 longer.1 in
       let lasts : Lasts g (length inner.code) (length inner.fields) (length e.code) (λ m. Kept g scope active known alive (saved shape d) m) =
-      kept_lasts g scope active known alive (saved shape d) d (length after.code) (length e.code) (length inner.code) (length inner.fields) (length e.code) begun (omega (arith, low, one, two)) (omega (arith, counts.1, fields)) w_e.upto own below.1 (omega (arith, counts.1, fields)) stored (omega (arith, one, two)) loaded (omega arith) in
+      kept_lasts g scope active known alive (saved shape d) d (length after.code) (length e.code) (length inner.code) (length inner.fields) (length e.code) begun (omega (arith, low, one, two)) (omega (arith, counts.1, fields)) w_e.upto own below (omega (arith, counts.1, fields)) stored (omega (arith, one, two)) loaded (omega arith) in
       let led_save : Led g scope active known alive active (λ m. Kept g scope active known alive (saved shape d) m × TestsAre g shape active v m) d save s st =
       context_led g shape d test tests scope active known alive begun s st has n ready condition c at sim (length e.code) w_saves loaded (omega (arith, one, two, long)) in
       let led_inner : Led g scope active known alive (among shape v active) (λ m. Kept g scope active known alive (saved shape d) m) d inner s st =
@@ -155,7 +155,7 @@ module _ (g : Setting) (has : HasRegisters g) (scope : Scope) (active : Active) 
       let w_save : Within g save = earlier g save keep 1 (and_one g (I.StoreTest holds_in) save) w_keep in
       let w_after : Within g after = earlier g after save 1 (and_one g (I.StoreContext saved_in) after) w_save in
       let below = own_below g scope active known alive saved_in after w_save in
-      let below_test : EndsBelow g holds_in = test_below g scope active known alive holds_in save w_keep in
+      let below_test : (holds_in.set < length (shapes g)) × EndsBelow g holds_in = test_below g scope active known alive holds_in save w_keep in
       let own : IsOwnField g saved_in = saved_own g shape d test tests w_after in
       let own_test : IsOwnField g holds_in = holds_own g shape d test tests w_after in
       let stored : IsNamedAt g.unit saved_in.offset (length after.code) = named_next g (I.StoreContext saved_in) saved_in after w_save refl refl in
@@ -176,13 +176,13 @@ module _ (g : Setting) (has : HasRegisters g) (scope : Scope) (active : Active) 
       let more_fields : length inner.fields ≤ length turns_back.fields = fields_longer inner turns_back (longer.0 + 3) back_more in
       let up = w_keep.upto in
       let lasts_early : Lasts g (length save.code) (length (entered shape d).fields) (length keep.code) (λ m. Kept g scope active known alive saved_in m) =
-      kept_lasts g scope active known alive saved_in d (length after.code) (length e.code) (length save.code) (length (entered shape d).fields) (length keep.code) begun (omega (arith, low, one)) (omega (arith, counts.0)) up own below.1 (omega (arith, counts.0)) stored (omega (arith, one)) loaded (omega (arith, three, long)) in
+      kept_lasts g scope active known alive saved_in d (length after.code) (length e.code) (length save.code) (length (entered shape d).fields) (length keep.code) begun (omega (arith, low, one)) (omega (arith, counts.0)) up own below (omega (arith, counts.0)) stored (omega (arith, one)) loaded (omega (arith, three, long)) in
       let lasts : Lasts g (length inner.code) (length inner.fields) (length e.code) (λ m. KeptTests m) =
       lasts_both g (length inner.code) (length inner.fields) (length e.code) (λ m. Kept g scope active known alive saved_in m) (λ m. HasTests g active v holds_in m)
-      (kept_lasts g scope active known alive saved_in d (length after.code) (length e.code) (length inner.code) (length inner.fields) (length e.code) begun (omega (arith, low, one, two, three)) (omega (arith, counts.1, fields)) w_e.upto own below.1 (omega (arith, counts.1, fields)) stored (omega (arith, one, two, three)) loaded (omega arith))
-      (flags_last g holds_in (λ x. active shape x ≡ true) (λ x. nonzero (v x)) (length save.code) (length back.code) (length inner.code) (length inner.fields) (length e.code) own_test below_test (omega (arith, counts.0, counts.1, fields)) stored_test (omega (arith, two, three)) loaded_test (omega (arith, four))) in
+      (kept_lasts g scope active known alive saved_in d (length after.code) (length e.code) (length inner.code) (length inner.fields) (length e.code) begun (omega (arith, low, one, two, three)) (omega (arith, counts.1, fields)) w_e.upto own below (omega (arith, counts.1, fields)) stored (omega (arith, one, two, three)) loaded (omega arith))
+      (flags_last g known.places holds_in (λ x. active shape x ≡ true) (λ x. nonzero (v x)) (length save.code) (length back.code) (length inner.code) (length inner.fields) (length e.code) own_test below_test.0 below_test.1 (omega (arith, counts.0, counts.1, fields)) stored_test (omega (arith, two, three)) loaded_test (omega (arith, four))) in
       let lasts_late : Lasts g (length turns_back.code) (length turns_back.fields) (length h.code) (λ m. Kept g scope active known alive saved_in m) =
-      kept_lasts g scope active known alive saved_in d (length after.code) (length h.code) (length turns_back.code) (length turns_back.fields) (length h.code) begun (omega (arith, low, one, two, three, long, four, five)) (omega (arith, counts.1, fields, more_fields)) w_f.upto own below.1 (omega (arith, counts.1, fields, more_fields)) stored
+      kept_lasts g scope active known alive saved_in d (length after.code) (length h.code) (length turns_back.code) (length turns_back.fields) (length h.code) begun (omega (arith, low, one, two, three, long, four, five)) (omega (arith, counts.1, fields, more_fields)) w_f.upto own below (omega (arith, counts.1, fields, more_fields)) stored
       (omega (arith, one, two, three, long, four, five)) loaded_last (omega arith) in
       let led_save : Led g scope active known alive active (λ m. Kept g scope active known alive saved_in m × TestsAre g shape active v m) d save s st =
       context_led g shape d test tests scope active known alive begun s st has n ready condition c at sim (length e.code) w_save loaded (omega (arith, one, two, three, long)) in

@@ -1,6 +1,6 @@
 -- A truth value that is assigned: the test flags are stored in a field of one bit, which the last instruction moves to
 -- the variable; or the variable is cleared, and its lowest bit written by an operation on two such fields.
-use Rattle.std.proofs.Common.{◌≡◌, ◌∙◌, ℕ, ◌<◌, ◌%◌, ◌^◌, ◌==◌, ◌||◌, Bool, true, false, [], length, Option, Some, None, refl, sym, ap, subst, arith, inl, if◌then◌else◌}
+use Rattle.std.proofs.Common.{◌≡◌, ◌∙◌, ℕ, ◌+◌, ◌<◌, ◌%◌, ◌^◌, ◌==◌, ◌||◌, Bool, true, false, [], length, Option, Some, None, refl, sym, ap, subst, arith, inl, if◌then◌else◌}
 use Rattle.std.specs.Int.{from_bool}
 use Rattle.std.specs.Prelude.{unwrap_or}
 use Rattle.cstar_base.specs.declared.operators.Op.{Op}
@@ -16,6 +16,7 @@ use Rattle.cstar_tree.specs.declared.typed.VarInfo.{VarInfo}
 use Rattle.cstar_tree.specs.declared.typed.Variable.{Variable}
 use Rattle.code_lengths.specs.Growth.{Extended}
 use Rattle.code_lengths.specs.Ready.{IsReady}
+use Rattle.code_lengths.proofs.Drafting.{extended}
 use Rattle.lower_base.specs.declared.emit.Out.{Out}
 use Rattle.lower_base.specs.declared.emit.Out.TheVariants as O
 use Rattle.lower_base.specs.Drafts.{Draft, Fails, Made, Makes, a_field, an_entry, first_bits, step as step_of, then_make, with_instr}
@@ -53,7 +54,7 @@ use Rattle.fields_follow.proofs.Instructions.{Puts, SameExtents, extents, number
 use Rattle.fields_follow.proofs.Meaning.{value_in}
 use Rattle.fields_follow.proofs.Leaving.{PassesTests}
 use Rattle.fields_follow.proofs.Passing.{After, Behind, after_same, flags_of, made_after, names_second, then_after}
-use Rattle.fields_follow.proofs.Writing.{TakesBehind, instr_takes}
+use Rattle.fields_follow.proofs.Writing.{TakesBehind, entry_and_below, instr_takes}
 use Rattle.fields_follow.proofs.TestFlags.{is_truth, truth_is}
 
 -- ---- what is known of a truth value
@@ -193,7 +194,8 @@ module _ (g : Setting) where
           (λ kept e2 bit. made_after g Q (O.Field f) (with_instr (I.Move false f kept) e2) (λ within.
           last e2 (with_instr (I.Move false f kept) e2) (Behind g kept e2) within bit.passes
           (length e2.code, (names_second g (I.Move false f kept) f kept [] (length e2.code) (stands_here g (I.Move false f kept) e2 within refl) refl, omega arith))
-          (instr_takes g set (I.Move false f kept) f e2 bit.passes.t v within bit.passes.at (puts_bit set f kept bit.passes.t v refl bit.len (λ q below on. bit.are q below (sym (flags_of g alive places fields st bit.passes.t set q bit.passes.sim bit.exists below) ∙ on)) truth)))))
+          (instr_takes g set (I.Move false f kept) f e2 bit.passes.t v
+          (entry_and_below g places fields alive set k 0 info f is_element word (entry (with_instr (I.Move false f kept) e2) (bit.passes.grown.0 + 1) (extended d e2 (with_instr (I.Move false f kept) e2) bit.passes.grown.0 1 bit.passes.grown.1 (and_one g (I.Move false f kept) e2)) within) refl refl) within bit.passes.at (puts_bit set f kept bit.passes.t v refl bit.len (λ q below on. bit.are q below (sym (flags_of g alive places fields st bit.passes.t set q bit.passes.sim bit.exists below) ∙ on)) truth)))))
         where
           v : ℕ → ℕ
           v = λ q. value_in (extents g set) st e q

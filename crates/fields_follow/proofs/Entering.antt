@@ -100,9 +100,9 @@ module _ (g : Setting) (shape : ℕ) (d : Draft) (test : TExpr) where
             at = l.leaves.at;
             sim = l.leaves.sim;
             has = (
-              known.lasts s.memory l.leaves.t.memory (λ h first last q inside own ends before early named late.
+              known.lasts.code s.memory l.leaves.t.memory (λ h first last q inside own ends before early named late.
                   l.leaves.stays tt h first last q (let b = begun.fields in let one = one_more shape 1 W.Own d in let two = one_more shape 1 W.Own (entered shape d) in omega (arith, inside, b, one, two)) own ends before (let b = begun.code in omega (arith, early, b)) named (let up = w.upto in omega (arith, late, up)))
-                  (kept_open g scope active known alive st s sim),
+                  l.leaves.go.below (kept_open g scope active known alive st s sim),
               l.flags,
             );
             keeps = λ r kept. ap (λ (registers : List ℕ). slice_index registers r) l.leaves.registers;

@@ -19,7 +19,7 @@ use Rattle.source_meaning.specs.State.{State}
 use Rattle.source_meaning.specs.Values.{Active}
 use Rattle.code_follows.proofs.Besides.{sim_saying}
 use Rattle.code_follows.proofs.Following.{Sim}
-use Rattle.code_follows.proofs.Settings.{At, Reaches, Setting, Within, at_next, begins_here, one, placed_instr}
+use Rattle.code_follows.proofs.Settings.{At, Reaches, Setting, Within, at_next, begins_here, one_writes, placed_instr}
 use Rattle.fields_follow.proofs.Bits.{active_apart, covers_flag, field_apart, field_written, if_false, if_true}
 use Rattle.fields_follow.proofs.FileFields.{Apart, apart_back}
 use Rattle.fields_follow.proofs.Instructions.{number_in, place, shapes, wrote}
@@ -158,7 +158,7 @@ module _ (g : Setting) (places : PlacesFields g) (alive : Variable → Type 0) (
     pub stored : (takes : ℕ → Type 0) (v : ℕ → ℕ) → ((p : ℕ) → is_active (shapes g) s.memory d.set p ≡ a set p → takes p → (writes p ≡ true) × (value p % 2 ^ d.len ≡ v p)) → Stored set d e i s st takes v
     stored takes v taken = record {
       t = wrote g write s;
-      go = one g s (wrote g write s) (begins_here g i e s within plain here ∙ goes);
+      go = one_writes g s (wrote g write s) (begins_here g i e s within plain here ∙ goes) (λ f p there. elsewhere f p (places.own_and_below d f own there));
       at = at_next g i e s (s.at + 1) here refl;
       registers = refl;
       sim = sim_saying g alive st s (s.at + 1) (written write s.memory) (record {
@@ -228,7 +228,7 @@ module _ (g : Setting) (places : PlacesFields g) (alive : Variable → Type 0) (
     flag_written : (b : Active) → ((q p : ℕ) → q < length (shapes g) → p < processors (shapes g) q → is_active (shapes g) (written flag s.memory) q p ≡ b q p) → Turned b e i s st
     flag_written b flags = record {
       t = wrote g flag s;
-      go = one g s (wrote g flag s) (begins_here g i e s within plain here ∙ goes);
+      go = one_writes g s (wrote g flag s) (begins_here g i e s within plain here ∙ goes) (λ f p there. field_still f p there.ends);
       at = at_next g i e s (s.at + 1) here refl;
       registers = refl;
       sim = sim_saying g alive st s (s.at + 1) (written flag s.memory) (record {

@@ -29,7 +29,7 @@ use Rattle.phase_meaning.proofs.Alike.{shifted_below}
 use Rattle.source_meaning.specs.State.{State}
 use Rattle.vp_sets.specs.Positions.{are_positive, shifted}
 use Rattle.code_follows.proofs.Following.{Sim}
-use Rattle.code_follows.proofs.Settings.{At, Setting, Within, and_one, at_next, begins_here, code_more, earlier, one, placed_instr}
+use Rattle.code_follows.proofs.Settings.{At, Setting, Within, and_one, at_next, begins_here, code_more, earlier, one_writes, placed_instr}
 use Rattle.fields_follow.proofs.Bits.{active_apart, field_apart, field_written}
 use Rattle.fields_follow.proofs.Fields.{HoldsFields}
 use Rattle.fields_follow.proofs.FileFields.{apart_back}
@@ -128,7 +128,7 @@ module _ (g : Setting) where
       record {
         grown = (1, and_one g i e);
         t = wrote g w s;
-        go = one g s (wrote g w s) (begins_here g i e s within (hop_plain axis k d a) here ∙ hop_goes axis k d a s);
+        go = one_writes g s (wrote g w s) (begins_here g i e s within (hop_plain axis k d a) here ∙ hop_goes axis k d a s) (λ f p there. field_apart w s.memory f p (places.own_and_below d f own there));
         at = at_next g i e s (s.at + 1) here refl;
         registers = refl;
         sim = with_memory g places fields alive st st s (s.at + 1) w refl refl refl refl refl (record {

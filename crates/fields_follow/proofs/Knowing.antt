@@ -5,15 +5,16 @@ use Rattle.std.specs.Int.{from_bool}
 use Rattle.cstar_tree.specs.declared.typed.TExpr.{TExpr}
 use Rattle.cstar_tree.specs.declared.typed.Variable.{Variable}
 use Rattle.lower_base.specs.Drafts.{Draft}
+use Rattle.paris_code.specs.declared.instr.Instr.TheVariants as I
 use Rattle.paris_code.specs.declared.operands.Field.{Field}
 use Rattle.paris_code.specs.Code.{CodeState}
 use Rattle.paris_code.specs.Memory.{BitMemory, field_number, processors}
-use Rattle.paris_code.specs.Spans.{IsNamedAt}
+use Rattle.paris_code.specs.Spans.{IsNamedAt, StandsAt}
 use Rattle.source_meaning.specs.State.{Early, State}
 use Rattle.source_meaning.specs.Values.{Active, Scope}
 use Rattle.code_follows.proofs.Besides.{sim_saying, under_held}
 use Rattle.code_follows.proofs.Following.{Finishes, IsKept, Sim}
-use Rattle.code_follows.proofs.Settings.{Held, Setting, Within}
+use Rattle.code_follows.proofs.Settings.{Held, SameBelow, Setting, Within}
 use Rattle.fields_follow.specs.Fragment.{IsCondition, IsFold, IsParallelEffect, KnowsExtents, extents_in}
 use Rattle.fields_follow.proofs.Fields.{HoldsFields, HoldsNumbers, fields_held}
 use Rattle.fields_follow.proofs.Instructions.{SameExtents, place, shapes}
@@ -27,23 +28,34 @@ module _ (g : Setting) where
   StaysNamed from entries upto m other =
       (h : Field) (first last p : ℕ) → h.offset < entries → IsOwnField g h → EndsBelow g h → IsNamedAt g.unit h.offset first → first < from → IsNamedAt g.unit h.offset last → upto ≤ last → field_number other (place g h) p ≡ field_number m (place g h) p
 
-  -- so this lasts there
-  abbrev pub Lasts : ℕ → ℕ → ℕ → (BitMemory → Type 0) → Type 0
-  Lasts from entries upto kept = (m other : BitMemory) → StaysNamed from entries upto m other → kept m → kept other
+  -- So this lasts there: over such code, where that leaves what stands below the unit's entries, and over what is called
+  -- from there, where that leaves what stands below its own.
+  pub record Lasts (from entries upto : ℕ) (kept : BitMemory → Type 0) : Type 0 where
+    pub code : (m other : BitMemory) → StaysNamed from entries upto m other → SameBelow g.image g.placed g.number m other → kept m → kept other
+    pub calls : (index at : ℕ) → StandsAt g.unit at (I.FrontCall index) → from ≤ at → at < upto → (m other : BitMemory) → SameBelow g.image g.placed index m other → kept m → kept other
 
   pub lasts_within : (from entries upto first fields last : ℕ) (kept : BitMemory → Type 0) → from ≤ first → entries ≤ fields → last ≤ upto → Lasts from entries upto kept → Lasts first fields last kept
-  lasts_within from entries upto first fields last kept low more high lasts m other stays =
-      lasts m other (λ h one two p below own ends before early after late. stays h one two p (omega (arith, below, more)) own ends before (omega (arith, early, low)) after (omega (arith, late, high)))
+  lasts_within from entries upto first fields last kept low more high lasts = record {
+    code = λ m other stays. lasts.code m other (λ h one two p below own ends before early after late. stays h one two p (omega (arith, below, more)) own ends before (omega (arith, early, low)) after (omega (arith, late, high)));
+    calls = λ index at stands early late. lasts.calls index at stands (omega (arith, low, early)) (omega (arith, late, high));
+  }
 
   pub lasts_both : (from entries upto : ℕ) (one two : BitMemory → Type 0) → Lasts from entries upto one → Lasts from entries upto two → Lasts from entries upto (λ m. one m × two m)
-  lasts_both from entries upto one two a b m other stays both = (a m other stays both.0, b m other stays both.1)
+  lasts_both from entries upto one two a b = record {
+    code = λ m other stays same both. (a.code m other stays same both.0, b.code m other stays same both.1);
+    calls = λ index at stands low high m other same both. (a.calls index at stands low high m other same both.0, b.calls index at stands low high m other same both.1);
+  }
 
   -- a field has flags at some positions
   abbrev pub HasFlags : Field → (ℕ → Type 0) → (ℕ → Bool) → BitMemory → Type 0
   HasFlags f takes flags m = (p : ℕ) → p < processors (shapes g) f.set → takes p → field_number m (place g f) p ≡ from_bool (flags p)
 
-  pub flags_last : (f : Field) (takes : ℕ → Type 0) (flags : ℕ → Bool) (first last from entries upto : ℕ) → IsOwnField g f → EndsBelow g f → f.offset < entries → IsNamedAt g.unit f.offset first → first < from → IsNamedAt g.unit f.offset last → upto ≤ last → Lasts from entries upto (HasFlags f takes flags)
-  flags_last f takes flags first last from entries upto own ends inside before low after high m other stays has p below taken = stays f first last p inside own ends before low after high ∙ has p below taken
+  pub flags_last : PlacesFields g → (f : Field) (takes : ℕ → Type 0) (flags : ℕ → Bool) (first last from entries upto : ℕ) → IsOwnField g f → f.set < length (shapes g) → EndsBelow g f → f.offset < entries → IsNamedAt g.unit f.offset first → first < from → IsNamedAt g.unit f.offset last → upto ≤ last → Lasts from entries upto (HasFlags f takes flags)
+  flags_last places f takes flags first last from entries upto own exists ends inside before low after high = record {
+    code = λ m other stays same has p below taken. stays f first last p inside own ends before low after high ∙ has p below taken;
+    calls = λ index at stands early late m other same has p below taken.
+        same (place g f) p (places.own_below_called f first at last index own exists ends before (omega (arith, low, early)) after (omega (arith, late, high)) stands) ∙ has p below taken;
+  }
 
   -- where these positions are active, the memory holds the numbers of the file's variables, and this is kept of it
   abbrev held_under : Active → (kept : BitMemory → Type 0) → Held
@@ -87,13 +99,13 @@ module _ (g : Setting) (scope : Scope) (a : Active) (k : KnowsFields g scope a) 
 
     pub knows_inner : Lasts g from entries upto kept → KnowsFields inner scope b
     knows_inner lasts = record {
-      places = let p = k.places in record { ends = p.ends; exists = p.exists; files_end = p.files_end; file = p.file; files_apart = p.files_apart; own_file = p.own_file; owns_apart = p.owns_apart; few = p.few; grids = p.grids };
+      places = let p = k.places in record { ends = p.ends; exists = p.exists; files_end = p.files_end; file = p.file; files_apart = p.files_apart; own_file = p.own_file; owns_apart = p.owns_apart; own_and_below = p.own_and_below; file_and_below = p.file_and_below; own_below_called = p.own_below_called; few = p.few; grids = p.grids };
       same_extents = k.same_extents;
       effects = k.effects;
       folds = k.folds;
       conditions = k.conditions;
       kept = kept;
-      lasts = lasts;
+      lasts = record { code = lasts.code; calls = lasts.calls };
       opens = λ st m h. h;
       closes = λ st m holds has. (holds, has);
       ends = λ st m h. h;

@@ -85,7 +85,7 @@ module _ (g : Setting) (scope : Scope) (active : Active) (known : KnowsFields g 
 
   -- leaves what lasts
   turned_lasts : (a b : Active) (kept : BitMemory → Type 0) (from entries upto : ℕ) (i : Instr) (e : Draft) (s : CodeState) (u : State) → Lasts g from entries upto kept → (turned : Turned g places alive a b e i s u) → kept s.memory → kept turned.t.memory
-  turned_lasts a b kept from entries upto i e s u lasts turned has = lasts s.memory turned.t.memory (λ h first last p inside own ends before early after late. turned.stays h p ends) has
+  turned_lasts a b kept from entries upto i e s u lasts turned has = lasts.code s.memory turned.t.memory (λ h first last p inside own ends before early after late. turned.stays h p ends) turned.go.below has
 
   -- an instruction that stores flags in an own entry which is named behind it
   led_stored : (a : Active) (kept tests : BitMemory → Type 0) (takes : ℕ → Type 0) (v : ℕ → ℕ) (flags : ℕ → Bool) (saved : Field) (i : Instr) (from entries upto later : ℕ) (d e : Draft) (s : CodeState) (u : State) → Lasts g from entries upto kept → from ≤ length e.code → entries ≤ saved.offset → length e.code < upto
@@ -99,8 +99,8 @@ module _ (g : Setting) (scope : Scope) (active : Active) (known : KnowsFields g 
     sim = stored.sim;
     has = (
       (
-        lasts x.t.memory stored.t.memory (λ h first last p inside own ends before early after late.
-            stored.stays h first last later p (λ alike. omega (arith, alike, inside, newer)) own before after (omega (arith, early, low)) (omega (arith, late, high)) named behind) x.has.0,
+        lasts.code x.t.memory stored.t.memory (λ h first last p inside own ends before early after late.
+            stored.stays h first last later p (λ alike. omega (arith, alike, inside, newer)) own before after (omega (arith, early, low)) (omega (arith, late, high)) named behind) stored.go.below x.has.0,
         λ p below taken. stored.has p below taken ∙ is p below taken,
       ),
       same x.t.memory stored.t.memory stored.tests x.has.1,

@@ -12,7 +12,7 @@ use Rattle.paris_code.specs.Spans.{IsNamedAt}
 use Rattle.source_meaning.specs.Expressions.{evaluated}
 use Rattle.source_meaning.specs.State.{Gives, State}
 use Rattle.source_meaning.specs.Values.{Active, Scope, Value}
-use Rattle.code_follows.proofs.Besides.{registers_as}
+use Rattle.code_follows.proofs.Besides.{registers_under as registers_there}
 use Rattle.code_follows.proofs.Following.{HasRegisters, Sim}
 use Rattle.code_follows.proofs.Settings.{At, Reaches, Setting, Within, layout}
 use Rattle.fields_follow.proofs.Fields.{fields_held}
@@ -52,7 +52,7 @@ module _ (g : Setting) where
   under a = record g { held = fields_held g.typed g.image a }
 
   pub places_under : (a : Active) → PlacesFields g → PlacesFields (under a)
-  places_under a p = record { ends = p.ends; exists = p.exists; files_end = p.files_end; file = p.file; files_apart = p.files_apart; own_file = p.own_file; owns_apart = p.owns_apart; few = p.few; grids = p.grids }
+  places_under a p = record { ends = p.ends; exists = p.exists; files_end = p.files_end; file = p.file; files_apart = p.files_apart; own_file = p.own_file; owns_apart = p.owns_apart; own_and_below = p.own_and_below; file_and_below = p.file_and_below; own_below_called = p.own_below_called; few = p.few; grids = p.grids }
 
   -- what the memory holds of it is the fields' numbers
   abbrev pub fields_under : (a : Active) → HoldsTheFields (under a)
@@ -62,7 +62,7 @@ module _ (g : Setting) where
   within_under a w = record { more = w.more; code = w.code; entries = w.entries; fields = w.fields; regs = w.regs; own = w.own; upto = w.upto }
 
   pub reaches_again : {s t : CodeState} (a : Active) → Reaches (under a) s t → Reaches g s t
-  reaches_again a r = record { by = r.by }
+  reaches_again a r = record { by = r.by; below = r.below }
 
   pub registers_under : (a : Active) → HasRegisters g → HasRegisters (under a)
-  registers_under a h = registers_as g g.may (fields_held g.typed g.image a) g.from g.entries g.upto h
+  registers_under a h = registers_there g (fields_held g.typed g.image a) g.from g.entries g.upto h

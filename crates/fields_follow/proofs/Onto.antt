@@ -100,7 +100,7 @@ module _ (g : Setting) (alive : Variable → Type 0) where
     puts_word e s t st i r w low high writes within plain puts =
         let regs = regs_more g i e in (
           record {
-            go = onto g s t (with_register r w t) writes.go (one g t (with_register r w t) (begins_here g i e t within plain writes.at ∙ puts));
+            go = onto g s t (with_register r w t) writes.go (one g t (with_register r w t) (begins_here g i e t within plain writes.at ∙ puts) refl);
             at = at_next g i e t (t.at + 1) writes.at refl;
             sim = register_set g alive st t r w has (omega (arith, free, low)) writes.sim;
             keeps = keeps_on g d d 0 s t (with_register r w t) (as_it_was d) writes.keeps (register_kept g d t r w has free low (omega (arith, high, regs, within.own)));
@@ -196,7 +196,7 @@ module _ (g : Setting) (alive : Variable → Type 0) where
           let below = below_free g has x info scalar in (
             t5,
             record {
-              go = onto g t t4 t5 four_done.0.go (one g t4 t5 (begins_here g (I.FrontMove own dest) (converted_in e) t4 within refl four_done.0.at ∙ ap (λ (w : ℕ). Goes (with_register own w t4)) four_done.1));
+              go = onto g t t4 t5 four_done.0.go (one g t4 t5 (begins_here g (I.FrontMove own dest) (converted_in e) t4 within refl four_done.0.at ∙ ap (λ (w : ℕ). Goes (with_register own w t4)) four_done.1) refl);
               at = at_next g (I.FrontMove own dest) (converted_in e) t4 (t4.at + 1) four_done.0.at refl;
               sim =
                   sim_begun g has x info scalar alive alive (λ y lives other. lives) st t4 number (converted_below info.elem from new)

@@ -1,9 +1,10 @@
 -- Where the fields of a unit stand in the image, as the code of its expressions relies on it.
-use Rattle.std.proofs.Common.{◌≡◌, ◌∙◌, ℕ, ◌+◌, ◌<◌, ◌≤◌, ◌^◌, true, List, [], ◌∷◌, ◌++◌, Any, length, slice_get, Some, refl, sym, ap, subst, arith, append_assoc}
+use Rattle.std.proofs.Common.{◌≡◌, ◌∙◌, ℕ, ◌+◌, ◌<◌, ◌≤◌, ◌^◌, true, List, [], ◌∷◌, ◌++◌, Any, length, slice_get, refl, sym, ap, subst, arith, append_assoc}
 use Rattle.cstar_tree.specs.declared.typed.VarInfo.{VarInfo}
 use Rattle.code_lengths.proofs.Declaring.{at_length}
-use Rattle.lower_base.specs.Drafts.{Draft, Plain, Step, step as step_of, with_instr, with_step}
+use Rattle.lower_base.specs.Drafts.{Draft, Plain, step as step_of, with_instr}
 use Rattle.paris_code.specs.declared.instr.Instr.{Instr}
+use Rattle.paris_code.specs.declared.instr.Instr.TheVariants as I
 use Rattle.paris_code.specs.declared.operands.Field.{Field}
 use Rattle.paris_code.specs.declared.program.Owner.TheVariants as W
 use Rattle.paris_code.specs.declared.program.Virtual.{Virtual}
@@ -13,8 +14,7 @@ use Rattle.paris_code.specs.Shapes.{bits_at}
 use Rattle.paris_code.specs.Spans.{IsNamedAt, StandsAt, entry_of, fields_of}
 use Rattle.source_meaning.specs.State.{State}
 use Rattle.source_meaning.specs.Values.{Active}
-use Rattle.code_follows.proofs.Settings.{Setting, Within}
-use Rattle.code_follows.proofs.Standing.{stands}
+use Rattle.code_follows.proofs.Settings.{Setting, StandsBelow, Within, stands_here as stands_so}
 use Rattle.fields_follow.proofs.Fields.{HoldsFields}
 use Rattle.vp_sets.specs.Positions.{positions_fit}
 use Rattle.fields_follow.specs.Fragment.{extents_in}
@@ -38,7 +38,8 @@ module _ (g : Setting) where
   -- What is known of the unit's fields in the image: those that instructions name end below the flags; the
   -- entry of an element is at its field, which ends below them too, and is apart from those of other elements and
   -- from own entries; two own entries are apart where each is named at an instruction, or before it, and behind it;
-  -- and the shapes have few positions, and are grids with the extents of the source.
+  -- both are apart from what stands below the unit's entries, as an own entry that is named before a call and behind it
+  -- stands below those of what is called; and the shapes have few positions, and are grids with the extents of the source.
   pub record PlacesFields : Type 0 where
     pub ends : (at : ℕ) (i : Instr) (f : Field) (others : List Field) → StandsAt g.unit at i → step_of i ≡ Plain i → NamesFields i → fields_of i ≡ f ∷ others → (f.set < length (shapes g)) × ((place g f).offset + f.len ≤ bits_at (shapes g) f.set)
     pub exists : (k element set : ℕ) (info : VarInfo) → IsElement g.typed k info set element → set < length (shapes g)
@@ -48,6 +49,10 @@ module _ (g : Setting) where
     pub own_file : (k element set : ℕ) (info : VarInfo) (f : Field) → IsElement g.typed k info set element → IsOwnField f → Apart (place g f) (of_file k element)
     pub owns_apart : (f h : Field) (first at last later : ℕ) → (f.offset ≡ h.offset → ⊥) → IsOwnField f → IsOwnField h → h.set < length (shapes g) → IsNamedAt g.unit f.offset first → IsNamedAt g.unit f.offset last → first ≤ at → at < last
         → IsNamedAt g.unit h.offset at → IsNamedAt g.unit h.offset later → at < later → Apart (place g f) (place g h)
+    pub own_and_below : (f below : Field) → IsOwnField f → StandsBelow g.image g.placed g.number below → Apart (place g f) below
+    pub file_and_below : (k element set : ℕ) (info : VarInfo) (below : Field) → IsElement g.typed k info set element → StandsBelow g.image g.placed g.number below → Apart (of_file k element) below
+    pub own_below_called : (f : Field) (first at last index : ℕ) → IsOwnField f → f.set < length (shapes g) → (place g f).offset + f.len ≤ bits_at (shapes g) f.set → IsNamedAt g.unit f.offset first → first < at → IsNamedAt g.unit f.offset last → at ≤ last → StandsAt g.unit at (I.FrontCall index)
+        → StandsBelow g.image g.placed index (place g f)
     pub few : (set : ℕ) → processors (shapes g) set ≤ 2 ^ 20
     pub grids : (set : ℕ) → set < length (shapes g) → (extents_in g.typed set ≡ extents g set) × (positions_fit (extents g set) ≡ true)
 
@@ -59,10 +64,7 @@ module _ (g : Setting) where
 
   -- the instruction that the draft gets next stands in the unit
   pub stands_here : (i : Instr) (d : Draft) → Within g (with_instr i d) → step_of i ≡ Plain i → StandsAt g.unit (length d.code) i
-  unfolding with_instr with_step
-  stands_here i d w plain =
-      (stands g.image g.before g.after g.placed g.number g.unit g.linked g.is_unit (length d.code) i
-      (ap (λ (c : List Step). slice_get c (length d.code)) (w.code ∙ append_assoc d.code (step_of i ∷ []) w.more) ∙ at_length d.code (step_of i) w.more ∙ ap Some plain)).0
+  stands_here i d w plain = stands_so g i d w plain
 
   -- an entry that a draft has is the unit's
   pub entry_is : (earlier later : List Virtual) (v : Virtual) (e : Draft) → Within g e → e.fields ≡ (earlier ++ v ∷ []) ++ later → IsEntry g.unit (length earlier) v

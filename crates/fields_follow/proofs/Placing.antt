@@ -9,6 +9,7 @@ use Rattle.code_lengths.proofs.Declaring.{at_length}
 use Rattle.field_alloc.specs.Placed.{IsUsed, begins}
 use Rattle.lower_base.specs.Drafts.{Draft, Plain, Step, step as step_of, with_instr, with_step}
 use Rattle.paris_code.specs.declared.instr.Instr.{Instr}
+use Rattle.paris_code.specs.declared.instr.Instr.TheVariants as I
 use Rattle.paris_code.specs.declared.operands.Field.{Field}
 use Rattle.paris_code.specs.declared.program.Owner.TheVariants as W
 use Rattle.paris_code.specs.Moving.{moved}
@@ -16,7 +17,7 @@ use Rattle.paris_code.specs.Proper.{IsEntry, IsOwn}
 use Rattle.paris_code.specs.Shapes.{SetShape, bits_at, shapes_of}
 use Rattle.paris_code.specs.Sound.{KeepsRules}
 use Rattle.paris_code.specs.Spans.{IsNamedAt, StandsAt, fields_of}
-use Rattle.code_follows.proofs.Settings.{Setting, Within, placed_instr, start, whole}
+use Rattle.code_follows.proofs.Settings.{Setting, StandsBelow, Within, placed_instr, start, whole}
 use Rattle.code_follows.proofs.Standing.{stands}
 use Rattle.fields_follow.specs.Fields.{IsElement, file_field, file_number}
 use Rattle.fields_follow.proofs.FileFields.{Apart, HasFinal, IsTranslated, file_exists, final_there, same_final, sets_long}
@@ -151,3 +152,42 @@ module _ (g : Setting) (made : IsTranslated g.typed g.words g.before g.after g.i
       → IsNamedAt g.unit h.offset at → IsNamedAt g.unit h.offset later → at < later → Apart (at_bits h) (at_bits f)
   written_apart at first last later f h one other differ exists a b low high c d behind =
       lasts_apart (at + 1) h f other one (λ same. differ (sym same)) exists (goes_on h.offset at later at c d (omega arith) behind) (goes_on f.offset first last at a b low high)
+
+  -- ---- what stands below the entries of the unit
+
+  -- its own entries are apart from that, and the file's fields are too
+  pub own_and_below : (f below : Field) → IsOwnField f → StandsBelow g.image g.placed g.number below → Apart (at_bits f) below
+  own_and_below f below own there = by (cases_eq f.set below.set)
+    where
+      by : (f.set ≡ below.set) ⊎ (f.set ≢ below.set) → Apart (at_bits f) below
+      by (inr differ) = inl differ
+      by (inl same) =
+          let low = there.low in
+          let above = g.placed.above g.number f.offset below.set own.whole g.unit g.is_unit there.exists (subst (λ (s : ℕ). IsOwn g.unit f.offset s own.whole) same own.own) in
+          inr (inr (omega (arith, low, above)))
+
+  pub file_and_below : (k : ℕ) (info : VarInfo) (set e : ℕ) (below : Field) → IsElement g.typed k info set e → StandsBelow g.image g.placed g.number below → Apart (file_field g.typed g.image k e) below
+  file_and_below k info set e below is there =
+      let final = final_there g.typed g.words g.before g.after g.image made k info set e is in
+      subst (λ (x : Field). Apart x below) (sym (same_final g.typed g.words g.before g.after g.image made k e final.last final.there)) (by final (cases_eq final.last.field.set below.set))
+    where
+      by : (final : HasFinal g.image.finals.items (file_number g.typed k e) info set) → (final.last.field.set ≡ below.set) ⊎ (final.last.field.set ≢ below.set) → Apart final.last.field below
+      by final (inr differ) = inl differ
+      by final (inl same) = inr (inl (there.files (file_number g.typed k e) final.last (ap (λ (v : _). slice_get v.items (file_number g.typed k e)) (sym made.linked.finals) ∙ final.there) same))
+
+  -- an own entry that is named before a call and behind it stands below the entries of what is called
+  pub own_below_called : (f : Field) (first at last index : ℕ) → IsOwnField f → f.set < length shapes → (at_bits f).offset + f.len ≤ bits_at shapes f.set → IsNamedAt g.unit f.offset first → first < at → IsNamedAt g.unit f.offset last → at ≤ last → StandsAt g.unit at (I.FrontCall index)
+      → StandsBelow g.image g.placed index (at_bits f)
+  own_below_called f first at last index own exists ends before early after late stands = record {
+    exists = there;
+    low =
+        let under = g.placed.under g.number f.offset f.set own.whole at g.unit g.is_unit there own.own (slice_get_within g.unit.code.items at (I.FrontCall index) stands) (lasts_used f.offset at (record { first = first; last = last; named_first = before; named_last = after; before = early; behind = late })) in
+        let behind = g.placed.behind g.number index at f.set g.unit g.is_unit stands there in
+        let fits = own.fits in
+        omega (arith, under, behind, fits);
+    ends = ends;
+    files = λ file last is same. g.placed.files_apart g.number f.offset file f.set own.whole g.unit last g.is_unit own.own there is same;
+  }
+    where
+      there : f.set < length g.before.shapes.items
+      there = let long = sets_long g.typed g.words g.before g.after g.image made in omega (arith, long, exists)

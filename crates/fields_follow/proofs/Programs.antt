@@ -1,5 +1,5 @@
 -- The run of a program with parallel variables: what its memory holds from the first instruction to the end.
-use Rattle.std.proofs.Common.{◌≡◌, ◌∙◌, ℕ, ◌<◌, ◌^◌, ◌⊎◌, inl, inr, true, List, slice_get, Option, Some, None, sym, ap, subst}
+use Rattle.std.proofs.Common.{◌≡◌, ◌∙◌, ℕ, ◌<◌, ◌^◌, ◌⊎◌, inl, inr, true, List, [], slice_get, Option, Some, None, sym, ap, subst}
 use Rattle.std.proofs.lemmas.Nat.{pow_pos}
 use Rattle.cstar_base.specs.declared.operators.Winner.{Winner}
 use Rattle.cstar_compile.specs.Compiled.{IsCompiled}
@@ -21,9 +21,9 @@ use Rattle.source_meaning.specs.Values.{Active, Scope}
 use Rattle.code_follows.specs.Agreement.{AreBytes, mark_of}
 use Rattle.code_follows.specs.Fragment.{IsFileVariable}
 use Rattle.code_follows.proofs.Activations.{activation}
-use Rattle.code_follows.proofs.Entering.{AllBeside}
+use Rattle.code_follows.proofs.Entering.{AllBeside, running}
 use Rattle.code_follows.proofs.Programs.{Comes, program_follows}
-use Rattle.code_follows.proofs.Settings.{Setting}
+use Rattle.code_follows.proofs.Settings.{CallStands, Held, Setting, called_below}
 use Rattle.fields_follow.specs.Fragment.{IsParallelProgram, fields_beside}
 use Rattle.fields_follow.specs.Laws.{ComesToAll, HasTheNumbers, IsNew, ParallelCodeMeansSource}
 use Rattle.fields_follow.proofs.Besides.{besides}
@@ -42,9 +42,9 @@ module _ (t : Typed) (image : Image) (p : IsParallelProgram t) (codable : IsCoda
   made : IsTranslated t compiled.lowered.words compiled.before compiled.after image
   made = translated t image compiled sound
 
-  module _ (number : ℕ) (i : Instance) (is : slice_get t.instances.items number ≡ Some i) (opens : List ℕ) (most : ℕ) where
+  module _ (held : Held) (number : ℕ) (i : Instance) (is : slice_get t.instances.items number ≡ Some i) (opens : List ℕ) (most : ℕ) where
     abbrev g : Setting
-    g = activation t image p codable compiled (fields_held t image everywhere) number i is opens most
+    g = activation t image p codable compiled held number i is opens most
 
     abbrev scope : Scope
     scope = scope_of t i (calls t most)
@@ -56,22 +56,43 @@ module _ (t : Typed) (image : Image) (p : IsParallelProgram t) (codable : IsCoda
     unfolding scope_of
     same_extents set exists = sym (extents_are t compiled.lowered.words compiled.before compiled.after image made set exists)
 
-  known : (number : ℕ) (i : Instance) (is : slice_get t.instances.items number ≡ Some i) (opens : List ℕ) (most : ℕ) → KnowsFields (g number i is opens most) (scope number i is opens most) everywhere
-  known number i is opens most = record {
-    places = places number i is opens most;
-    same_extents = same_extents number i is opens most;
+  -- what is known of `main`
+  known : (turns : ℕ) → KnowsFields (g (fields_held t image everywhere) 0 p.main p.is_main [] turns) (scope (fields_held t image everywhere) 0 p.main p.is_main [] turns) everywhere
+  known turns = record {
+    places = places (fields_held t image everywhere) 0 p.main p.is_main [] turns;
+    same_extents = same_extents (fields_held t image everywhere) 0 p.main p.is_main [] turns;
     effects = λ e h. h;
     folds = λ e h. h;
     conditions = λ set e h. h;
     kept = λ m. Unit {0};
-    lasts = λ m other stays h. tt;
+    lasts = record { code = λ m other stays same h. tt; calls = λ index at stands low high m other same h. tt };
     opens = λ st m h. (h, tt);
     closes = λ st m h kept. h;
     ends = λ st m h. h;
   }
 
-  all_beside : AllBeside t image p codable compiled (fields_held t image everywhere) everywhere KnowsFields
-  all_beside = record { follows = besides; known = known }
+  -- and of a function, where it is known of one that calls it: what is kept lasts over its code, and over what it calls
+  known_called : (held : Held) (from entries upto : ℕ) (a : Active) (me : ℕ) (i : Instance) (is_me : slice_get t.instances.items me ≡ Some i) (opens : List ℕ) (most : ℕ) → KnowsFields (running t image p codable compiled held from entries upto me i is_me opens most) (scope_of t i (calls t most)) a
+      → (number : ℕ) (b : Instance) (is : slice_get t.instances.items number ≡ Some b) (back : List ℕ) (m : ℕ) → CallStands (running t image p codable compiled held from entries upto me i is_me opens most) number → KnowsFields (g held number b is back m) (scope_of t b (calls t m)) a
+  known_called held from entries upto a me i is_me opens most caller number b is back m here = record {
+    places = places held number b is back m;
+    same_extents = same_extents held number b is back m;
+    effects = λ e h. h;
+    folds = λ e h. h;
+    conditions = λ set e h. h;
+    kept = caller.kept;
+    lasts = record {
+      code = λ memory other stays same has. caller.lasts.calls number here.at here.stands here.low here.high memory other same has;
+      calls = λ index at stands low high memory other same has.
+          caller.lasts.calls number here.at here.stands here.low here.high memory other (λ f q there. same f q (called_below (g held number b is back m) index (record { at = at; stands = stands; low = low; high = high }) f there)) has;
+    };
+    opens = caller.opens;
+    closes = caller.closes;
+    ends = caller.ends;
+  }
+
+  all_beside : AllBeside t image p codable compiled KnowsFields
+  all_beside = record { follows = besides; called = known_called }
 
   -- a parallel variable of the file begins with 0
   begins_at_zero : (k : ℕ) (info : VarInfo) (set : ℕ) → slice_get t.vars.items k ≡ Some info → info.shape ≡ Some set → start_of t (V.File k) ≡ 0
@@ -101,7 +122,7 @@ module _ (t : Typed) (image : Image) (p : IsParallelProgram t) (codable : IsCoda
       → ComesToAll t image (opening image memory turns (record { bytes = input; mark = mark_of rest })) (meaning t input rest turns winner)
   comes_to_all memory input rest turns winner are new =
       let c : Comes (fields_held t image everywhere) image (opening image memory turns (record { bytes = input; mark = mark_of rest })) (meaning t input rest turns winner) =
-      program_follows t image p codable compiled (fields_held t image everywhere) memory input rest turns winner are (holds_at_first input rest turns winner memory new) all_beside in
+      program_follows t image p codable compiled (fields_held t image everywhere) memory input rest turns winner are (holds_at_first input rest turns winner memory new) all_beside (known turns) in
       record { to = c.to; numbers = numbers_at_last (meaning t input rest turns winner).final c.to.last.memory c.memory }
 
 pub means_source : ParallelCodeMeansSource

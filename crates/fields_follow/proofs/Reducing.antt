@@ -142,14 +142,14 @@ module _ (g : Setting) (alive : Variable → Type 0) where
         record {
           more = (2, extended e between (with_instr negate between) 1 1 (and_one g i e) (and_one g negate between));
           place = t.at + 1 + 1;
-          go = onto g t middle last (one g t middle (begins_here g i e t early plain here ∙ puts)) (one g middle last (begins_here g negate between middle within refl there ∙ negate_puts r a t few));
+          go = onto g t middle last (one g t middle (begins_here g i e t early plain here ∙ puts) refl) (one g middle last (begins_here g negate between middle within refl there ∙ negate_puts r a t few) refl);
           at = at_next g negate between middle (t.at + 1 + 1) there refl;
           few = subst (λ (n : ℕ). n < 2 ^ 32) (negative_same (not signed) a few) (unary_below U.Minus a few);
         }
     ends _ i e t r a plain puts few here within = record {
       more = (1, and_one g i e);
       place = t.at + 1;
-      go = one g t (with_register r a t) (begins_here g i e t within plain here ∙ puts);
+      go = one g t (with_register r a t) (begins_here g i e t within plain here ∙ puts) refl;
       at = at_next g i e t (t.at + 1) here refl;
       few = few;
     }

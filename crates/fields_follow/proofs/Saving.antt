@@ -45,21 +45,21 @@ module _ (g : Setting) (scope : Scope) (active : Active) (known : KnowsFields g 
   own_below saved e w = places.ends (length e.code) (I.StoreContext saved) saved [] (stands_here g (I.StoreContext saved) e w refl) refl tt refl
 
   -- that of tests ends there too
-  pub test_below : (holds : Field) (e : Draft) → Within g (with_instr (I.StoreTest holds) e) → EndsBelow g holds
+  pub test_below : (holds : Field) (e : Draft) → Within g (with_instr (I.StoreTest holds) e) → (holds.set < length (shapes g)) × EndsBelow g holds
   unfolding step_of
-  test_below holds e w = (places.ends (length e.code) (I.StoreTest holds) holds [] (stands_here g (I.StoreTest holds) e w refl) refl tt refl).1
+  test_below holds e w = places.ends (length e.code) (I.StoreTest holds) holds [] (stands_here g (I.StoreTest holds) e w refl) refl tt refl
 
   -- what is kept where the context of a set is saved
   abbrev pub Kept : Field → BitMemory → Type 0
   Kept saved m = known.kept m × HasContext g active saved m
 
   -- it lasts between the places where that is saved and loaded
-  pub kept_lasts : (saved : Field) (d : Draft) (first last from entries upto : ℕ) → Begun g d → length d.code ≤ from → length d.fields ≤ entries → upto ≤ g.upto → IsOwnField g saved → EndsBelow g saved → saved.offset < entries → IsNamedAt g.unit saved.offset first → first < from → IsNamedAt g.unit saved.offset last → upto ≤ last
+  pub kept_lasts : (saved : Field) (d : Draft) (first last from entries upto : ℕ) → Begun g d → length d.code ≤ from → length d.fields ≤ entries → upto ≤ g.upto → IsOwnField g saved → (saved.set < length (shapes g)) × EndsBelow g saved → saved.offset < entries → IsNamedAt g.unit saved.offset first → first < from → IsNamedAt g.unit saved.offset last → upto ≤ last
       → Lasts g from entries upto (λ m. Kept saved m)
   kept_lasts saved d first last from entries upto begun low more high own below inside before early after late =
       lasts_both g from entries upto known.kept (λ m. HasContext g active saved m)
       (lasts_within g g.from g.entries g.upto from entries upto known.kept (let b = begun.code in omega (arith, b, low)) (let b = begun.fields in omega (arith, b, more)) high known.lasts)
-      (flags_last g saved (λ p. Unit {0}) (λ p. active saved.set p) first last from entries upto own below inside before early after late)
+      (flags_last g known.places saved (λ p. Unit {0}) (λ p. active saved.set p) first last from entries upto own below.0 below.1 inside before early after late)
 
   -- how a part is left: at its end these positions are active, and this is kept
   abbrev pub LedLeft : Active → (BitMemory → Type 0) → Exits → Draft → CodeState → Leaving → State → ℕ → Draft → Type 0
@@ -76,7 +76,7 @@ module _ (g : Setting) (scope : Scope) (active : Active) (known : KnowsFields g 
       keeps_outer t keeps = keeps_on g d begin x.grown.0 s x.t t x.grown.1 x.keeps (λ r kept_so. keeps r (kept_inner g scope active known a kept (length begin.code) (length begin.fields) (length e.code) begin r kept_so))
 
       jumped_outer : (held : Held) (v : State) (place : ℕ) → Jumped there alive held begin x.t v place → Jumped g alive held d s v place
-      jumped_outer held v place j = record { t = j.t; go = onto g s x.t j.t x.go (record { by = j.go.by }); at = j.at; sim = sim_saying g alive v j.t j.t.at j.t.memory j.sim.memory j.sim; keeps = keeps_outer j.t j.keeps }
+      jumped_outer held v place j = record { t = j.t; go = onto g s x.t j.t x.go (record { by = j.go.by; below = j.go.below }); at = j.at; sim = sim_saying g alive v j.t j.t.at j.t.memory j.sim.memory j.sim; keeps = keeps_outer j.t j.keeps }
 
       given_outer : (t : CodeState) (given : Option Value) → IsGiven there alive x.t t given → IsGiven g alive x.t t given
       unfolding IsGiven
@@ -85,7 +85,7 @@ module _ (g : Setting) (scope : Scope) (active : Active) (known : KnowsFields g 
 
       returns_outer : (held : Held) (v : State) (given : Option Value) → Returns there alive held x.t v given → Returns g alive held s v given
       returns_outer held v given r =
-          returns_from g alive held d s x.t v given x.go x.keeps (record { t = r.t; go = record { by = r.go.by }; sim = sim_saying g alive v r.t r.t.at r.t.memory r.sim.memory r.sim; leaves = r.leaves; spares = r.spares; given = given_outer r.t given r.given })
+          returns_from g alive held d s x.t v given x.go x.keeps (record { t = r.t; go = record { by = r.go.by; below = r.go.below }; sim = sim_saying g alive v r.t r.t.at r.t.memory r.sim.memory r.sim; leaves = r.leaves; spares = r.spares; given = given_outer r.t given r.given })
 
       -- so it follows, where what is kept lasts as long as its code
       pub part_leads : (f : Exits) (n m : ℕ) (run : Active → State → Outcome Leaving) (code : Draft → Made ℕ) → Part KnowsFields g scope alive saved (in_one_more f) m run code → code begin ≡ Makes m e → begin.homes ≡ [] → Begun g d → Extended begin n e
@@ -109,7 +109,7 @@ module _ (g : Setting) (scope : Scope) (active : Active) (known : KnowsFields g 
               record {
                 grown = (x.grown.0 + ran.grown.0, extended d begin e x.grown.0 ran.grown.0 x.grown.1 ran.grown.1);
                 t = ran.t;
-                go = onto g s x.t ran.t x.go (record { by = ran.go.by });
+                go = onto g s x.t ran.t x.go (record { by = ran.go.by; below = ran.go.below });
                 at = ran.at;
                 sim = sim_outer g scope active known a kept (length begin.code) (length begin.fields) (length e.code) alive v ran.t ran.sim;
                 has = ran.sim.memory.1;

@@ -24,7 +24,7 @@ use Rattle.paris_code.specs.Writes.{Write, written}
 use Rattle.source_meaning.specs.State.{State}
 use Rattle.source_meaning.specs.Values.{nonzero}
 use Rattle.code_follows.proofs.Besides.{sim_saying}
-use Rattle.code_follows.proofs.Settings.{Setting, Within, and_one, at_next, begins_here, code_more, one, onto, placed_instr}
+use Rattle.code_follows.proofs.Settings.{Setting, Within, and_one, at_next, begins_here, code_more, one_writes, onto, placed_instr}
 use Rattle.fields_follow.proofs.Bits.{field_apart}
 use Rattle.fields_follow.proofs.Fields.{HoldsFields}
 use Rattle.fields_follow.proofs.Flags.{above_fields, bit_is, context_under_test, test_taken, written_to}
@@ -129,7 +129,7 @@ module _ (g : Setting) where
       leaves = record {
         grown = (p.grown.0 + 1, extended d e (with_instr i e) p.grown.0 1 p.grown.1 (and_one g i e));
         t = wrote g flag p.t;
-        go = onto g s p.t (wrote g flag p.t) p.go (one g p.t (wrote g flag p.t) (begins_here g i e p.t within puts.plain p.at ∙ puts.goes));
+        go = onto g s p.t (wrote g flag p.t) p.go (one_writes g p.t (wrote g flag p.t) (begins_here g i e p.t within puts.plain p.at ∙ puts.goes) (λ f q there. still f q there.ends));
         at = at_next g i e p.t (p.t.at + 1) p.at refl;
         registers = p.registers;
         sim = sim_saying g alive st p.t (p.t.at + 1) (written flag p.t.memory) (fields.closes st (written flag p.t.memory) (record {

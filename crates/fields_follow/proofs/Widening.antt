@@ -50,7 +50,7 @@ module _ (g : Setting) (scope : Scope) (active : Active) (known : KnowsFields g 
       let fields : length start.fields ≤ length inner.fields = fields_longer start inner 2 inner_more in
       let long : length inner.code ≤ length e.code = code_longer inner e longer.0 longer.1 in
       let lasts : Lasts g (length inner.code) (length inner.fields) (length e.code) (λ m. Kept g scope active known alive saved m) =
-      kept_lasts g scope active known alive saved d (length start.code) (length e.code) (length inner.code) (length inner.fields) (length e.code) begun (omega (arith, stored, set)) (omega (arith, counts, fields)) w_e.upto own below.1 (omega (arith, counts, fields)) first (omega (arith, stored, set)) last (omega arith) in
+      kept_lasts g scope active known alive saved d (length start.code) (length e.code) (length inner.code) (length inner.fields) (length e.code) begun (omega (arith, stored, set)) (omega (arith, counts, fields)) w_e.upto own below (omega (arith, counts, fields)) first (omega (arith, stored, set)) last (omega arith) in
       let led_start : Led g scope active known alive active (λ m. known.kept m × Unit {0}) d start s st =
       led_entry g scope active known alive active (λ m. known.kept m × Unit {0}) shape 1 W.Own d d s st (led_weaker g scope active known alive active known.kept (λ m. known.kept m × Unit {0}) d d s st (λ m kept. (kept, tt)) (led_nowhere g scope active known alive d s st at sim)) in
       let led_stores : Led g scope active known alive active (λ m. Kept g scope active known alive saved m × Unit {0}) d stores s st =

@@ -18,7 +18,7 @@ use Rattle.source_meaning.specs.State.{State, is_same, with_positions}
 use Rattle.code_follows.specs.Agreement.{AreBytes, mark_of}
 use Rattle.code_follows.proofs.Following.{Sim, held}
 use Rattle.code_follows.proofs.Standing.{some_same}
-use Rattle.code_follows.proofs.Settings.{At, Reaches, Setting, Within, and_one, at_next, begins_here, one}
+use Rattle.code_follows.proofs.Settings.{At, Reaches, Setting, StandsBelow, Within, and_one, at_next, begins_here, one_writes}
 use Rattle.fields_follow.proofs.Bits.{active_apart, field_apart, field_kept, field_written}
 use Rattle.fields_follow.proofs.Fields.{HoldsFields}
 use Rattle.fields_follow.specs.Fields.{IsElement}
@@ -46,12 +46,12 @@ module _ (g : Setting) where
     pub at : At g (record s { at = place; memory = written takes.write s.memory }) (length f.code)
 
   -- so it is of an instruction that puts the numbers there
-  pub instr_takes : (set : ℕ) (i : Instr) (d : Field) (e : Draft) (s : CodeState) (v : ℕ → ℕ) → Within g (with_instr i e) → At g s (length e.code) → Puts g set i d s v → TakesBehind set d e (with_instr i e) s v
-  instr_takes set i d e s v within here puts = record {
+  pub instr_takes : (set : ℕ) (i : Instr) (d : Field) (e : Draft) (s : CodeState) (v : ℕ → ℕ) → ((f : Field) → StandsBelow g.image g.placed g.number f → Apart (place g d) f) → Within g (with_instr i e) → At g s (length e.code) → Puts g set i d s v → TakesBehind set d e (with_instr i e) s v
+  instr_takes set i d e s v apart within here puts = record {
     takes = puts_take set i d s v puts;
     more = (1, and_one g i e);
     place = s.at + 1;
-    go = one g s (wrote g puts.write s) (begins_here g i e s within puts.plain here ∙ puts.goes);
+    go = one_writes g s (wrote g puts.write s) (begins_here g i e s within puts.plain here ∙ puts.goes) (λ f p there. field_apart puts.write s.memory f p (subst (λ (h : Field). Apart h f) (sym puts.run) (apart f there)));
     at = at_next g i e s (s.at + 1) here refl;
   }
 
@@ -95,6 +95,10 @@ module _ (g : Setting) (places : PlacesFields g) (fields : HoldsTheFields g) (al
     subst (λ (n : ℕ). n < length (shapes g)) (sym of_set) (places.exists k element set info is),
     subst (λ (h : Field). h.offset + h.len ≤ bits_at (shapes g) h.set) (sym (entry_place set k element info d is word own of_set wide)) (places.files_end k element set info is),
   )
+
+  -- and apart from what stands below the unit's entries
+  pub entry_and_below : (set k element : ℕ) (info : VarInfo) (d : Field) → IsElement g.typed k info set element → info.elem.bits ≡ 32 → IsFileField g k element d → d.set ≡ set → d.len ≡ 32 → (f : Field) → StandsBelow g.image g.placed g.number f → Apart (place g d) f
+  entry_and_below set k element info d is word own of_set wide f there = subst (λ (h : Field). Apart h f) (sym (entry_place set k element info d is word own of_set wide)) (places.file_and_below k element set info f is there)
 
   module _ (set : ℕ) (d : Field) (s : CodeState) (st : State) (v : ℕ → ℕ) (sim : Sim g alive st s) (of_set : d.set ≡ set) (wide : d.len ≡ 32) (exists : d.set < length (shapes g)) (ends : (place g d).offset + d.len ≤ bits_at (shapes g) d.set) (takes : Takes g set d s v) where
     was : Opened st s.memory
@@ -230,7 +234,7 @@ module _ (g : Setting) (places : PlacesFields g) (fields : HoldsTheFields g) (al
     pub own_written : IsOwnField g d → Written set d e i s st v ((later : ℕ) × (IsNamedAt g.unit d.offset later × (length e.code < later)))
     own_written own = record {
       t = wrote g puts.write s;
-      go = one g s (wrote g puts.write s) (begins_here g i e s within puts.plain here ∙ puts.goes);
+      go = one_writes g s (wrote g puts.write s) (begins_here g i e s within puts.plain here ∙ puts.goes) (λ f p there. still f p (places.own_and_below d f own there));
       at = at_next g i e s (s.at + 1) here refl;
       registers = refl;
       sim = with_memory st st s (s.at + 1) puts.write refl refl refl refl refl (record {

@@ -10,8 +10,8 @@ ghost use Rattle.fields_follow.specs.Laws.{ParallelCodeMeansSource};
 /// no arrays, and all positions are active at first. They are assigned, also with an operator, and stepped; and
 /// parallel values of the active positions are folded into numbers by unary reductions, and onto scalar variables by
 /// `s += x` and its like. All of it may stand within `with`, and also under `where` and `everywhere`: there any of
-/// these statements may stand, scalar ones, loops and `printf` too, and `return`, `break` and `continue` that lead out,
-/// but for calls. The conditions of `where` are parallel values and relations of them, also with `!`, `&&`
+/// these statements may stand, scalar ones, loops, calls and `printf` too, and `return`, `break` and `continue` that
+/// lead out. The conditions of `where` are parallel values and relations of them, also with `!`, `&&`
 /// and `||`. Parallel expressions are of such variables, of gets from neighbours that wrap around,
 /// `[(. + 1) %% dimof(S, 0)]x`, of own coordinates, of constants and of scalar variables, signed or not, with the
 /// operators `+ - * & | ^ ~ << >> <? >?`, and `/ % %%` by constants other than 0. Truth values of relations, `!`,
