@@ -30,7 +30,7 @@ use Rattle.source_meaning.specs.State.{State}
 use Rattle.vp_sets.specs.Positions.{are_positive, shifted}
 use Rattle.code_follows.proofs.Following.{Sim}
 use Rattle.code_follows.proofs.Settings.{At, Setting, Within, and_one, at_next, begins_here, code_more, earlier, one, placed_instr}
-use Rattle.fields_follow.proofs.Bits.{active_apart, field_apart, field_written}
+use Rattle.fields_follow.proofs.Bits.{active_apart, bits_written, field_apart, field_written}
 use Rattle.fields_follow.proofs.Fields.{HoldsFields}
 use Rattle.fields_follow.proofs.FileFields.{apart_back}
 use Rattle.fields_follow.proofs.Instructions.{HasNumbers, Puts, extents, number_in, place, puts_move, shapes, wrote}
@@ -136,6 +136,7 @@ module _ (g : Setting) where
           small = was.small;
           flags = λ q p exists below. active_apart (shapes g) w s.memory q p ends.1 ∙ was.flags q p exists below;
           winner = was.winner;
+          bits = bits_written (shapes g) w s.memory was.bits;
         }) sim;
         stays = λ used f first last p below is_own before low after high.
             field_apart w s.memory (place g f) p

@@ -24,7 +24,7 @@ use Rattle.paris_code.specs.Writes.{Write, written}
 use Rattle.source_meaning.specs.State.{State}
 use Rattle.source_meaning.specs.Values.{nonzero}
 use Rattle.code_follows.proofs.Settings.{Setting, Within, and_one, at_next, begins_here, code_more, one, onto, placed_instr}
-use Rattle.fields_follow.proofs.Bits.{field_apart}
+use Rattle.fields_follow.proofs.Bits.{bits_written, field_apart}
 use Rattle.fields_follow.proofs.Fields.{HoldsFields}
 use Rattle.fields_follow.proofs.Flags.{above_fields, bit_is, context_under_test, test_taken, written_to}
 use Rattle.fields_follow.proofs.Instructions.{HasNumbers, number_in, place, shapes, wrote}
@@ -136,6 +136,7 @@ module _ (g : Setting) where
           small = was.small;
           flags = λ q x there below. context_under_test (shapes g) set writes puts.takes p.t.memory x q ∙ was.flags q x there below;
           winner = same_winner;
+          bits = bits_written (shapes g) flag p.t.memory was.bits;
         })) p.sim;
         stays = λ u h first last q below own ends before low after high.
             still (place g h) q ends

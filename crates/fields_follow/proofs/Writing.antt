@@ -19,7 +19,7 @@ use Rattle.code_follows.specs.Agreement.{AreBytes, mark_of}
 use Rattle.code_follows.proofs.Following.{Sim, held}
 use Rattle.code_follows.proofs.Standing.{some_same}
 use Rattle.code_follows.proofs.Settings.{At, Reaches, Setting, Within, and_one, at_next, begins_here, one}
-use Rattle.fields_follow.proofs.Bits.{active_apart, field_apart, field_kept, field_written}
+use Rattle.fields_follow.proofs.Bits.{active_apart, bits_written, field_apart, field_kept, field_written}
 use Rattle.fields_follow.proofs.Fields.{HoldsFields}
 use Rattle.fields_follow.specs.Fields.{IsElement}
 use Rattle.fields_follow.proofs.FileFields.{Apart, apart_back}
@@ -152,6 +152,7 @@ module _ (g : Setting) (places : PlacesFields g) (fields : HoldsTheFields g) (al
             small = λ j other q p of which below. small_still j other q p of which below (cases_eq k j) (cases_eq other element);
             flags = active_still;
             winner = winner_still;
+            bits = bits_written (shapes g) takes.write s.memory was.bits;
           }) sim
         where
           -- the variable behind it, at one of its active positions and elsewhere
@@ -238,6 +239,7 @@ module _ (g : Setting) (places : PlacesFields g) (fields : HoldsTheFields g) (al
         small = (fields.opens st s.memory sim.memory).small;
         flags = active;
         winner = winner_still set d s st v sim of_set wide d_ends.0 d_ends.1 takes;
+        bits = bits_written (shapes g) puts.write s.memory (fields.opens st s.memory sim.memory).bits;
       }) sim;
       has = record {
         of_set = of_set;
