@@ -25,6 +25,8 @@ use Rattle.source_meaning.specs.Constants.{constant_of, is_constant, value_of}
 use Rattle.source_meaning.specs.Examples.{number, numbers}
 use Rattle.code_follows.specs.Fragment.{AreClosed, AreIn, AreInitials, AreInStatements, IsBody, IsClosed, IsClosedElse, IsEffect, IsFileVariable, IsGiven, IsIn, IsInElse, IsInStatement, IsScalarFunction, IsScalarLocal, IsScalarVariable, IsVariable, OfFileOrParam, ScalarsAmong, called_in, may_of}
 use Rattle.code_follows.proofs.Standing.{some_same}
+use Rattle.lower_base.specs.Kinds.{kind_of, narrow}
+use Rattle.lower_expr.specs.Kinds.{is_modular, operation_bits}
 use Rattle.fields_follow.specs.Example.{ExampleIsParallel, example, main}
 use Rattle.fields_follow.specs.Fragment.{IsCondition, IsFold, IsPromoted, IsPure, IsTarget, IsUpdate, KnowsExtents, fields_beside}
 
@@ -50,7 +52,7 @@ block_in_row locals p row =
     (ap calls_within (sym (rolls-Block locals _)) ∙ fold-roll-TStmt (List ℕ) statement_call_step _ ∙ ap (λ (ss : List S.TStmt). concat (map calls_in (concat (map (λ (l : LocalVar). optional l.initial) locals.items))) ++ concat (map calls_within ss)) (sym (S.items_hidden-the_row-TStmt-0 _)))
 
 main_is : (heap : Global) → IsScalarFunction (may_of (fields_beside (example heap)) (example heap) (main heap)) (main heap)
-unfolding IsBody IsInStatement IsInElse IsClosedElse IsCondition else_variables IsEffect IsGiven IsIn IsVariable AreIn AreInitials AreInStatements AreClosed IsClosed OfFileOrParam ScalarsAmong IsFold IsPromoted IsPure IsTarget IsUpdate KnowsExtents assign_op_of constant_of relates divides is_constant residue value_of row_variables
+unfolding kind_of narrow operation_bits is_modular IsBody IsInStatement IsInElse IsClosedElse IsCondition else_variables IsEffect IsGiven IsIn IsVariable AreIn AreInitials AreInStatements AreClosed IsClosed OfFileOrParam ScalarsAmong IsFold IsPromoted IsPure IsTarget IsUpdate KnowsExtents assign_op_of constant_of relates divides is_constant residue value_of row_variables
 main_is heap =
     let no_variables : variables_of (main heap).body ≡ [] = simp (of_block, of_with, of_where, of_expression) in
     record {
@@ -65,15 +67,15 @@ main_is heap =
               All-nil IsScalarLocal,
               tt,
               (
-                inr ((inl (0, (refl, (refl, refl), tt, inl (inl (refl, refl)))), tt), ((λ is. inl (inl tt)), tt)),
+                inr ((inl (0, (refl, refl, refl, inl (inl (refl, refl)))), tt), ((λ is. inl (inl tt)), tt)),
                 (
-                  inr ((inl (0, (refl, (refl, refl), (refl, inl refl), inl (inr ((refl, refl), ((refl, refl), inl (1, refl, omega arith)))))), tt), ((λ is. inl (inl tt)), tt)),
+                  inr ((inl (0, (refl, refl, ((refl, inl refl), refl, refl, refl), inl (inr (refl, refl, (refl, inl (1, refl, omega arith)))))), tt), ((λ is. inl (inl tt)), tt)),
                   (
                     (
-                      (((refl, refl), refl, inl ((refl, refl), inr ((refl, refl), ((refl, refl), inl (2, refl, omega arith))))), (tt, tt)),
+                      (((refl, refl), refl, inl ((refl, refl), inr ((refl, refl, (refl, inl (2, refl, omega arith))), (refl, refl)))), (tt, tt)),
                       ((λ is. inl (inl tt)), tt),
-                      inr ((inl (0, (refl, (refl, refl), (refl, inl refl), inl (inr ((refl, refl), ((refl, refl), inl (10, refl, omega arith)))))), tt), ((λ is. inl (inl tt)), tt)),
-                      inr ((inl (0, (refl, (refl, refl), tt, inl (inr ((refl, refl), ((refl, refl), inl (0, refl, omega arith)))))), tt), ((λ is. inl (inl tt)), tt)),
+                      inr ((inl (0, (refl, refl, ((refl, inl refl), refl, refl, refl), inl (inr (refl, refl, (refl, inl (10, refl, omega arith)))))), tt), ((λ is. inl (inl tt)), tt)),
+                      inr ((inl (0, (refl, refl, refl, inl (inr (refl, refl, (refl, inl (0, refl, omega arith)))))), tt), ((λ is. inl (inl tt)), tt)),
                     ),
                     (inl (refl, refl, (refl, inl (inl tt)), ((refl, refl), (((refl, refl), (0, (refl, refl))), tt), (λ is. inl (inl tt))), inl refl), tt),
                   ),
@@ -109,5 +111,5 @@ is_parallel heap = record {
   names = λ j k a b is also same. (only heap j a is).0 ∙ sym (only heap k b also).0;
   variables =
       let P = IsFileVariable (fields_beside (example heap)) in
-      All-cons P (plain_info (112 ∷ []) numbers) (plain_info (115 ∷ []) number ∷ []) (inr ((0, (refl, refl, refl)), refl), omega arith) (All-cons P (plain_info (115 ∷ []) number) [] (inl refl, omega arith) (All-nil P));
+      All-cons P (plain_info (112 ∷ []) numbers) (plain_info (115 ∷ []) number ∷ []) (inr ((0, (refl, refl)), refl), omega arith) (All-cons P (plain_info (115 ∷ []) number) [] (inl refl, omega arith) (All-nil P));
 }
