@@ -54,7 +54,7 @@ use Rattle.source_meaning.proofs.ConstantLaws.{Boxed}
 use Rattle.cstar_base.proofs.NumberLaws.{kind_bits}
 use Rattle.code_follows.proofs.Following.{HasRegisters, Sim, held}
 use Rattle.code_follows.proofs.Settings.{At, Setting, Within, and_one, layout, onto}
-use Rattle.fields_follow.specs.Fragment.{HasOperation, IsOperand, IsOperandOrTruth, IsOperation, IsTarget, IsUpdate, IsWide, KnowsExtents}
+use Rattle.fields_follow.specs.Fragment.{HasOperation, IsOperand, IsOperandOrTruth, IsOperation, IsTarget, IsUpdate, IsWide}
 use Rattle.fields_follow.specs.Fields.{IsElement, file_number}
 use Rattle.fields_follow.proofs.Deciding.{truth_last, truth_means, truth_type}
 use Rattle.fields_follow.proofs.Forms.{HasItsCode, divisor_never_zero, field_is, operand_shape}
@@ -173,7 +173,7 @@ module _ (g : Setting) (has : HasRegisters g) (alive : Variable → Type 0) (n :
     operand_means set e st exists is c = by is ∙ ap (λ (xs : List ℕ). Gives (Parallel (λ q. value_in xs st e q)) st) (same_extents set exists)
       where
         by : IsOperand set e → evaluated scope e fields.active st ≡ Gives (Parallel (λ q. value_in (scope.extents set) st e q)) st
-        by (inl h) = pure_means scope fields.active g.typed g.instance n set e st h (are_grids g scope places same_extents set) c.code.names c.extents
+        by (inl h) = pure_means scope fields.active g.typed g.instance n set e st h (are_grids g scope places same_extents set) c.code.names
         by (inr h) = promoted_means scope fields.active set e st h
 
     value_means : (set : ℕ) (op : AssignOp) (e : TExpr) (st : State) → set < length (shapes g) → IsOperandOrTruth set op e → HasItsCode g.typed g.instance alive n e → evaluated scope e fields.active st ≡ Gives (Parallel (λ q. value_in (extents g set) st e q)) st
@@ -368,9 +368,9 @@ module _ (g : Setting) (has : HasRegisters g) (alive : Variable → Type 0) (n :
 
     -- an update leaves what it leaves in the source
     pub updates_leave : (e : TExpr) → IsUpdate e → HasItsCode g.typed g.instance alive n e → (d : Draft) (s : CodeState) (st : State) → At g s (length d.code) → Sim g alive st s → UpdateLeaves g alive fields scope e d s st
-    unfolding IsUpdate NamesVariables IsShaped IsLowerable ScalarsAmong KnowsExtents
+    unfolding IsUpdate NamesVariables IsShaped IsLowerable ScalarsAmong
     updates_leave (T.Assign' ty place op p target q value) is c =
-        assigns ty place op p q target value set_of is.1.0 is.1.1 is.1.2 is.1.3 c.code.names.0 (record { code = record { shaped = c.code.shaped.3; lowerable = c.code.lowerable.3; names = c.code.names.1 }; among = c.among.1; extents = c.extents })
+        assigns ty place op p q target value set_of is.1.0 is.1.1 is.1.2 is.1.3 c.code.names.0 (record { code = record { shaped = c.code.shaped.3; lowerable = c.code.lowerable.3; names = c.code.names.1 }; among = c.among.1 })
       where
         set_of : ℕ
         set_of = is.0

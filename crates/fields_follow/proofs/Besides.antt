@@ -122,9 +122,9 @@ module _ (g : Setting) (scope : Scope) (active : Active) (known : KnowsFields g 
 pub besides : (g : Setting) (scope : Scope) (active : Active) → KnowsFields g scope active → (has : HasRegisters g) → BesideFollows KnowsFields g has scope active
 besides g scope active known has = record {
   expressions = record {
-    effects = λ alive files n ready e h among c d s st free here sim. let is = known.effects e h in effect_follows g scope active known has alive n ready e (record { code = c; among = among; extents = is.1 }) d s st free here sim is.0;
-    folds = λ alive files n ready e h among c d s st R r free here sim dest. let is = known.folds e h in fold_follows g scope active known has alive n ready e (record { code = c; among = among; extents = is.1 }) d s st free here sim is.0 R r dest;
+    effects = λ alive files n ready e h among c d s st free here sim. effect_follows g scope active known has alive n ready e (record { code = c; among = among }) d s st free here sim (known.effects e h);
+    folds = λ alive files n ready e h among c d s st R r free here sim dest. fold_follows g scope active known has alive n ready e (record { code = c; among = among }) d s st free here sim (known.folds e h) R r dest;
   };
-  wheres = λ alive files n ready shape test p first second h among c f contexts one other. let is = known.conditions shape test h in where_follows g has scope active known alive n ready shape test p first second is.0 is.1 among c f contexts one other;
+  wheres = λ alive files n ready shape test p first second h among c f contexts one other. where_follows g has scope active known alive n ready shape test p first second (known.conditions shape test h) among c f contexts one other;
   widenings = λ alive files n ready shape p body h c f contexts part. widening_follows g scope active known alive n shape p body f contexts part;
 }

@@ -18,7 +18,7 @@ use Rattle.lower_expr.specs.Steps.{is_kept}
 use Rattle.source_meaning.specs.Constants.{is_constant}
 use Rattle.source_meaning.proofs.ConstantLaws.{Boxed}
 use Rattle.code_follows.specs.Fragment.{ScalarsAmong}
-use Rattle.fields_follow.specs.Fragment.{IsCondition, IsWide, KnowsExtents}
+use Rattle.fields_follow.specs.Fragment.{IsCondition, IsWide}
 use Rattle.fields_follow.proofs.Forms.{HasItsCode, pure_constant, pure_kept}
 use Rattle.fields_follow.proofs.Reductions.{whole_type}
 
@@ -77,17 +77,17 @@ pub record HaveTheirCode (t : Typed) (i : Instance) (alive : Variable → Type 0
 module _ (t : Typed) (i : Instance) (alive : Variable → Type 0) (n : ℕ) where
   -- the operands of `||` and `&&`
   pub or_codes : (set : ℕ) (ty : ValueType) (p q : Boxed) (left right : TExpr) → IsCondition set right → HasItsCode t i alive n (T.LogicalOr' ty p left q right) → HaveTheirCode t i alive n left right
-  unfolding IsShaped IsLowerable NamesVariables ScalarsAmong KnowsExtents
+  unfolding IsShaped IsLowerable NamesVariables ScalarsAmong
   or_codes set ty p q left right is h = record {
-    left_code = record { code = record { shaped = h.code.shaped.0; lowerable = h.code.lowerable.1; names = h.code.names.0 }; among = h.among.0; extents = h.extents.0 };
-    right_code = record { code = record { shaped = h.code.shaped.1; lowerable = h.code.lowerable.2; names = h.code.names.1 }; among = h.among.1; extents = h.extents.1 };
+    left_code = record { code = record { shaped = h.code.shaped.0; lowerable = h.code.lowerable.1; names = h.code.names.0 }; among = h.among.0 };
+    right_code = record { code = record { shaped = h.code.shaped.1; lowerable = h.code.lowerable.2; names = h.code.names.1 }; among = h.among.1 };
     right_field = (h.code.lowerable.0.right_gives, condition_kept set right is);
   }
 
   pub and_codes : (set : ℕ) (ty : ValueType) (p q : Boxed) (left right : TExpr) → IsCondition set right → HasItsCode t i alive n (T.LogicalAnd' ty p left q right) → HaveTheirCode t i alive n left right
-  unfolding IsShaped IsLowerable NamesVariables ScalarsAmong KnowsExtents
+  unfolding IsShaped IsLowerable NamesVariables ScalarsAmong
   and_codes set ty p q left right is h = record {
-    left_code = record { code = record { shaped = h.code.shaped.0; lowerable = h.code.lowerable.1; names = h.code.names.0 }; among = h.among.0; extents = h.extents.0 };
-    right_code = record { code = record { shaped = h.code.shaped.1; lowerable = h.code.lowerable.2; names = h.code.names.1 }; among = h.among.1; extents = h.extents.1 };
+    left_code = record { code = record { shaped = h.code.shaped.0; lowerable = h.code.lowerable.1; names = h.code.names.0 }; among = h.among.0 };
+    right_code = record { code = record { shaped = h.code.shaped.1; lowerable = h.code.lowerable.2; names = h.code.names.1 }; among = h.among.1 };
     right_field = (h.code.lowerable.0.right_gives, condition_kept set right is);
   }

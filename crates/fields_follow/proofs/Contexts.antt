@@ -29,7 +29,7 @@ use Rattle.code_follows.proofs.Following.{Extends, HasRegisters, at_once, follow
 use Rattle.code_follows.proofs.Parts.{ComesOn, Part, StatementPart, in_one_more}
 use Rattle.code_follows.proofs.Settings.{Setting, Within, and_one, code_more, earlier, layout}
 use Rattle.code_follows.specs.Fragment.{ScalarsAmong}
-use Rattle.fields_follow.specs.Fragment.{IsCondition, KnowsExtents, extents_in}
+use Rattle.fields_follow.specs.Fragment.{IsCondition}
 use Rattle.fields_follow.proofs.Forms.{HasItsCode}
 use Rattle.fields_follow.proofs.Instructions.{extents, shapes}
 use Rattle.fields_follow.proofs.Knowing.{KnowsFields, Lasts, flags_last, lasts_both}
@@ -291,9 +291,9 @@ module _ (g : Setting) (has : HasRegisters g) (scope : Scope) (active : Active) 
       last_more = extended back turns_back last 2 (far.0 + 1) from_back (extended turns_back h last far.0 1 far.1 (and_one g (I.LoadContext saved_in) h))
 
   -- so it follows either way
-  pub where_follows : (shape : ℕ) (test : TExpr) (p : Boxed) (first : TStmt) (second : Held-TStmt-If-2) → IsCondition shape test → KnowsExtents (extents_in g.typed) test → ScalarsAmong alive test → HasStatementCode g.typed g.instance n (S.Where' shape test p first second) → (f : Exits) (contexts : List Field)
+  pub where_follows : (shape : ℕ) (test : TExpr) (p : Boxed) (first : TStmt) (second : Held-TStmt-If-2) → IsCondition shape test → ScalarsAmong alive test → HasStatementCode g.typed g.instance n (S.Where' shape test p first second) → (f : Exits) (contexts : List Field)
       → StatementPart KnowsFields g scope alive first n f contexts → ((q : Boxed) (s : TStmt) → second ≡ Some' q s → StatementPart KnowsFields g scope alive s (behind n first) f contexts) → ComesOn g scope alive active (S.Where' shape test p first second) n f contexts
-  where_follows shape test p first None' condition extents_so among_so c f contexts parts other_parts =
-      let (field, code) = where_test shape test p first None' c in where_alone shape test p first condition field (record { code = code; among = among_so; extents = extents_so }) f contexts parts
-  where_follows shape test p first (Some' q second) condition extents_so among_so c f contexts parts other_parts =
-      let (field, code) = where_test shape test p first (Some' q second) c in where_else shape test p q first second condition field (record { code = code; among = among_so; extents = extents_so }) f contexts parts (other_parts q second refl)
+  where_follows shape test p first None' condition among_so c f contexts parts other_parts =
+      let (field, code) = where_test shape test p first None' c in where_alone shape test p first condition field (record { code = code; among = among_so }) f contexts parts
+  where_follows shape test p first (Some' q second) condition among_so c f contexts parts other_parts =
+      let (field, code) = where_test shape test p first (Some' q second) c in where_else shape test p q first second condition field (record { code = code; among = among_so }) f contexts parts (other_parts q second refl)

@@ -42,7 +42,8 @@ use Rattle.vp_sets.specs.Positions.{coordinate}
 use Rattle.code_follows.proofs.Following.{Extends, HasRegisters, Sim, extends_then, held}
 use Rattle.code_follows.proofs.Words.{held_wide}
 use Rattle.code_follows.proofs.Settings.{At, Setting, Within, and_one, layout}
-use Rattle.fields_follow.specs.Fragment.{AreWrapping, IsOperand, IsOperation, IsPromoted, IsPure, IsWide, KnowsExtents}
+use Rattle.fields_follow.specs.Fragment.{AreWrapping, IsOperand, IsOperation, IsPromoted, IsPure, IsWide}
+use Rattle.fields_follow.proofs.Extents.{get_names}
 use Rattle.fields_follow.specs.Fields.{IsElement, file_number}
 use Rattle.fields_follow.proofs.Forms.{HasItsCode, HasItsWord, StandsInRegister, element_is, field_is, promoted_stands, pure_kept, pure_word, word_never_zero}
 use Rattle.fields_follow.proofs.Hops.{puts_same}
@@ -227,10 +228,10 @@ module _ (g : Setting) (has : HasRegisters g) (alive : Variable → Type 0) (n :
 
   get_computed : (set offset bits : ℕ) (ty : ValueType) (place : Place) (p : _) (indexes : Row_of-TExpr _) (k of : ℕ) → bits ≤ 32 → ty.shape ≡ Some set → of ≡ set → AreWrapping set 0 indexes → HasItsCode g.typed g.instance alive n (T.LeftIndex' ty place p indexes (V.File k) of)
       → PutsWords set offset bits (T.LeftIndex' ty place p indexes (V.File k) of)
-  unfolding computed_to NamesVariables KnowsExtents
+  unfolding computed_to NamesVariables
   get_computed set offset bits ty place p indexes k of most shaped same are c d s st here sim Q last =
       gone_same (O.Field (field_at set offset bits)) Q _
-      (get_last g alive n places fields ty place p indexes k of set offset bits (λ after. spot_of g.typed (layout g) (T.LeftIndex' ty place p indexes (V.File k) of) after) (length d.fields) d s st most shaped same are c.code.names.0 c.extents (omega arith) here sim (λ out e. Q (O.Field (field_at set offset bits)) e) last)
+      (get_last g alive n places fields ty place p indexes k of set offset bits (λ after. spot_of g.typed (layout g) (T.LeftIndex' ty place p indexes (V.File k) of) after) (length d.fields) d s st most shaped same are c.code.names.0 (get_names g.typed g.instance n of set indexes same are c.code.names.1 c.code.names.2) (omega arith) here sim (λ out e. Q (O.Field (field_at set offset bits)) e) last)
 
   computed_last : (set offset bits : ℕ) (e : TExpr) → bits ≤ 32 → IsPure set e → HasItsCode g.typed g.instance alive n e → PutsWords set offset bits e
   unfolding IsPure computed_to value_in NamesVariables

@@ -28,7 +28,7 @@ use Rattle.code_follows.proofs.Standing.{some_same}
 use Rattle.lower_base.specs.Kinds.{kind_of, narrow}
 use Rattle.lower_expr.specs.Kinds.{is_modular, operation_bits}
 use Rattle.fields_follow.specs.Example.{ExampleIsParallel, example, main}
-use Rattle.fields_follow.specs.Fragment.{IsCondition, IsFold, IsPromoted, IsPure, IsTarget, IsUpdate, KnowsExtents, fields_beside}
+use Rattle.fields_follow.specs.Fragment.{IsCondition, IsFold, IsPromoted, IsPure, IsTarget, IsUpdate, fields_beside}
 
 -- the calls of what has a list in a row
 abbrev PrintsInRow : T.TExpr → Type 0
@@ -51,8 +51,8 @@ block_in_row locals p row =
     subst BlockInRow (sym (rolls-Block locals _) ∙ S.roll-out-TStmt (S.Block' locals p row))
     (ap calls_within (sym (rolls-Block locals _)) ∙ fold-roll-TStmt (List ℕ) statement_call_step _ ∙ ap (λ (ss : List S.TStmt). concat (map calls_in (concat (map (λ (l : LocalVar). optional l.initial) locals.items))) ++ concat (map calls_within ss)) (sym (S.items_hidden-the_row-TStmt-0 _)))
 
-main_is : (heap : Global) → IsScalarFunction (may_of (fields_beside (example heap)) (example heap) (main heap)) (main heap)
-unfolding kind_of narrow operation_bits is_modular IsBody IsInStatement IsInElse IsClosedElse IsCondition else_variables IsEffect IsGiven IsIn IsVariable AreIn AreInitials AreInStatements AreClosed IsClosed OfFileOrParam ScalarsAmong IsFold IsPromoted IsPure IsTarget IsUpdate KnowsExtents assign_op_of constant_of relates divides is_constant residue value_of row_variables
+main_is : (heap : Global) → IsScalarFunction (may_of fields_beside (example heap) (main heap)) (main heap)
+unfolding kind_of narrow operation_bits is_modular IsBody IsInStatement IsInElse IsClosedElse IsCondition else_variables IsEffect IsGiven IsIn IsVariable AreIn AreInitials AreInStatements AreClosed IsClosed OfFileOrParam ScalarsAmong IsFold IsPromoted IsPure IsTarget IsUpdate assign_op_of constant_of relates divides is_constant residue value_of row_variables
 main_is heap =
     let no_variables : variables_of (main heap).body ≡ [] = simp (of_block, of_with, of_where, of_expression) in
     record {
@@ -107,9 +107,9 @@ is_parallel heap = record {
   main = main heap;
   is_main = refl;
   no_cycle = no_cycle heap;
-  each = λ k i is. subst (λ (x : Instance). IsScalarFunction (may_of (fields_beside (example heap)) (example heap) x) x) (only heap k i is).1 (main_is heap);
+  each = λ k i is. subst (λ (x : Instance). IsScalarFunction (may_of fields_beside (example heap) x) x) (only heap k i is).1 (main_is heap);
   names = λ j k a b is also same. (only heap j a is).0 ∙ sym (only heap k b also).0;
   variables =
-      let P = IsFileVariable (fields_beside (example heap)) in
+      let P = IsFileVariable fields_beside in
       All-cons P (plain_info (112 ∷ []) numbers) (plain_info (115 ∷ []) number ∷ []) (inr ((0, (refl, refl)), refl), omega arith) (All-cons P (plain_info (115 ∷ []) number) [] (inl refl, omega arith) (All-nil P));
 }

@@ -44,7 +44,8 @@ use Rattle.code_follows.proofs.Settings.{At, Setting, Within, and_one, layout}
 use Rattle.code_follows.proofs.Standing.{some_same}
 use Rattle.code_follows.proofs.Values.{extends_grown}
 use Rattle.code_follows.proofs.Words.{below_word, held_wide}
-use Rattle.fields_follow.specs.Fragment.{AreWrapping, IsOperation, IsPromoted, IsPure, IsWide, KnowsExtents}
+use Rattle.fields_follow.specs.Fragment.{AreWrapping, IsOperation, IsPromoted, IsPure, IsWide}
+use Rattle.fields_follow.proofs.Extents.{get_names}
 use Rattle.fields_follow.proofs.Forms.{HasItsCode, HasItsWord, StandsInRegister, promoted_stands, pure_kept, pure_word, word_never_zero}
 use Rattle.fields_follow.proofs.Hops.{puts_same}
 use Rattle.fields_follow.proofs.Instructions.{AreAlike, HasNumbers, Puts, alike_same, extents, has_alike, puts_coordinate, puts_extended, puts_lognot, puts_negate, shapes, whole_keeps}
@@ -403,10 +404,10 @@ module _ (g : Setting) (has : HasRegisters g) (alive : Variable → Type 0) (n :
   -- a get from neighbours
   get_after : (bits set : ℕ) (ty : ValueType) (place : Place) (p : _) (indexes : Row_of-TExpr _) (k of : ℕ) → bits ≤ 32 → ty.shape ≡ Some set → of ≡ set → AreWrapping set 0 indexes → HasItsCode g.typed g.instance alive n (T.LeftIndex' ty place p indexes (V.File k) of)
       → Follows bits set (T.LeftIndex' ty place p indexes (V.File k) of)
-  unfolding value_of index_read_by fresh_for then_make an_entry NamesVariables KnowsExtents
+  unfolding value_of index_read_by fresh_for then_make an_entry NamesVariables
   get_after bits set ty place p indexes k of most shaped same are c d s st here sim =
       after_same g (Answers bits (length d.fields) d s set st v) (ap (λ (o : Option ℕ). then_make (fresh_for o bits d) (λ dest begun. index_read_to g.typed (layout g) e spot dest begun)) shaped)
-      (get_last g alive n places fields ty place p indexes k of set (length d.fields) bits spot (length d.fields) (with_entry set bits W.Own d) s st most shaped same are c.code.names.0 c.extents (let one = one_more set bits W.Own d in omega (arith, one)) here sim
+      (get_last g alive n places fields ty place p indexes k of set (length d.fields) bits spot (length d.fields) (with_entry set bits W.Own d) s st most shaped same are c.code.names.0 (get_names g.typed g.instance n of set indexes same are c.code.names.1 c.code.names.2) (let one = one_more set bits W.Own d in omega (arith, one)) here sim
       (Answers bits (length d.fields) d s set st v) (λ e2 i within passes puts. own_result bits set d e2 s st v i within passes puts))
     where
       e : TExpr

@@ -17,8 +17,26 @@ use Rattle.lower_comm.specs.declared.news.NewsStep.{NewsStep}
 use Rattle.lower_comm.specs.News.{is_extent, offset_of, step_of, wrapped_step}
 use Rattle.source_meaning.specs.Programs.{extents_of}
 use Rattle.code_follows.proofs.Standing.{some_same}
-use Rattle.fields_follow.specs.Fragment.{AreWrapping, IsIndex, IsWrapping, NameExtents, NamesExtent, extents_in}
+use Rattle.fields_follow.specs.Fragment.{AreWrapping, IsIndex, IsWrapping}
 use Rattle.fields_follow.proofs.Meaning.{always_checked}
+
+-- an index names this extent, if any
+unfoldable pub NamesExtent : ℕ → TExpr → Type 0
+NamesExtent extent (T.Brackets' ty p inner) = NamesExtent extent inner
+NamesExtent extent (T.Promote' ty p operand) = NamesExtent extent operand
+NamesExtent extent (T.Binary' ty place op p left q right) = NamesExtent extent right
+NamesExtent extent (T.DimOf ty shape axis value) = value ≡ extent
+NamesExtent extent _ = Unit {0}
+
+-- one index an axis
+unfoldable pub NameExtents : {k : _} → List ℕ → Row_of-TExpr k → Type 0
+NameExtents [] end_of-TExpr = Unit {0}
+NameExtents (extent ∷ extents) (more_of-TExpr index rest) = NamesExtent extent index × NameExtents extents rest
+NameExtents _ _ = ⊥
+
+-- the extents of a shape of a program
+abbrev pub extents_in : Typed → ℕ → List ℕ
+extents_in t set = extents_of (slice_get t.shapes.items set)
 
 plus_none : (axis : ℕ) → axis ≡ axis + 0
 plus_none axis = omega arith
@@ -75,6 +93,7 @@ own_extents t set extents known = by (slice_get t.shapes.items set) (sym (slice_
     by None is = cc
     by (Some info) is = some_same _ _ is
 
-pub get_names : {k : _} (t : Typed) (i : Instance) (n set : ℕ) (row : Row_of-TExpr k) → AreWrapping set 0 row → AllNameVariables t i n row → HasAxes t set (length (items-the_row-TExpr _ row)) → NameExtents (extents_in t set) row
-get_names t i n set row are names has =
-    subst (λ (xs : List ℕ). NameExtents xs row) (sym (own_extents t set has.0 has.1)) (each_named t i n set has.0 has.1 0 has.0 row (λ j. ap (slice_get has.0) (from_none j)) are names has.2)
+pub get_names : {k : _} (t : Typed) (i : Instance) (n of set : ℕ) (row : Row_of-TExpr k) → of ≡ set → AreWrapping set 0 row → AllNameVariables t i n row → HasAxes t of (length (items-the_row-TExpr _ row)) → NameExtents (extents_in t of) row
+get_names t i n of set row same are names has =
+    let wrap = subst (λ (s : ℕ). AreWrapping s 0 row) (sym same) are in
+    subst (λ (xs : List ℕ). NameExtents xs row) (sym (own_extents t of has.0 has.1)) (each_named t i n of has.0 has.1 0 has.0 row (λ j. ap (slice_get has.0) (from_none j)) wrap names has.2)

@@ -50,7 +50,7 @@ use Rattle.code_follows.proofs.Operators.{wide_signed}
 use Rattle.code_follows.proofs.Settings.{At, Setting, layout}
 use Rattle.code_follows.proofs.Targets.{TargetIs, assign_code, assign_means, bare_target, variable_in}
 use Rattle.code_follows.proofs.Values.{and_register, with_reg}
-use Rattle.fields_follow.specs.Fragment.{IsFoldOnto, IsWhole, IsScalarTarget, KnowsExtents, assignment_of}
+use Rattle.fields_follow.specs.Fragment.{IsFoldOnto, IsWhole, IsScalarTarget, assignment_of}
 use Rattle.fields_follow.proofs.Forms.{HasItsCode, pure_kept}
 use Rattle.fields_follow.proofs.Instructions.{SameExtents, extents}
 use Rattle.fields_follow.proofs.Meaning.{as_shaped, value_in}
@@ -188,7 +188,7 @@ module _ (g : Setting) (alive : Variable → Type 0) (n : ℕ) where
         unfolding then_do positions
         means_it same c =
             assign_means g alive n target v ty place (assignment_of reduction) p q value same scope fields.active st
-            ∙ ap (λ (o : Outcome Value). then_do o (λ w after. assigned scope fields.active place (assignment_of reduction) (scalar_type (type_of target).elem) (type_of value) (OfScalar v.variable) w after)) (pure_means scope fields.active g.typed g.instance n set value st is.0 (are_grids g scope places same_extents set) c.code.names c.extents)
+            ∙ ap (λ (o : Outcome Value). then_do o (λ w after. assigned scope fields.active place (assignment_of reduction) (scalar_type (type_of target).elem) (type_of value) (OfScalar v.variable) w after)) (pure_means scope fields.active g.typed g.instance n set value st is.0 (are_grids g scope places same_extents set) c.code.names)
             ∙ onto_means scope fields.active place reduction (type_of target).elem (type_of value) set v.variable (λ x. value_in (scope.extents set) st value x) st (whole_type set value is).0
 
   module _ (has : HasRegisters g) (scope : Scope) (places : PlacesFields g) (fields : HoldsTheFields g) (stand : OperandsStand g alive n) (same_extents : SameExtents g scope) where
@@ -197,7 +197,7 @@ module _ (g : Setting) (alive : Variable → Type 0) (n : ℕ) where
     OntoLeaves e d s st = (v : Value) × ((u : State) × ((evaluated scope e fields.active st ≡ Source.Gives v u) × After g (λ out f. LeavesScalars g alive d s st u f) (effect_of g.typed (layout g) e d)))
 
     pub onto_leaves : (e : TExpr) → IsFoldOnto e → HasItsCode g.typed g.instance alive n e → (d : Draft) (s : CodeState) (st : State) → g.begins ≤ d.regs → At g s (length d.code) → Sim g alive st s → OntoLeaves e d s st
-    unfolding IsFoldOnto NamesVariables IsShaped IsLowerable ScalarsAmong KnowsExtents
+    unfolding IsFoldOnto NamesVariables IsShaped IsLowerable ScalarsAmong
     onto_leaves (T.Assign' ty place op p target q value) is c d s st free here sim =
         subst (λ (o : AssignOp). OntoLeaves (T.Assign' ty place o p target q value) d s st) (sym is.2.1) (
           Scalar (stored_over target v ty place is.2.0 p q value is.3.0 is.3.1 has names d free scope places fields stand same_extents st (scope.extents is.3.0)),
@@ -214,7 +214,7 @@ module _ (g : Setting) (alive : Variable → Type 0) (n : ℕ) where
         names = c.code.names.0
 
         value_code : HasItsCode g.typed g.instance alive n value
-        value_code = record { code = record { shaped = c.code.shaped.3; lowerable = c.code.lowerable.3; names = c.code.names.1 }; among = c.among.1; extents = c.extents }
+        value_code = record { code = record { shaped = c.code.shaped.3; lowerable = c.code.lowerable.3; names = c.code.names.1 }; among = c.among.1 }
 
         v : TargetIs g alive n target
         v = variable_in g alive n target (target_in g alive target is.1 c.among.0)

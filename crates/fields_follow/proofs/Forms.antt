@@ -32,7 +32,7 @@ use Rattle.code_follows.proofs.Following.{held as word_of_type}
 use Rattle.code_follows.proofs.Numbers.{held_zero}
 use Rattle.code_follows.proofs.Words.{held_converted, held_wide}
 use Rattle.fields_follow.proofs.Totals.{held_below}
-use Rattle.fields_follow.specs.Fragment.{IsConstant, IsDivisor, IsOperation, IsPromoted, IsPure, IsScalarName, KnowsExtents, extents_in}
+use Rattle.fields_follow.specs.Fragment.{IsConstant, IsDivisor, IsOperation, IsPromoted, IsPure, IsScalarName}
 use Rattle.fields_follow.specs.Fields.{IsElement, file_number}
 use Rattle.fields_follow.proofs.FileFields.{first_there}
 use Rattle.fields_follow.proofs.Meaning.{DividesByNoZero, divides_nothing, no_constant, scalar_in, value_in, variable_in, word_at}
@@ -64,11 +64,10 @@ pub operand_shape : (set : ℕ) (e : TExpr) → IsPure set e ⊎ IsPromoted set 
 operand_shape set e (inl pure) = pure_shape set e pure
 operand_shape set e (inr promoted) = promoted_shape set e promoted
 
--- An expression has code, the scalar variables that it names are alive, and its gets name the extents of their shapes.
+-- An expression has code, and the scalar variables that it names are alive.
 pub record HasItsCode (t : Typed) (i : Instance) (alive : Variable → Type 0) (n : ℕ) (e : TExpr) : Type 0 where
   pub code : HasCode t i n e
   pub among : ScalarsAmong alive e
-  pub extents : KnowsExtents (extents_in t) e
 
 shaped : (o : Option ℕ) (set : ℕ) → o ≡ Some set → is_none o ≡ false
 shaped o set is = ap is_none is

@@ -15,7 +15,8 @@ use Rattle.phase_meaning.proofs.Alike.{coordinate_below}
 use Rattle.vp_sets.specs.Positions.{are_inside, are_positive, coordinate, coordinates, moved, number_at, position_count, shifted}
 use Rattle.vp_sets.proofs.PositionLaws.{count_positive, coordinates_inside, coordinates_of_number, extent_positive, inside_after_set, length-coordinates, number_of_coordinates}
 use Rattle.code_follows.proofs.Settings.{Setting}
-use Rattle.fields_follow.specs.Fragment.{AreWrapping, NameExtents}
+use Rattle.fields_follow.specs.Fragment.{AreWrapping}
+use Rattle.fields_follow.proofs.Extents.{NameExtents}
 use Rattle.fields_follow.proofs.Hops.{AreMoves, origin}
 use Rattle.fields_follow.proofs.Instructions.{extents, shapes}
 use Rattle.fields_follow.proofs.Meaning.{coordinate_behind, coordinates_behind}

@@ -15,7 +15,7 @@ use Rattle.source_meaning.specs.Values.{Active, Scope}
 use Rattle.code_follows.proofs.Besides.{sim_saying, under_held}
 use Rattle.code_follows.proofs.Following.{Finishes, IsKept, Sim}
 use Rattle.code_follows.proofs.Settings.{Held, SameBelow, Setting, Within}
-use Rattle.fields_follow.specs.Fragment.{IsCondition, IsFold, IsParallelEffect, KnowsExtents, extents_in}
+use Rattle.fields_follow.specs.Fragment.{IsCondition, IsFold, IsParallelEffect}
 use Rattle.fields_follow.proofs.Fields.{HoldsFields, HoldsNumbers, fields_held}
 use Rattle.fields_follow.proofs.Instructions.{SameExtents, place, shapes}
 use Rattle.fields_follow.proofs.Leaving.{EndsBelow, under}
@@ -71,9 +71,9 @@ module _ (g : Setting) where
 pub record KnowsFields (g : Setting) (scope : Scope) (a : Active) : Type 1 where
   pub places : PlacesFields g
   pub same_extents : SameExtents g scope
-  pub effects : (e : TExpr) → g.may.beside.effects e → IsParallelEffect e × KnowsExtents (extents_in g.typed) e
-  pub folds : (e : TExpr) → g.may.beside.folds e → IsFold e × KnowsExtents (extents_in g.typed) e
-  pub conditions : (set : ℕ) (e : TExpr) → g.may.beside.conditions set e → IsCondition set e × KnowsExtents (extents_in g.typed) e
+  pub effects : (e : TExpr) → g.may.beside.effects e → IsParallelEffect e
+  pub folds : (e : TExpr) → g.may.beside.folds e → IsFold e
+  pub conditions : (set : ℕ) (e : TExpr) → g.may.beside.conditions set e → IsCondition set e
   pub kept : BitMemory → Type 0
   pub lasts : Lasts g g.from g.entries g.upto kept
   pub opens : (st : State) (m : BitMemory) → g.held.holds st m → HoldsFields g.typed g.image a st m × kept m

@@ -30,7 +30,8 @@ use Rattle.vp_sets.specs.Positions.{are_positive, coordinate, moved, number_at, 
 use Rattle.vp_sets.proofs.PositionLaws.{extent_bound, extent_positive}
 use Rattle.code_follows.proofs.Standing.{some_same}
 use Rattle.code_follows.proofs.Words.{within_word}
-use Rattle.fields_follow.specs.Fragment.{AreWrapping, IsConstant, IsDot, IsIndex, IsOffset, IsPromoted, IsScalarName, IsWrapping, NameExtents, NamesExtent}
+use Rattle.fields_follow.specs.Fragment.{AreWrapping, IsConstant, IsDot, IsIndex, IsOffset, IsPromoted, IsScalarName, IsWrapping}
+use Rattle.fields_follow.proofs.Extents.{NameExtents, NamesExtent}
 use Rattle.fields_follow.proofs.Meaning.{always_checked, coordinate_behind, coordinates_behind, divides_nothing, no_constant, none_fails, scalar_constant, operated_is, promoted_means, scalar_in, value_in, variable_in}
 use Rattle.fields_follow.proofs.Wrapping.{IsStep, index_number, near_is, moved_within, still_there, turned_step, within_extent, wrapped_word}
 

@@ -37,7 +37,8 @@ use Rattle.source_meaning.specs.State.{State}
 use Rattle.vp_sets.specs.Positions.{are_positive, number_at}
 use Rattle.code_follows.proofs.Following.{Sim, held}
 use Rattle.code_follows.proofs.Settings.{At, Setting, Within, layout}
-use Rattle.fields_follow.specs.Fragment.{AreWrapping, NameExtents, extents_in}
+use Rattle.fields_follow.specs.Fragment.{AreWrapping}
+use Rattle.fields_follow.proofs.Extents.{NameExtents, extents_in}
 use Rattle.fields_follow.specs.Fields.{IsElement, file_number}
 use Rattle.fields_follow.proofs.Forms.{element_is, field_is}
 use Rattle.fields_follow.proofs.Gets.{names_long, steps_lead, steps_move, wrapping_goes, wrapping_unchecked}

@@ -17,7 +17,7 @@ use Rattle.source_meaning.specs.Values.{Active}
 use Rattle.code_follows.proofs.Settings.{Setting, StandsBelow, Within, stands_here as stands_so}
 use Rattle.fields_follow.proofs.Fields.{HoldsFields}
 use Rattle.vp_sets.specs.Positions.{positions_fit}
-use Rattle.fields_follow.specs.Fragment.{extents_in}
+use Rattle.fields_follow.proofs.Extents.{extents_in}
 use Rattle.fields_follow.specs.Fields.{IsElement, file_field, file_number}
 use Rattle.fields_follow.proofs.FileFields.{Apart}
 use Rattle.fields_follow.proofs.Instructions.{extents, place, shapes}

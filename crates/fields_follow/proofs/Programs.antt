@@ -97,9 +97,9 @@ module _ (t : Typed) (image : Image) (p : IsParallelProgram t) (codable : IsCoda
   -- a parallel variable of the file begins with 0
   begins_at_zero : (k : ℕ) (info : VarInfo) (set : ℕ) → slice_get t.vars.items k ≡ Some info → info.shape ≡ Some set → start_of t (V.File k) ≡ 0
   unfolding start_of
-  begins_at_zero k info set known parallel = ap (λ (o : Option VarInfo). elim o as (λ _. ℕ) [ None ↦ 0 | Some i ↦ i.start ]) known ∙ by (all_at (IsFileVariable (fields_beside t)) t.vars.items k info p.variables known).0
+  begins_at_zero k info set known parallel = ap (λ (o : Option VarInfo). elim o as (λ _. ℕ) [ None ↦ 0 | Some i ↦ i.start ]) known ∙ by (all_at (IsFileVariable fields_beside) t.vars.items k info p.variables known).0
     where
-      by : (info.shape ≡ None) ⊎ ((fields_beside t).variables info × (info.start ≡ 0)) → info.start ≡ 0
+      by : (info.shape ≡ None) ⊎ (fields_beside.variables info × (info.start ≡ 0)) → info.start ≡ 0
       by (inl none) = let differ : None ≡ Some set = sym none ∙ parallel in cc
       by (inr zero) = zero.1
 

@@ -32,7 +32,7 @@ use Rattle.source_meaning.proofs.ConstantLaws.{Boxed}
 use Rattle.vp_sets.specs.Positions.{position_count}
 use Rattle.code_follows.proofs.Following.{Sim}
 use Rattle.code_follows.proofs.Settings.{At, Setting, layout}
-use Rattle.fields_follow.specs.Fragment.{AreWhole, IsFold, IsPure, IsWhole, IsWide, KnowsExtents}
+use Rattle.fields_follow.specs.Fragment.{AreWhole, IsFold, IsPure, IsWhole, IsWide}
 use Rattle.fields_follow.proofs.Forms.{HasItsCode, pure_shape}
 use Rattle.fields_follow.proofs.Instructions.{SameExtents, extents}
 use Rattle.fields_follow.proofs.Meaning.{value_in}
@@ -108,8 +108,8 @@ fold_type _ is = absurd is
 
 module _ (g : Setting) (alive : Variable → Type 0) where
   operand_code : (n : ℕ) (ty : ValueType) (op : ReduceOp) (p : Boxed) (operand : TExpr) → HasItsCode g.typed g.instance alive n (T.Reduce' ty op p operand) → HasItsCode g.typed g.instance alive n operand
-  unfolding IsShaped IsLowerable NamesVariables ScalarsAmong KnowsExtents
-  operand_code n ty op p operand c = record { code = record { shaped = c.code.shaped; lowerable = c.code.lowerable.2; names = c.code.names }; among = c.among; extents = c.extents }
+  unfolding IsShaped IsLowerable NamesVariables ScalarsAmong
+  operand_code n ty op p operand c = record { code = record { shaped = c.code.shaped; lowerable = c.code.lowerable.2; names = c.code.names }; among = c.among }
 
   -- the operand of a reduction has its 32 bits
   operand_bits : (op : ReduceOp) (operand : TExpr) (d : Draft) → kind_of operand ≡ None → next_of g.typed (layout g) (reduced_bits op operand) true operand d ≡ next_of g.typed (layout g) 32 true operand d
@@ -137,7 +137,7 @@ module _ (g : Setting) (alive : Variable → Type 0) where
     reduction_means : (ty : ValueType) (op : ReduceOp) (p : Boxed) (operand : TExpr) (set : ℕ) (st : State) → IsWhole set operand → HasItsCode g.typed g.instance alive n operand → evaluated scope (T.Reduce' ty op p operand) fields.active st ≡ Source.Gives (Scalar (reduction op operand set st (scope.extents set))) st
     unfolding evaluated reduction_of then_do at positions
     reduction_means ty op p operand set st is c =
-        ap (λ (o : Outcome Value). then_do o (λ v after. Source.Gives (reduction_of scope fields.active op (type_of operand) v) after)) (pure_means scope fields.active g.typed g.instance n set operand st is.0 (are_grids g scope places same_extents set) c.code.names c.extents)
+        ap (λ (o : Outcome Value). then_do o (λ v after. Source.Gives (reduction_of scope fields.active op (type_of operand) v) after)) (pure_means scope fields.active g.typed g.instance n set operand st is.0 (are_grids g scope places same_extents set) c.code.names)
         ∙ ap (λ (o : Option ℕ). Source.Gives (elim o as (λ _. Value) [ None ↦ Parallel (λ q. value_in (scope.extents set) st operand q) | Some s ↦ Scalar (reduced op (not (type_of operand).elem.signed) (fields.active s) (λ q. value_in (scope.extents set) st operand q) (positions scope s)) ]) st) (whole_type set operand is).0
 
     -- A fold gives a number in the source and changes nothing; its code passes, and its last instructions put that number

@@ -25,7 +25,8 @@ use Rattle.code_follows.specs.Fragment.{ScalarsAmong}
 use Rattle.code_follows.proofs.Following.{Sim}
 use Rattle.code_follows.proofs.Settings.{Setting}
 use Rattle.code_follows.proofs.Words.{below_bits, below_word, held_wide}
-use Rattle.fields_follow.specs.Fragment.{IsConstant, IsPromoted, IsPure, IsScalarName, IsWide, KnowsExtents}
+use Rattle.fields_follow.specs.Fragment.{IsConstant, IsPromoted, IsPure, IsScalarName, IsWide}
+use Rattle.fields_follow.proofs.Extents.{get_names}
 use Rattle.fields_follow.proofs.FileFields.{coordinate_least}
 use Rattle.fields_follow.proofs.Forms.{HasItsCode, divisor_never_zero, element_is}
 use Rattle.fields_follow.proofs.Instructions.{extents, operation_below, shapes}
@@ -37,20 +38,20 @@ use Rattle.fields_follow.proofs.Places.{HoldsTheFields, PlacesFields}
 module _ (g : Setting) (alive : Variable → Type 0) (n : ℕ) (places : PlacesFields g) (fields : HoldsTheFields g) where
   -- what has code of its parts
   pub binary_parts : (ty : ValueType) (place : Place) (op : Op) (p q : Boxed) (left right : TExpr) → HasItsCode g.typed g.instance alive n (T.Binary' ty place op p left q right) → HasItsCode g.typed g.instance alive n left × HasItsCode g.typed g.instance alive n right
-  unfolding IsShaped IsLowerable NamesVariables ScalarsAmong KnowsExtents
-  binary_parts ty place op p q left right h = (record { code = record { shaped = h.code.shaped.0; lowerable = h.code.lowerable.2; names = h.code.names.0 }; among = h.among.0; extents = h.extents.0 }, record { code = record { shaped = h.code.shaped.1; lowerable = h.code.lowerable.3; names = h.code.names.1 }; among = h.among.1; extents = h.extents.1 })
+  unfolding IsShaped IsLowerable NamesVariables ScalarsAmong
+  binary_parts ty place op p q left right h = (record { code = record { shaped = h.code.shaped.0; lowerable = h.code.lowerable.2; names = h.code.names.0 }; among = h.among.0 }, record { code = record { shaped = h.code.shaped.1; lowerable = h.code.lowerable.3; names = h.code.names.1 }; among = h.among.1 })
 
   pub unary_part : (ty : ValueType) (op : UnaryOp) (p : Boxed) (inner : TExpr) → HasItsCode g.typed g.instance alive n (T.Unary' ty op p inner) → HasItsCode g.typed g.instance alive n inner
-  unfolding IsShaped IsLowerable NamesVariables ScalarsAmong KnowsExtents
-  unary_part ty op p inner h = record { code = record { shaped = h.code.shaped.1; lowerable = h.code.lowerable.1; names = h.code.names }; among = h.among; extents = h.extents }
+  unfolding IsShaped IsLowerable NamesVariables ScalarsAmong
+  unary_part ty op p inner h = record { code = record { shaped = h.code.shaped.1; lowerable = h.code.lowerable.1; names = h.code.names }; among = h.among }
 
   pub brackets_part : (ty : ValueType) (p : Boxed) (inner : TExpr) → HasItsCode g.typed g.instance alive n (T.Brackets' ty p inner) → HasItsCode g.typed g.instance alive n inner
-  unfolding IsShaped IsLowerable NamesVariables ScalarsAmong KnowsExtents
-  brackets_part ty p inner h = record { code = record { shaped = h.code.shaped.1; lowerable = h.code.lowerable; names = h.code.names }; among = h.among; extents = h.extents }
+  unfolding IsShaped IsLowerable NamesVariables ScalarsAmong
+  brackets_part ty p inner h = record { code = record { shaped = h.code.shaped.1; lowerable = h.code.lowerable; names = h.code.names }; among = h.among }
 
   pub convert_part : (ty : ValueType) (p : Boxed) (inner : TExpr) → HasItsCode g.typed g.instance alive n (T.Convert' ty p inner) → HasItsCode g.typed g.instance alive n inner
-  unfolding IsShaped IsLowerable NamesVariables ScalarsAmong KnowsExtents
-  convert_part ty p inner h = record { code = record { shaped = h.code.shaped.1; lowerable = h.code.lowerable.1; names = h.code.names }; among = h.among; extents = h.extents }
+  unfolding IsShaped IsLowerable NamesVariables ScalarsAmong
+  convert_part ty p inner h = record { code = record { shaped = h.code.shaped.1; lowerable = h.code.lowerable.1; names = h.code.names }; among = h.among }
 
   -- a coordinate is below the number of positions
   pub coordinates_small : (set axis p : ℕ) → p < processors (shapes g) set → coordinate (extents g set) p axis < 2 ^ 32
@@ -77,7 +78,7 @@ module _ (g : Setting) (alive : Variable → Type 0) (n : ℕ) (places : PlacesF
   promoted_small set _ st s sim is names among q = absurd is
 
   pub value_small : (set : ℕ) (e : TExpr) (st : State) (s : CodeState) → Sim g alive st s → IsPure set e → HasItsCode g.typed g.instance alive n e → (q : ℕ) → q < processors (shapes g) set → value_in (extents g set) st e q < 2 ^ (type_of e).elem.bits
-  unfolding IsPure value_in NamesVariables KnowsExtents
+  unfolding IsPure value_in NamesVariables
   value_small set (T.Variable ty (V.File k)) st s sim is c q below =
       small_there g alive places fields set k (variable_info c.code.names.word (plain ty) c.code.names.start) st s (element_is g.typed g.instance n k set ty is c.code.names) sim q below
   value_small set (T.Brackets' ty p inner) st s sim is c q below = subst (λ (y : ValueType). value_in (extents g set) st inner q < 2 ^ y.elem.bits) (sym is.0) (value_small set inner st s sim is.1 (brackets_part ty p inner c) q below)
@@ -111,7 +112,7 @@ module _ (g : Setting) (alive : Variable → Type 0) (n : ℕ) (places : PlacesF
   value_small set (T.LeftIndex' ty place p indexes (V.File k) of) st s sim is c q below =
       let info = variable_info c.code.names.0.word (plain (parallel ty.elem of)) c.code.names.0.start in
       let there = element_is g.typed g.instance n k set (parallel ty.elem of) (ap Some is.1) c.code.names.0 in
-      small_there g alive places fields set k info st s there sim _ (get_below g alive n places fields k of set info indexes there is.1 is.2 c.extents q below)
+      small_there g alive places fields set k info st s there sim _ (get_below g alive n places fields k of set info indexes there is.1 is.2 (get_names g.typed g.instance n of set indexes is.1 is.2 c.code.names.1 c.code.names.2) q below)
   value_small set _ st s sim is c q below = absurd is
 
   -- so one of a type of 32 bits is its word

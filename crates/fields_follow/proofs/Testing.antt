@@ -47,7 +47,7 @@ use Rattle.code_follows.proofs.Following.{Extends, HasRegisters, Sim, extends_th
 use Rattle.code_follows.proofs.Values.{extends_grown}
 use Rattle.code_follows.proofs.Settings.{At, Setting, and_one, layout}
 use Rattle.fields_follow.specs.Fields.{IsElement, file_number}
-use Rattle.fields_follow.specs.Fragment.{AreWhole, IsCondition, IsPure, IsWhole, IsWide, KnowsExtents, extents_in}
+use Rattle.fields_follow.specs.Fragment.{AreWhole, IsCondition, IsPure, IsWhole, IsWide}
 use Rattle.fields_follow.proofs.ConditionCode.{Bit, Told, Truth, bit_not_value, bit_taken, flag_after, flag_extends, joined_in, joined_made, joined_value, nonzero_after, operand_at, relation_value, stored_after, turned_after, word_not_value, zero_after}
 use Rattle.fields_follow.proofs.Conditions.{HaveTheirCode, and_codes, condition_constant, condition_kept, condition_type, conditions_join, or_codes}
 use Rattle.fields_follow.proofs.Expressions.{pure_after}
@@ -66,32 +66,32 @@ use Rattle.fields_follow.proofs.TestFlags.{LeavesTests, numbers_tell, puts_nonze
 use Rattle.fields_follow.proofs.Truths.{either_or_both, field_told, truth_told}
 use Rattle.fields_follow.proofs.Relations.{relation_after, relation_code, whole_left, whole_operands, whole_right}
 
-value_means : (scope : Scope) (active : Active) (t : Typed) (i : Instance) (n set : ℕ) (e : TExpr) (st : State) → IsCondition set e → AreGrids scope t set → NamesVariables t i n e → KnowsExtents (extents_in t) e
+value_means : (scope : Scope) (active : Active) (t : Typed) (i : Instance) (n set : ℕ) (e : TExpr) (st : State) → IsCondition set e → AreGrids scope t set → NamesVariables t i n e
     → evaluated scope e active st ≡ Source.Gives (Parallel (λ q. value_in (scope.extents set) st e q)) st
-unfolding IsCondition NamesVariables KnowsExtents evaluated value_in then_do and_then or_then at
-value_means scope active t i n set (T.Brackets' ty p inner) st is grids names knows = value_means scope active t i n set inner st is.1 grids names knows
-value_means scope active t i n set (T.Unary' ty op p operand) st is grids names knows =
+unfolding IsCondition NamesVariables evaluated value_in then_do and_then or_then at
+value_means scope active t i n set (T.Brackets' ty p inner) st is grids names = value_means scope active t i n set inner st is.1 grids names
+value_means scope active t i n set (T.Unary' ty op p operand) st is grids names =
     unary_means scope active set ty op p operand (λ q. value_in (scope.extents set) st operand q) st is.0.0
-    (either (λ (h : (negates op ≡ true) × IsCondition set operand). value_means scope active t i n set operand st h.1 grids names knows) (λ (h : (negates op ≡ false) × IsWhole set operand). pure_means scope active t i n set operand st h.1.0 grids names knows) is.1)
-value_means scope active t i n set (T.LogicalOr' ty p left q right) st is grids names knows =
-    ap (λ (o : Outcome Value). then_do o (λ x after. or_then ty.shape (type_of left).shape x (λ a after. evaluated scope right a after) active after)) (value_means scope active t i n set left st is.1 grids names.0 knows.0)
+    (either (λ (h : (negates op ≡ true) × IsCondition set operand). value_means scope active t i n set operand st h.1 grids names) (λ (h : (negates op ≡ false) × IsWhole set operand). pure_means scope active t i n set operand st h.1.0 grids names) is.1)
+value_means scope active t i n set (T.LogicalOr' ty p left q right) st is grids names =
+    ap (λ (o : Outcome Value). then_do o (λ x after. or_then ty.shape (type_of left).shape x (λ a after. evaluated scope right a after) active after)) (value_means scope active t i n set left st is.1 grids names.0)
     ∙ ap (λ (o : Option ℕ). or_then ty.shape o (Parallel (λ q. value_in (scope.extents set) st left q)) (λ a after. evaluated scope right a after) active st) (condition_type set left is.1).0
     ∙ ap (λ (o : Outcome Value). then_do o (λ w after. Source.Gives (Parallel (λ q. from_bool (nonzero (value_in (scope.extents set) st left q) || nonzero (at w q)))) after))
-    (value_means scope (where_zero set (Parallel (λ q. value_in (scope.extents set) st left q)) active) t i n set right st is.2 grids names.1 knows.1)
-value_means scope active t i n set (T.LogicalAnd' ty p left q right) st is grids names knows =
-    ap (λ (o : Outcome Value). then_do o (λ x after. and_then ty.shape (type_of left).shape x (λ a after. evaluated scope right a after) active after)) (value_means scope active t i n set left st is.1 grids names.0 knows.0)
+    (value_means scope (where_zero set (Parallel (λ q. value_in (scope.extents set) st left q)) active) t i n set right st is.2 grids names.1)
+value_means scope active t i n set (T.LogicalAnd' ty p left q right) st is grids names =
+    ap (λ (o : Outcome Value). then_do o (λ x after. and_then ty.shape (type_of left).shape x (λ a after. evaluated scope right a after) active after)) (value_means scope active t i n set left st is.1 grids names.0)
     ∙ ap (λ (o : Option ℕ). and_then ty.shape o (Parallel (λ q. value_in (scope.extents set) st left q)) (λ a after. evaluated scope right a after) active st) (condition_type set left is.1).0
     ∙ ap (λ (o : Outcome Value). then_do o (λ w after. Source.Gives (Parallel (λ q. from_bool (nonzero (value_in (scope.extents set) st left q) && nonzero (at w q)))) after))
-    (value_means scope (where_nonzero set (Parallel (λ q. value_in (scope.extents set) st left q)) active) t i n set right st is.2 grids names.1 knows.1)
-value_means scope active t i n set (T.Binary' ty place op p left q right) st is grids names knows =
+    (value_means scope (where_nonzero set (Parallel (λ q. value_in (scope.extents set) st left q)) active) t i n set right st is.2 grids names.1)
+value_means scope active t i n set (T.Binary' ty place op p left q right) st is grids names =
     binary_means scope active set ty place op p q left right (λ x. value_in (scope.extents set) st left x) (λ x. value_in (scope.extents set) st right x) st is.0.0 (divides_nothing op (λ x. value_in (scope.extents set) st right x) is.1)
-    (either (λ h. pure_means scope active t i n set left st h grids names.0 knows.0) (λ h. promoted_means scope active set left st h) (left_of set left right (whole_operands set left right is.2))) (either (λ h. pure_means scope active t i n set right st h grids names.1 knows.1) (λ h. promoted_means scope active set right st h) (right_of set left right (whole_operands set left right is.2)))
-value_means scope active t i n set e st is grids names knows = pure_means scope active t i n set e st is.0 grids names knows
+    (either (λ h. pure_means scope active t i n set left st h grids names.0) (λ h. promoted_means scope active set left st h) (left_of set left right (whole_operands set left right is.2))) (either (λ h. pure_means scope active t i n set right st h grids names.1) (λ h. promoted_means scope active set right st h) (right_of set left right (whole_operands set left right is.2)))
+value_means scope active t i n set e st is grids names = pure_means scope active t i n set e st is.0 grids names
 
 pub condition_means : (g : Setting) (scope : Scope) → PlacesFields g → SameExtents g scope → (alive : Variable → Type 0) (n : ℕ) (active : Active) (set : ℕ) (e : TExpr) (st : State) → IsCondition set e → HasItsCode g.typed g.instance alive n e → set < length (shapes g)
     → evaluated scope e active st ≡ Source.Gives (Parallel (λ q. value_in (extents g set) st e q)) st
 condition_means g scope places same alive n active set e st is c exists =
-    value_means scope active g.typed g.instance n set e st is (are_grids g scope places same set) c.code.names c.extents ∙ ap (λ (xs : List ℕ). Source.Gives (Parallel (λ q. value_in xs st e q)) st) (same set exists)
+    value_means scope active g.typed g.instance n set e st is (are_grids g scope places same set) c.code.names ∙ ap (λ (xs : List ℕ). Source.Gives (Parallel (λ q. value_in xs st e q)) st) (same set exists)
 
 module _ (g : Setting) (has : HasRegisters g) (alive : Variable → Type 0) (n : ℕ) (ready : (d : Draft) → IsReady g.typed g.instance (layout g) n d) (places : PlacesFields g) (fields : HoldsTheFields g) where
   abbrev operand : ℕ → Bool → TExpr → Draft → Made Out

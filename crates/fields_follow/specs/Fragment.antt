@@ -106,33 +106,6 @@ IsPure set (T.Pcoord ty axis) = IsWide set ty
 IsPure set (T.LeftIndex' ty place p indexes (V.File k) of) = (ty.shape ≡ Some set) × (of ≡ set) × AreWrapping set 0 indexes
 IsPure set _ = ⊥
 
--- an index names this extent, if any
-unfoldable pub NamesExtent : ℕ → TExpr → Type 0
-NamesExtent extent (T.Brackets' ty p inner) = NamesExtent extent inner
-NamesExtent extent (T.Promote' ty p operand) = NamesExtent extent operand
-NamesExtent extent (T.Binary' ty place op p left q right) = NamesExtent extent right
-NamesExtent extent (T.DimOf ty shape axis value) = value ≡ extent
-NamesExtent extent _ = Unit {0}
-
--- one index an axis
-unfoldable pub NameExtents : {k : _} → List ℕ → Row_of-TExpr k → Type 0
-NameExtents [] end_of-TExpr = Unit {0}
-NameExtents (extent ∷ extents) (more_of-TExpr index rest) = NamesExtent extent index × NameExtents extents rest
-NameExtents _ _ = ⊥
-
--- the gets of an expression, or of the value that it assigns, name the extents of their shapes
-unfoldable pub KnowsExtents : (ℕ → List ℕ) → TExpr → Type 0
-KnowsExtents extents (T.Brackets' ty p inner) = KnowsExtents extents inner
-KnowsExtents extents (T.Unary' ty op p operand) = KnowsExtents extents operand
-KnowsExtents extents (T.Binary' ty place op p left q right) = KnowsExtents extents left × KnowsExtents extents right
-KnowsExtents extents (T.LogicalOr' ty p left q right) = KnowsExtents extents left × KnowsExtents extents right
-KnowsExtents extents (T.LogicalAnd' ty p left q right) = KnowsExtents extents left × KnowsExtents extents right
-KnowsExtents extents (T.Convert' ty p operand) = KnowsExtents extents operand
-KnowsExtents extents (T.LeftIndex' ty place p indexes x of) = NameExtents (extents of) indexes
-KnowsExtents extents (T.Assign' ty place op p target q value) = KnowsExtents extents value
-KnowsExtents extents (T.Reduce' ty op p operand) = KnowsExtents extents operand
-KnowsExtents extents _ = Unit {0}
-
 -- an operand, promoted or not
 abbrev pub IsOperand : ℕ → TExpr → Type 0
 IsOperand set e = IsPure set e ⊎ IsPromoted set e
@@ -224,21 +197,17 @@ IsParallelEffect e = IsUpdate e ⊎ IsFoldOnto e
 abbrev pub IsParallelVariable : VarInfo → Type 0
 IsParallelVariable info = (set : ℕ) × ((info.shape ≡ Some set) × (info.array ≡ None))
 
--- the extents of a shape of a program
-abbrev pub extents_in : Typed → ℕ → List ℕ
-extents_in t set = extents_of (slice_get t.shapes.items set)
-
 -- A program of functions on scalars, without recursion, and of parallel variables of the file: such updates are
 -- statements, also within `with` and under contexts, as such folds onto variables are, other such folds stand within
--- scalar expressions, and such conditions narrow which positions are active. Gets name the extents of their shapes.
-abbrev pub fields_beside : Typed → Beside
-fields_beside t = record {
-  effects = λ e. IsParallelEffect e × KnowsExtents (extents_in t) e;
-  folds = λ e. IsFold e × KnowsExtents (extents_in t) e;
-  conditions = λ set e. IsCondition set e × KnowsExtents (extents_in t) e;
+-- scalar expressions, and such conditions narrow which positions are active.
+abbrev pub fields_beside : Beside
+fields_beside = record {
+  effects = IsParallelEffect;
+  folds = IsFold;
+  conditions = IsCondition;
   widens = λ set. Unit {0};
   variables = IsParallelVariable;
 }
 
 abbrev pub IsParallelProgram : Typed → Type 0
-IsParallelProgram t = IsProgramBeside (fields_beside t) t
+IsParallelProgram t = IsProgramBeside fields_beside t
