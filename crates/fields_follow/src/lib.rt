@@ -20,9 +20,9 @@ pub fn parallel_code_means_source()
     ensures { ParallelCodeMeansSource }
 {}
 
-/// Such a program is this one, which gives a parallel variable its own coordinates, adds 1 to them, adds 10 where they
-/// are less than 2 and makes them 0 elsewhere, by `where` with an `else`, and prints their sum: so the law speaks of
-/// some, with contexts.
+/// Such a program is this one, which gives a parallel variable its own coordinates, adds 1 to them, calls a function where
+/// they are less than 3 and makes them 0 elsewhere, by `where` with an `else`, and prints their sum. The function adds 10
+/// where they are less than 2, and returns from there. So the law speaks of some, with contexts.
 pub fn example_is_parallel()
     ensures { ExampleIsParallel }
 {}
