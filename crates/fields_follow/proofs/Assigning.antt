@@ -1,6 +1,8 @@
 -- Assignments to parallel variables and steps of them follow.
-use Rattle.std.proofs.Common.{◌≡◌, ◌∙◌, ℕ, ◌+◌, ◌<◌, ◌^◌, ◌==◌, ◌&&◌, ◌||◌, Bool, true, false, not, List, length, Option, Some, None, refl, ap, subst, arith, inl, inr, if◌then◌else◌}
+use Rattle.std.proofs.Common.{◌≡◌, ◌∙◌, ℕ, ◌+◌, ◌<◌, ◌≤◌, ◌%◌, ◌^◌, ◌==◌, ◌&&◌, ◌||◌, Bool, true, false, not, List, length, Option, Some, None, refl, sym, ap, subst, arith, inl, inr, if◌then◌else◌}
 use Rattle.std.specs.Prelude.{IfSome, is_none}
+use Rattle.std.proofs.lemmas.Bool.{eq-eqb}
+use Rattle.std.proofs.Math.Nat.{mod-eq_of_lt}
 use Rattle.cstar_base.specs.declared.elem.Elem.{Elem}
 use Rattle.cstar_base.specs.declared.operators.Op.{Op}
 use Rattle.cstar_base.specs.declared.operators.Op.TheVariants as P
@@ -31,7 +33,7 @@ use Rattle.lower_base.specs.Kinds.{bits_of, is_bitwise, kind_of}
 use Rattle.lower_base.specs.Operators.{assign_op_of, operation_of, relates}
 use Rattle.lower_expr.specs.declared.operands.Own.{Own}
 use Rattle.lower_expr.specs.Effects.{assignment_effect, assigned_own, effect_of, folds, put_to, step_effect, stepped_own, variable_assigned, variable_operated, variable_stepped, whole_of, writes_itself}
-use Rattle.lower_expr.specs.Kinds.{operation_bits, works_within}
+use Rattle.lower_expr.specs.Kinds.{is_modular, operation_bits, works_within}
 use Rattle.lower_expr.specs.Operands.{own_of, standing}
 use Rattle.lower_expr.specs.Steps.{assigned_signed}
 use Rattle.lower_expr.specs.Values.{step_operation, value_of}
@@ -42,7 +44,6 @@ use Rattle.paris_code.specs.declared.operands.Konst.TheVariants as K
 use Rattle.paris_code.specs.declared.program.Owner.TheVariants as W
 use Rattle.paris_code.specs.Code.{CodeState}
 use Rattle.paris_code.specs.Memory.{processors}
-use Rattle.paris_code.specs.Proper.{IsEntry}
 use Rattle.paris_code.specs.Writes.{written}
 use Rattle.source_meaning.specs.Expressions.{evaluated}
 use Rattle.source_meaning.specs.Reductions.{promoted, updated}
@@ -50,50 +51,52 @@ use Rattle.source_meaning.specs.State.{Gives, State, with_positions}
 use Rattle.source_meaning.specs.Targets.{step_op}
 use Rattle.source_meaning.specs.Values.{Parallel, Scope, Value}
 use Rattle.source_meaning.proofs.ConstantLaws.{Boxed}
-use Rattle.code_follows.proofs.Following.{HasRegisters, Sim}
+use Rattle.cstar_base.proofs.NumberLaws.{kind_bits}
+use Rattle.code_follows.proofs.Following.{HasRegisters, Sim, held}
 use Rattle.code_follows.proofs.Settings.{At, Setting, Within, and_one, layout, onto}
-use Rattle.fields_follow.specs.Fragment.{HasOperation, IsOperand, IsOperandOrTruth, IsOperation, IsTarget, IsUpdate, KnowsExtents}
+use Rattle.fields_follow.specs.Fragment.{HasOperation, IsOperand, IsOperandOrTruth, IsOperation, IsTarget, IsUpdate, IsWide, KnowsExtents}
 use Rattle.fields_follow.specs.Fields.{IsElement, file_number}
-use Rattle.fields_follow.proofs.Deciding.{truth_last, truth_means}
-use Rattle.fields_follow.proofs.Forms.{HasItsCode, divisor_never_zero, field_is}
-use Rattle.fields_follow.proofs.Instructions.{HasNumbers, Puts, SameExtents, extents, puts_operate_constant, shapes, word_in}
-use Rattle.fields_follow.proofs.Meaning.{DividesByNoZero, promoted_means, value_in}
+use Rattle.fields_follow.proofs.Deciding.{truth_last, truth_means, truth_type}
+use Rattle.fields_follow.proofs.Forms.{HasItsCode, divisor_never_zero, field_is, operand_shape}
+use Rattle.fields_follow.proofs.Lengths.{held_first, modular_keeps}
+use Rattle.fields_follow.proofs.Instructions.{Puts, SameExtents, extents, puts_operate_constant, shapes, word_in}
+use Rattle.fields_follow.proofs.Meaning.{DividesByNoZero, promoted_means, value_in, word_at}
 use Rattle.fields_follow.proofs.Leaving.{Leaves, PassesTests, UpdateLeaves}
-use Rattle.fields_follow.proofs.Passing.{After, Passes, after_same, code_longer, in_file_has, made_after, passes_all}
+use Rattle.fields_follow.proofs.Passing.{After, Passes, after_same, code_longer, made_after, passes_all}
 use Rattle.fields_follow.proofs.PassingTests.{tests_passed}
 use Rattle.fields_follow.proofs.Places.{HoldsTheFields, IsFileField, PlacesFields}
 use Rattle.fields_follow.proofs.Pure.{are_grids, pure_means}
 use Rattle.fields_follow.proofs.Updates.{AssignsByNoZero, IsFileTarget, assign_means, file_target, promoted_wide, step_means, updated_is}
-use Rattle.fields_follow.proofs.Values.{and_entry, next_field, one_more, taken, with_entry}
+use Rattle.fields_follow.proofs.Sizes.{operand_small}
+use Rattle.fields_follow.proofs.Values.{and_entry, next_field, one_more, taken, variable_has, with_entry}
 use Rattle.fields_follow.proofs.Writing.{TakesBehind, entry_and_below, entry_ends, few, file_sim, instr_takes, own_stays}
 use Rattle.fields_follow.proofs.Effects.{IsEntryFor, in_place_last, put_last}
-use Rattle.fields_follow.proofs.Expressions.{operand_type}
+use Rattle.fields_follow.proofs.Expressions.{operand_at}
 use Rattle.code_follows.specs.Fragment.{ScalarsAmong}
 
 module _ (g : Setting) (has : HasRegisters g) (alive : Variable → Type 0) (n : ℕ) (ready : (d : Draft) → IsReady g.typed g.instance (layout g) n d) (places : PlacesFields g) (fields : HoldsTheFields g) where
   -- What comes last writes the variable where it is active: with the entry for it before, the code leaves a state that
   -- has what the source stores.
-  module _ (set k : ℕ) (info : VarInfo) (is : IsElement g.typed k info set 0) (word : info.elem.bits ≡ 32) (d : Draft) (s : CodeState) (st : State) where
+  module _ (set k : ℕ) (info : VarInfo) (is : IsElement g.typed k info set 0) (d : Draft) (s : CodeState) (st : State) where
     abbrev entered : Draft
     entered = with_entry set info.elem.bits (W.File (file_number g.typed k 0)) d
 
     abbrev variable : Field
-    variable = next_field set 32 d
+    variable = next_field set info.elem.bits d
 
     entry_for : IsEntryFor g has alive n ready places fields k variable entered
-    entry_for e m longer within =
-        subst (λ (len : ℕ). IsEntry g.unit (length d.fields) (record { set = set; len = len; owner = W.File (file_number g.typed k 0) })) word
-        (taken g set info.elem.bits (W.File (file_number g.typed k 0)) d e m within longer)
+    entry_for e m longer within = taken g set info.elem.bits (W.File (file_number g.typed k 0)) d e m within longer
 
-    was_small : Sim g alive st s → (p : ℕ) → p < processors (shapes g) set → st.parallel (V.File k) 0 p < 2 ^ 32
-    was_small sim p below = subst (λ (b : ℕ). st.parallel (V.File k) 0 p < 2 ^ b) word ((fields.opens st s.memory sim.memory).small k 0 set p info is below)
+    -- the numbers are the lowest bits of the words that are put
+    abbrev AreStored : (ℕ → ℕ) → (ℕ → ℕ) → Type 0
+    AreStored v w = (p : ℕ) → p < processors (shapes g) set → v p < 2 ^ 32 → w p ≡ v p % 2 ^ info.elem.bits
 
-    leaves : (v w : ℕ → ℕ) → ((p : ℕ) → p < processors (shapes g) set → v p < 2 ^ 32 → w p ≡ v p) → (e2 f : Draft) (used : Type 0) → Within g f → (p : PassesTests g alive entered e2 s st used) → used → TakesBehind g set variable e2 f p.t v
+    leaves : (v w : ℕ → ℕ) → AreStored v w → (e2 f : Draft) (used : Type 0) → Within g f → (p : PassesTests g alive entered e2 s st used) → used → TakesBehind g set variable e2 f p.t v
         → Leaves g alive d f s (with_positions (V.File k) 0 (fields.active set) w st)
     leaves v w same e2 f used within p wanted last =
         let x : Extended entered (p.grown.0 + last.more.0) f = extended entered e2 f p.grown.0 last.more.0 p.grown.1 last.more.1 in
         let file : IsFileField g k 0 variable = entry_for f (p.grown.0 + last.more.0) x within in
-        let ends = entry_ends g places fields alive set k 0 info variable is word file refl refl in
+        let ends = entry_ends g places fields alive set k 0 info variable is refl file refl in
         let longer = code_longer e2 f last.more.0 last.more.1 in
         let more = one_more set info.elem.bits (W.File (file_number g.typed k 0)) d in
         record {
@@ -102,28 +105,28 @@ module _ (g : Setting) (has : HasRegisters g) (alive : Variable → Type 0) (n :
           go = onto g s p.t (record p.t { at = last.place; memory = written last.takes.write p.t.memory }) p.go last.go;
           at = last.at;
           registers = p.registers;
-          sim = file_sim g places fields alive set variable p.t st v p.sim refl refl ends.0 ends.1 last.takes k 0 info is word file last.place (fields.active set) w (λ q below. refl)
-              (λ q below on. same q below (few g places fields alive set variable p.t st v p.sim refl refl ends.0 ends.1 last.takes q below on));
+          sim = file_sim g places fields alive set variable p.t st v p.sim refl ends.0 ends.1 last.takes k 0 info is refl file last.place (fields.active set) w (λ q below. refl)
+              (λ q below on. same q below (few g places fields alive set variable p.t st v p.sim refl ends.0 ends.1 last.takes q below on));
           stays = λ u h first final q below own ends_below before low after high.
-              own_stays g places fields alive set variable p.t st v p.sim refl refl ends.0 ends.1 last.takes k 0 info is word file h q own
+              own_stays g places fields alive set variable p.t st v p.sim refl ends.0 ends.1 last.takes k 0 info is refl file h q own
               ∙ p.stays wanted h first final q (omega (arith, below, more)) own ends_below before low after (omega (arith, high, longer));
         }
 
     -- by an instruction behind code of values alone
-    leaves_value : (v w : ℕ → ℕ) → ((p : ℕ) → p < processors (shapes g) set → v p < 2 ^ 32 → w p ≡ v p) → (e2 : Draft) (i : Instr) → Within g (with_instr i e2) → (p : Passes g alive (length entered.fields) entered e2 s st (Unit {0})) → Puts g set i variable p.t v
+    leaves_value : (v w : ℕ → ℕ) → AreStored v w → (e2 : Draft) (i : Instr) → Within g (with_instr i e2) → (p : Passes g alive (length entered.fields) entered e2 s st (Unit {0})) → Puts g set i variable p.t v
         → Leaves g alive d (with_instr i e2) s (with_positions (V.File k) 0 (fields.active set) w st)
     unfolding tests_passed
     leaves_value v w same e2 i within p puts =
         let file : IsFileField g k 0 variable = entry_for (with_instr i e2) (p.grown.0 + 1) (extended entered e2 (with_instr i e2) p.grown.0 1 p.grown.1 (and_one g i e2)) within in
-        leaves v w same e2 (with_instr i e2) (Unit {0}) within (tests_passed g alive (length entered.fields) entered e2 s st (Unit {0}) (omega arith) p) tt (instr_takes g set i variable e2 p.t v (entry_and_below g places fields alive set k 0 info variable is word file refl refl) within p.at puts)
+        leaves v w same e2 (with_instr i e2) (Unit {0}) within (tests_passed g alive (length entered.fields) entered e2 s st (Unit {0}) (omega arith) p) tt (instr_takes g set i variable e2 p.t v (entry_and_below g places fields alive set k 0 info variable is refl file refl) within p.at puts)
 
     -- the variable with all its bits is that entry
-    variable_is : (target : TExpr) (next : Out → Draft → Made Out) → (type_of target).elem.bits ≡ 32
+    variable_is : (target : TExpr) (next : Out → Draft → Made Out) → (type_of target).elem ≡ info.elem
         → then_make (whole_of g.typed (layout g) target (record { shape = Some set; variable = V.File k }) d) next ≡ next (O.Field variable) entered
     unfolding standing then_make an_entry first_bits
-    variable_is target next wide =
-        ap (λ (bits : ℕ). then_make (standing g.typed (layout g) bits (record { shape = Some set; variable = V.File k }) d) next) wide
-        ∙ ap (λ (m : Made Field). then_make (then_make m (λ f after. Makes (O.Field (first_bits 32 f)) after)) next) (field_is g k 0 set info d is)
+    variable_is target next same =
+        ap (λ (elem : Elem). then_make (standing g.typed (layout g) elem.bits (record { shape = Some set; variable = V.File k }) d) next) same
+        ∙ ap (λ (m : Made Field). then_make (then_make m (λ f after. Makes (O.Field (first_bits info.elem.bits f)) after)) next) (field_is g k 0 set info d is)
 
   -- what an assignment without an operator stores
   plainly : (op : AssignOp) (to from : Elem) (old w : ℕ) → assign_op_of op ≡ None → updated op to from old w ≡ w
@@ -143,25 +146,27 @@ module _ (g : Setting) (has : HasRegisters g) (alive : Variable → Type 0) (n :
   plainly A.Min to from old w e = cc
   plainly A.Max to from old w e = cc
 
-  fits_well : (op : Op) (elem : Elem) (value : TExpr) → elem.bits ≡ 32 → works_within elem op value ≡ true
-  unfolding works_within operation_bits
-  fits_well op elem value wide = ap (λ (bits : ℕ). if bits == 1 then is_bitwise op && bits_of (kind_of value) == 1 else operation_bits bits op value == bits) wide ∙ by _
-    where
-      by : (c : Bool) → ((if c then 32 else 32) == 32) ≡ true
-      by true = refl
-      by false = refl
-
-  own_is : (set k : ℕ) (op : AssignOp) (target value : TExpr) → own_of 1 target ≡ Some (record { shape = Some set; variable = V.File k }) → (type_of target).elem.bits ≡ 32 → assigned_own op target value ≡ Some (record { shape = Some set; variable = V.File k })
-  unfolding writes_itself folds
-  own_is set k op target value own wide =
-      ap (λ (o : Option Own). elim o as (λ _. Option Own) [ Some own ↦ if writes_itself own op (type_of target).elem value then Some own else None | None ↦ None ]) own ∙ by (assign_op_of op)
+  own_is : (set k : ℕ) (op : AssignOp) (target value : TExpr) → own_of 1 target ≡ Some (record { shape = Some set; variable = V.File k }) → HasOperation op (type_of target).elem value → assigned_own op target value ≡ Some (record { shape = Some set; variable = V.File k })
+  unfolding writes_itself folds works_within
+  own_is set k op target value own known =
+      ap (λ (o : Option Own). elim o as (λ _. Option Own) [ Some own ↦ if writes_itself own op (type_of target).elem value then Some own else None | None ↦ None ]) own ∙ by (assign_op_of op) known
     where
       mine : Own
       mine = record { shape = Some set; variable = V.File k }
 
-      by : (o : Option Op) → (if elim o as (λ _. Bool) [ None ↦ true | Some x ↦ works_within (type_of target).elem x value ] then Some mine else None) ≡ Some mine
-      by None = refl
-      by (Some x) = ap (λ (b : Bool). if b then Some mine else None) (fits_well x (type_of target).elem value wide)
+      elem : Elem
+      elem = (type_of target).elem
+
+      works : Op → Type 0
+      works o = ((elem.bits == 1) ≡ false) × (operation_bits elem.bits o value ≡ elem.bits)
+
+      within : (o : Op) → works o → (if elem.bits == 1 then is_bitwise o && bits_of (kind_of value) == 1 else operation_bits elem.bits o value == elem.bits) ≡ true
+      within o h = ap (λ (b : Bool). if b then is_bitwise o && bits_of (kind_of value) == 1 else operation_bits elem.bits o value == elem.bits) h.0 ∙ eq-eqb (operation_bits elem.bits o value) elem.bits h.1
+
+      by : (o : Option Op) → (elim o as (λ _. Type 0) [ None ↦ (type_of value).elem.bits ≡ elem.bits | Some o ↦ IsOperation o value × ((type_of value).elem.bits ≡ 32) × ((elem.bits == 1) ≡ false) × (operation_bits elem.bits o value ≡ elem.bits) ])
+          → (if elim o as (λ _. Bool) [ None ↦ true | Some x ↦ works_within elem x value ] then Some mine else None) ≡ Some mine
+      by None h = refl
+      by (Some x) h = ap (λ (b : Bool). if b then Some mine else None) (within x (h.2, h.3))
 
   module _ (scope : Scope) (same_extents : SameExtents g scope) where
     operand_means : (set : ℕ) (e : TExpr) (st : State) → set < length (shapes g) → IsOperand set e → HasItsCode g.typed g.instance alive n e → evaluated scope e fields.active st ≡ Gives (Parallel (λ q. value_in (extents g set) st e q)) st
@@ -175,15 +180,16 @@ module _ (g : Setting) (has : HasRegisters g) (alive : Variable → Type 0) (n :
     value_means set op e st exists (inl is) c = operand_means set e st exists is c
     value_means set op e st exists (inr is) c = truth_means g scope places same_extents alive n fields.active set e st is.1 c exists
 
-    by_no_zero : (set : ℕ) (op : AssignOp) (value : TExpr) (st : State) → HasOperation op value → IsOperandOrTruth set op value → AssignsByNoZero op (λ x. value_in (extents g set) st value x)
-    by_no_zero set op value st operates is = by (assign_op_of op) refl operates is
+    by_no_zero : (set : ℕ) (op : AssignOp) (elem : Elem) (value : TExpr) (st : State) → HasOperation op elem value → IsOperandOrTruth set op value → AssignsByNoZero op (λ x. value_in (extents g set) st value x)
+    by_no_zero set op elem value st operates is = by (assign_op_of op) refl operates is
       where
-        by : (o : Option Op) → assign_op_of op ≡ o → IfSome o (λ x. IsOperation x value) → IsOperandOrTruth set op value → IfSome o (λ x. DividesByNoZero x (λ y. value_in (extents g set) st value y))
+        by : (o : Option Op) → assign_op_of op ≡ o → (elim o as (λ _. Type 0) [ None ↦ (type_of value).elem.bits ≡ elem.bits | Some o ↦ IsOperation o value × ((type_of value).elem.bits ≡ 32) × ((elem.bits == 1) ≡ false) × (operation_bits elem.bits o value ≡ elem.bits) ]) → IsOperandOrTruth set op value
+            → IfSome o (λ x. DividesByNoZero x (λ y. value_in (extents g set) st value y))
         by None same known is = tt
-        by (Some x) same known (inl operand) = divisor_never_zero set x value (extents g set) st known operand
+        by (Some x) same known (inl operand) = divisor_never_zero set x value (extents g set) st known.0 operand
         by (Some x) same known (inr truth) = absurd (let none = truth.0 in cc)
 
-    assigns : (ty : ValueType) (place : Place) (op : AssignOp) (p q : Boxed) (target value : TExpr) (set : ℕ) → ty ≡ type_of target → IsTarget set target → HasOperation op value → IsOperandOrTruth set op value → NamesVariables g.typed g.instance n target → HasItsCode g.typed g.instance alive n value
+    assigns : (ty : ValueType) (place : Place) (op : AssignOp) (p q : Boxed) (target value : TExpr) (set : ℕ) → ty ≡ type_of target → IsTarget set target → HasOperation op ty.elem value → IsOperandOrTruth set op value → NamesVariables g.typed g.instance n target → HasItsCode g.typed g.instance alive n value
         → (d : Draft) (s : CodeState) (st : State) → At g s (length d.code) → Sim g alive st s
         → UpdateLeaves g alive fields scope (T.Assign' ty place op p target q value) d s st
     unfolding effect_of assignment_effect variable_operated
@@ -192,11 +198,11 @@ module _ (g : Setting) (has : HasRegisters g) (alive : Variable → Type 0) (n :
       (
         u,
         (
-          assign_means scope fields.active set ty place op p q target value h.k (λ x. value_in (extents g set) st value x) st (ap (λ (y : ValueType). y.shape) same ∙ h.type.0) (by_no_zero set op value st operates is_value) (h.means scope fields.active st) (value_means set op value st (places.exists h.k 0 set h.info h.is) is_value c),
+          assign_means scope fields.active set ty place op p q target value h.k (λ x. value_in (extents g set) st value x) st (ap (λ (y : ValueType). y.shape) same ∙ h.shape) (by_no_zero set op ty.elem value st operates is_value) (h.means scope fields.active st) (value_means set op value st (places.exists h.k 0 set h.info h.is) is_value c),
           (after_same g (λ out e. Leaves g alive d e s u)
-              (ap (λ (o : Option Own). elim o as (λ _. Made Out) [ Some own ↦ then_make (whole_of g.typed (layout g) target own d) (λ dest after. variable_assigned g.typed (layout g) op place target value dest after) | None ↦ value_of g.typed (layout g) ty.elem.bits (T.Assign' ty place op p target q value) d ]) (own_is set h.k op target value h.own h.type.1)
-              ∙ variable_is set h.k h.info h.is h.wide d s st target (λ dest after. variable_assigned g.typed (layout g) op place target value dest after) h.type.1)
-              (by (assign_op_of op) refl operates is_value)),
+              (ap (λ (o : Option Own). elim o as (λ _. Made Out) [ Some own ↦ then_make (whole_of g.typed (layout g) target own d) (λ dest after. variable_assigned g.typed (layout g) op place target value dest after) | None ↦ value_of g.typed (layout g) ty.elem.bits (T.Assign' ty place op p target q value) d ]) (own_is set h.k op target value h.own (subst (λ (y : ValueType). HasOperation op y.elem value) same operates))
+              ∙ variable_is set h.k h.info h.is d s st target (λ dest after. variable_assigned g.typed (layout g) op place target value dest after) h.elem)
+              (by (assign_op_of op) refl (subst (λ (y : Elem). HasOperation op y value) is_elem operates) is_value)),
         ),
       ),
     )
@@ -204,35 +210,69 @@ module _ (g : Setting) (has : HasRegisters g) (alive : Variable → Type 0) (n :
         h : IsFileTarget g.typed set target
         h = file_target g.typed g.instance n set target is_target names
 
+        is_elem : ty.elem ≡ h.info.elem
+        is_elem = ap (λ (y : ValueType). y.elem) same ∙ h.elem
+
+        bits : ℕ
+        bits = h.info.elem.bits
+
+        most : bits ≤ 32
+        most = (kind_bits h.info.elem.bits h.info.elem.signed h.info.elem.kind).1
+
+        old : ℕ → ℕ
+        old = λ x. st.parallel (V.File h.k) 0 x
+
+        number : ℕ → ℕ
+        number = λ x. value_in (extents g set) st value x
+
         w : ℕ → ℕ
-        w = λ x. updated op ty.elem (type_of value).elem (st.parallel (V.File h.k) 0 x) (value_in (extents g set) st value x)
+        w = λ x. updated op ty.elem (type_of value).elem (old x) (number x)
 
         u : State
         u = with_positions (V.File h.k) 0 (fields.active set) w st
 
         d1 : Draft
-        d1 = with_entry set h.info.elem.bits (W.File (file_number g.typed h.k 0)) d
+        d1 = with_entry set bits (W.File (file_number g.typed h.k 0)) d
 
         f : Field
-        f = next_field set 32 d
+        f = next_field set bits d
 
-        by : (o : Option Op) → assign_op_of op ≡ o → IfSome o (λ x. IsOperation x value) → IsOperandOrTruth set op value
-            → After g (λ out e. Leaves g alive d e s u) (elim (assign_op_of op) as (λ _. Made Out) [ None ↦ put_to g.typed (layout g) (O.Field f) value d1 | Some x ↦ variable_operated g.typed (layout g) x place target value (O.Field f) d1 ])
+        code : Option Op → Made Out
+        code o = elim o as (λ _. Made Out) [ None ↦ put_to g.typed (layout g) (O.Field f) value d1 | Some x ↦ variable_operated g.typed (layout g) x place target value (O.Field f) d1 ]
+
+        -- what is stored without an operator
+        plain_stored : assign_op_of op ≡ None → (type_of value).elem.bits ≡ bits → IsOperand set value → (x : ℕ) → x < processors (shapes g) set → w x ≡ word_at (extents g set) st value x % 2 ^ bits
+        plain_stored none long is_operand x below =
+            let small : number x < 2 ^ (type_of value).elem.bits = operand_small g alive n places fields set value st s sim is_operand c x below in
+            plainly op ty.elem (type_of value).elem (old x) (number x) none
+            ∙ sym (held_first (type_of value).elem (number x) bits small (omega (arith, long)) ∙ mod-eq_of_lt (subst (λ (b : ℕ). number x < 2 ^ b) long small))
+
+        by : (o : Option Op) → assign_op_of op ≡ o → (elim o as (λ _. Type 0) [ None ↦ (type_of value).elem.bits ≡ bits | Some o ↦ IsOperation o value × ((type_of value).elem.bits ≡ 32) × ((bits == 1) ≡ false) × (operation_bits bits o value ≡ bits) ]) → IsOperandOrTruth set op value
+            → After g (λ out e. Leaves g alive d e s u) (code (assign_op_of op))
         by None is known (inl is_operand) =
-            after_same g (λ out e. Leaves g alive d e s u) (ap (λ (o : Option Op). elim o as (λ _. Made Out) [ None ↦ put_to g.typed (layout g) (O.Field f) value d1 | Some x ↦ variable_operated g.typed (layout g) x place target value (O.Field f) d1 ]) is)
-            (put_last g has alive n ready places fields set (length d.fields) value is_operand c d1 s st here sim (λ out e. Leaves g alive d e s u)
-            (λ e2 i within passes puts. leaves_value set h.k h.info h.is h.wide d s st (λ x. value_in (extents g set) st value x) w (λ x below small. plainly op ty.elem (type_of value).elem (st.parallel (V.File h.k) 0 x) (value_in (extents g set) st value x) is) e2 i within passes puts))
+            after_same g (λ out e. Leaves g alive d e s u) (ap code is)
+            (put_last g has alive n ready places fields set (length d.fields) bits value most is_operand c d1 s st here sim (λ out e. Leaves g alive d e s u)
+            (λ e2 i within passes puts. leaves_value set h.k h.info h.is d s st (λ x. word_at (extents g set) st value x) w (λ x below small. plain_stored is known is_operand x below) e2 i within passes puts))
         by None is known (inr truth) =
-            after_same g (λ out e. Leaves g alive d e s u) (ap (λ (o : Option Op). elim o as (λ _. Made Out) [ None ↦ put_to g.typed (layout g) (O.Field f) value d1 | Some x ↦ variable_operated g.typed (layout g) x place target value (O.Field f) d1 ]) is)
-            (truth_last g has alive n ready places fields set h.k (length d.fields) h.info h.is h.wide d1 s st here sim (entry_for set h.k h.info h.is h.wide d s st) (λ out e. Leaves g alive d e s u) value truth.1 c
-            (λ e2 f used within passes wanted last. leaves set h.k h.info h.is h.wide d s st (λ x. value_in (extents g set) st value x) w (λ x below small. plainly op ty.elem (type_of value).elem (st.parallel (V.File h.k) 0 x) (value_in (extents g set) st value x) is) e2 f used within passes wanted last))
+            let word : bits ≡ 32 = sym known ∙ (truth_type set value truth.1).1 in
+            after_same g (λ out e. Leaves g alive d e s u) (ap code is ∙ ap (λ (b : ℕ). put_to g.typed (layout g) (O.Field (next_field set b d)) value d1) word)
+            (truth_last g has alive n ready places fields set h.k (length d.fields) h.info h.is word d1 s st here sim (subst (λ (b : ℕ). IsEntryFor g has alive n ready places fields h.k (next_field set b d) d1) word (entry_for set h.k h.info h.is d s st)) (λ out e. Leaves g alive d e s u) value truth.1 c
+            (λ e2 f2 used within passes wanted last. leaves set h.k h.info h.is d s st number w
+            (λ x below small. plainly op ty.elem (type_of value).elem (old x) (number x) is ∙ sym (mod-eq_of_lt (subst (λ (b : ℕ). number x < 2 ^ b) (sym word) small))) e2 f2 used within passes wanted (subst (λ (b : ℕ). TakesBehind g set (next_field set b d) e2 f2 passes.t number) (sym word) last)))
         by (Some x) is known (inl is_operand) =
             let signed : Bool = assigned_signed x (type_of target).elem (type_of value).elem in
-            after_same g (λ out e. Leaves g alive d e s u) (ap (λ (o : Option Op). elim o as (λ _. Made Out) [ None ↦ put_to g.typed (layout g) (O.Field f) value d1 | Some x ↦ variable_operated g.typed (layout g) x place target value (O.Field f) d1 ]) is)
-            (in_place_last g has alive n ready places fields set (length d.fields) h.k h.info x signed place value d1 s st h.is h.wide (entry_for set h.k h.info h.is h.wide d s st) known is_operand c here sim (λ out e. Leaves g alive d e s u)
-            (λ e2 i within passes puts. leaves_value set h.k h.info h.is h.wide d s st (λ y. outcome x 32 (not signed) (st.parallel (V.File h.k) 0 y) (value_in (extents g set) st value y)) w
-            (λ y below small. ap (λ (t : ValueType). updated op t.elem (type_of value).elem (st.parallel (V.File h.k) 0 y) (value_in (extents g set) st value y)) same
-            ∙ updated_is op x (type_of target).elem (type_of value).elem (st.parallel (V.File h.k) 0 y) (value_in (extents g set) st value y) is h.type.1 (operand_type set value is_operand).1 (was_small set h.k h.info h.is h.wide d s st sim y below) small) e2 i within passes puts))
+            let wide : IsWide set (type_of value) = (operand_shape set value is_operand, known.1) in
+            after_same g (λ out e. Leaves g alive d e s u) (ap code is)
+            (in_place_last g has alive n ready places fields set (length d.fields) h.k h.info x signed place value d1 s st h.is (entry_for set h.k h.info h.is d s st) known.0 known.3 is_operand c here sim (λ out e. Leaves g alive d e s u)
+            (λ e2 i within passes puts. leaves_value set h.k h.info h.is d s st (λ y. outcome x 32 (not signed) (held h.info.elem (old y)) (word_at (extents g set) st value y)) w
+            (λ y below small.
+            let is_word : word_at (extents g set) st value y ≡ number y = operand_at g has alive n ready places fields set value st s sim is_operand wide c y below in
+            let few : outcome x 32 (not (assigned_signed x h.info.elem (type_of value).elem)) (held h.info.elem (old y)) (number y) < 2 ^ 32 =
+            subst (λ (m : ℕ). outcome x 32 (not (assigned_signed x h.info.elem (type_of value).elem)) (held h.info.elem (old y)) m < 2 ^ 32) is_word (subst (λ (e : Elem). outcome x 32 (not (assigned_signed x e (type_of value).elem)) (held h.info.elem (old y)) (word_at (extents g set) st value y) < 2 ^ 32) h.elem small) in
+            ap (λ (e : Elem). updated op e (type_of value).elem (old y) (number y)) is_elem
+            ∙ updated_is op x h.info.elem (type_of value).elem (old y) (number y) is known.2 known.1 few
+            ∙ ap (λ (m : ℕ). outcome x 32 (not (assigned_signed x h.info.elem (type_of value).elem)) (held h.info.elem (old y)) m % 2 ^ bits) (sym is_word)
+            ∙ ap (λ (e : Elem). outcome x 32 (not (assigned_signed x e (type_of value).elem)) (held h.info.elem (old y)) (word_at (extents g set) st value y) % 2 ^ bits) (sym h.elem)) e2 i within passes puts))
         by (Some x) is known (inr truth) = absurd (let none = truth.0 in cc)
 
     -- one more, or one less
@@ -255,38 +295,40 @@ module _ (g : Setting) (has : HasRegisters g) (alive : Variable → Type 0) (n :
     step_operates Sp.Increment signed = refl
     step_operates Sp.Decrement signed = refl
 
-    stepped_is : (set k : ℕ) (target : TExpr) → own_of 1 target ≡ Some (record { shape = Some set; variable = V.File k }) → (type_of target).elem.bits ≡ 32 → stepped_own target ≡ Some (record { shape = Some set; variable = V.File k })
-    stepped_is set k target own wide =
+    step_modular : (op : StepOp) → is_modular (stepping op) ≡ true
+    unfolding is_modular
+    step_modular Sp.Increment = refl
+    step_modular Sp.Decrement = refl
+
+    stepped_is : (set k : ℕ) (target : TExpr) → own_of 1 target ≡ Some (record { shape = Some set; variable = V.File k }) → ((type_of target).elem.bits == 1) ≡ false → stepped_own target ≡ Some (record { shape = Some set; variable = V.File k })
+    stepped_is set k target own no_truth =
         ap (λ (o : Option Own). elim o as (λ _. Option Own) [ Some own ↦ if is_none own.shape || not ((type_of target).elem.bits == 1) then Some own else None | None ↦ None ]) own
-        ∙ ap (λ (bits : ℕ). if not (bits == 1) then Some mine else None) wide
+        ∙ ap (λ (b : Bool). if not b then Some mine else None) no_truth
       where
         mine : Own
         mine = record { shape = Some set; variable = V.File k }
 
-    steps : (ty : ValueType) (op : StepOp) (order : StepOrder) (p : Boxed) (target : TExpr) (set : ℕ) → ty ≡ type_of target → IsTarget set target → NamesVariables g.typed g.instance n target
+    steps : (ty : ValueType) (op : StepOp) (order : StepOrder) (p : Boxed) (target : TExpr) (set : ℕ) → ty ≡ type_of target → IsTarget set target → (ty.elem.bits == 1) ≡ false → NamesVariables g.typed g.instance n target
         → (d : Draft) (s : CodeState) (st : State) → At g s (length d.code) → Sim g alive st s
         → UpdateLeaves g alive fields scope (T.Step' ty op order p target) d s st
     unfolding effect_of step_effect variable_stepped word_in
-    steps ty op order p target set same is_target names d s st here sim = (
+    steps ty op order p target set same is_target no_truth names d s st here sim = (
       means.0,
       (
         u,
         (
           means.1,
           (after_same g (λ out e. Leaves g alive d e s u)
-              (ap (λ (o : Option Own). elim o as (λ _. Made Out) [ Some own ↦ then_make (whole_of g.typed (layout g) target own d) (λ dest after. variable_stepped (layout g) (type_of target).elem op dest after) | None ↦ value_of g.typed (layout g) ty.elem.bits (T.Step' ty op order p target) d ]) (stepped_is set h.k target h.own h.type.1)
-              ∙ variable_is set h.k h.info h.is h.wide d s st target (λ dest after. variable_stepped (layout g) (type_of target).elem op dest after) h.type.1
+              (ap (λ (o : Option Own). elim o as (λ _. Made Out) [ Some own ↦ then_make (whole_of g.typed (layout g) target own d) (λ dest after. variable_stepped (layout g) (type_of target).elem op dest after) | None ↦ value_of g.typed (layout g) ty.elem.bits (T.Step' ty op order p target) d ]) (stepped_is set h.k target h.own (ap (λ (y : ValueType). y.elem.bits == 1) (sym same) ∙ no_truth))
+              ∙ variable_is set h.k h.info h.is d s st target (λ dest after. variable_stepped (layout g) (type_of target).elem op dest after) h.elem
               ∙ ap (λ act. Makes (O.Field f) (with_instr (I.OperateConstant act f f (K.Imm 1)) d1)) (step_operates op signed))
               (made_after g (λ out e. Leaves g alive d e s u) (O.Field f) (with_instr i d1) (λ within.
-              let file : IsFileField g h.k 0 f = entry_for set h.k h.info h.is h.wide d s st (with_instr i d1) 1 (and_one g i d1) within in
-              let numbers : HasNumbers g set f s (λ q. st.parallel (V.File h.k) 0 q) =
-              in_file_has g alive places fields set f st (λ q. st.parallel (V.File h.k) 0 q) s (record { k = h.k; info = h.info; is = h.is; word = h.wide; file = file; of_set = refl; wide = refl; same = λ q below. refl }) sim in
-              leaves_value set h.k h.info h.is h.wide d s st (λ x. outcome (stepping op) 32 (not signed) (st.parallel (V.File h.k) 0 x) 1) w
-              (λ x below small. ap (λ (t : ValueType). updated (step_op op) t.elem (promoted t.elem) (st.parallel (V.File h.k) 0 x) 1) same
-              ∙ updated_is (step_op op) (stepping op) (type_of target).elem (promoted (type_of target).elem) (st.parallel (V.File h.k) 0 x) 1 (step_assigns op) h.type.1 (ap (λ (e : Elem). e.bits) (promoted_wide (type_of target).elem h.type.1) ∙ h.type.1)
-              (was_small set h.k h.info h.is h.wide d s st sim x below) small)
+              let file : IsFileField g h.k 0 f = entry_for set h.k h.info h.is d s st (with_instr i d1) 1 (and_one g i d1) within in
+              let numbers = variable_has g has alive n ready places fields set h.k h.info f s st h.is file refl refl sim in
+              leaves_value set h.k h.info h.is d s st (λ x. outcome (stepping op) 32 (not signed) (held elem (old x)) 1) w
+              (λ x below small. ap (λ (e : Elem). updated (step_op op) e (promoted e) (old x) 1) is_elem ∙ updated_is (step_op op) (stepping op) elem (promoted elem) (old x) 1 (step_assigns op) (ap (λ (e : Elem). e.bits == 1) (sym is_elem) ∙ no_truth) (promoted_wide elem) small)
               d1 i within (passes_all g alive (length d1.fields) d1 s st (Unit {0}) here sim)
-              (puts_operate_constant g set (stepping op) signed f f (K.Imm 1) s (λ q. st.parallel (V.File h.k) 0 q) (step_known op) (λ divided. refl) refl numbers (omega arith))))),
+              (puts_operate_constant g elem.bits set (stepping op) signed f f (K.Imm 1) s (λ q. held elem (old q)) (λ divided. refl) (modular_keeps (stepping op) signed elem.bits 1 (step_modular op) (kind_bits elem.bits elem.signed elem.kind).1) refl numbers.0 (omega arith))))),
         ),
       ),
     )
@@ -294,26 +336,35 @@ module _ (g : Setting) (has : HasRegisters g) (alive : Variable → Type 0) (n :
         h : IsFileTarget g.typed set target
         h = file_target g.typed g.instance n set target is_target names
 
+        elem : Elem
+        elem = h.info.elem
+
+        is_elem : ty.elem ≡ elem
+        is_elem = ap (λ (y : ValueType). y.elem) same ∙ h.elem
+
+        old : ℕ → ℕ
+        old = λ x. st.parallel (V.File h.k) 0 x
+
         w : ℕ → ℕ
-        w = λ x. updated (step_op op) ty.elem (promoted ty.elem) (st.parallel (V.File h.k) 0 x) 1
+        w = λ x. updated (step_op op) ty.elem (promoted ty.elem) (old x) 1
 
         u : State
         u = with_positions (V.File h.k) 0 (fields.active set) w st
 
         d1 : Draft
-        d1 = with_entry set h.info.elem.bits (W.File (file_number g.typed h.k 0)) d
+        d1 = with_entry set elem.bits (W.File (file_number g.typed h.k 0)) d
 
         f : Field
-        f = next_field set 32 d
+        f = next_field set elem.bits d
 
         signed : Bool
-        signed = assigned_signed (stepping op) (type_of target).elem (promoted (type_of target).elem)
+        signed = assigned_signed (stepping op) elem (promoted elem)
 
         i : Instr
         i = I.OperateConstant (operation_of (stepping op) signed) f f (K.Imm 1)
 
         means : (v : Value) × (evaluated scope (T.Step' ty op order p target) fields.active st ≡ Gives v u)
-        means = step_means scope fields.active set ty op order p target h.k st (ap (λ (y : ValueType). y.shape) same ∙ h.type.0) (h.means scope fields.active st)
+        means = step_means scope fields.active set ty op order p target h.k st (ap (λ (y : ValueType). y.shape) same ∙ h.shape) (h.means scope fields.active st)
 
     -- an update leaves what it leaves in the source
     pub updates_leave : (e : TExpr) → IsUpdate e → HasItsCode g.typed g.instance alive n e → (d : Draft) (s : CodeState) (st : State) → At g s (length d.code) → Sim g alive st s → UpdateLeaves g alive fields scope e d s st
@@ -323,5 +374,5 @@ module _ (g : Setting) (has : HasRegisters g) (alive : Variable → Type 0) (n :
       where
         set_of : ℕ
         set_of = is.0
-    updates_leave (T.Step' ty op order p target) is c = steps ty op order p target is.0 is.1.0 is.1.1 c.code.names
+    updates_leave (T.Step' ty op order p target) is c = steps ty op order p target is.0 is.1.0 is.1.1 is.1.2 c.code.names
     updates_leave _ is c = absurd is

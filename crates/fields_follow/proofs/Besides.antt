@@ -21,7 +21,7 @@ use Rattle.fields_follow.specs.Fragment.{IsFold, IsParallelEffect}
 use Rattle.fields_follow.proofs.Assigning.{updates_leave}
 use Rattle.fields_follow.proofs.Contexts.{where_follows}
 use Rattle.fields_follow.proofs.Widening.{widening_follows}
-use Rattle.fields_follow.proofs.Expressions.{pure_after}
+use Rattle.fields_follow.proofs.Expressions.{whole_after}
 use Rattle.fields_follow.proofs.FoldingOnto.{onto_leaves}
 use Rattle.fields_follow.proofs.Onto.{LeavesScalars, scalars_stay}
 use Rattle.fields_follow.proofs.Forms.{HasItsCode}
@@ -29,8 +29,7 @@ use Rattle.fields_follow.proofs.Knowing.{KnowsFields, StaysNamed, kept_open, las
 use Rattle.fields_follow.proofs.Leaving.{Leaves, UpdateLeaves, fields_under, places_under, reaches_again, registers_under, under, within_under}
 use Rattle.fields_follow.proofs.Passing.{After, code_longer}
 use Rattle.fields_follow.proofs.Reducing.{GivesNumber, number_to}
-use Rattle.fields_follow.proofs.Reductions.{GivesRegister, OperandsStand, fold_type, folds_give}
-use Rattle.fields_follow.proofs.Values.{operand_after}
+use Rattle.fields_follow.proofs.Reductions.{GivesRegister, OperandsStand, fold_type, folds_give, whole_type}
 
 module _ (g : Setting) (scope : Scope) (active : Active) (known : KnowsFields g scope active) (has : HasRegisters g) where
   module _ (alive : Variable → Type 0) (n : ℕ) (ready : (d : Draft) → IsReady g.typed g.instance (layout g) n d) (e : TExpr) (c : HasItsCode g.typed g.instance alive n e) (d : Draft) (s : CodeState) (st : State) (begun : Begun g d) (here : At g s (length d.code)) (sim : Sim g alive st s) where
@@ -76,8 +75,7 @@ module _ (g : Setting) (scope : Scope) (active : Active) (known : KnowsFields g 
     operands_stand : OperandsStand (under g active) alive n
     operands_stand set o is code d0 s0 st0 at_o sim_o =
         let there : Setting = under g active in
-        operand_after there (registers_under g active has) alive n ready (places_under g active known.places) (fields_under g active) set o true is code.code.names
-        (pure_after there (registers_under g active has) alive n ready (places_under g active known.places) (fields_under g active) set o is code) d0 s0 st0 at_o sim_o
+        whole_after there (registers_under g active has) alive n ready (places_under g active known.places) (fields_under g active) set o true is.0 (whole_type set o is) code d0 s0 st0 at_o sim_o
 
     -- an update, or a fold onto a variable
     effect_follows : IsParallelEffect e → Follows g (λ v u out f. Ran g alive d s u f) s (evaluated scope e active st) (effect_of g.typed (layout g) e d)

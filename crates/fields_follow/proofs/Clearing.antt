@@ -28,6 +28,7 @@ use Rattle.paris_code.specs.Writes.{Write, covers, written}
 use Rattle.source_meaning.specs.State.{State}
 use Rattle.source_meaning.specs.Values.{nonzero}
 use Rattle.code_follows.proofs.Settings.{At, Reaches, Setting, StandsBelow, Within, and_one, at_next, begins_here, code_more, earlier, one_writes, onto, placed_instr}
+use Rattle.constant_trees.proofs.Words.{from_bool_below}
 use Rattle.fields_follow.specs.Fields.{IsElement}
 use Rattle.fields_follow.proofs.Bits.{active_apart, field_apart}
 use Rattle.fields_follow.proofs.FileFields.{Apart, apart_back}
@@ -136,6 +137,7 @@ module _ (g : Setting) (places : PlacesFields g) (fields : HoldsTheFields g) (al
           ap (λ (n : ℕ). outcome (operator_of (operation_of is_or)).0 1 (operator_of (operation_of is_or)).1 n (number_in g b s1 p) % 2 % 2 ^ 32) (still a p own_a ∙ one_bit p below active)
           ∙ ap (λ (n : ℕ). outcome (operator_of (operation_of is_or)).0 1 (operator_of (operation_of is_or)).1 (from_bool (nonzero (v p))) n % 2 % 2 ^ 32) (still b p own_b ∙ other_bit p below active)
           ∙ ap (λ (n : ℕ). n % 2 ^ 32) (joined_bits is_or (nonzero (v p)) (nonzero (w p)) 1) ∙ few (either_or_both is_or (nonzero (v p)) (nonzero (w p)));
+      small = λ p below active. from_bool_below (either_or_both is_or (nonzero (v p)) (nonzero (w p)));
     };
     more = (2, joined_more g is_or set offset a b e);
     place = s.at + 1 + 1;
@@ -149,10 +151,10 @@ module _ (g : Setting) (places : PlacesFields g) (fields : HoldsTheFields g) (al
       both = written_to (place g dest) on (λ q. number q % 2)
 
       ends : (dest.set < length (shapes g)) × ((place g dest).offset + dest.len ≤ bits_at (shapes g) dest.set)
-      ends = entry_ends g places fields alive set k 0 info dest is word file refl refl
+      ends = entry_ends g places fields alive set k 0 info dest is word file refl
 
       apart : (f : Field) → StandsBelow g.image g.placed g.number f → Apart (place g dest) f
-      apart f there = entry_and_below g places fields alive set k 0 info dest is word file refl refl f there
+      apart f there = entry_and_below g places fields alive set k 0 info dest is word file refl f there
 
       lowest_apart : (f : Field) → Apart (place g dest) f → Apart (place g (lowest_bit dest)) f
       lowest_apart f (inl differ) = inl differ
@@ -167,9 +169,9 @@ module _ (g : Setting) (places : PlacesFields g) (fields : HoldsTheFields g) (al
 
       still : (h : Field) (q : ℕ) → IsOwnField g h → number_in g h s1 q ≡ number_in g h s q
       still h q own =
-          field_apart clears s.memory (place g h) q (subst (λ (f : Field). Apart f (place g h)) (sym (entry_place g places fields alive set k 0 info dest is word file refl refl)) (apart_back (place g h) (of_file g k 0) (places.own_file k 0 set info h is own)))
+          field_apart clears s.memory (place g h) q (subst (λ (f : Field). Apart f (place g h)) (sym (entry_place g places fields alive set k 0 info dest is word file refl)) (apart_back (place g h) (of_file g k 0) (places.own_file k 0 set info h is own)))
 
-      few : (x : Bool) → from_bool (nonzero (from_bool x)) % 2 ^ 32 ≡ from_bool x
+      few : (x : Bool) → from_bool (nonzero (from_bool x)) % 2 ^ 32 ≡ from_bool x % 2 ^ 32
       few true = refl
       few false = refl
 

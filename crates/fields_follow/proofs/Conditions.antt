@@ -19,7 +19,8 @@ use Rattle.source_meaning.specs.Constants.{is_constant}
 use Rattle.source_meaning.proofs.ConstantLaws.{Boxed}
 use Rattle.code_follows.specs.Fragment.{ScalarsAmong}
 use Rattle.fields_follow.specs.Fragment.{IsCondition, IsWide, KnowsExtents}
-use Rattle.fields_follow.proofs.Forms.{HasItsCode, pure_constant, pure_kept, pure_type}
+use Rattle.fields_follow.proofs.Forms.{HasItsCode, pure_constant, pure_kept}
+use Rattle.fields_follow.proofs.Reductions.{whole_type}
 
 shaped : (ty : ValueType) (set : ℕ) → IsWide set ty → is_none ty.shape ≡ false
 shaped ty set is = ap is_none is.0
@@ -34,7 +35,7 @@ condition_type set (T.Unary' ty op p operand) is = is.0
 condition_type set (T.LogicalOr' ty p left q right) is = is.0
 condition_type set (T.LogicalAnd' ty p left q right) is = is.0
 condition_type set (T.Binary' ty place op p left q right) is = is.0
-condition_type set e is = pure_type set e is
+condition_type set e is = whole_type set e is
 
 -- its value stands in a field
 pub condition_kept : (set : ℕ) (e : TExpr) → IsCondition set e → is_kept e ≡ false
@@ -44,7 +45,7 @@ condition_kept set (T.Unary' ty op p operand) is = shaped ty set is.0
 condition_kept set (T.LogicalOr' ty p left q right) is = shaped ty set is.0
 condition_kept set (T.LogicalAnd' ty p left q right) is = shaped ty set is.0
 condition_kept set (T.Binary' ty place op p left q right) is = shaped ty set is.0
-condition_kept set e is = pure_kept set e is
+condition_kept set e is = pure_kept set e is.0
 
 -- no condition is a constant
 pub condition_constant : (set : ℕ) (e : TExpr) → IsCondition set e → is_constant e ≡ false
@@ -54,7 +55,7 @@ condition_constant set (T.Unary' ty op p operand) is = no_constant ty set (ty.el
 condition_constant set (T.LogicalOr' ty p left q right) is = ap (λ (c : Bool). c && is_constant right) (no_constant ty set (ty.elem.bits == 32) (is_constant left) is.0)
 condition_constant set (T.LogicalAnd' ty p left q right) is = ap (λ (c : Bool). c && is_constant right) (no_constant ty set (ty.elem.bits == 32) (is_constant left) is.0)
 condition_constant set (T.Binary' ty place op p left q right) is = ap (λ (c : Bool). c && is_constant right) (no_constant ty set (ty.elem.bits == 32) (is_constant left) is.0)
-condition_constant set e is = pure_constant set e is
+condition_constant set e is = pure_constant set e is.0
 
 -- two are joined by one operation where the right one has the same value under every context
 pub conditions_join : (set : ℕ) (left right : TExpr) → IsCondition set left → IsCondition set right → ignores_context right ≡ true → joins left right ≡ true

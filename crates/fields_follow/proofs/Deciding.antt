@@ -40,11 +40,13 @@ use Rattle.source_meaning.specs.Values.{Active, Parallel, Scope, nonzero, unary_
 use Rattle.source_meaning.proofs.ConstantLaws.{Boxed}
 use Rattle.code_follows.proofs.Following.{Extends, HasRegisters, Sim}
 use Rattle.code_follows.proofs.Settings.{At, Setting, Within, and_one, layout}
+use Rattle.constant_trees.proofs.Words.{from_bool_below}
 use Rattle.fields_follow.specs.Fields.{IsElement}
-use Rattle.fields_follow.specs.Fragment.{IsCondition, IsTruth}
+use Rattle.cstar_tree.specs.Typed.{type_of}
+use Rattle.fields_follow.specs.Fragment.{IsCondition, IsTruth, IsWide}
 use Rattle.fields_follow.proofs.Clearing.{joined_behind, joined_more, truths_taken, word_field}
-use Rattle.fields_follow.proofs.Conditions.{HaveTheirCode, and_codes, conditions_join, or_codes}
-use Rattle.fields_follow.proofs.Expressions.{brackets_part}
+use Rattle.fields_follow.proofs.Conditions.{HaveTheirCode, and_codes, condition_type, conditions_join, or_codes}
+use Rattle.fields_follow.proofs.Sizes.{brackets_part}
 use Rattle.fields_follow.proofs.Places.{HoldsTheFields, IsFileField, PlacesFields, stands_here}
 use Rattle.fields_follow.proofs.Testing.{both_flagged, condition_means, condition_tested}
 use Rattle.fields_follow.proofs.Truths.{either_or_both}
@@ -67,6 +69,9 @@ truth_condition set (T.LogicalOr' ty p left q right) is = is
 truth_condition set (T.LogicalAnd' ty p left q right) is = is
 truth_condition set (T.Binary' ty place op p left q right) is = is.1
 truth_condition set _ is = absurd is
+
+pub truth_type : (set : ℕ) (e : TExpr) → IsTruth set e → IsWide set (type_of e)
+truth_type set e is = condition_type set e (truth_condition set e is)
 
 -- it is 0 or 1
 truth_bit : (extents : _) (st : State) (set : ℕ) (e : TExpr) (x : ℕ) → IsTruth set e → value_in extents st e x ≡ from_bool (nonzero (value_in extents st e x))
@@ -164,11 +169,12 @@ module _ (g : Setting) where
     writes = λ p. refl;
     value = λ p below on.
         ap (λ (n : ℕ). residue n (number_of kept.len false (number_in g kept s p)) % 2 ^ n) wide ∙ ap (λ (n : ℕ). residue 32 (number_of n false (number_in g kept s p)) % 2 ^ 32) bit
-        ∙ ap (λ (w : ℕ). residue 32 (number_of 1 false w) % 2 ^ 32) (are p below on) ∙ by (nonzero (v p)) ∙ sym (truth p);
+        ∙ ap (λ (w : ℕ). residue 32 (number_of 1 false w) % 2 ^ 32) (are p below on) ∙ by (nonzero (v p)) ∙ ap (λ (w : ℕ). w % 2 ^ 32) (sym (truth p)) ∙ ap (λ (n : ℕ). v p % 2 ^ n) (sym wide);
+    small = λ p below on. subst (λ (w : ℕ). w < 2 ^ 32) (sym (truth p)) (from_bool_below (nonzero (v p)));
     goes = refl;
   }
     where
-      by : (b : Bool) → residue 32 (number_of 1 false (from_bool b)) % 2 ^ 32 ≡ from_bool b
+      by : (b : Bool) → residue 32 (number_of 1 false (from_bool b)) % 2 ^ 32 ≡ from_bool b % 2 ^ 32
       by true = refl
       by false = refl
 
@@ -195,7 +201,7 @@ module _ (g : Setting) where
           last e2 (with_instr (I.Move false f kept) e2) (Behind g kept e2) within bit.passes
           (length e2.code, (names_second g (I.Move false f kept) f kept [] (length e2.code) (stands_here g (I.Move false f kept) e2 within refl) refl, omega arith))
           (instr_takes g set (I.Move false f kept) f e2 bit.passes.t v
-          (entry_and_below g places fields alive set k 0 info f is_element word (entry (with_instr (I.Move false f kept) e2) (bit.passes.grown.0 + 1) (extended d e2 (with_instr (I.Move false f kept) e2) bit.passes.grown.0 1 bit.passes.grown.1 (and_one g (I.Move false f kept) e2)) within) refl refl) within bit.passes.at (puts_bit set f kept bit.passes.t v refl bit.len (λ q below on. bit.are q below (sym (flags_of g alive places fields st bit.passes.t set q bit.passes.sim bit.exists below) ∙ on)) truth)))))
+          (entry_and_below g places fields alive set k 0 info f is_element word (entry (with_instr (I.Move false f kept) e2) (bit.passes.grown.0 + 1) (extended d e2 (with_instr (I.Move false f kept) e2) bit.passes.grown.0 1 bit.passes.grown.1 (and_one g (I.Move false f kept) e2)) within) refl) within bit.passes.at (puts_bit set f kept bit.passes.t v refl bit.len (λ q below on. bit.are q below (sym (flags_of g alive places fields st bit.passes.t set q bit.passes.sim bit.exists below) ∙ on)) truth)))))
         where
           v : ℕ → ℕ
           v = λ q. value_in (extents g set) st e q
@@ -212,7 +218,7 @@ module _ (g : Setting) where
 
       truth_computed : (e : TExpr) → IsTruth set e → HasItsCode g.typed g.instance alive n e → Last e → After g Q (computed_to g.typed (layout g) (O.Field f) e d)
       unfolding IsTruth IsCondition computed_to value_in has_truth
-      truth_computed (T.Brackets' ty p inner) is c last = truth_computed inner is.1 (brackets_part g has alive n ready places fields ty p inner c) last
+      truth_computed (T.Brackets' ty p inner) is c last = truth_computed inner is.1 (brackets_part g alive n places fields ty p inner c) last
       truth_computed (T.Unary' ty op p operand) is c last = by_test (T.Unary' ty op p operand) (truth_condition set (T.Unary' ty op p operand) is) is.1 c (λ q. truth_bit (extents g set) st set (T.Unary' ty op p operand) q is) (not_code set offset ty p op operand d is.1) last
       truth_computed (T.LogicalOr' ty p left q right) is c last = by_operation true (T.LogicalOr' ty p left q right) left right is.1 is.2 is.3 (or_codes g.typed g.instance alive n set ty p q left right is.2 c) refl last
       truth_computed (T.LogicalAnd' ty p left q right) is c last = by_operation false (T.LogicalAnd' ty p left q right) left right is.1 is.2 is.3 (and_codes g.typed g.instance alive n set ty p q left right is.2 c) refl last

@@ -1,5 +1,5 @@
 -- The code of a pure parallel expression follows.
-use Rattle.std.proofs.Common.{◌≡◌, ◌∙◌, ℕ, ◌+◌, ◌<◌, ◌^◌, ◌≤◌, Bool, ◌==◌, ◌&&◌, true, false, not, [], ◌∷◌, length, Option, Some, None, refl, sym, ap, subst, arith, ◌⊎◌, inl, inr, if◌then◌else◌}
+use Rattle.std.proofs.Common.{◌≡◌, ◌∙◌, ℕ, ◌+◌, ◌<◌, ◌≤◌, Bool, ◌==◌, ◌&&◌, true, false, not, [], ◌∷◌, length, Option, Some, None, refl, sym, ap, subst, arith, ◌⊎◌, inl, inr, if◌then◌else◌}
 use Rattle.cstar_base.specs.declared.operators.Op.{Op}
 use Rattle.cstar_base.specs.declared.operators.Place.{Place}
 use Rattle.cstar_base.specs.Operators.{outcome}
@@ -12,12 +12,10 @@ use Rattle.cstar_tree.specs.declared.typed.Variable.{Variable}
 use Rattle.cstar_tree.specs.declared.typed.Variable.TheVariants as V
 use Rattle.cstar_tree.specs.Typed.{type_of}
 use Rattle.code_lengths.specs.Growth.{Extended}
-use Rattle.code_lengths.specs.Lowerable.{IsLowerable}
 use Rattle.code_lengths.specs.Naming.{HasVariable, NamesVariables, plain}
 use Rattle.code_lengths.specs.Ready.{IsReady}
-use Rattle.code_lengths.specs.Shaped.{IsShaped}
 use Rattle.code_lengths.proofs.Agreeing.{expressions}
-use Rattle.code_lengths.proofs.Drafting.{extended}
+use Rattle.code_lengths.proofs.Drafting.{extended as extended_on}
 use Rattle.lower_base.specs.declared.emit.Out.{Out}
 use Rattle.lower_base.specs.declared.emit.Out.TheVariants as O
 use Rattle.lower_base.specs.Drafts.{Draft, Made, Makes, Plain, a_field, an_entry, fresh_for, in_field, step as step_of, then_make, with_instr}
@@ -25,9 +23,9 @@ use Rattle.lower_base.specs.Kinds.{bits_of, kind_of}
 use Rattle.lower_base.specs.Operators.{is_signed, negates, relates}
 use Rattle.lower_expr.specs.Kinds.{done_as, operand_bits, operation_bits, reads_signed, relation_kind, result_bits, unary_bits}
 use Rattle.lower_expr.specs.Operands.{are_quiet, is_plus, is_quiet, operand_by}
-use Rattle.lower_expr.specs.Steps.{field_negated, is_kept, negated}
+use Rattle.lower_expr.specs.Steps.{field_negated, has_truth, is_kept, negated, word_of}
 use Rattle.lower_expr.specs.declared.spots.Spot.{Spot}
-use Rattle.lower_expr.specs.Values.{binary_by, cast_from, coordinate_in, fields_by, index_read_by, index_read_to, indexed_spot, lowest, parallel_binary_by, register_cast_by, spare_for, spread_by, spread_into, truth_of, unary_by, value_of, values_of}
+use Rattle.lower_expr.specs.Values.{binary_by, cast_by, cast_from, coordinate_in, extended, fields_by, index_read_by, index_read_to, indexed_spot, lowest, parallel_binary_by, register_cast_by, spare_for, spread_by, spread_into, tested_by, truth_of, truth_put, unary_by, value_of, values_of}
 use Rattle.paris_code.specs.declared.instr.Instr.{Instr}
 use Rattle.paris_code.specs.declared.instr.Instr.TheVariants as I
 use Rattle.paris_code.specs.declared.operands.Field.{Field}
@@ -39,45 +37,39 @@ use Rattle.source_meaning.specs.State.{State}
 use Rattle.source_meaning.specs.Values.{unary_of}
 use Rattle.source_meaning.proofs.ConstantLaws.{Boxed}
 use Rattle.vp_sets.specs.Positions.{coordinate}
-use Rattle.code_follows.proofs.Following.{Extends, HasRegisters, Sim}
+use Rattle.constant_trees.proofs.Words.{converted_below}
+use Rattle.code_follows.proofs.Following.{Extends, HasRegisters, Sim, held}
 use Rattle.code_follows.proofs.Operators.{wide_signed}
 use Rattle.code_follows.proofs.Settings.{At, Setting, Within, and_one, layout}
+use Rattle.code_follows.proofs.Standing.{some_same}
 use Rattle.code_follows.proofs.Values.{extends_grown}
+use Rattle.code_follows.proofs.Words.{below_word, held_wide}
 use Rattle.fields_follow.specs.Fragment.{AreWrapping, IsOperation, IsPromoted, IsPure, IsWide, KnowsExtents}
-use Rattle.fields_follow.proofs.FileFields.{coordinate_least}
-use Rattle.fields_follow.proofs.Forms.{HasItsCode, promoted_type, pure_kept, pure_type, wide_cast}
-use Rattle.fields_follow.proofs.Instructions.{HasNumbers, Puts, extents, puts_coordinate, puts_lognot, puts_negate, shapes}
-use Rattle.fields_follow.proofs.Meaning.{AreOperands, left_of, value_in, wide_same}
+use Rattle.fields_follow.proofs.Forms.{HasItsCode, HasItsWord, StandsInRegister, promoted_stands, pure_kept, pure_word, word_never_zero}
+use Rattle.fields_follow.proofs.Hops.{puts_same}
+use Rattle.fields_follow.proofs.Instructions.{AreAlike, HasNumbers, Puts, alike_same, extents, has_alike, puts_coordinate, puts_extended, puts_lognot, puts_negate, shapes, whole_keeps}
+use Rattle.fields_follow.proofs.Lengths.{Keeps, converted_first, held_has, operation_keeps, operation_most}
+use Rattle.fields_follow.proofs.Meaning.{left_of, right_of, value_in, word_at}
 use Rattle.fields_follow.proofs.News.{get_last}
 use Rattle.fields_follow.proofs.Operands.{fields_after}
 use Rattle.fields_follow.proofs.Passing.{After, Behind, Passes, after_same, after_weaker, fields_longer, gives_alike, gives_from, gives_numbers, gives_on, made_after, names_second, passes_all, puts_own, then_after}
 use Rattle.fields_follow.proofs.Places.{HoldsTheFields, PlacesFields, stands_here}
-use Rattle.fields_follow.proofs.Values.{Gives, Valued, all_bits, and_entry, code_of, next_field, one_more, operand_after, operand_of, taken, variable_after, with_entry}
+use Rattle.fields_follow.proofs.Sizes.{binary_parts, brackets_part, convert_part, coordinates_small, promoted_small, pure_at, unary_part}
+use Rattle.fields_follow.proofs.Totals.{held_below}
+use Rattle.fields_follow.proofs.Values.{Gives, Valued, and_entry, code_of, first_given, next_field, one_more, operand_after, operand_of, taken, variable_after, with_entry}
 use Rattle.cstar_base.specs.Numbers.{converted}
-use Rattle.std.specs.Prelude.{unwrap_or}
-use Rattle.code_follows.specs.Fragment.{ScalarsAmong}
+use Rattle.cstar_base.proofs.NumberLaws.{kind_bits}
+use Rattle.std.specs.Prelude.{nat_lt, unwrap_or}
+use Rattle.std.proofs.lemmas.Bool.Decides.{nat_tests}
 
--- the operands of an operator have the same types, whichever of them is promoted
-pub operand_type : (set : ℕ) (e : TExpr) → IsPure set e ⊎ IsPromoted set e → IsWide set (type_of e)
-operand_type set e (inl h) = pure_type set e h
-operand_type set e (inr h) = promoted_type set e h
-
--- no operation needs fewer bits than are wanted
-either_way : (c : Bool) (n : ℕ) → (if c then n else n) ≡ n
-either_way true n = refl
-either_way false n = refl
-
-wide_operation : (op : Op) (right : TExpr) → operation_bits 32 op right ≡ 32
-unfolding operation_bits
-wide_operation op right = either_way _ 32
-
-pub wide_operands : (op : Op) (left right : TExpr) → relates op ≡ false → operand_bits 32 op left right ≡ 32
+-- the operands of an operator have the same bits and signs as their types say
+pub wide_operands : (bits : ℕ) (op : Op) (left right : TExpr) → relates op ≡ false → operand_bits bits op left right ≡ operation_bits bits op right
 unfolding operand_bits
-wide_operands op left right operates = ap (λ (c : Bool). if c then bits_of (relation_kind left right) else operation_bits 32 op right) operates ∙ wide_operation op right
+wide_operands bits op left right operates = ap (λ (c : Bool). if c then bits_of (relation_kind left right) else operation_bits bits op right) operates
 
-wide_result : (op : Op) (right : TExpr) → relates op ≡ false → result_bits 32 op right ≡ 32
+wide_result : (bits : ℕ) (op : Op) (right : TExpr) → relates op ≡ false → result_bits bits op right ≡ operation_bits bits op right
 unfolding result_bits
-wide_result op right operates = ap (λ (c : Bool). if c then 32 else operation_bits 32 op right) operates ∙ wide_operation op right
+wide_result bits op right operates = ap (λ (c : Bool). if c then bits else operation_bits bits op right) operates
 
 -- operands are read as the type of the left one says
 pub signed_as : (op : Op) (left right : TExpr) → relates op ≡ false → (type_of left).elem.bits ≡ 32 → reads_signed op left right ≡ (type_of left).elem.signed
@@ -86,58 +78,53 @@ signed_as op left right operates wide =
     ap (λ (c : Bool). if c then elim (relation_kind left right) [ None ↦ is_signed (type_of left).elem | Some kind ↦ kind.signed ] else is_signed (type_of left).elem) operates ∙ wide_signed (type_of left).elem wide
 
 module _ (g : Setting) (has : HasRegisters g) (alive : Variable → Type 0) (n : ℕ) (ready : (d : Draft) → IsReady g.typed g.instance (layout g) n d) (places : PlacesFields g) (fields : HoldsTheFields g) where
-  abbrev code : TExpr → Draft → Made Out
-  code e d = code_of g has alive n ready places fields e d
+  abbrev code : ℕ → TExpr → Draft → Made Out
+  code bits e d = code_of g has alive n ready places fields bits e d
 
-  abbrev operand : Bool → TExpr → Draft → Made Out
-  operand quiet e d = operand_of g has alive n ready places fields quiet e d
+  abbrev operand : ℕ → Bool → TExpr → Draft → Made Out
+  operand bits quiet e d = operand_of g has alive n ready places fields bits quiet e d
 
-  abbrev Answers : ℕ → Draft → CodeState → ℕ → State → (ℕ → ℕ) → Out → Draft → Type 0
-  Answers bound d s set st v out e = Gives g has alive n ready places fields bound d s set st v out e
+  abbrev Answers : ℕ → ℕ → Draft → CodeState → ℕ → State → (ℕ → ℕ) → Out → Draft → Type 0
+  Answers bits bound d s set st v out e = Gives g has alive n ready places fields bits bound d s set st v out e
 
-  pub operand_grows : (e : TExpr) → HasItsCode g.typed g.instance alive n e → (quiet : Bool) (d : Draft) → Extends g d (operand quiet e d)
-  operand_grows e c quiet d = extends_grown g has alive _ d _ _ ((expressions g.typed g.instance (layout g)).operand 32 n quiet e d c.code (ready d))
+  abbrev Follows : ℕ → ℕ → TExpr → Type 0
+  Follows bits set e = Valued g has alive n ready places fields bits set e (code bits e)
+
+  pub operand_grows : (bits : ℕ) (e : TExpr) → HasItsCode g.typed g.instance alive n e → (quiet : Bool) (d : Draft) → Extends g d (operand bits quiet e d)
+  operand_grows bits e c quiet d = extends_grown g has alive _ d _ _ ((expressions g.typed g.instance (layout g)).operand bits n quiet e d c.code (ready d))
 
   -- what the last instruction writes to the entry that was taken first is the value
-  own_result : (set : ℕ) (d e2 : Draft) (s : CodeState) (st : State) (v : ℕ → ℕ) (i : Instr) → Within g (with_instr i e2) → (p : Passes g alive (length d.fields) (with_entry set 32 W.Own d) e2 s st (Unit {0})) → Puts g set i (next_field set 32 d) p.t v
-      → Answers (length d.fields) d s set st v (O.Field (next_field set 32 d)) (with_instr i e2)
-  own_result set d e2 s st v i within p puts =
-      let d1 : Draft = with_entry set 32 W.Own d in
-      let dest : Field = next_field set 32 d in
-      let later : Extended d1 (p.grown.0 + 1) (with_instr i e2) = extended d1 e2 (with_instr i e2) p.grown.0 1 p.grown.1 (and_one g i e2) in
+  own_result : (bits set : ℕ) (d e2 : Draft) (s : CodeState) (st : State) (v : ℕ → ℕ) (i : Instr) → Within g (with_instr i e2) → (p : Passes g alive (length d.fields) (with_entry set bits W.Own d) e2 s st (Unit {0})) → Puts g set i (next_field set bits d) p.t v
+      → Answers bits (length d.fields) d s set st v (O.Field (next_field set bits d)) (with_instr i e2)
+  own_result bits set d e2 s st v i within p puts =
+      let d1 : Draft = with_entry set bits W.Own d in
+      let dest : Field = next_field set bits d in
+      let later : Extended d1 (p.grown.0 + 1) (with_instr i e2) = extended_on d1 e2 (with_instr i e2) p.grown.0 1 p.grown.1 (and_one g i e2) in
       let longer = fields_longer d1 e2 p.grown.0 p.grown.1 in
-      let first = one_more set 32 W.Own d in (
+      let first = one_more set bits W.Own d in (
         dest,
         (
           refl,
-          gives_from g alive (length d.fields) d d1 (with_instr i e2) s set st v dest (and_entry set 32 W.Own d)
-              (gives_on g alive (length d.fields) (length d.fields) d1 e2 (with_instr i e2) s set st v dest (Unit {0}) (omega arith) p (λ b. tt)
-              (puts_own g alive places fields (length d.fields) set i dest e2 p.t st v (omega arith) (omega (arith, longer, first)) (taken g set 32 W.Own d (with_instr i e2) (p.grown.0 + 1) within later) refl refl within p.at p.sim puts)),
+          gives_from g alive bits (length d.fields) d d1 (with_instr i e2) s set st v dest (and_entry set bits W.Own d)
+              (gives_on g alive bits (length d.fields) (length d.fields) d1 e2 (with_instr i e2) s set st v dest (Unit {0}) (omega arith) p (λ b. tt)
+              (puts_own g alive places fields bits (length d.fields) set i dest e2 p.t st v (omega arith) (omega (arith, longer, first)) (taken g set bits W.Own d (with_instr i e2) (p.grown.0 + 1) within later) refl refl within p.at p.sim puts)),
         ),
       )
 
-  binary_code : (set : ℕ) (ty : ValueType) (place : Place) (op : Op) (p q : Boxed) (left right : TExpr) (d : Draft) → ty.shape ≡ Some set → relates op ≡ false → (type_of left).elem.bits ≡ 32
-      → code (T.Binary' ty place op p left q right) d ≡ lowest 32 (fields_by op (type_of left).elem.signed place (next_field set 32 d) (next_field set 32 d) (operand (is_quiet right) left) left (operand true right) right (with_entry set 32 W.Own d))
+  -- an operator works at the bits that it needs
+  binary_code : (bits set : ℕ) (ty : ValueType) (place : Place) (op : Op) (p q : Boxed) (left right : TExpr) (d : Draft) → ty.shape ≡ Some set → relates op ≡ false → (type_of left).elem.bits ≡ 32
+      → code bits (T.Binary' ty place op p left q right) d
+      ≡ lowest bits (fields_by op (type_of left).elem.signed place (next_field set (operation_bits bits op right) d) (next_field set (operation_bits bits op right) d) (operand (operation_bits bits op right) (is_quiet right) left) left (operand (operation_bits bits op right) true right) right (with_entry set (operation_bits bits op right) W.Own d))
   unfolding value_of binary_by parallel_binary_by spare_for then_make an_entry
-  binary_code set ty place op p q left right d shaped operates wide =
-      ap (λ (bits : ℕ). binary_by ty.shape 32 op place (operand_by g.typed (layout g) bits (value_of g.typed (layout g) bits left) (is_quiet right) left) left (operand_by g.typed (layout g) bits (value_of g.typed (layout g) bits right) true right) right d) (wide_operands op left right operates)
-      ∙ ap (λ (o : Option ℕ). binary_by o 32 op place (operand (is_quiet right) left) left (operand true right) right d) shaped
-      ∙ ap (λ (bits : ℕ). then_make (a_field set bits d) (λ dest begun. then_make (spare_for op dest (operand_bits 32 op left right) begun) (λ spare between. lowest 32 (fields_by op (reads_signed op left right) place dest spare (operand (is_quiet right) left) left (operand true right) right between)))) (wide_result op right operates)
-      ∙ ap (λ (c : Bool). then_make (if c then a_field set (operand_bits 32 op left right) (with_entry set 32 W.Own d) else Makes (next_field set 32 d) (with_entry set 32 W.Own d)) (λ spare between. lowest 32 (fields_by op (reads_signed op left right) place (next_field set 32 d) spare (operand (is_quiet right) left) left (operand true right) right between))) operates
-      ∙ ap (λ (signed : Bool). lowest 32 (fields_by op signed place (next_field set 32 d) (next_field set 32 d) (operand (is_quiet right) left) left (operand true right) right (with_entry set 32 W.Own d))) (signed_as op left right operates wide)
-
-  -- what has code of its parts
-  pub binary_parts : (ty : ValueType) (place : Place) (op : Op) (p q : Boxed) (left right : TExpr) → HasItsCode g.typed g.instance alive n (T.Binary' ty place op p left q right) → HasItsCode g.typed g.instance alive n left × HasItsCode g.typed g.instance alive n right
-  unfolding IsShaped IsLowerable NamesVariables ScalarsAmong KnowsExtents
-  binary_parts ty place op p q left right h = (record { code = record { shaped = h.code.shaped.0; lowerable = h.code.lowerable.2; names = h.code.names.0 }; among = h.among.0; extents = h.extents.0 }, record { code = record { shaped = h.code.shaped.1; lowerable = h.code.lowerable.3; names = h.code.names.1 }; among = h.among.1; extents = h.extents.1 })
-
-  pub unary_part : (ty : ValueType) (op : UnaryOp) (p : Boxed) (inner : TExpr) → HasItsCode g.typed g.instance alive n (T.Unary' ty op p inner) → HasItsCode g.typed g.instance alive n inner
-  unfolding IsShaped IsLowerable NamesVariables ScalarsAmong KnowsExtents
-  unary_part ty op p inner h = record { code = record { shaped = h.code.shaped.1; lowerable = h.code.lowerable.1; names = h.code.names }; among = h.among; extents = h.extents }
-
-  pub brackets_part : (ty : ValueType) (p : Boxed) (inner : TExpr) → HasItsCode g.typed g.instance alive n (T.Brackets' ty p inner) → HasItsCode g.typed g.instance alive n inner
-  unfolding IsShaped IsLowerable NamesVariables ScalarsAmong KnowsExtents
-  brackets_part ty p inner h = record { code = record { shaped = h.code.shaped.1; lowerable = h.code.lowerable; names = h.code.names }; among = h.among; extents = h.extents }
+  binary_code bits set ty place op p q left right d shaped operates wide =
+      ap (λ (k : ℕ). binary_by ty.shape bits op place (operand_by g.typed (layout g) k (value_of g.typed (layout g) k left) (is_quiet right) left) left (operand_by g.typed (layout g) k (value_of g.typed (layout g) k right) true right) right d) (wide_operands bits op left right operates)
+      ∙ ap (λ (o : Option ℕ). binary_by o bits op place (operand works (is_quiet right) left) left (operand works true right) right d) shaped
+      ∙ ap (λ (k : ℕ). then_make (a_field set k d) (λ dest begun. then_make (spare_for op dest (operand_bits bits op left right) begun) (λ spare between. lowest bits (fields_by op (reads_signed op left right) place dest spare (operand works (is_quiet right) left) left (operand works true right) right between)))) (wide_result bits op right operates)
+      ∙ ap (λ (c : Bool). then_make (if c then a_field set (operand_bits bits op left right) (with_entry set works W.Own d) else Makes (next_field set works d) (with_entry set works W.Own d)) (λ spare between. lowest bits (fields_by op (reads_signed op left right) place (next_field set works d) spare (operand works (is_quiet right) left) left (operand works true right) right between))) operates
+      ∙ ap (λ (signed : Bool). lowest bits (fields_by op signed place (next_field set works d) (next_field set works d) (operand works (is_quiet right) left) left (operand works true right) right (with_entry set works W.Own d))) (signed_as op left right operates wide)
+    where
+      works : ℕ
+      works = operation_bits bits op right
 
   named : (ty : ValueType) (k : ℕ) → HasItsCode g.typed g.instance alive n (T.Variable ty (V.File k)) → HasVariable g.typed g.instance n (V.File k) (plain ty)
   unfolding NamesVariables
@@ -158,27 +145,28 @@ module _ (g : Setting) (has : HasRegisters g) (alive : Variable → Type 0) (n :
   negated_is U.Plus dest a e is = cc
   negated_is U.Not dest a e is = cc
 
-  pub puts_negating : (set : ℕ) (op : UnaryOp) (dest a : Field) (s : CodeState) (v : ℕ → ℕ) → IsSign op → dest.len ≡ 32 → HasNumbers g set a s v → Puts g set (negating op dest a) dest s (λ q. unary_of op (v q))
+  pub puts_negating : (bits set : ℕ) (op : UnaryOp) (dest a : Field) (s : CodeState) (v : ℕ → ℕ) → bits ≤ 32 → IsSign op → dest.len ≡ bits → HasNumbers g bits set a s v → Puts g set (negating op dest a) dest s (λ q. unary_of op (v q))
   unfolding is_plus negates
-  puts_negating set U.Minus dest a s v is wide numbers = puts_negate g set dest a s v wide numbers
-  puts_negating set U.Complement dest a s v is wide numbers = puts_lognot g set dest a s v wide numbers
-  puts_negating set U.Plus dest a s v is wide numbers = cc
-  puts_negating set U.Not dest a s v is wide numbers = cc
+  puts_negating bits set U.Minus dest a s v most is long numbers = puts_negate g bits set dest a s v most long numbers
+  puts_negating bits set U.Complement dest a s v most is long numbers = puts_lognot g bits set dest a s v most long numbers
+  puts_negating bits set U.Plus dest a s v most is long numbers = cc
+  puts_negating bits set U.Not dest a s v most is long numbers = cc
 
-  -- a unary operator on an operand
-  pub negated_after : (set : ℕ) (op : UnaryOp) (dest : Field) (inner : TExpr) (bound : ℕ) (d : Draft) (s : CodeState) (st : State) → IsSign op → dest.len ≡ 32 → IsPure set inner → HasItsCode g.typed g.instance alive n inner → Valued g has alive n ready places fields set inner (code inner)
-      → bound ≤ length d.fields → At g s (length d.code) → Sim g alive st s → (Q : Out → Draft → Type 0)
-      → ((e1 : Draft) (i : Instr) → Within g (with_instr i e1) → (p : Passes g alive bound d e1 s st (Unit {0})) → Puts g set i dest p.t (λ q. unary_of op (value_in (extents g set) st inner q)) → Q (O.Field dest) (with_instr i e1))
-      → After g Q (then_make (operand true inner d) (λ v after. negated (layout g) op (O.Field dest) v after))
-  unfolding negated in_field Extends step_of
-  negated_after set op dest inner bound d s st sign wide pure c whole less here sim Q last =
-      then_after g (Answers (length d.fields) d s set st v) Q (operand true inner d) (λ x after. negated (layout g) op (O.Field dest) x after)
-      (operand_after g has alive n ready places fields set inner true pure c.code.names whole d s st here sim)
-      (λ x after. grows x after)
-      (λ x e1 (a, (is, gives)). after_same g Q (ap (λ (o : Out). negated (layout g) op (O.Field dest) o e1) is ∙ negated_is op dest a e1 sign) (made_after g Q (O.Field dest) (with_instr (negating op dest a) e1) (λ within.
-      let there : StandsAt g.unit (length e1.code) (negating op dest a) = stands_here g (negating op dest a) e1 within (plain op a sign) in
-      let behind : Behind g a e1 = (length e1.code, (names_second g (negating op dest a) dest a [] (length e1.code) there (both op a sign), omega arith)) in
-      last e1 (negating op dest a) within (record {
+  -- an instruction from the field of an operand to another field, behind the operand's code
+  pub from_operand : (bits set : ℕ) (inner : TExpr) (dest : Field) (i : Field → Instr) (next : Out → Draft → Made Out) (bound : ℕ) (d : Draft) (s : CodeState) (st : State) (w : ℕ → ℕ) → ((a : Field) → step_of (i a) ≡ Plain (i a)) → ((a : Field) → fields_of (i a) ≡ dest ∷ a ∷ [])
+      → ((x : Out) (after : Draft) → Extends g after (next x after)) → ((a : Field) (after : Draft) → next (O.Field a) after ≡ Makes (O.Field dest) (with_instr (i a) after))
+      → ((a : Field) (t : CodeState) → HasNumbers g bits set a t (λ q. word_at (extents g set) st inner q) → Sim g alive st t → Puts g set (i a) dest t w)
+      → IsPure set inner → HasItsCode g.typed g.instance alive n inner → Follows bits set inner → bound ≤ length d.fields → At g s (length d.code) → Sim g alive st s → (Q : Out → Draft → Type 0)
+      → ((e1 : Draft) (i : Instr) → Within g (with_instr i e1) → (p : Passes g alive bound d e1 s st (Unit {0})) → Puts g set i dest p.t w → Q (O.Field dest) (with_instr i e1))
+      → After g Q (then_make (operand bits true inner d) (λ v after. next v after))
+  unfolding step_of
+  from_operand bits set inner dest i next bound d s st w plain both grows is_next puts pure c whole less here sim Q last =
+      then_after g (Answers bits (length d.fields) d s set st v) Q (operand bits true inner d) (λ x after. next x after)
+      (operand_after g has alive n ready places fields bits set inner true pure c.code.names whole d s st here sim) grows
+      (λ x e1 (a, (is, gives)). after_same g Q (ap (λ (o : Out). next o e1) is ∙ is_next a e1) (made_after g Q (O.Field dest) (with_instr (i a) e1) (λ within.
+      let there : StandsAt g.unit (length e1.code) (i a) = stands_here g (i a) e1 within (plain a) in
+      let behind : Behind g a e1 = (length e1.code, (names_second g (i a) dest a [] (length e1.code) there (both a), omega arith)) in
+      last e1 (i a) within (record {
         grown = gives.passes.grown;
         t = gives.passes.t;
         go = gives.passes.go;
@@ -186,11 +174,23 @@ module _ (g : Setting) (has : HasRegisters g) (alive : Variable → Type 0) (n :
         registers = gives.passes.registers;
         sim = gives.passes.sim;
         stays = λ u h first later p below. gives.passes.stays behind h first later p (omega (arith, below, less));
-      }) (puts_negating set op dest a gives.passes.t v sign wide (gives_numbers g alive places fields (length d.fields) d s set st v a e1 gives)))))
+      }) (puts a gives.passes.t (gives_numbers g alive places fields bits (length d.fields) d s set st v a e1 gives) gives.passes.sim))))
     where
       v : ℕ → ℕ
-      v = λ q. value_in (extents g set) st inner q
+      v = λ q. word_at (extents g set) st inner q
 
+  pub negated_after : (bits set : ℕ) (op : UnaryOp) (dest : Field) (inner : TExpr) (bound : ℕ) (d : Draft) (s : CodeState) (st : State) → bits ≤ 32 → IsSign op → dest.len ≡ bits → IsPure set inner → IsWide set (type_of inner) → HasItsCode g.typed g.instance alive n inner → Follows bits set inner
+      → bound ≤ length d.fields → At g s (length d.code) → Sim g alive st s → (Q : Out → Draft → Type 0)
+      → ((e1 : Draft) (i : Instr) → Within g (with_instr i e1) → (p : Passes g alive bound d e1 s st (Unit {0})) → Puts g set i dest p.t (λ q. unary_of op (value_in (extents g set) st inner q)) → Q (O.Field dest) (with_instr i e1))
+      → After g Q (then_make (operand bits true inner d) (λ v after. negated (layout g) op (O.Field dest) v after))
+  unfolding negated in_field Extends step_of
+  negated_after bits set op dest inner bound d s st most sign long pure wide c whole less here sim Q last =
+      from_operand bits set inner dest (λ a. negating op dest a) (λ v after. negated (layout g) op (O.Field dest) v after) bound d s st (λ q. unary_of op (value_in (extents g set) st inner q)) (λ a. plain op a sign) (λ a. both op a sign) grows (λ a after. negated_is op dest a after sign)
+      (λ a t numbers sim_there.
+      puts_negating bits set op dest a t (λ q. value_in (extents g set) st inner q) most sign long
+      (has_alike g bits set a t (λ q. word_at (extents g set) st inner q) (λ q. value_in (extents g set) st inner q) (alike_same g bits set _ _ (λ q below few. sym (pure_at g alive n places fields set inner st t sim_there pure wide c q below))) numbers))
+      pure c whole less here sim Q last
+    where
       one_more_instr : (op : UnaryOp) (f : Field) (after : Draft) → IsSign op → Extends g after (field_negated op dest f after)
       one_more_instr op f after sign = subst (λ (m : Made Out). Extends g after m) (sym (negated_is op dest f after sign)) (1, and_one g (negating op dest f) after)
 
@@ -211,110 +211,203 @@ module _ (g : Setting) (has : HasRegisters g) (alive : Variable → Type 0) (n :
       both U.Plus a is = refl
       both U.Not a is = refl
 
+  -- the word of an operator's result is what it gives
+  pub unary_at : (set : ℕ) (ty : ValueType) (op : UnaryOp) (p : Boxed) (inner : TExpr) (st : State) (s : CodeState) → Sim g alive st s → IsPure set (T.Unary' ty op p inner) → HasItsCode g.typed g.instance alive n (T.Unary' ty op p inner) → (q : ℕ) → q < processors (shapes g) set
+      → unary_of op (value_in (extents g set) st inner q) ≡ word_at (extents g set) st (T.Unary' ty op p inner) q
+  unfolding IsPure value_in
+  unary_at set ty op p inner st s sim is c q below = sym (pure_at g alive n places fields set (T.Unary' ty op p inner) st s sim is is.0 c q below)
+
   -- an operator other than `!` is done as it is
   done_as_it_is : (bits : ℕ) (op : UnaryOp) (operand : TExpr) → negates op ≡ false → done_as bits op operand ≡ op
   unfolding done_as
   done_as_it_is bits op operand plain = ap (λ (b : Bool). if b && (bits == 1 && (not (is_kept operand) && bits_of (kind_of operand) == 1)) then U.Complement else op) plain
 
-  signed_after : (set : ℕ) (ty : ValueType) (op : UnaryOp) (p : Boxed) (inner : TExpr) → IsSign op → IsWide set ty → IsPure set inner → HasItsCode g.typed g.instance alive n inner → Valued g has alive n ready places fields set inner (code inner)
-      → Valued g has alive n ready places fields set (T.Unary' ty op p inner) (code (T.Unary' ty op p inner))
-  unfolding value_of unary_by unary_bits value_in fresh_for then_make an_entry
-  signed_after set ty op p inner sign wide pure c whole d s st here sim =
-      after_same g (Answers (length d.fields) d s set st v)
-      (ap (λ (o : UnaryOp). if is_plus o then code inner d else then_make (fresh_for ty.shape 32 d) (λ dest between. then_make (operand_by g.typed (layout g) (unary_bits 32 op inner) (value_of g.typed (layout g) (unary_bits 32 op inner) inner) true inner between) (λ x after. negated (layout g) o dest x after))) (done_as_it_is 32 op inner sign.1)
-      ∙ ap (λ (b : Bool). if b then code inner d else then_make (fresh_for ty.shape 32 d) (λ dest between. then_make (operand_by g.typed (layout g) (unary_bits 32 op inner) (value_of g.typed (layout g) (unary_bits 32 op inner) inner) true inner between) (λ x after. negated (layout g) op dest x after))) sign.0
-      ∙ ap (λ (b : Bool). then_make (fresh_for ty.shape 32 d) (λ dest between. then_make (operand_by g.typed (layout g) (if b then bits_of (kind_of inner) else 32) (value_of g.typed (layout g) (if b then bits_of (kind_of inner) else 32) inner) true inner between) (λ x after. negated (layout g) op dest x after))) sign.1
-      ∙ ap (λ (o : Option ℕ). then_make (fresh_for o 32 d) (λ dest between. then_make (operand true inner between) (λ x after. negated (layout g) op dest x after))) wide.0)
-      (negated_after set op (next_field set 32 d) inner (length d.fields) (with_entry set 32 W.Own d) s st sign refl pure c whole (let one = one_more set 32 W.Own d in omega (arith, one)) here sim (Answers (length d.fields) d s set st v)
-      (λ e1 i within passes puts. own_result set d e1 s st v i within passes puts))
+  signed_after : (bits set : ℕ) (ty : ValueType) (op : UnaryOp) (p : Boxed) (inner : TExpr) → bits ≤ 32 → IsSign op → IsPure set (T.Unary' ty op p inner) → HasItsCode g.typed g.instance alive n (T.Unary' ty op p inner) → Follows bits set inner → Follows bits set (T.Unary' ty op p inner)
+  unfolding value_of unary_by unary_bits fresh_for then_make an_entry IsPure
+  signed_after bits set ty op p inner most sign is c whole d s st here sim =
+      after_same g (Answers bits (length d.fields) d s set st v)
+      (ap (λ (o : UnaryOp). if is_plus o then code bits inner d else then_make (fresh_for ty.shape bits d) (λ dest between. then_make (operand_by g.typed (layout g) (unary_bits bits op inner) (value_of g.typed (layout g) (unary_bits bits op inner) inner) true inner between) (λ x after. negated (layout g) o dest x after))) (done_as_it_is bits op inner sign.1)
+      ∙ ap (λ (b : Bool). if b then code bits inner d else then_make (fresh_for ty.shape bits d) (λ dest between. then_make (operand_by g.typed (layout g) (unary_bits bits op inner) (value_of g.typed (layout g) (unary_bits bits op inner) inner) true inner between) (λ x after. negated (layout g) op dest x after))) sign.0
+      ∙ ap (λ (b : Bool). then_make (fresh_for ty.shape bits d) (λ dest between. then_make (operand_by g.typed (layout g) (if b then bits_of (kind_of inner) else bits) (value_of g.typed (layout g) (if b then bits_of (kind_of inner) else bits) inner) true inner between) (λ x after. negated (layout g) op dest x after))) sign.1
+      ∙ ap (λ (o : Option ℕ). then_make (fresh_for o bits d) (λ dest between. then_make (operand bits true inner between) (λ x after. negated (layout g) op dest x after))) is.0.0)
+      (negated_after bits set op (next_field set bits d) inner (length d.fields) (with_entry set bits W.Own d) s st most sign refl is.2 is.3 (unary_part g alive n places fields ty op p inner c) whole (let one = one_more set bits W.Own d in omega (arith, one)) here sim (Answers bits (length d.fields) d s set st v)
+      (λ e1 i within passes puts. own_result bits set d e1 s st v i within passes (puts_same g set i (next_field set bits d) passes.t _ v (λ q below. unary_at set ty op p inner st passes.t passes.sim is c q below) puts)))
     where
       v : ℕ → ℕ
-      v = λ q. unary_of op (value_in (extents g set) st inner q)
+      v = λ q. word_at (extents g set) st (T.Unary' ty op p inner) q
 
-  unary_after : (set : ℕ) (ty : ValueType) (op : UnaryOp) (p : Boxed) (inner : TExpr) → negates op ≡ false → IsWide set ty → IsPure set inner → HasItsCode g.typed g.instance alive n inner → Valued g has alive n ready places fields set inner (code inner)
-      → Valued g has alive n ready places fields set (T.Unary' ty op p inner) (code (T.Unary' ty op p inner))
-  unfolding value_of unary_by value_in unary_of is_plus negates done_as
-  unary_after set ty U.Plus p inner known wide pure c whole d s st here sim = whole d s st here sim
-  unary_after set ty U.Minus p inner known wide pure c whole d s st here sim = signed_after set ty U.Minus p inner (refl, refl) wide pure c whole d s st here sim
-  unary_after set ty U.Complement p inner known wide pure c whole d s st here sim = signed_after set ty U.Complement p inner (refl, refl) wide pure c whole d s st here sim
-  unary_after set ty U.Not p inner known wide pure c whole d s st here sim = cc
+  -- a plus changes no word
+  pub plus_alike : (bits set : ℕ) (ty : ValueType) (p : Boxed) (inner : TExpr) (st : State) (s : CodeState) → Sim g alive st s → IsPure set (T.Unary' ty U.Plus p inner) → HasItsCode g.typed g.instance alive n (T.Unary' ty U.Plus p inner)
+      → AreAlike g bits set (λ q. word_at (extents g set) st inner q) (λ q. word_at (extents g set) st (T.Unary' ty U.Plus p inner) q)
+  unfolding value_in unary_of IsPure
+  plus_alike bits set ty p inner st s sim is c =
+      alike_same g bits set _ _ (λ q below few.
+      pure_at g alive n places fields set (T.Unary' ty U.Plus p inner) st s sim is is.0 c q below
+      ∙ sym (pure_at g alive n places fields set inner st s sim is.2 is.3 (unary_part g alive n places fields ty U.Plus p inner c) q below))
 
-  binary_after : (set : ℕ) (ty : ValueType) (place : Place) (op : Op) (p q : Boxed) (left right : TExpr) → IsWide set ty → IsOperation op right → AreOperands set left right → HasItsCode g.typed g.instance alive n left → HasItsCode g.typed g.instance alive n right
-      → (IsPure set left → Valued g has alive n ready places fields set left (code left)) → (IsPure set right → Valued g has alive n ready places fields set right (code right))
-      → Valued g has alive n ready places fields set (T.Binary' ty place op p left q right) (code (T.Binary' ty place op p left q right))
-  unfolding value_in
-  binary_after set ty place op p q left right wide is operands c_left c_right whole_left whole_right d s st here sim =
-      after_same g (Answers (length d.fields) d s set st v) (binary_code set ty place op p q left right d wide.0 is.0 (operand_type set left (left_of set left right operands)).1)
-      (all_bits g has alive n ready places fields (length d.fields) d s set st v made
-      (fields_after g has alive n ready places fields set op (type_of left).elem.signed place (next_field set 32 d) left right d s st is refl operands c_left c_right whole_left whole_right (operand_grows left c_left) (operand_grows right c_right) here sim
-      (Answers (length d.fields) d s set st v) (λ e2 i within passes puts. own_result set d e2 s st v i within passes puts)))
+  -- words that are alike are given alike
+  pub answers_alike : (bits bound : ℕ) (d : Draft) (s : CodeState) (set : ℕ) (st : State) (v w : ℕ → ℕ) (made : Made Out) → AreAlike g bits set v w → After g (Answers bits bound d s set st v) made → After g (Answers bits bound d s set st w) made
+  answers_alike bits bound d s set st v w made alike h =
+      after_weaker g (Answers bits bound d s set st v) (Answers bits bound d s set st w) made (λ out e (f, (is, gives)). (f, (is, gives_alike g alive places fields bits bound d s set st v w f e alike gives))) h
+
+  unary_after : (bits set : ℕ) (ty : ValueType) (op : UnaryOp) (p : Boxed) (inner : TExpr) → bits ≤ 32 → IsPure set (T.Unary' ty op p inner) → HasItsCode g.typed g.instance alive n (T.Unary' ty op p inner) → Follows bits set inner → Follows bits set (T.Unary' ty op p inner)
+  unfolding value_of unary_by is_plus negates done_as IsPure
+  unary_after bits set ty U.Plus p inner most is c whole d s st here sim =
+      answers_alike bits (length d.fields) d s set st (λ q. word_at (extents g set) st inner q) (λ q. word_at (extents g set) st (T.Unary' ty U.Plus p inner) q) (code bits inner d) (plus_alike bits set ty p inner st s sim is c) (whole d s st here sim)
+  unary_after bits set ty U.Minus p inner most is c whole d s st here sim = signed_after bits set ty U.Minus p inner most (refl, refl) is c whole d s st here sim
+  unary_after bits set ty U.Complement p inner most is c whole d s st here sim = signed_after bits set ty U.Complement p inner most (refl, refl) is c whole d s st here sim
+  unary_after bits set ty U.Not p inner most is c whole d s st here sim = let wrong = is.1 in cc
+
+  -- an operand of 32 bits is its word
+  pub operand_at : (set : ℕ) (e : TExpr) (st : State) (s : CodeState) → Sim g alive st s → IsPure set e ⊎ IsPromoted set e → IsWide set (type_of e) → HasItsCode g.typed g.instance alive n e → (q : ℕ) → q < processors (shapes g) set → word_at (extents g set) st e q ≡ value_in (extents g set) st e q
+  operand_at set e st s sim (inl pure) wide c q below = pure_at g alive n places fields set e st s sim pure wide c q below
+  operand_at set e st s sim (inr promoted) wide c q below = held_wide (type_of e).elem (value_in (extents g set) st e q) wide.1 (below_word (type_of e).elem.bits _ wide.1 (promoted_small g alive n places fields set e st s sim promoted c.code.names c.among q))
+
+  -- a constant operand has its word
+  pub constant_at : (set : ℕ) (e : TExpr) (st : State) → IsPure set e ⊎ IsPromoted set e → HasItsCode g.typed g.instance alive n e → (q word : ℕ) → word_of e ≡ Some word → word_at (extents g set) st e q ≡ word
+  constant_at set e st (inl pure) c q word is = let none = sym (pure_word set e pure) ∙ is in cc
+  constant_at set e st (inr promoted) c q word is = by (promoted_stands g.typed g.instance alive n set e promoted c.code.names c.among)
     where
+      by : HasItsWord e ⊎ StandsInRegister g.typed g.instance alive e → word_at (extents g set) st e q ≡ word
+      by (inl h) = h.value (extents g set) st q ∙ some_same h.word word (sym h.is ∙ is)
+      by (inr h) = let none = sym h.no_word ∙ is in cc
+
+  -- an operation on such operands keeps the lowest bits
+  pub operands_keep : (bits set : ℕ) (op : Op) (signed : Bool) (right : TExpr) (st : State) → bits ≤ 32 → IsOperation op right → IsPure set right ⊎ IsPromoted set right → HasItsCode g.typed g.instance alive n right → (q : ℕ) → Keeps op signed (operation_bits bits op right) (word_at (extents g set) st right q)
+  operands_keep bits set op signed right st most is operand c q =
+      operation_keeps bits op signed right (word_at (extents g set) st right q) most (λ word is_word. constant_at set right st operand c q word is_word)
+      (whole_keeps op signed (word_at (extents g set) st right q) is.0 (λ divided. word_never_zero set op right (extents g set) st is operand divided q))
+
+  pub binary_at : (set : ℕ) (ty : ValueType) (place : Place) (op : Op) (p q : Boxed) (left right : TExpr) (st : State) (s : CodeState) → Sim g alive st s → IsPure set (T.Binary' ty place op p left q right) → HasItsCode g.typed g.instance alive n (T.Binary' ty place op p left q right) → (x : ℕ) → x < processors (shapes g) set
+      → outcome op 32 (not (type_of left).elem.signed) (word_at (extents g set) st left x) (word_at (extents g set) st right x) ≡ word_at (extents g set) st (T.Binary' ty place op p left q right) x
+  unfolding IsPure value_in
+  binary_at set ty place op p q left right st s sim is c x below =
+      let parts = binary_parts g alive n places fields ty place op p q left right c in
+      ap (λ (a : ℕ). outcome op 32 (not (type_of left).elem.signed) a (word_at (extents g set) st right x)) (operand_at set left st s sim (left_of set left right is.2) is.3 parts.0 x below)
+      ∙ ap (λ (b : ℕ). outcome op 32 (not (type_of left).elem.signed) (value_in (extents g set) st left x) b) (operand_at set right st s sim (right_of set left right is.2) is.4 parts.1 x below)
+      ∙ sym (pure_at g alive n places fields set (T.Binary' ty place op p left q right) st s sim is is.0 c x below)
+
+  binary_after : (bits set : ℕ) (ty : ValueType) (place : Place) (op : Op) (p q : Boxed) (left right : TExpr) → bits ≤ 32 → IsPure set (T.Binary' ty place op p left q right) → HasItsCode g.typed g.instance alive n (T.Binary' ty place op p left q right)
+      → (IsPure set left → Follows (operation_bits bits op right) set left) → (IsPure set right → Follows (operation_bits bits op right) set right) → Follows bits set (T.Binary' ty place op p left q right)
+  unfolding IsPure
+  binary_after bits set ty place op p q left right most is c whole_left whole_right d s st here sim =
+      after_same g (Answers bits (length d.fields) d s set st v) (binary_code bits set ty place op p q left right d is.0.0 is.1.0 is.3.1)
+      (first_given g has alive n ready places fields works bits (length d.fields) d s set st v made (operation_most bits op right most).0
+      (fields_after g has alive n ready places fields works set op (type_of left).elem.signed place (next_field set works d) left right d s st is.1 (λ x. operands_keep bits set op (type_of left).elem.signed right st most is.1 (right_of set left right is.2) parts.1 x) refl is.2 parts.0 parts.1 whole_left whole_right
+      (operand_grows works left parts.0) (operand_grows works right parts.1) here sim (Answers works (length d.fields) d s set st v)
+      (λ e2 i within passes puts. own_result works set d e2 s st v i within passes (puts_same g set i (next_field set works d) passes.t _ v (λ x below. binary_at set ty place op p q left right st passes.t passes.sim is c x below) puts))))
+    where
+      works : ℕ
+      works = operation_bits bits op right
+
+      parts : HasItsCode g.typed g.instance alive n left × HasItsCode g.typed g.instance alive n right
+      parts = binary_parts g alive n places fields ty place op p q left right c
+
       v : ℕ → ℕ
-      v = λ x. outcome op 32 (not (type_of left).elem.signed) (value_in (extents g set) st left x) (value_in (extents g set) st right x)
+      v = λ x. word_at (extents g set) st (T.Binary' ty place op p left q right) x
 
       made : Made Out
-      made = fields_by op (type_of left).elem.signed place (next_field set 32 d) (next_field set 32 d) (operand (is_quiet right) left) left (operand true right) right (with_entry set 32 W.Own d)
+      made = fields_by op (type_of left).elem.signed place (next_field set works d) (next_field set works d) (operand works (is_quiet right) left) left (operand works true right) right (with_entry set works W.Own d)
 
-  -- a coordinate is below the number of positions
-  pub coordinates_small : (set axis p : ℕ) → p < processors (shapes g) set → coordinate (extents g set) p axis < 2 ^ 32
-  coordinates_small set axis p below = let low = coordinate_least (extents g set) p axis in let few = places.few set in omega (arith, low, few, below)
-
-  coordinate_after : (set axis : ℕ) (ty : ValueType) → IsWide set ty → Valued g has alive n ready places fields set (T.Pcoord ty axis) (code (T.Pcoord ty axis))
+  coordinate_after : (bits set axis : ℕ) (ty : ValueType) → IsWide set ty → Follows bits set (T.Pcoord ty axis)
   unfolding value_of coordinate_in then_make an_entry value_in
-  coordinate_after set axis ty wide d s st here sim =
-      after_same g (Answers (length d.fields) d s set st v) (ap (λ (o : Option ℕ). coordinate_in o 32 axis d) wide.0)
-      (made_after g (Answers (length d.fields) d s set st v) (O.Field dest) (with_instr i d1) (λ within.
-      own_result set d d1 s st v i within (passes_all g alive (length d.fields) d1 s st (Unit {0}) here sim) (puts_coordinate g set axis dest s refl refl (λ p below. coordinates_small set axis p below))))
+  coordinate_after bits set axis ty wide d s st here sim =
+      after_same g (Answers bits (length d.fields) d s set st v) (ap (λ (o : Option ℕ). coordinate_in o bits axis d) wide.0)
+      (made_after g (Answers bits (length d.fields) d s set st v) (O.Field dest) (with_instr i d1) (λ within.
+      own_result bits set d d1 s st v i within (passes_all g alive (length d.fields) d1 s st (Unit {0}) here sim)
+      (puts_same g set i dest s (λ q. coordinate (extents g set) q axis) v (λ q below. sym (held_wide ty.elem (coordinate (extents g set) q axis) wide.1 (coordinates_small g alive n places fields set axis q below))) (puts_coordinate g set axis dest s refl (λ p below. coordinates_small g alive n places fields set axis p below)))))
     where
       d1 : Draft
-      d1 = with_entry set 32 W.Own d
+      d1 = with_entry set bits W.Own d
 
       dest : Field
-      dest = next_field set 32 d
+      dest = next_field set bits d
 
       i : Instr
       i = I.MyNewsCoordinate dest axis
 
       v : ℕ → ℕ
-      v = λ q. coordinate (extents g set) q axis
+      v = λ q. word_at (extents g set) st (T.Pcoord ty axis) q
 
-  -- a conversion to another type of 32 bits has no code
-  pub convert_part : (ty : ValueType) (p : Boxed) (inner : TExpr) → HasItsCode g.typed g.instance alive n (T.Convert' ty p inner) → HasItsCode g.typed g.instance alive n inner
-  unfolding IsShaped IsLowerable NamesVariables ScalarsAmong KnowsExtents
-  convert_part ty p inner h = record { code = record { shaped = h.code.shaped.1; lowerable = h.code.lowerable.1; names = h.code.names }; among = h.among; extents = h.extents }
-
-  convert_code : (ty : ValueType) (p : Boxed) (inner : TExpr) (d : Draft) → ty.elem.bits ≡ 32 → is_kept inner ≡ false → code (T.Convert' ty p inner) d ≡ code inner d
-  unfolding value_of cast_from spread_by
-  convert_code ty p inner d wide fresh =
-      ap (λ (b : Bool). if b then register_cast_by ty.elem (code inner) d else cast_from g.typed (layout g) 32 ty inner (truth_of g.typed (layout g) inner) (λ m. value_of g.typed (layout g) m inner) d) fresh
-      ∙ wide_cast ty.elem (unwrap_or ty.shape 0) _ _ (λ after. spread_by (code inner) inner (unwrap_or ty.shape 0) 32 after) d wide
-      ∙ ap (λ (b : Bool). if b then then_make (a_field (unwrap_or ty.shape 0) 32 d) (λ dest between. then_make (spread_into (code inner) inner dest between) (λ f after. Makes (O.Field f) after)) else code inner d) fresh
-
-  pub same_words : (set : ℕ) (ty : ValueType) (inner : TExpr) (st : State) → ty.elem.bits ≡ 32 → IsPure set inner → (q : ℕ) → value_in (extents g set) st inner q < 2 ^ 32 → converted ty.elem (type_of inner).elem (value_in (extents g set) st inner q) ≡ value_in (extents g set) st inner q
-  same_words set ty inner st wide pure q few = wide_same ty.elem (type_of inner).elem (value_in (extents g set) st inner q) wide (pure_type set inner pure).1 few
-
-  convert_after : (set : ℕ) (ty : ValueType) (p : Boxed) (inner : TExpr) → IsWide set ty → IsPure set inner → Valued g has alive n ready places fields set inner (code inner) → Valued g has alive n ready places fields set (T.Convert' ty p inner) (code (T.Convert' ty p inner))
-  unfolding value_in
-  convert_after set ty p inner wide pure whole d s st here sim =
-      after_same g (Answers (length d.fields) d s set st w) (convert_code ty p inner d wide.1 (pure_kept set inner pure))
-      (after_weaker g (Answers (length d.fields) d s set st v) (Answers (length d.fields) d s set st w) (code inner d)
-      (λ out e (f, (is, gives)). (f, (is, gives_alike g alive places fields (length d.fields) d s set st v w f e (same_words set ty inner st wide.1 pure) gives)))
-      (whole d s st here sim))
+  -- a conversion to another type takes what is wanted of the operand, or extends as many bits as the type has
+  convert_code : (bits : ℕ) (ty : ValueType) (p : Boxed) (inner : TExpr) (d : Draft) → (ty.elem.bits == 1) ≡ false → is_kept inner ≡ false
+      → code bits (T.Convert' ty p inner) d ≡ (if nat_lt ty.elem.bits bits then then_make (a_field (unwrap_or ty.shape 0) bits d) (λ dest begun. extended ty.elem.signed dest (operand ty.elem.bits true inner) begun) else code bits inner d)
+  unfolding value_of cast_from spread_by cast_by
+  convert_code bits ty p inner d no_truth fresh =
+      ap (λ (b : Bool). if b then register_cast_by ty.elem (code bits inner) d else cast_from g.typed (layout g) bits ty inner (truth_of g.typed (layout g) inner) (λ m. value_of g.typed (layout g) m inner) d) fresh
+      ∙ ap (λ (b : Bool). if b then then_make (a_field set bits d) (λ dest begun. truth_put dest test begun) else (if nat_lt ty.elem.bits bits then then_make (a_field set bits d) (λ dest begun. extended ty.elem.signed dest (spread is_there (operand ty.elem.bits true inner) ty.elem.bits) begun) else spread is_there (code bits inner) bits d)) no_truth
+      ∙ ap (λ (b : Bool). if nat_lt ty.elem.bits bits then then_make (a_field set bits d) (λ dest begun. extended ty.elem.signed dest (spread b (operand ty.elem.bits true inner) ty.elem.bits) begun) else spread b (code bits inner) bits d) fresh
     where
-      v : ℕ → ℕ
-      v = λ q. value_in (extents g set) st inner q
+      set : ℕ
+      set = unwrap_or ty.shape 0
 
+      is_there : Bool
+      is_there = is_kept inner
+
+      spread : Bool → (Draft → Made Out) → ℕ → Draft → Made Out
+      spread b code k e = if b then then_make (a_field set k e) (λ dest between. then_make (spread_into code inner dest between) (λ f after. Makes (O.Field f) after)) else code e
+
+      test : Draft → Made (Unit {0})
+      test = tested_by (has_truth inner) (truth_of g.typed (layout g) inner) (spread is_there (operand_by g.typed (layout g) (bits_of (kind_of inner)) (value_of g.typed (layout g) (bits_of (kind_of inner)) inner) true inner) (bits_of (kind_of inner)))
+
+  -- so many bits of a converted value are those of the value, where the type has so many
+  pub convert_alike : (bits set : ℕ) (ty : ValueType) (p : Boxed) (inner : TExpr) (st : State) → (ty.elem.bits == 1) ≡ false → bits ≤ ty.elem.bits → AreAlike g bits set (λ q. word_at (extents g set) st inner q) (λ q. word_at (extents g set) st (T.Convert' ty p inner) q)
+  unfolding value_in
+  convert_alike bits set ty p inner st no_truth less q below few = (converted_first ty.elem (type_of inner).elem (value_in (extents g set) st inner q) bits no_truth less, held_below ty.elem (converted ty.elem (type_of inner).elem (value_in (extents g set) st inner q)))
+
+  -- a field of as many bits as the type has is extended
+  pub extended_after : (set : ℕ) (ty : ValueType) (p : Boxed) (inner : TExpr) (dest : Field) (bound : ℕ) (d : Draft) (s : CodeState) (st : State) → (ty.elem.bits == 1) ≡ false → dest.len ≤ 32 → IsPure set inner → HasItsCode g.typed g.instance alive n inner → Follows ty.elem.bits set inner
+      → bound ≤ length d.fields → At g s (length d.code) → Sim g alive st s → (Q : Out → Draft → Type 0)
+      → ((e1 : Draft) (i : Instr) → Within g (with_instr i e1) → (passes : Passes g alive bound d e1 s st (Unit {0})) → Puts g set i dest passes.t (λ q. word_at (extents g set) st (T.Convert' ty p inner) q) → Q (O.Field dest) (with_instr i e1))
+      → After g Q (extended ty.elem.signed dest (operand ty.elem.bits true inner) d)
+  unfolding extended in_field Extends step_of value_in
+  extended_after set ty p inner dest bound d s st no_truth most pure c whole less here sim Q last =
+      from_operand ty.elem.bits set inner dest (λ a. I.Move ty.elem.signed dest a) (λ v after. in_field v (λ source. Makes (O.Field dest) (with_instr (I.Move ty.elem.signed dest source) after))) bound d s st w (λ a. refl) (λ a. refl) grows (λ a after. refl)
+      (λ a t numbers sim_there.
+      puts_extended g ty.elem set dest a t w most (λ q below on. held_has ty.elem (converted ty.elem (type_of inner).elem (value_in (extents g set) st inner q)) (converted_below ty.elem (type_of inner).elem (value_in (extents g set) st inner q)))
+      (has_alike g ty.elem.bits set a t (λ q. word_at (extents g set) st inner q) w (convert_alike ty.elem.bits set ty p inner st no_truth (omega arith)) numbers))
+      pure c whole less here sim Q last
+    where
       w : ℕ → ℕ
-      w = λ q. converted ty.elem (type_of inner).elem (v q)
+      w = λ q. word_at (extents g set) st (T.Convert' ty p inner) q
+
+      grows : (x : Out) (after : Draft) → Extends g after (in_field x (λ source. Makes (O.Field dest) (with_instr (I.Move ty.elem.signed dest source) after)))
+      grows (O.Scalar r) after = tt
+      grows (O.Field f) after = (1, and_one g (I.Move ty.elem.signed dest f) after)
+      grows O.Nothing after = tt
+
+  convert_after : (bits set : ℕ) (ty : ValueType) (p : Boxed) (inner : TExpr) → bits ≤ 32 → IsPure set (T.Convert' ty p inner) → HasItsCode g.typed g.instance alive n (T.Convert' ty p inner) → ((k : ℕ) → k ≤ 32 → Follows k set inner) → Follows bits set (T.Convert' ty p inner)
+  unfolding IsPure an_entry then_make
+  convert_after bits set ty p inner most is c whole d s st here sim = after_same g Q (convert_code bits ty p inner d is.1 (pure_kept set inner is.2)) (by (nat_lt ty.elem.bits bits) refl)
+    where
+      w : ℕ → ℕ
+      w = λ q. word_at (extents g set) st (T.Convert' ty p inner) q
+
+      Q : Out → Draft → Type 0
+      Q = Answers bits (length d.fields) d s set st w
+
+      part : HasItsCode g.typed g.instance alive n inner
+      part = convert_part g alive n places fields ty p inner c
+
+      by : (b : Bool) → nat_lt ty.elem.bits bits ≡ b → After g Q (if nat_lt ty.elem.bits bits then then_make (a_field (unwrap_or ty.shape 0) bits d) (λ dest begun. extended ty.elem.signed dest (operand ty.elem.bits true inner) begun) else code bits inner d)
+      by true more =
+          after_same g Q
+          (ap (λ (b : Bool). if b then then_make (a_field (unwrap_or ty.shape 0) bits d) (λ dest begun. extended ty.elem.signed dest (operand ty.elem.bits true inner) begun) else code bits inner d) more
+          ∙ ap (λ (o : Option ℕ). then_make (a_field (unwrap_or o 0) bits d) (λ dest begun. extended ty.elem.signed dest (operand ty.elem.bits true inner) begun)) is.0)
+          (extended_after set ty p inner (next_field set bits d) (length d.fields) (with_entry set bits W.Own d) s st is.1 most is.2 part (whole ty.elem.bits (kind_bits ty.elem.bits ty.elem.signed ty.elem.kind).1) (let one = one_more set bits W.Own d in omega (arith, one)) here sim Q
+          (λ e1 i within passes puts. own_result bits set d e1 s st w i within passes puts))
+      by false enough =
+          after_same g Q (ap (λ (b : Bool). if b then then_make (a_field (unwrap_or ty.shape 0) bits d) (λ dest begun. extended ty.elem.signed dest (operand ty.elem.bits true inner) begun) else code bits inner d) enough)
+          (answers_alike bits (length d.fields) d s set st (λ q. word_at (extents g set) st inner q) w (code bits inner d) (convert_alike bits set ty p inner st is.1 (grind (arith, nat_tests, enough))) (whole bits most d s st here sim))
 
   -- a get from neighbours
-  get_after : (set : ℕ) (ty : ValueType) (place : Place) (p : _) (indexes : Row_of-TExpr _) (k of : ℕ) → IsWide set ty → of ≡ set → AreWrapping set 0 indexes → HasItsCode g.typed g.instance alive n (T.LeftIndex' ty place p indexes (V.File k) of)
-      → Valued g has alive n ready places fields set (T.LeftIndex' ty place p indexes (V.File k) of) (code (T.LeftIndex' ty place p indexes (V.File k) of))
+  get_after : (bits set : ℕ) (ty : ValueType) (place : Place) (p : _) (indexes : Row_of-TExpr _) (k of : ℕ) → bits ≤ 32 → ty.shape ≡ Some set → of ≡ set → AreWrapping set 0 indexes → HasItsCode g.typed g.instance alive n (T.LeftIndex' ty place p indexes (V.File k) of)
+      → Follows bits set (T.LeftIndex' ty place p indexes (V.File k) of)
   unfolding value_of index_read_by fresh_for then_make an_entry NamesVariables KnowsExtents
-  get_after set ty place p indexes k of wide same are c d s st here sim =
-      after_same g (Answers (length d.fields) d s set st v) (ap (λ (o : Option ℕ). then_make (fresh_for o 32 d) (λ dest begun. index_read_to g.typed (layout g) e spot dest begun)) wide.0)
-      (get_last g alive n places fields ty place p indexes k of set (length d.fields) spot (length d.fields) (with_entry set 32 W.Own d) s st wide same are c.code.names.0 c.extents (let one = one_more set 32 W.Own d in omega (arith, one)) here sim
-      (Answers (length d.fields) d s set st v) (λ e2 i within passes puts. own_result set d e2 s st v i within passes puts))
+  get_after bits set ty place p indexes k of most shaped same are c d s st here sim =
+      after_same g (Answers bits (length d.fields) d s set st v) (ap (λ (o : Option ℕ). then_make (fresh_for o bits d) (λ dest begun. index_read_to g.typed (layout g) e spot dest begun)) shaped)
+      (get_last g alive n places fields ty place p indexes k of set (length d.fields) bits spot (length d.fields) (with_entry set bits W.Own d) s st most shaped same are c.code.names.0 c.extents (let one = one_more set bits W.Own d in omega (arith, one)) here sim
+      (Answers bits (length d.fields) d s set st v) (λ e2 i within passes puts. own_result bits set d e2 s st v i within passes puts))
     where
       e : TExpr
       e = T.LeftIndex' ty place p indexes (V.File k) of
@@ -323,18 +416,29 @@ module _ (g : Setting) (has : HasRegisters g) (alive : Variable → Type 0) (n :
       spot = indexed_spot g.typed (layout g) e (values_of g.typed (layout g) false (are_quiet indexes) indexes)
 
       v : ℕ → ℕ
-      v = λ q. value_in (extents g set) st e q
+      v = λ q. word_at (extents g set) st e q
 
-  -- the code of a pure expression leaves its numbers in a field
-  pub pure_after : (set : ℕ) (e : TExpr) → IsPure set e → HasItsCode g.typed g.instance alive n e → Valued g has alive n ready places fields set e (code e)
+  -- the code of so many bits of a pure expression leaves the lowest bits of its words in a field
+  pub pure_after : (bits set : ℕ) (e : TExpr) → bits ≤ 32 → IsPure set e → HasItsCode g.typed g.instance alive n e → Follows bits set e
   unfolding IsPure value_of value_in
-  pure_after set (T.Variable ty (V.File k)) is c = variable_after g has alive n ready places fields set k ty is (named ty k c)
-  pure_after set (T.Brackets' ty p inner) is c = λ d s st here sim. pure_after set inner is.1 (brackets_part ty p inner c) d s st here sim
-  pure_after set (T.Unary' ty op p operand) is c = unary_after set ty op p operand is.1 is.0 is.2 (unary_part ty op p operand c) (pure_after set operand is.2 (unary_part ty op p operand c))
-  pure_after set (T.Binary' ty place op p left q right) is c =
-      let parts = binary_parts ty place op p q left right c in
-      binary_after set ty place op p q left right is.0 is.1 is.2 parts.0 parts.1 (λ pure. pure_after set left pure parts.0) (λ pure. pure_after set right pure parts.1)
-  pure_after set (T.Convert' ty p operand) is c = let part = convert_part ty p operand c in convert_after set ty p operand is.0 is.1 (pure_after set operand is.1 part)
-  pure_after set (T.Pcoord ty axis) is c = coordinate_after set axis ty is
-  pure_after set (T.LeftIndex' ty place p indexes (V.File k) of) is c = get_after set ty place p indexes k of is.0 is.1 is.2 c
-  pure_after set _ is c = absurd is
+  pure_after bits set (T.Variable ty (V.File k)) most is c = variable_after g has alive n ready places fields bits set k ty most is (named ty k c)
+  pure_after bits set (T.Brackets' ty p inner) most is c = λ d s st here sim.
+      after_same g (Answers bits (length d.fields) d s set st (λ q. word_at (extents g set) st (T.Brackets' ty p inner) q)) refl
+      (answers_alike bits (length d.fields) d s set st (λ q. word_at (extents g set) st inner q) (λ q. word_at (extents g set) st (T.Brackets' ty p inner) q) (code bits inner d) (alike_same g bits set _ _ (λ q below few. ap (λ (y : ValueType). held y.elem (value_in (extents g set) st inner q)) is.0))
+      (pure_after bits set inner most is.1 (brackets_part g alive n places fields ty p inner c) d s st here sim))
+  pure_after bits set (T.Unary' ty op p operand) most is c = unary_after bits set ty op p operand most is c (pure_after bits set operand most is.2 (unary_part g alive n places fields ty op p operand c))
+  pure_after bits set (T.Binary' ty place op p left q right) most is c =
+      let parts = binary_parts g alive n places fields ty place op p q left right c in
+      let works = (operation_most bits op right most).1 in
+      binary_after bits set ty place op p q left right most is c (λ pure. pure_after (operation_bits bits op right) set left works pure parts.0) (λ pure. pure_after (operation_bits bits op right) set right works pure parts.1)
+  pure_after bits set (T.Convert' ty p operand) most is c = convert_after bits set ty p operand most is c (λ k few. pure_after k set operand few is.2 (convert_part g alive n places fields ty p operand c))
+  pure_after bits set (T.Pcoord ty axis) most is c = coordinate_after bits set axis ty is
+  pure_after bits set (T.LeftIndex' ty place p indexes (V.File k) of) most is c = get_after bits set ty place p indexes k of most is.0 is.1 is.2 c
+  pure_after bits set _ most is c = absurd is
+
+  -- an operand of 32 bits has its numbers
+  pub whole_after : (set : ℕ) (e : TExpr) (quiet : Bool) → IsPure set e → IsWide set (type_of e) → HasItsCode g.typed g.instance alive n e → (d : Draft) (s : CodeState) (st : State) → At g s (length d.code) → Sim g alive st s
+      → After g (Answers 32 (length d.fields) d s set st (λ q. value_in (extents g set) st e q)) (operand 32 quiet e d)
+  whole_after set e quiet pure wide c d s st here sim =
+      answers_alike 32 (length d.fields) d s set st (λ q. word_at (extents g set) st e q) (λ q. value_in (extents g set) st e q) (operand 32 quiet e d) (alike_same g 32 set _ _ (λ q below few. sym (pure_at g alive n places fields set e st s sim pure wide c q below)))
+      (operand_after g has alive n ready places fields 32 set e quiet pure c.code.names (pure_after 32 set e (omega arith) pure c) d s st here sim)

@@ -227,7 +227,10 @@ pub fresh_active : (shapes : List SetShape) (m : BitMemory) (set p : ℕ) → Ar
 unfolding is_active
 fresh_active shapes m set p fresh within below = ap (λ (n : ℕ). n == 1) (fresh set p (bits_at shapes set) within below (omega arith) ∙ fresh_context shapes set p)
 
--- a field of the set's bits holds 0 at first
+-- a bit below the flags is 0 at first, and so is a field of them
+pub fresh_bit : (shapes : List SetShape) (m : BitMemory) (set p index : ℕ) → AreFresh shapes m → set < length shapes → p < processors shapes set → index < bits_at shapes set → m.bit set p index ≡ 0
+fresh_bit shapes m set p index fresh within below low = fresh set p index within below (omega (arith, low)) ∙ fresh_below shapes set p index low
+
 fresh_zero : (shapes : List SetShape) (m : BitMemory) (f : Field) (p : ℕ) → AreFresh shapes m → f.set < length shapes → f.offset + f.len ≤ bits_at shapes f.set → p < processors shapes f.set → field_number m f p ≡ 0
 unfolding field_number
 fresh_zero shapes m f p fresh within ends below =

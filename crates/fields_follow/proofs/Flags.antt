@@ -20,7 +20,7 @@ use Rattle.source_meaning.specs.Values.{Active}
 use Rattle.code_follows.proofs.Besides.{sim_saying}
 use Rattle.code_follows.proofs.Following.{Sim}
 use Rattle.code_follows.proofs.Settings.{At, Reaches, Setting, Within, at_next, begins_here, one_writes, placed_instr}
-use Rattle.fields_follow.proofs.Bits.{active_apart, covers_flag, field_apart, field_written, if_false, if_true}
+use Rattle.fields_follow.proofs.Bits.{active_apart, bits_written, covers_flag, field_apart, field_written, if_false, if_true}
 use Rattle.fields_follow.proofs.FileFields.{Apart, apart_back}
 use Rattle.fields_follow.proofs.Instructions.{number_in, place, shapes, wrote}
 use Rattle.fields_follow.proofs.Leaving.{EndsBelow, under}
@@ -166,6 +166,7 @@ module _ (g : Setting) (places : PlacesFields g) (alive : Variable → Type 0) (
         small = sim.memory.small;
         flags = λ q p within_sets below. active_apart (shapes g) write s.memory q p d_ends.1 ∙ sim.memory.flags q p within_sets below;
         winner = winner_still;
+        bits = bits_written (shapes g) write s.memory sim.memory.bits;
       }) sim;
       exists = set_exists;
       ends = d_ends.1;
@@ -236,6 +237,7 @@ module _ (g : Setting) (places : PlacesFields g) (alive : Variable → Type 0) (
         small = sim.memory.small;
         flags = flags;
         winner = same_winner;
+        bits = bits_written (shapes g) flag s.memory sim.memory.bits;
       }) sim;
       stays = λ h p ends. field_still (place g h) p ends;
     }

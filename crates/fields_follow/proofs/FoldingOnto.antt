@@ -50,15 +50,15 @@ use Rattle.code_follows.proofs.Operators.{wide_signed}
 use Rattle.code_follows.proofs.Settings.{At, Setting, layout}
 use Rattle.code_follows.proofs.Targets.{TargetIs, assign_code, assign_means, bare_target, variable_in}
 use Rattle.code_follows.proofs.Values.{and_register, with_reg}
-use Rattle.fields_follow.specs.Fragment.{IsFoldOnto, IsPure, IsScalarTarget, KnowsExtents, assignment_of}
-use Rattle.fields_follow.proofs.Forms.{HasItsCode, pure_kept, pure_type}
+use Rattle.fields_follow.specs.Fragment.{IsFoldOnto, IsWhole, IsScalarTarget, KnowsExtents, assignment_of}
+use Rattle.fields_follow.proofs.Forms.{HasItsCode, pure_kept}
 use Rattle.fields_follow.proofs.Instructions.{SameExtents, extents}
 use Rattle.fields_follow.proofs.Meaning.{as_shaped, value_in}
 use Rattle.fields_follow.proofs.Pure.{are_grids, pure_means}
 use Rattle.fields_follow.proofs.Onto.{LeavesScalars, folds_onto, stored_in as stored_behind, stored_more}
 use Rattle.fields_follow.proofs.Passing.{After, after_same, gives_from, made_after, then_after}
 use Rattle.fields_follow.proofs.Places.{HoldsTheFields, PlacesFields}
-use Rattle.fields_follow.proofs.Reductions.{GivesPure, OperandsStand, pure_kind}
+use Rattle.fields_follow.proofs.Reductions.{GivesPure, OperandsStand, whole_type}
 use Rattle.fields_follow.proofs.Totals.{never_by_zero, operator_is}
 
 lowest_inside : (bits : ℕ) (made : Made Out) (next : Out → Draft → Made Out) → lowest bits (then_make made next) ≡ then_make made (λ v after. lowest bits (next v after))
@@ -83,7 +83,7 @@ onto_means scope active place reduction elem from set x v st shaped =
     ∙ ap (λ (b : Bool). unless (if b then Some None else None) DivZero place st (assign_to scope active (assignment_of reduction) (scalar_type elem) (record { elem = from.elem; shape = Some set }) (OfScalar x) (Parallel v) st)) (never_by_zero reduction (v 0))
 
 module _ (g : Setting) (alive : Variable → Type 0) (n : ℕ) where
-  module _ (target : TExpr) (v : TargetIs g alive n target) (ty : ValueType) (place : Place) (reduction : ReduceOp) (p q : Boxed) (value : TExpr) (set : ℕ) (is : IsPure set value) where
+  module _ (target : TExpr) (v : TargetIs g alive n target) (ty : ValueType) (place : Place) (reduction : ReduceOp) (p q : Boxed) (value : TExpr) (set : ℕ) (is : IsWhole set value) where
     abbrev whole : TExpr
     whole = T.Assign' ty place (assignment_of reduction) p target q value
 
@@ -101,7 +101,7 @@ module _ (g : Setting) (alive : Variable → Type 0) (n : ℕ) where
     unfolding effect_of assignment_effect writes_itself folds
     as_value d =
         ap (λ (o : Option Own). written (elim o as (λ _. Option Own) [ Some own ↦ if writes_itself own (assignment_of reduction) (type_of target).elem value then Some own else None | None ↦ None ])) (v.own 1)
-        ∙ ap (λ (k : Bool). written (if not (true && not k) && (elim (assign_op_of (assignment_of reduction)) as (λ _. Bool) [ None ↦ true | Some o ↦ true ]) then Some (record { shape = None; variable = v.variable }) else None)) (pure_kept set value is)
+        ∙ ap (λ (k : Bool). written (if not (true && not k) && (elim (assign_op_of (assignment_of reduction)) as (λ _. Bool) [ None ↦ true | Some o ↦ true ]) then Some (record { shape = None; variable = v.variable }) else None)) (pure_kept set value is.0)
       where
         written : Option Own → Made Out
         written o = elim o as (λ _. Made Out) [
@@ -111,7 +111,7 @@ module _ (g : Setting) (alive : Variable → Type 0) (n : ℕ) where
 
     bits_are : (kind_of value ≡ None) → operator_bits operator None value ≡ 32
     unfolding operator_bits folded_bits
-    bits_are none = ap (λ (k : Bool). if k then 32 else fold_bits operator value) (pure_kept set value is) ∙ ap (λ (k : Option Elem). folded_bits (fold_by operator value) k) none
+    bits_are none = ap (λ (k : Bool). if k then 32 else fold_bits operator value) (pure_kept set value is.0) ∙ ap (λ (k : Option Elem). folded_bits (fold_by operator value) k) none
 
     -- the code of the value, and what is behind it
     code_is : (d : Draft) → effect_of g.typed (layout g) whole d ≡ then_make (next_of g.typed (layout g) 32 true value (with_reg d)) (λ out after. behind d out after)
@@ -119,7 +119,7 @@ module _ (g : Setting) (alive : Variable → Type 0) (n : ℕ) where
     code_is d =
         as_value d ∙ assign_code g alive n target v ty place (assignment_of reduction) p q value ty.elem.bits d
         ∙ ap (λ (m : Option Op). lowest ty.elem.bits (assigned_by g.typed (layout g) whole (bits_by m) m place bare_one value None (spot_of g.typed (layout g) bare_one) (λ b. value_of g.typed (layout g) (bits_by m) value b) d)) (operator_is reduction)
-        ∙ ap (λ (b : ℕ). made b (is_kept value)) (bits_are (pure_kind set value is)) ∙ ap (λ (k : Bool). made 32 k) (pure_kept set value is)
+        ∙ ap (λ (b : ℕ). made b (is_kept value)) (bits_are is.1) ∙ ap (λ (k : Bool). made 32 k) (pure_kept set value is.0)
         ∙ lowest_inside ty.elem.bits (next_of g.typed (layout g) 32 true value (with_reg d)) (λ out after. register_folded g.typed (layout g) whole bare_one d.regs (S.Register own) out after)
       where
         bare_one : TExpr
@@ -141,14 +141,14 @@ module _ (g : Setting) (alive : Variable → Type 0) (n : ℕ) where
       info = variable_info known.word (plain (type_of target)) known.start
 
       abbrev stored_in : Field → Draft → Draft
-      stored_in f e = stored_behind g alive has d free v.variable info v.living (known.named, v.scalar) reduction (type_of value).elem (pure_type set value is).1 d.regs f e
+      stored_in f e = stored_behind g alive has d free v.variable info v.living (known.named, v.scalar) reduction (type_of value).elem (whole_type set value is).1 d.regs f e
 
       -- behind a value in a field it is folded and stored
       field_made : (f : Field) (e : Draft) → behind d (O.Field f) e ≡ Makes (O.Scalar d.regs) (stored_in f e)
       unfolding lowest shortened register_folded a_register then_make loaded in_register communicated assigned_in folded_onto part_field part_register from in_field out-TExpr Carrier.out with_fold with_sign folded_kind stored_at put_value
       field_made f e =
-          ap (λ (m : Option Op). made m (kind_of value) (is_signed (type_of value).elem)) (operator_is reduction) ∙ ap (λ (k : Option Elem). made (Some operator) k (is_signed (type_of value).elem)) (pure_kind set value is)
-          ∙ ap (λ (signed : Bool). made (Some operator) None signed) (wide_signed (type_of value).elem (pure_type set value is).1)
+          ap (λ (m : Option Op). made m (kind_of value) (is_signed (type_of value).elem)) (operator_is reduction) ∙ ap (λ (k : Option Elem). made (Some operator) k (is_signed (type_of value).elem)) (is.1)
+          ∙ ap (λ (signed : Bool). made (Some operator) None signed) (wide_signed (type_of value).elem (whole_type set value is).1)
         where
           made : Option Op → Option Elem → Bool → Made Out
           made m k signed =
@@ -159,7 +159,7 @@ module _ (g : Setting) (alive : Variable → Type 0) (n : ℕ) where
 
       behind_grows : (out : Out) (e : Draft) → Extends g e (behind d out e)
       unfolding Extends lowest register_folded a_register then_make loaded in_register communicated assigned_in folded_onto part_field from in_field out-TExpr Carrier.out
-      behind_grows (O.Field f) e = subst (λ (m : Made Out). Extends g e m) (sym (field_made f e)) (stored_more g alive has d free v.variable info v.living (known.named, v.scalar) reduction (type_of value).elem (pure_type set value is).1 d.regs f e)
+      behind_grows (O.Field f) e = subst (λ (m : Made Out). Extends g e m) (sym (field_made f e)) (stored_more g alive has d free v.variable info v.living (known.named, v.scalar) reduction (type_of value).elem (whole_type set value is).1 d.regs f e)
       behind_grows (O.Scalar r) e = tt
       behind_grows O.Nothing e = tt
 
@@ -178,8 +178,8 @@ module _ (g : Setting) (alive : Variable → Type 0) (n : ℕ) where
             (λ out e h. after_same g R (ap (λ (o : Out). behind d o e) h.1.0 ∙ field_made h.0 e) (made_after g R (O.Scalar d.regs) (stored_in h.0 e) (λ within.
             let gives = h.1.1 in
             let regs = gives.passes.grown.1.regs in
-            folds_onto g alive has d free v.variable info v.living (known.named, v.scalar) reduction (type_of value).elem (pure_type set value is).1 d.regs h.0 places fields set (λ x. value_in (extents g set) st value x) e s st (stored_over (scope.extents set))
-            (λ exists. ap stored_over (sym (same_extents set exists))) (omega arith) (omega (arith, regs)) (gives_from g alive (length d.fields) d (with_reg d) e s set st (λ x. value_in (extents g set) st value x) h.0 (and_register d) gives) within))))
+            folds_onto g alive has d free v.variable info v.living (known.named, v.scalar) reduction (type_of value).elem (whole_type set value is).1 d.regs h.0 places fields set (λ x. value_in (extents g set) st value x) e s st (stored_over (scope.extents set))
+            (λ exists. ap stored_over (sym (same_extents set exists))) (omega arith) (omega (arith, regs)) (gives_from g alive 32 (length d.fields) d (with_reg d) e s set st (λ x. value_in (extents g set) st value x) h.0 (and_register d) gives) within))))
           where
             R : Out → Draft → Type 0
             R out f = LeavesScalars g alive d s st left f
@@ -188,8 +188,8 @@ module _ (g : Setting) (alive : Variable → Type 0) (n : ℕ) where
         unfolding then_do positions
         means_it same c =
             assign_means g alive n target v ty place (assignment_of reduction) p q value same scope fields.active st
-            ∙ ap (λ (o : Outcome Value). then_do o (λ w after. assigned scope fields.active place (assignment_of reduction) (scalar_type (type_of target).elem) (type_of value) (OfScalar v.variable) w after)) (pure_means scope fields.active g.typed g.instance n set value st is (are_grids g scope places same_extents set) c.code.names c.extents)
-            ∙ onto_means scope fields.active place reduction (type_of target).elem (type_of value) set v.variable (λ x. value_in (scope.extents set) st value x) st (pure_type set value is).0
+            ∙ ap (λ (o : Outcome Value). then_do o (λ w after. assigned scope fields.active place (assignment_of reduction) (scalar_type (type_of target).elem) (type_of value) (OfScalar v.variable) w after)) (pure_means scope fields.active g.typed g.instance n set value st is.0 (are_grids g scope places same_extents set) c.code.names c.extents)
+            ∙ onto_means scope fields.active place reduction (type_of target).elem (type_of value) set v.variable (λ x. value_in (scope.extents set) st value x) st (whole_type set value is).0
 
   module _ (has : HasRegisters g) (scope : Scope) (places : PlacesFields g) (fields : HoldsTheFields g) (stand : OperandsStand g alive n) (same_extents : SameExtents g scope) where
     -- it gives something in the source, and its code leaves the state behind it

@@ -1,8 +1,6 @@
 -- The steps of a get by NEWS: each moves numbers that a field has at every position, active or not, one way along an axis.
-use Rattle.std.proofs.Common.{◌≡◌, ◌∙◌, ℕ, suc, ◌+◌, ◌%◌, ◌<◌, ◌≤◌, ◌^◌, ◌==◌, ◌&&◌, Bool, true, false, not, List, [], ◌∷◌, length, refl, sym, ap, subst, arith, if◌then◌else◌}
-use Rattle.std.specs.Prelude.{nat_lt}
+use Rattle.std.proofs.Common.{◌≡◌, ◌∙◌, ℕ, suc, ◌+◌, ◌%◌, ◌<◌, ◌≤◌, ◌^◌, ◌==◌, ◌&&◌, Bool, true, false, not, List, [], ◌∷◌, length, refl, sym, ap, subst, arith, if◌then◌else◌, ◌⊎◌, inl, inr}
 use Rattle.std.proofs.lemmas.Bool.Decides.{nat_tests}
-use Rattle.std.proofs.Math.Nat.{mod-eq_of_lt}
 use Rattle.cstar_base.specs.declared.elem.Elem.{Elem}
 use Rattle.cstar_base.specs.Numbers.{number_of}
 use Rattle.cstar_tree.specs.declared.typed.Variable.{Variable}
@@ -10,6 +8,7 @@ use Rattle.code_lengths.specs.Growth.{Extended}
 use Rattle.code_lengths.proofs.Drafting.{extended}
 use Rattle.lower_base.specs.Drafts.{Draft, Plain, step as step_of, with_instr}
 use Rattle.lower_comm.specs.declared.gets.Hop.{Hop}
+use Rattle.lower_expr.specs.Kinds.{has_number}
 use Rattle.lower_comm.specs.Messages.{hopped, is_extended, stepwise, with_hop}
 use Rattle.paris_code.specs.declared.instr.Instr.{Instr}
 use Rattle.paris_code.specs.declared.instr.Instr.TheVariants as I
@@ -26,30 +25,31 @@ use Rattle.paris_code.specs.Shapes.{bits_at}
 use Rattle.paris_code.specs.Spans.{IsNamedAt, StandsAt}
 use Rattle.paris_code.specs.Writes.{Write, written}
 use Rattle.phase_meaning.proofs.Alike.{shifted_below}
+use Rattle.phase_meaning.proofs.Widths.{cut_cut}
 use Rattle.source_meaning.specs.State.{State}
 use Rattle.vp_sets.specs.Positions.{are_positive, shifted}
 use Rattle.code_follows.proofs.Following.{Sim}
 use Rattle.code_follows.proofs.Settings.{At, Setting, Within, and_one, at_next, begins_here, code_more, earlier, one_writes, placed_instr}
-use Rattle.fields_follow.proofs.Bits.{active_apart, field_apart, field_written}
+use Rattle.fields_follow.proofs.Bits.{active_apart, bits_written, field_apart, field_written}
 use Rattle.fields_follow.proofs.Fields.{HoldsFields}
 use Rattle.fields_follow.proofs.FileFields.{apart_back}
-use Rattle.fields_follow.proofs.Instructions.{HasNumbers, Puts, extents, number_in, place, puts_move, shapes, wrote}
+use Rattle.fields_follow.proofs.Instructions.{HasNumbers, Puts, extents, number_in, place, puts_extended, puts_move, shapes, wrote}
 use Rattle.fields_follow.proofs.Passing.{Passes, names_second, passes_all, passes_on}
 use Rattle.fields_follow.proofs.Places.{HoldsTheFields, IsOwnField, PlacesFields, names_first, of_file, stands_here}
 use Rattle.fields_follow.proofs.Writing.{with_memory}
 
 module _ (g : Setting) where
-  -- a field of 32 bits of a set has these numbers at every position
-  pub record HasEverywhere (set : ℕ) (f : Field) (s : CodeState) (v : ℕ → ℕ) : Type 0 where
+  -- a field of so many bits of a set has the lowest bits of these words at every position
+  pub record HasEverywhere (bits set : ℕ) (f : Field) (s : CodeState) (v : ℕ → ℕ) : Type 0 where
     pub of_set : f.set ≡ set
     pub exists : set < length (shapes g)
-    pub len : f.len ≡ 32
-    pub are : (p : ℕ) → p < processors (shapes g) set → number_in g f s p ≡ v p
+    pub len : f.len ≡ bits
+    pub are : (p : ℕ) → p < processors (shapes g) set → number_in g f s p ≡ v p % 2 ^ bits
     pub small : (p : ℕ) → p < processors (shapes g) set → v p < 2 ^ 32
 
   -- so it has them where it is active
-  somewhere : (set : ℕ) (f : Field) (s : CodeState) (v : ℕ → ℕ) → HasEverywhere set f s v → HasNumbers g set f s v
-  somewhere set f s v h = record { of_set = h.of_set; exists = h.exists; len = h.len; are = λ p below on. h.are p below; small = λ p below on. h.small p below }
+  somewhere : (bits set : ℕ) (f : Field) (s : CodeState) (v : ℕ → ℕ) → HasEverywhere bits set f s v → HasNumbers g bits set f s v
+  somewhere bits set f s v h = record { of_set = h.of_set; exists = h.exists; len = h.len; are = λ p below on. h.are p below; small = λ p below on. h.small p below }
 
   -- the position that is so many steps away
   abbrev pub neighbour : ℕ → ℕ → ℕ → ℕ → ℕ
@@ -60,16 +60,16 @@ module _ (g : Setting) where
   HasAxis set axis = (are_positive (extents g set) ≡ true) × (axis < length (extents g set))
 
   -- the number of a neighbour, as it is fetched
-  fetched : (set axis k : ℕ) (a : Field) (s : CodeState) (v : ℕ → ℕ) → HasAxis set axis → HasEverywhere set a s v → (p : ℕ) → p < processors (shapes g) set
-      → (of_neighbour (shapes g) s.memory (place g a) axis k p ≡ v (neighbour set axis k p)) × (v (neighbour set axis k p) < 2 ^ 32)
+  fetched : (bits set axis k : ℕ) (a : Field) (s : CodeState) (v : ℕ → ℕ) → HasAxis set axis → HasEverywhere bits set a s v → (p : ℕ) → p < processors (shapes g) set
+      → (of_neighbour (shapes g) s.memory (place g a) axis k p ≡ v (neighbour set axis k p) % 2 ^ bits) × (v (neighbour set axis k p) < 2 ^ 32)
   unfolding of_neighbour
-  fetched set axis k a s v grid h p below =
+  fetched bits set axis k a s v grid h p below =
       let low = shifted_below (extents g set) p axis (number_of 32 true k) grid.0 below grid.1 in
       (ap (λ (n : ℕ). field_number s.memory (place g a) (shifted (extents g n) p axis (number_of 32 true k))) h.of_set ∙ h.are (neighbour set axis k p) low, h.small (neighbour set axis k p) low)
 
-  puts_news : (set axis k : ℕ) (d a : Field) (s : CodeState) (v : ℕ → ℕ) → d.len ≡ 32 → HasAxis set axis → HasEverywhere set a s v → Puts g set (I.GetFromNews d a axis (K.Imm k)) d s (λ p. v (neighbour set axis k p))
+  puts_news : (bits set axis k : ℕ) (d a : Field) (s : CodeState) (v : ℕ → ℕ) → d.len ≡ bits → HasAxis set axis → HasEverywhere bits set a s v → Puts g set (I.GetFromNews d a axis (K.Imm k)) d s (λ p. v (neighbour set axis k p))
   unfolding begun applied after step_of
-  puts_news set axis k d a s v wide grid h = record {
+  puts_news bits set axis k d a s v long grid h = record {
     plain = refl;
     simple = tt;
     others = _;
@@ -78,8 +78,9 @@ module _ (g : Setting) where
     run = refl;
     writes = λ p. refl;
     value = λ p below on.
-        let got = fetched set axis k a s v grid h p below in
-        ap (λ (n : ℕ). of_neighbour (shapes g) s.memory (place g a) axis k p % 2 ^ n) wide ∙ ap (λ (n : ℕ). n % 2 ^ 32) got.0 ∙ mod-eq_of_lt got.1;
+        let got = fetched bits set axis k a s v grid h p below in
+        ap (λ (n : ℕ). n % 2 ^ d.len) got.0 ∙ cut_cut (v (neighbour set axis k p)) d.len bits (omega (arith, long));
+    small = λ p below on. (fetched bits set axis k a s v grid h p below).1;
     goes = refl;
   }
 
@@ -93,6 +94,11 @@ module _ (g : Setting) where
   origin set [] q = q
   origin set (step ∷ steps) q = neighbour set step.axis (konst_number step.step []) (origin set steps q)
 
+  pub origin_below : (set : ℕ) (steps : List GridStep) (q : ℕ) → AreMoves set steps → q < processors (shapes g) set → origin set steps q < processors (shapes g) set
+  unfolding AreMoves origin
+  origin_below set [] q are below = below
+  origin_below set (step ∷ steps) q are below = shifted_below (extents g set) (origin set steps q) step.axis (number_of 32 true (konst_number step.step [])) are.1.0 (origin_below set steps q are.2 below) are.1.1
+
   -- the same numbers at the positions that there are
   pub puts_same : (set : ℕ) (i : Instr) (d : Field) (s : CodeState) (v w : ℕ → ℕ) → ((p : ℕ) → p < processors (shapes g) set → v p ≡ w p) → Puts g set i d s v → Puts g set i d s w
   puts_same set i d s v w same h = record {
@@ -103,7 +109,8 @@ module _ (g : Setting) where
     write = h.write;
     run = h.run;
     writes = h.writes;
-    value = λ p below on. h.value p below on ∙ same p below;
+    value = λ p below on. h.value p below on ∙ ap (λ (n : ℕ). n % 2 ^ d.len) (same p below);
+    small = λ p below on. subst (λ (n : ℕ). n < 2 ^ 32) (same p below) (h.small p below on);
     goes = h.goes;
   }
 
@@ -120,11 +127,11 @@ module _ (g : Setting) where
     unfolding step_of
     hop_plain axis k d a = refl
 
-    hop_passes : (bound set axis k : ℕ) (d a : Field) (e : Draft) (s : CodeState) (st : State) (v : ℕ → ℕ) → bound ≤ d.offset → IsOwnField g d → d.set ≡ set → d.len ≡ 32 → HasAxis set axis → HasEverywhere set a s v
+    hop_passes : (bits bound set axis k : ℕ) (d a : Field) (e : Draft) (s : CodeState) (st : State) (v : ℕ → ℕ) → bound ≤ d.offset → IsOwnField g d → d.set ≡ set → d.len ≡ bits → HasAxis set axis → HasEverywhere bits set a s v
         → Within g (with_instr (hop_instr axis k d a) e) → IsNamedAt g.unit d.offset (length (with_instr (hop_instr axis k d a) e).code) → At g s (length e.code) → Sim g alive st s
-        → (p : Passes g alive bound e (with_instr (hop_instr axis k d a) e) s st (Unit {0})) × HasEverywhere set d p.t (λ q. v (neighbour set axis k q))
+        → (p : Passes g alive bound e (with_instr (hop_instr axis k d a) e) s st (Unit {0})) × HasEverywhere bits set d p.t (λ q. v (neighbour set axis k q))
     unfolding written
-    hop_passes bound set axis k d a e s st v newer own of_set wide grid h within again here sim = (
+    hop_passes bits bound set axis k d a e s st v newer own of_set long_d grid h within again here sim = (
       record {
         grown = (1, and_one g i e);
         t = wrote g w s;
@@ -136,6 +143,7 @@ module _ (g : Setting) where
           small = was.small;
           flags = λ q p exists below. active_apart (shapes g) w s.memory q p ends.1 ∙ was.flags q p exists below;
           winner = was.winner;
+          bits = bits_written (shapes g) w s.memory was.bits;
         }) sim;
         stays = λ used f first last p below is_own before low after high.
             field_apart w s.memory (place g f) p
@@ -144,11 +152,11 @@ module _ (g : Setting) where
       record {
         of_set = of_set;
         exists = h.exists;
-        len = wide;
+        len = long_d;
         are = λ p below.
-            let got = fetched set axis k a s v grid h p below in
-            field_written w s.memory p refl ∙ ap (λ (n : ℕ). of_neighbour (shapes g) s.memory (place g a) axis k p % 2 ^ n) wide ∙ ap (λ (n : ℕ). n % 2 ^ 32) got.0 ∙ mod-eq_of_lt got.1;
-        small = λ p below. (fetched set axis k a s v grid h p below).1;
+            let got = fetched bits set axis k a s v grid h p below in
+            field_written w s.memory p refl ∙ ap (λ (n : ℕ). of_neighbour (shapes g) s.memory (place g a) axis k p % 2 ^ n) long_d ∙ ap (λ (n : ℕ). n % 2 ^ bits) got.0 ∙ cut_cut (v (neighbour set axis k p)) bits bits (omega arith);
+        small = λ p below. (fetched bits set axis k a s v grid h p below).1;
       },
     )
       where
@@ -171,26 +179,32 @@ module _ (g : Setting) where
         was = fields.opens st s.memory sim.memory
 
     -- a fresh field of the set
-    abbrev IsFresh : ℕ → ℕ → Field → Type 0
-    IsFresh bound set f = (bound ≤ f.offset) × IsOwnField g f × (f.set ≡ set) × (f.len ≡ 32)
+    abbrev IsFresh : ℕ → ℕ → ℕ → Field → Type 0
+    IsFresh bits bound set f = (bound ≤ f.offset) × IsOwnField g f × (f.set ≡ set) × (f.len ≡ bits)
 
-    hop_by : (bound set axis k : ℕ) (c : Konst) (d a : Field) (e : Draft) (s : CodeState) (st : State) (v : ℕ → ℕ) → c ≡ K.Imm k → IsFresh bound set d → HasAxis set axis → HasEverywhere set a s v
+    hop_by : (bits bound set axis k : ℕ) (c : Konst) (d a : Field) (e : Draft) (s : CodeState) (st : State) (v : ℕ → ℕ) → c ≡ K.Imm k → IsFresh bits bound set d → HasAxis set axis → HasEverywhere bits set a s v
         → Within g (with_instr (I.GetFromNewsAlways d a axis c) e) → IsNamedAt g.unit d.offset (length (with_instr (I.GetFromNewsAlways d a axis c) e).code) → At g s (length e.code) → Sim g alive st s
-        → (p : Passes g alive bound e (with_instr (I.GetFromNewsAlways d a axis c) e) s st (Unit {0})) × HasEverywhere set d p.t (λ q. v (neighbour set axis (konst_number c []) q))
-    hop_by bound set axis k c d a e s st v is fresh grid h within again here sim =
+        → (p : Passes g alive bound e (with_instr (I.GetFromNewsAlways d a axis c) e) s st (Unit {0})) × HasEverywhere bits set d p.t (λ q. v (neighbour set axis (konst_number c []) q))
+    hop_by bits bound set axis k c d a e s st v is fresh grid h within again here sim =
         subst
         (λ (c : Konst). Within g (with_instr (I.GetFromNewsAlways d a axis c) e) → IsNamedAt g.unit d.offset (length (with_instr (I.GetFromNewsAlways d a axis c) e).code)
-        → (p : Passes g alive bound e (with_instr (I.GetFromNewsAlways d a axis c) e) s st (Unit {0})) × HasEverywhere set d p.t (λ q. v (neighbour set axis (konst_number c []) q)))
-        (sym is) (λ within again. hop_passes bound set axis k d a e s st v fresh.0 fresh.1 fresh.2 fresh.3 grid h within again here sim) within again
+        → (p : Passes g alive bound e (with_instr (I.GetFromNewsAlways d a axis c) e) s st (Unit {0})) × HasEverywhere bits set d p.t (λ q. v (neighbour set axis (konst_number c []) q)))
+        (sym is) (λ within again. hop_passes bits bound set axis k d a e s st v fresh.0 fresh.1 fresh.2 fresh.3 grid h within again here sim) within again
 
-    not_extended : (elem : Elem) (dest : Field) → elem.bits ≡ 32 → dest.len ≡ 32 → not (is_extended elem dest) ≡ true
-    unfolding is_extended
-    not_extended elem dest word wide = ap (λ (n : ℕ). not (nat_lt n dest.len)) word ∙ ap (λ (n : ℕ). not (nat_lt 32 n)) wide
+    -- where the destination has no more bits than what is read, the last step goes there itself; else the type of the
+    -- variable has the words, and they are extended
+    abbrev pub Reads : Elem → Field → ℕ → Type 0
+    Reads elem dest bits = ((is_extended elem dest ≡ false) × (dest.len ≡ bits)) ⊎ ((is_extended elem dest ≡ true) × (elem.bits ≡ bits) × (dest.len ≤ 32))
 
-    last_step : (elem : Elem) (dest : Field) (step : GridStep) (hop : Hop) (d : Draft) → elem.bits ≡ 32 → dest.len ≡ 32 → stepwise elem dest (step ∷ []) hop d ≡ with_instr (I.GetFromNews dest hop.source step.axis step.step) d
+    last_step : (elem : Elem) (dest : Field) (step : GridStep) (hop : Hop) (d : Draft) → is_extended elem dest ≡ false → stepwise elem dest (step ∷ []) hop d ≡ with_instr (I.GetFromNews dest hop.source step.axis step.step) d
     unfolding stepwise
-    last_step elem dest step hop d word wide =
-        ap (λ (b : Bool). if b then with_instr (I.GetFromNews dest hop.source step.axis step.step) d else with_instr (I.Move elem.signed dest (hopped hop).source) (with_hop step hop d)) (not_extended elem dest word wide)
+    last_step elem dest step hop d enough =
+        ap (λ (b : Bool). if not b then with_instr (I.GetFromNews dest hop.source step.axis step.step) d else with_instr (I.Move elem.signed dest (hopped hop).source) (with_hop step hop d)) enough
+
+    one_step : (elem : Elem) (dest : Field) (step : GridStep) (hop : Hop) (d : Draft) → is_extended elem dest ≡ true → stepwise elem dest (step ∷ []) hop d ≡ stepwise elem dest [] (hopped hop) (with_hop step hop d)
+    unfolding stepwise
+    one_step elem dest step hop d more =
+        ap (λ (b : Bool). if not b then with_instr (I.GetFromNews dest hop.source step.axis step.step) d else with_instr (I.Move elem.signed dest (hopped hop).source) (with_hop step hop d)) more
 
     next_step : (elem : Elem) (dest : Field) (step next : GridStep) (steps : List GridStep) (hop : Hop) (d : Draft) → stepwise elem dest (step ∷ (next ∷ steps)) hop d ≡ stepwise elem dest (next ∷ steps) (hopped hop) (with_hop step hop d)
     unfolding stepwise
@@ -200,42 +214,73 @@ module _ (g : Setting) where
         some : (n : ℕ) → (suc n == 0) ≡ false
         some n = grind (arith, nat_tests)
 
-    module _ (elem : Elem) (dest : Field) (word : elem.bits ≡ 32) (wide : dest.len ≡ 32) where
+    module _ (elem : Elem) (dest : Field) (bits : ℕ) (reads : Reads elem dest bits) where
+      -- a step goes to the destination, as the last one, or on
+      abbrev GoesOn : GridStep → List GridStep → Type 0
+      GoesOn step steps = (hop : Hop) (d : Draft) → stepwise elem dest (step ∷ steps) hop d ≡ stepwise elem dest steps (hopped hop) (with_hop step hop d)
+
+      on_or_last : (step : GridStep) (steps : List GridStep) → GoesOn step steps ⊎ ((steps ≡ []) × (is_extended elem dest ≡ false) × (dest.len ≡ bits))
+      on_or_last step [] = by reads
+        where
+          by : Reads elem dest bits → GoesOn step [] ⊎ (◌≡◌ {A = List GridStep} [] [] × (is_extended elem dest ≡ false) × (dest.len ≡ bits))
+          by (inl h) = inr (refl, h.0, h.1)
+          by (inr h) = inl (λ hop d. one_step elem dest step hop d h.0)
+      on_or_last step (next ∷ steps) = inl (λ hop d. next_step elem dest step next steps hop d)
+
       pub steps_extend : (steps : List GridStep) (hop : Hop) (d : Draft) → (n : ℕ) × Extended d n (stepwise elem dest steps hop d)
       unfolding stepwise with_hop
       steps_extend [] hop d = (1, and_one g _ d)
-      steps_extend (step ∷ []) hop d = subst (λ (e : Draft). (n : ℕ) × Extended d n e) (sym (last_step elem dest step hop d word wide)) (1, and_one g _ d)
-      steps_extend (step ∷ (next ∷ steps)) hop d =
-          let rest = steps_extend (next ∷ steps) (hopped hop) (with_hop step hop d) in
-          subst (λ (e : Draft). (n : ℕ) × Extended d n e) (sym (next_step elem dest step next steps hop d)) (1 + rest.0, extended d (with_hop step hop d) _ 1 rest.0 (and_one g _ d) rest.1)
+      steps_extend (step ∷ steps) hop d = by (on_or_last step steps) (steps_extend steps (hopped hop) (with_hop step hop d))
+        where
+          by : GoesOn step steps ⊎ ((steps ≡ []) × (is_extended elem dest ≡ false) × (dest.len ≡ bits)) → (n : ℕ) × Extended (with_hop step hop d) n (stepwise elem dest steps (hopped hop) (with_hop step hop d)) → (n : ℕ) × Extended d n (stepwise elem dest (step ∷ steps) hop d)
+          by (inl on) rest = subst (λ (e : Draft). (n : ℕ) × Extended d n e) (sym (on hop d)) (1 + rest.0, extended d (with_hop step hop d) _ 1 rest.0 (and_one g _ d) rest.1)
+          by (inr last) rest =
+              subst (λ (xs : List GridStep). (n : ℕ) × Extended d n (stepwise elem dest (step ∷ xs) hop d)) (sym last.0) (subst (λ (e : Draft). (n : ℕ) × Extended d n e) (sym (last_step elem dest step hop d last.1)) (1, and_one g _ d))
 
       -- the first instruction names the source
       names_source : (steps : List GridStep) (hop : Hop) (d : Draft) → Within g (stepwise elem dest steps hop d) → IsNamedAt g.unit hop.source.offset (length d.code)
       unfolding stepwise with_hop step_of
       names_source [] hop d within = names_second g _ dest hop.source [] (length d.code) (stands_here g (I.Move elem.signed dest hop.source) d within refl) refl
-      names_source (step ∷ []) hop d within =
-          names_second g _ dest hop.source [] (length d.code) (stands_here g (I.GetFromNews dest hop.source step.axis step.step) d (subst (λ (e : Draft). Within g e) (last_step elem dest step hop d word wide) within) refl) refl
-      names_source (step ∷ (next ∷ steps)) hop d within =
-          let rest = steps_extend (next ∷ steps) (hopped hop) (with_hop step hop d) in
-          let first : Within g (with_hop step hop d) = earlier g _ _ rest.0 rest.1 (subst (λ (e : Draft). Within g e) (next_step elem dest step next steps hop d) within) in
-          names_second g _ hop.next hop.source [] (length d.code) (stands_here g (I.GetFromNewsAlways hop.next hop.source step.axis step.step) d first refl) refl
+      names_source (step ∷ steps) hop d within = by (on_or_last step steps)
+        where
+          by : GoesOn step steps ⊎ ((steps ≡ []) × (is_extended elem dest ≡ false) × (dest.len ≡ bits)) → IsNamedAt g.unit hop.source.offset (length d.code)
+          by (inl on) =
+              let rest = steps_extend steps (hopped hop) (with_hop step hop d) in
+              let first : Within g (with_hop step hop d) = earlier g _ _ rest.0 rest.1 (subst (λ (e : Draft). Within g e) (on hop d) within) in
+              names_second g _ hop.next hop.source [] (length d.code) (stands_here g (I.GetFromNewsAlways hop.next hop.source step.axis step.step) d first refl) refl
+          by (inr last) =
+              names_second g _ dest hop.source [] (length d.code)
+              (stands_here g (I.GetFromNews dest hop.source step.axis step.step) d (subst (λ (e : Draft). Within g e) (ap (λ (xs : List GridStep). stepwise elem dest (step ∷ xs) hop d) last.0 ∙ last_step elem dest step hop d last.1) within) refl) refl
 
       -- the last instruction puts the numbers in the destination
       abbrev pub MovesLast : ℕ → ℕ → List GridStep → Hop → (ℕ → ℕ) → Draft → CodeState → State → Type 0
       MovesLast bound set steps hop v d s st = (e2 : Draft) × ((i : Instr) × ((stepwise elem dest steps hop d ≡ with_instr i e2) × ((p : Passes g alive bound d e2 s st (Unit {0})) × Puts g set i dest p.t (λ q. v (origin set steps q)))))
 
-      pub moves_last : (bound set : ℕ) (steps : List GridStep) (hop : Hop) (v : ℕ → ℕ) (d : Draft) (s : CodeState) (st : State) → AreMoves set steps → IsFresh bound set hop.next → IsFresh bound set hop.spare → HasEverywhere set hop.source s v
+      -- of words that the type of the variable has
+      abbrev pub OfType : ℕ → (ℕ → ℕ) → Type 0
+      OfType set v = (q : ℕ) → q < processors (shapes g) set → has_number elem (v q) ≡ true
+
+      pub moves_last : (bound set : ℕ) (steps : List GridStep) (hop : Hop) (v : ℕ → ℕ) (d : Draft) (s : CodeState) (st : State) → AreMoves set steps → OfType set v → IsFresh bits bound set hop.next → IsFresh bits bound set hop.spare → HasEverywhere bits set hop.source s v
           → Within g (stepwise elem dest steps hop d) → At g s (length d.code) → Sim g alive st s → MovesLast bound set steps hop v d s st
       unfolding AreMoves origin stepwise with_hop hopped passes_on
-      moves_last bound set [] hop v d s st are fresh spare h within here sim =
-          (d, (I.Move elem.signed dest hop.source, (refl, (passes_all g alive bound d s st (Unit {0}) here sim, puts_move g set elem.signed dest hop.source s v wide (somewhere set hop.source s v h)))))
-      moves_last bound set (step ∷ []) hop v d s st are fresh spare h within here sim = by step.step are.0.1
+      moves_last bound set [] hop v d s st are of_type fresh spare h within here sim = by reads
         where
-          by : (c : Konst) → c ≡ K.Imm are.0.0 → MovesLast bound set (step ∷ []) hop v d s st
-          by c is = (d, (I.GetFromNews dest hop.source step.axis step.step, (last_step elem dest step hop d word wide, (passes_all g alive bound d s st (Unit {0}) here sim, subst (λ (c : Konst). Puts g set (I.GetFromNews dest hop.source step.axis c) dest s (λ q. v (neighbour set step.axis (konst_number c []) q))) (sym are.0.1) (puts_news set step.axis are.0.0 dest hop.source s v wide are.1 h)))))
-      moves_last bound set (step ∷ (next ∷ steps)) hop v d s st are fresh spare h within here sim =
-          let rest = steps_extend (next ∷ steps) (hopped hop) (with_hop step hop d) in
-          let later : Within g (stepwise elem dest (next ∷ steps) (hopped hop) (with_hop step hop d)) = subst (λ (e : Draft). Within g e) (next_step elem dest step next steps hop d) within in
-          let (first, moved) = hop_by bound set step.axis are.0.0 step.step hop.next hop.source d s st v are.0.1 fresh are.1 h (earlier g _ _ rest.0 rest.1 later) (names_source (next ∷ steps) (hopped hop) (with_hop step hop d) later) here sim in
-          let (e2, (i, (same, (passes, puts)))) = moves_last bound set (next ∷ steps) (hopped hop) (λ q. v (neighbour set step.axis (konst_number step.step []) q)) (with_hop step hop d) first.t st are.2 spare fresh moved later first.at first.sim in
-          (e2, (i, (◌∙◌ {b = stepwise elem dest (next ∷ steps) (hopped hop) (with_hop step hop d)} {c = with_instr i e2} (next_step elem dest step next steps hop d) same, (passes_on g alive bound bound d (with_hop step hop d) e2 s st (Unit {0}) (Unit {0}) (Unit {0}) (omega arith) first passes (λ used. tt) (λ used. tt), puts))))
+          by : Reads elem dest bits → MovesLast bound set [] hop v d s st
+          by (inl enough) = (d, (I.Move elem.signed dest hop.source, (refl, (passes_all g alive bound d s st (Unit {0}) here sim, puts_move g bits set elem.signed dest hop.source s v enough.1 (somewhere bits set hop.source s v h)))))
+          by (inr more) = (d, (I.Move elem.signed dest hop.source, (refl, (passes_all g alive bound d s st (Unit {0}) here sim, puts_extended g elem set dest hop.source s v more.2 (λ p below on. of_type p below) (subst (λ (n : ℕ). HasNumbers g n set hop.source s v) (sym more.1) (somewhere bits set hop.source s v h))))))
+      moves_last bound set (step ∷ steps) hop v d s st are of_type fresh spare h within here sim = by (on_or_last step steps) (λ u of_u next e t fresh spare h within here sim. moves_last bound set steps next u e t st are.2 of_u fresh spare h within here sim)
+        where
+          by : GoesOn step steps ⊎ ((steps ≡ []) × (is_extended elem dest ≡ false) × (dest.len ≡ bits))
+              → ((u : ℕ → ℕ) → OfType set u → (next : Hop) (e : Draft) (t : CodeState) → IsFresh bits bound set next.next → IsFresh bits bound set next.spare → HasEverywhere bits set next.source t u → Within g (stepwise elem dest steps next e) → At g t (length e.code) → Sim g alive st t → MovesLast bound set steps next u e t st)
+              → MovesLast bound set (step ∷ steps) hop v d s st
+          by (inl on) go =
+              let rest = steps_extend steps (hopped hop) (with_hop step hop d) in
+              let later : Within g (stepwise elem dest steps (hopped hop) (with_hop step hop d)) = subst (λ (e : Draft). Within g e) (on hop d) within in
+              let (first, moved) = hop_by bits bound set step.axis are.0.0 step.step hop.next hop.source d s st v are.0.1 fresh are.1 h (earlier g _ _ rest.0 rest.1 later) (names_source steps (hopped hop) (with_hop step hop d) later) here sim in
+              let still_of_type : OfType set (λ q. v (neighbour set step.axis (konst_number step.step []) q)) = λ q below. of_type (neighbour set step.axis (konst_number step.step []) q) (shifted_below (extents g set) q step.axis (number_of 32 true (konst_number step.step [])) are.1.0 below are.1.1) in
+              let (e2, (i, (same, (passes, puts)))) = go (λ q. v (neighbour set step.axis (konst_number step.step []) q)) still_of_type (hopped hop) (with_hop step hop d) first.t spare fresh moved later first.at first.sim in
+              (e2, (i, (◌∙◌ {b = stepwise elem dest steps (hopped hop) (with_hop step hop d)} {c = with_instr i e2} (on hop d) same, (passes_on g alive bound bound d (with_hop step hop d) e2 s st (Unit {0}) (Unit {0}) (Unit {0}) (omega arith) first passes (λ used. tt) (λ used. tt), puts))))
+          by (inr last) go = subst (λ (xs : List GridStep). MovesLast bound set (step ∷ xs) hop v d s st) (sym last.0) (ends step.step are.0.1)
+            where
+              ends : (c : Konst) → c ≡ K.Imm are.0.0 → MovesLast bound set (step ∷ []) hop v d s st
+              ends c is = (d, (I.GetFromNews dest hop.source step.axis step.step, (last_step elem dest step hop d last.1, (passes_all g alive bound d s st (Unit {0}) here sim, subst (λ (c : Konst). Puts g set (I.GetFromNews dest hop.source step.axis c) dest s (λ q. v (neighbour set step.axis (konst_number c []) q))) (sym are.0.1) (puts_news bits set step.axis are.0.0 dest hop.source s v last.2 are.1 h)))))

@@ -1,8 +1,10 @@
--- What one instruction on fields of 32 bits does: its destination takes a number at each active position.
-use Rattle.std.proofs.Common.{◌≡◌, ◌∙◌, ℕ, ◌+◌, ◌-◌, ◌%◌, ◌<◌, ◌^◌, Bool, true, false, not, List, [], ◌∷◌, ◌==◌, length, slice_index, Some, None, if◌then◌else◌, refl, ap, subst, sym, arith}
+-- What one instruction on fields does: its destination takes the lowest bits of a word at each active position.
+use Rattle.std.proofs.Common.{◌≡◌, ◌∙◌, ℕ, ◌+◌, ◌-◌, ◌%◌, ◌<◌, ◌≤◌, ◌^◌, Bool, true, false, not, List, [], ◌∷◌, ◌==◌, length, slice_index, Some, None, if◌then◌else◌, refl, ap, subst, sym, arith}
 use Rattle.std.specs.Prelude.{pos, neg_ℤ, unwrap_or}
 use Rattle.std.specs.List.{slice_index_or}
+use Rattle.std.proofs.lemmas.Nat.{mod_below, pow_pos}
 use Rattle.std.proofs.Math.Nat.{mod-eq_of_lt}
+use Rattle.cstar_base.specs.declared.elem.Elem.{Elem}
 use Rattle.cstar_base.specs.declared.operators.Op.{Op}
 use Rattle.cstar_base.specs.declared.operators.Op.TheVariants as P
 use Rattle.cstar_base.specs.Numbers.{number_of, residue}
@@ -13,6 +15,7 @@ use Rattle.constant_trees.proofs.Words.{unary_below}
 use Rattle.lower_base.specs.declared.operators.Machine.TheVariants as M
 use Rattle.lower_base.specs.Drafts.{Plain, step as step_of}
 use Rattle.lower_base.specs.Operators.{machine_of, operation_of, relates}
+use Rattle.lower_expr.specs.Kinds.{has_number}
 use Rattle.paris_code.specs.declared.instr.Instr.{Instr}
 use Rattle.paris_code.specs.declared.instr.Instr.TheVariants as I
 use Rattle.paris_code.specs.declared.operands.Field.{Field}
@@ -28,10 +31,14 @@ use Rattle.paris_code.specs.Scalar.{operated}
 use Rattle.paris_code.specs.Shapes.{SetShape, extents_at, shapes_of}
 use Rattle.paris_code.specs.Spans.{fields_of}
 use Rattle.paris_code.specs.Writes.{Write, written}
+use Rattle.phase_meaning.proofs.Widths.{cut_cut}
+use Rattle.short_values.proofs.LowestBits.{complement, negative}
+use Rattle.short_values.proofs.NarrowTypes.{extended}
 use Rattle.source_meaning.specs.Values.{Scope, unary_of}
 use Rattle.vp_sets.specs.Positions.{coordinate}
-use Rattle.code_follows.proofs.Operators.{by_machine, machine_below, machine_same, minus_same}
+use Rattle.code_follows.proofs.Operators.{by_machine, machine_below, machine_same}
 use Rattle.code_follows.proofs.Settings.{Setting, placed_instr}
+use Rattle.fields_follow.proofs.Lengths.{Keeps}
 use Rattle.fields_follow.proofs.Meaning.{DividesByNoZero}
 use Rattle.fields_follow.proofs.Named.{NamesFields}
 
@@ -81,8 +88,15 @@ operation_same op signed a b operates some few small = by_operation op signed a 
 pub operation_below : (op : Op) (signed : Bool) (a b : ℕ) → (divides op ≡ true → (b == 0) ≡ false) → a < 2 ^ 32 → b < 2 ^ 32 → outcome op 32 (not signed) a b < 2 ^ 32
 operation_below op signed a b some few small = subst (λ (n : ℕ). n < 2 ^ 32) (machine_same a b few small op signed some) (machine_below a b few small (machine_of op signed))
 
-whole : (n : ℕ) → n < 2 ^ 32 → n % 2 ^ 32 ≡ n
+pub whole : (n : ℕ) → n < 2 ^ 32 → n % 2 ^ 32 ≡ n
 whole n few = mod-eq_of_lt {n = n} {m = 2 ^ 32} few
+
+-- at 32 bits it keeps the words
+pub whole_keeps : (op : Op) (signed : Bool) (y : ℕ) → relates op ≡ false → (divides op ≡ true → (y == 0) ≡ false) → Keeps op signed 32 y
+whole_keeps op signed y operates some m n x few small p q =
+    ap (λ (k : ℕ). outcome (operator_of (operation_of op signed)).0 32 (operator_of (operation_of op signed)).1 k n) (p ∙ whole x few)
+    ∙ ap (λ (k : ℕ). outcome (operator_of (operation_of op signed)).0 32 (operator_of (operation_of op signed)).1 x k) (q ∙ whole y small)
+    ∙ operation_same op signed x y operates some few small ∙ sym (whole (outcome op 32 (not signed) x y) (operation_below op signed x y some few small))
 
 module _ (g : Setting) where
   abbrev pub shapes : List SetShape
@@ -106,15 +120,19 @@ module _ (g : Setting) where
   abbrev pub wrote : Write → CodeState → CodeState
   wrote w s = record s { at = s.at + 1; memory = written w s.memory }
 
-  -- a field of 32 bits of a set has these numbers at the active positions
-  pub record HasNumbers (set : ℕ) (f : Field) (s : CodeState) (v : ℕ → ℕ) : Type 0 where
+  -- a field of so many bits of a set has at the active positions the lowest bits of these words
+  pub record HasNumbers (bits set : ℕ) (f : Field) (s : CodeState) (v : ℕ → ℕ) : Type 0 where
     pub of_set : f.set ≡ set
     pub exists : set < length shapes
-    pub len : f.len ≡ 32
-    pub are : (p : ℕ) → p < processors shapes set → is_active shapes s.memory set p ≡ true → number_in f s p ≡ v p
+    pub len : f.len ≡ bits
+    pub are : (p : ℕ) → p < processors shapes set → is_active shapes s.memory set p ≡ true → number_in f s p ≡ v p % 2 ^ bits
     pub small : (p : ℕ) → p < processors shapes set → is_active shapes s.memory set p ≡ true → v p < 2 ^ 32
 
-  -- an instruction by which a field takes these numbers where it is active
+  -- one of 32 bits has the words
+  pub has_words : (set : ℕ) (f : Field) (s : CodeState) (v : ℕ → ℕ) → HasNumbers 32 set f s v → (p : ℕ) → p < processors shapes set → is_active shapes s.memory set p ≡ true → number_in f s p ≡ v p
+  has_words set f s v h p below on = h.are p below on ∙ whole (v p) (h.small p below on)
+
+  -- an instruction by which a field takes the lowest bits of these words where it is active
   pub record Puts (set : ℕ) (i : Instr) (d : Field) (s : CodeState) (v : ℕ → ℕ) : Type 0 where
     pub plain : step_of i ≡ Plain i
     pub simple : NamesFields i
@@ -123,21 +141,29 @@ module _ (g : Setting) where
     pub write : Write
     pub run : write.run ≡ place d
     pub writes : (p : ℕ) → write.writes p ≡ is_active shapes s.memory d.set p
-    pub value : (p : ℕ) → p < processors shapes set → is_active shapes s.memory set p ≡ true → write.value p % 2 ^ d.len ≡ v p
+    pub value : (p : ℕ) → p < processors shapes set → is_active shapes s.memory set p ≡ true → write.value p % 2 ^ d.len ≡ v p % 2 ^ d.len
+    pub small : (p : ℕ) → p < processors shapes set → is_active shapes s.memory set p ≡ true → v p < 2 ^ 32
     pub goes : begun g.image (placed_instr g i) s ≡ Goes (wrote write s)
 
-  -- numbers that are the same where they are words
-  pub has_alike : (set : ℕ) (f : Field) (s : CodeState) (v w : ℕ → ℕ) → ((p : ℕ) → v p < 2 ^ 32 → w p ≡ v p) → HasNumbers set f s v → HasNumbers set f s w
-  has_alike set f s v w alike h = record {
+  -- other words with the same lowest bits
+  abbrev pub AreAlike : ℕ → ℕ → (ℕ → ℕ) → (ℕ → ℕ) → Type 0
+  AreAlike bits set v w = (p : ℕ) → p < processors shapes set → v p < 2 ^ 32 → (w p % 2 ^ bits ≡ v p % 2 ^ bits) × (w p < 2 ^ 32)
+
+  -- as those that are the same have
+  pub alike_same : (bits set : ℕ) (v w : ℕ → ℕ) → ((p : ℕ) → p < processors shapes set → v p < 2 ^ 32 → w p ≡ v p) → AreAlike bits set v w
+  alike_same bits set v w same p below few = let is = same p below few in (ap (λ (n : ℕ). n % 2 ^ bits) is, subst (λ (n : ℕ). n < 2 ^ 32) (sym is) few)
+
+  pub has_alike : (bits set : ℕ) (f : Field) (s : CodeState) (v w : ℕ → ℕ) → AreAlike bits set v w → HasNumbers bits set f s v → HasNumbers bits set f s w
+  has_alike bits set f s v w alike h = record {
     of_set = h.of_set;
     exists = h.exists;
     len = h.len;
-    are = λ p below on. h.are p below on ∙ sym (alike p (h.small p below on));
-    small = λ p below on. subst (λ (n : ℕ). n < 2 ^ 32) (sym (alike p (h.small p below on))) (h.small p below on);
+    are = λ p below on. h.are p below on ∙ sym (alike p below (h.small p below on)).0;
+    small = λ p below on. (alike p below (h.small p below on)).1;
   }
 
-  pub puts_alike : (set : ℕ) (i : Instr) (d : Field) (s : CodeState) (v w : ℕ → ℕ) → d.len ≡ 32 → ((p : ℕ) → v p < 2 ^ 32 → w p ≡ v p) → Puts set i d s v → Puts set i d s w
-  puts_alike set i d s v w wide alike h = record {
+  pub puts_alike : (set : ℕ) (i : Instr) (d : Field) (s : CodeState) (v w : ℕ → ℕ) → AreAlike d.len set v w → Puts set i d s v → Puts set i d s w
+  puts_alike set i d s v w alike h = record {
     plain = h.plain;
     simple = h.simple;
     others = h.others;
@@ -145,16 +171,15 @@ module _ (g : Setting) where
     write = h.write;
     run = h.run;
     writes = h.writes;
-    value = λ p below on. h.value p below on ∙ sym (alike p (subst (λ (n : ℕ). n < 2 ^ 32) (ap (λ (n : ℕ). h.write.value p % 2 ^ n) (sym wide) ∙ h.value p below on) (small (h.write.value p))));
+    value = λ p below on. h.value p below on ∙ sym (alike p below (h.small p below on)).0;
+    small = λ p below on. (alike p below (h.small p below on)).1;
     goes = h.goes;
   }
-    where
-      small : (n : ℕ) → n % 2 ^ 32 < 2 ^ 32
-      small n = omega arith
 
-  pub puts_move : (set : ℕ) (signed : Bool) (d a : Field) (s : CodeState) (v : ℕ → ℕ) → d.len ≡ 32 → HasNumbers set a s v → Puts set (I.Move signed d a) d s v
+  -- a move, of what is residue of the number that a field has
+  moves : (set : ℕ) (signed : Bool) (d a : Field) (s : CodeState) (v : ℕ → ℕ) → ((p : ℕ) → p < processors shapes set → is_active shapes s.memory set p ≡ true → (residue d.len (number_of a.len signed (number_in a s p)) % 2 ^ d.len ≡ v p % 2 ^ d.len) × (v p < 2 ^ 32)) → Puts set (I.Move signed d a) d s v
   unfolding begun applied after step_of whole_number
-  puts_move set signed d a s v wide has = record {
+  moves set signed d a s v moved = record {
     plain = refl;
     simple = tt;
     others = _;
@@ -162,20 +187,38 @@ module _ (g : Setting) where
     write = elementwise shapes (I.Move signed (place d) (place a)) [] s.memory;
     run = refl;
     writes = λ p. refl;
-    value = λ p below on.
-        ap (λ (n : ℕ). residue n (number_of a.len signed (number_in a s p)) % 2 ^ n) wide ∙ ap (λ (n : ℕ). residue 32 (number_of n signed (number_in a s p)) % 2 ^ 32) has.len
-        ∙ ap (λ (w : ℕ). residue 32 (number_of 32 signed w) % 2 ^ 32) (has.are p below on) ∙ ap (λ (w : ℕ). w % 2 ^ 32) (residue_of_number 32 signed (v p) (has.small p below on)) ∙ whole (v p) (has.small p below on);
+    value = λ p below on. (moved p below on).0;
+    small = λ p below on. (moved p below on).1;
     goes = refl;
   }
+
+  -- to a field of as many bits, and to one of more or fewer, where a type has the words that is read so
+  pub puts_move : (bits set : ℕ) (signed : Bool) (d a : Field) (s : CodeState) (v : ℕ → ℕ) → d.len ≡ bits → HasNumbers bits set a s v → Puts set (I.Move signed d a) d s v
+  puts_move bits set signed d a s v long has =
+      moves set signed d a s v (λ p below on. (
+        ap (λ (n : ℕ). residue d.len (number_of n signed (number_in a s p)) % 2 ^ d.len) (has.len ∙ sym long)
+            ∙ ap (λ (w : ℕ). w % 2 ^ d.len) (residue_of_number d.len signed (number_in a s p) (subst (λ (n : ℕ). n < 2 ^ d.len) (sym (has.are p below on ∙ ap (λ (n : ℕ). v p % 2 ^ n) (sym long))) (mod_below (v p) (2 ^ d.len) (pow_pos d.len))) ∙ has.are p below on ∙ ap (λ (n : ℕ). v p % 2 ^ n) (sym long))
+            ∙ cut_cut (v p) d.len d.len (omega arith),
+        has.small p below on,
+      ))
+
+  pub puts_extended : (kind : Elem) (set : ℕ) (d a : Field) (s : CodeState) (v : ℕ → ℕ) → d.len ≤ 32 → ((p : ℕ) → p < processors shapes set → is_active shapes s.memory set p ≡ true → has_number kind (v p) ≡ true) → HasNumbers kind.bits set a s v → Puts set (I.Move kind.signed d a) d s v
+  puts_extended kind set d a s v most of_kind has =
+      moves set kind.signed d a s v (λ p below on. (
+        ap (λ (n : ℕ). residue d.len (number_of n kind.signed (number_in a s p)) % 2 ^ d.len) has.len
+            ∙ ap (λ (w : ℕ). w % 2 ^ d.len) (extended kind d.len (number_in a s p) (v p) most (of_kind p below on) (has.are p below on))
+            ∙ cut_cut (v p) d.len d.len (omega arith),
+        has.small p below on,
+      ))
 
   -- a word that is given, or that stands in a register
   unfoldable pub word_in : Konst → CodeState → ℕ
   word_in (K.Imm w) s = w
   word_in (K.Reg r) s = slice_index s.registers r
 
-  pub puts_constant : (set : ℕ) (d : Field) (k : Konst) (s : CodeState) → d.len ≡ 32 → word_in k s < 2 ^ 32 → Puts set (I.MoveConstant d k) d s (λ p. word_in k s)
+  pub puts_constant : (set : ℕ) (d : Field) (k : Konst) (s : CodeState) → word_in k s < 2 ^ 32 → Puts set (I.MoveConstant d k) d s (λ p. word_in k s)
   unfolding begun applied after step_of word_in
-  puts_constant set d (K.Imm w) s wide few = record {
+  puts_constant set d (K.Imm w) s few = record {
     plain = refl;
     simple = tt;
     others = _;
@@ -183,10 +226,11 @@ module _ (g : Setting) where
     write = elementwise shapes (I.MoveConstant (place d) (K.Imm w)) [] s.memory;
     run = refl;
     writes = λ p. refl;
-    value = λ p below on. ap (λ (n : ℕ). w % 2 ^ n) wide ∙ whole w few;
+    value = λ p below on. refl;
+    small = λ p below on. few;
     goes = refl;
   }
-  puts_constant set d (K.Reg r) s wide few = record {
+  puts_constant set d (K.Reg r) s few = record {
     plain = refl;
     simple = tt;
     others = _;
@@ -194,23 +238,23 @@ module _ (g : Setting) where
     write = elementwise shapes (I.MoveConstant (place d) (K.Reg r)) (slice_index s.registers r ∷ []) s.memory;
     run = refl;
     writes = λ p. refl;
-    value = λ p below on. ap (λ (n : ℕ). slice_index s.registers r % 2 ^ n) wide ∙ whole (slice_index s.registers r) few;
+    value = λ p below on. refl;
+    small = λ p below on. few;
     goes = refl;
   }
 
-  -- an operator on two words, as the instruction has it and as the language has it
-  done : (op : Op) (signed : Bool) (len x y a b : ℕ) → len ≡ 32 → x ≡ a → y ≡ b → relates op ≡ false → (divides op ≡ true → (b == 0) ≡ false) → a < 2 ^ 32 → b < 2 ^ 32 →
-      outcome (operator_of (operation_of op signed)).0 len (operator_of (operation_of op signed)).1 x y % 2 ^ len ≡ outcome op 32 (not signed) a b
-  done op signed len x y a b wide e f operates some few small =
-      ap (λ (n : ℕ). outcome (operator_of (operation_of op signed)).0 n (operator_of (operation_of op signed)).1 x y % 2 ^ n) wide
-      ∙ ap (λ (n : ℕ). outcome (operator_of (operation_of op signed)).0 32 (operator_of (operation_of op signed)).1 n y % 2 ^ 32) e
-      ∙ ap (λ (n : ℕ). outcome (operator_of (operation_of op signed)).0 32 (operator_of (operation_of op signed)).1 a n % 2 ^ 32) f
-      ∙ ap (λ (n : ℕ). n % 2 ^ 32) (operation_same op signed a b operates some few small) ∙ whole (outcome op 32 (not signed) a b) (operation_below op signed a b some few small)
+  -- an operator on words, as the instruction has it of their lowest bits and as the language has it
+  done : (op : Op) (signed : Bool) (bits len m n x y : ℕ) → len ≡ bits → Keeps op signed bits y → x < 2 ^ 32 → y < 2 ^ 32 → m ≡ x % 2 ^ bits → n ≡ y % 2 ^ bits
+      → outcome (operator_of (operation_of op signed)).0 len (operator_of (operation_of op signed)).1 m n % 2 ^ len ≡ outcome op 32 (not signed) x y % 2 ^ len
+  done op signed bits len m n x y long keeps few small e f =
+      ap (λ (b : ℕ). outcome (operator_of (operation_of op signed)).0 b (operator_of (operation_of op signed)).1 m n % 2 ^ b) long
+      ∙ ap (λ (w : ℕ). w % 2 ^ bits) (keeps m n x few small e f) ∙ cut_cut (outcome op 32 (not signed) x y) bits bits (omega arith)
+      ∙ ap (λ (b : ℕ). outcome op 32 (not signed) x y % 2 ^ b) (sym long)
 
-  pub puts_operate : (set : ℕ) (op : Op) (signed : Bool) (d a b : Field) (s : CodeState) (v w : ℕ → ℕ) → relates op ≡ false → DividesByNoZero op w → d.len ≡ 32 → HasNumbers set a s v → HasNumbers set b s w
+  pub puts_operate : (bits set : ℕ) (op : Op) (signed : Bool) (d a b : Field) (s : CodeState) (v w : ℕ → ℕ) → DividesByNoZero op w → ((p : ℕ) → Keeps op signed bits (w p)) → d.len ≡ bits → HasNumbers bits set a s v → HasNumbers bits set b s w
       → Puts set (I.Operate (operation_of op signed) d a b) d s (λ p. outcome op 32 (not signed) (v p) (w p))
   unfolding begun applied after step_of
-  puts_operate set op signed d a b s v w operates never wide one other = record {
+  puts_operate bits set op signed d a b s v w never keeps long one other = record {
     plain = refl;
     simple = tt;
     others = _;
@@ -218,14 +262,15 @@ module _ (g : Setting) where
     write = elementwise shapes (I.Operate (operation_of op signed) (place d) (place a) (place b)) [] s.memory;
     run = refl;
     writes = λ p. refl;
-    value = λ p below on. done op signed d.len (number_in a s p) (number_in b s p) (v p) (w p) wide (one.are p below on) (other.are p below on) operates (λ divided. never divided p) (one.small p below on) (other.small p below on);
+    value = λ p below on. done op signed bits d.len (number_in a s p) (number_in b s p) (v p) (w p) long (keeps p) (one.small p below on) (other.small p below on) (one.are p below on) (other.are p below on);
+    small = λ p below on. operation_below op signed (v p) (w p) (λ divided. never divided p) (one.small p below on) (other.small p below on);
     goes = refl;
   }
 
-  pub puts_operate_constant : (set : ℕ) (op : Op) (signed : Bool) (d a : Field) (k : Konst) (s : CodeState) (v : ℕ → ℕ) → relates op ≡ false → (divides op ≡ true → (word_in k s == 0) ≡ false) → d.len ≡ 32 → HasNumbers set a s v → word_in k s < 2 ^ 32
+  pub puts_operate_constant : (bits set : ℕ) (op : Op) (signed : Bool) (d a : Field) (k : Konst) (s : CodeState) (v : ℕ → ℕ) → (divides op ≡ true → (word_in k s == 0) ≡ false) → Keeps op signed bits (word_in k s) → d.len ≡ bits → HasNumbers bits set a s v → word_in k s < 2 ^ 32
       → Puts set (I.OperateConstant (operation_of op signed) d a k) d s (λ p. outcome op 32 (not signed) (v p) (word_in k s))
   unfolding begun applied after step_of word_in
-  puts_operate_constant set op signed d a (K.Imm w) s v operates some wide one few = record {
+  puts_operate_constant bits set op signed d a (K.Imm w) s v some keeps long one few = record {
     plain = refl;
     simple = tt;
     others = _;
@@ -233,10 +278,11 @@ module _ (g : Setting) where
     write = elementwise shapes (I.OperateConstant (operation_of op signed) (place d) (place a) (K.Imm w)) [] s.memory;
     run = refl;
     writes = λ p. refl;
-    value = λ p below on. done op signed d.len (number_in a s p) (w % 2 ^ d.len) (v p) w wide (one.are p below on) (ap (λ (n : ℕ). w % 2 ^ n) wide ∙ whole w few) operates some (one.small p below on) few;
+    value = λ p below on. done op signed bits d.len (number_in a s p) (w % 2 ^ d.len) (v p) w long keeps (one.small p below on) few (one.are p below on) (ap (λ (n : ℕ). w % 2 ^ n) long);
+    small = λ p below on. operation_below op signed (v p) w some (one.small p below on) few;
     goes = refl;
   }
-  puts_operate_constant set op signed d a (K.Reg r) s v operates some wide one few = record {
+  puts_operate_constant bits set op signed d a (K.Reg r) s v some keeps long one few = record {
     plain = refl;
     simple = tt;
     others = _;
@@ -246,13 +292,14 @@ module _ (g : Setting) where
     writes = λ p. refl;
     value = λ p below on.
         let w : ℕ = slice_index s.registers r in
-        done op signed d.len (number_in a s p) (w % 2 ^ d.len) (v p) w wide (one.are p below on) (ap (λ (n : ℕ). w % 2 ^ n) wide ∙ whole w few) operates some (one.small p below on) few;
+        done op signed bits d.len (number_in a s p) (w % 2 ^ d.len) (v p) w long keeps (one.small p below on) few (one.are p below on) (ap (λ (n : ℕ). w % 2 ^ n) long);
+    small = λ p below on. operation_below op signed (v p) (slice_index s.registers r) some (one.small p below on) few;
     goes = refl;
   }
 
-  pub puts_negate : (set : ℕ) (d a : Field) (s : CodeState) (v : ℕ → ℕ) → d.len ≡ 32 → HasNumbers set a s v → Puts set (I.Negate d a) d s (λ p. unary_of U.Minus (v p))
+  pub puts_negate : (bits set : ℕ) (d a : Field) (s : CodeState) (v : ℕ → ℕ) → bits ≤ 32 → d.len ≡ bits → HasNumbers bits set a s v → Puts set (I.Negate d a) d s (λ p. unary_of U.Minus (v p))
   unfolding begun applied after step_of
-  puts_negate set d a s v wide has = record {
+  puts_negate bits set d a s v most long has = record {
     plain = refl;
     simple = tt;
     others = _;
@@ -261,14 +308,15 @@ module _ (g : Setting) where
     run = refl;
     writes = λ p. refl;
     value = λ p below on.
-        ap (λ (n : ℕ). residue n (neg_ℤ (pos (number_in a s p))) % 2 ^ n) wide ∙ ap (λ (w : ℕ). residue 32 (neg_ℤ (pos w)) % 2 ^ 32) (has.are p below on)
-        ∙ ap (λ (w : ℕ). w % 2 ^ 32) (minus_same (v p)) ∙ whole (unary_of U.Minus (v p)) (unary_below U.Minus (v p) (has.small p below on));
+        ap (λ (n : ℕ). residue n (neg_ℤ (pos (number_in a s p))) % 2 ^ n) long ∙ ap (λ (w : ℕ). w % 2 ^ bits) (negative bits (number_in a s p) (v p) most (has.small p below on) (has.are p below on))
+        ∙ cut_cut (unary_of U.Minus (v p)) bits bits (omega arith) ∙ ap (λ (n : ℕ). unary_of U.Minus (v p) % 2 ^ n) (sym long);
+    small = λ p below on. unary_below U.Minus (v p) (has.small p below on);
     goes = refl;
   }
 
-  pub puts_lognot : (set : ℕ) (d a : Field) (s : CodeState) (v : ℕ → ℕ) → d.len ≡ 32 → HasNumbers set a s v → Puts set (I.Lognot d a) d s (λ p. unary_of U.Complement (v p))
-  unfolding begun applied after step_of unary_of
-  puts_lognot set d a s v wide has = record {
+  pub puts_lognot : (bits set : ℕ) (d a : Field) (s : CodeState) (v : ℕ → ℕ) → bits ≤ 32 → d.len ≡ bits → HasNumbers bits set a s v → Puts set (I.Lognot d a) d s (λ p. unary_of U.Complement (v p))
+  unfolding begun applied after step_of
+  puts_lognot bits set d a s v most long has = record {
     plain = refl;
     simple = tt;
     others = _;
@@ -277,14 +325,16 @@ module _ (g : Setting) where
     run = refl;
     writes = λ p. refl;
     value = λ p below on.
-        ap (λ (n : ℕ). (2 ^ n - 1 - number_in a s p) % 2 ^ n) wide ∙ ap (λ (w : ℕ). (2 ^ 32 - 1 - w) % 2 ^ 32) (has.are p below on) ∙ whole (unary_of U.Complement (v p)) (unary_below U.Complement (v p) (has.small p below on));
+        ap (λ (n : ℕ). (2 ^ n - 1 - number_in a s p) % 2 ^ n) long ∙ ap (λ (w : ℕ). w % 2 ^ bits) (complement bits (number_in a s p) (v p) most (has.small p below on) (has.are p below on))
+        ∙ cut_cut (unary_of U.Complement (v p)) bits bits (omega arith) ∙ ap (λ (n : ℕ). unary_of U.Complement (v p) % 2 ^ n) (sym long);
+    small = λ p below on. unary_below U.Complement (v p) (has.small p below on);
     goes = refl;
   }
 
   -- the own coordinates on an axis, where they are words
-  pub puts_coordinate : (set axis : ℕ) (d : Field) (s : CodeState) → d.set ≡ set → d.len ≡ 32 → ((p : ℕ) → p < processors shapes set → coordinate (extents set) p axis < 2 ^ 32) → Puts set (I.MyNewsCoordinate d axis) d s (λ p. coordinate (extents set) p axis)
+  pub puts_coordinate : (set axis : ℕ) (d : Field) (s : CodeState) → d.set ≡ set → ((p : ℕ) → p < processors shapes set → coordinate (extents set) p axis < 2 ^ 32) → Puts set (I.MyNewsCoordinate d axis) d s (λ p. coordinate (extents set) p axis)
   unfolding begun applied after step_of
-  puts_coordinate set axis d s of_set wide few = record {
+  puts_coordinate set axis d s of_set few = record {
     plain = refl;
     simple = tt;
     others = _;
@@ -292,8 +342,7 @@ module _ (g : Setting) where
     write = elementwise shapes (I.MyNewsCoordinate (place d) axis) [] s.memory;
     run = refl;
     writes = λ p. refl;
-    value = λ p below on.
-        ap (λ (n : ℕ). coordinate (extents d.set) p axis % 2 ^ n) wide ∙ ap (λ (n : ℕ). coordinate (extents n) p axis % 2 ^ 32) of_set
-        ∙ whole (coordinate (extents set) p axis) (few p below);
+    value = λ p below on. ap (λ (n : ℕ). coordinate (extents n) p axis % 2 ^ d.len) of_set;
+    small = λ p below on. few p below;
     goes = refl;
   }

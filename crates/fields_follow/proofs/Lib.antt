@@ -23,6 +23,7 @@ pub mod Joining
 pub mod Knowing
 pub mod Leading
 pub mod Leaving
+pub mod Lengths
 pub mod Meaning
 pub mod Named
 pub mod Narrowing
@@ -41,6 +42,7 @@ pub mod Reducing
 pub mod Reductions
 pub mod Relations
 pub mod Saving
+pub mod Sizes
 pub mod TestFlags
 pub mod Testing
 pub mod Totals

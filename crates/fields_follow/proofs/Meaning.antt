@@ -27,6 +27,7 @@ use Rattle.vp_sets.specs.Positions.{coordinate, moved, number_at}
 use Rattle.fields_follow.specs.Fragment.{IsEverywhere, IsPromoted, IsPure, IsScalarName}
 use Rattle.cstar_base.specs.declared.elem.Elem.{Elem}
 use Rattle.cstar_base.specs.Numbers.{converted, number_of}
+use Rattle.code_follows.proofs.Following.{held}
 use Rattle.code_follows.proofs.Words.{held_converted, held_wide}
 
 -- a number of 32 bits is one of another such type
@@ -66,6 +67,10 @@ value_in extents st (T.Convert' ty p operand) q = converted ty.elem (type_of ope
 value_in extents st (T.Pcoord ty axis) q = coordinate extents q axis
 value_in extents st (T.LeftIndex' ty place p indexes x of) q = st.parallel x 0 (number_at extents (coordinates_behind extents of 0 (items-the_row-TExpr _ indexes) q))
 value_in extents st _ q = 0
+
+-- and as a word
+abbrev pub word_at : List ℕ → State → TExpr → ℕ → ℕ
+word_at extents st e q = held (type_of e).elem (value_in extents st e q)
 
 -- an operator other than the remainder leads to a step that is checked
 pub always_checked : (o : Option ℕ) (step : NewsStep) → checked_step o ≡ Some step → step.checked ≡ true
@@ -117,6 +122,13 @@ DividesByNoZero op w = divides op ≡ true → (q : ℕ) → (w q == 0) ≡ fals
 pub divides_nothing : (op : Op) (w : ℕ → ℕ) → divides op ≡ false → DividesByNoZero op w
 divides_nothing op w no_check divided q = cc
 
+pub scalar_constant : (e : TExpr) → IsScalarName e → is_constant e ≡ false
+unfolding IsScalarName is_constant
+scalar_constant (T.Variable ty x) is = refl
+scalar_constant (T.Brackets' ty p inner) is = right_false (is_none ty.shape && ty.elem.bits == (type_of inner).elem.bits) (is_constant inner) (scalar_constant inner is.1)
+scalar_constant (T.Convert' ty p operand) is = right_false (is_none ty.shape) (is_constant operand) (scalar_constant operand is.2)
+scalar_constant _ is = absurd is
+
 module _ (scope : Scope) (active : Active) where
   pub operated_is : (ty : ValueType) (set : ℕ) (place : Place) (op : Op) (unsigned : Bool) (v w : Value) (st : State) → ty.shape ≡ Some set → DividesByNoZero op (λ p. at w p)
       → operated scope active ty place op unsigned v w st ≡ Gives (Parallel (λ p. outcome op 32 unsigned (at v p) (at w p))) st
@@ -143,7 +155,7 @@ module _ (scope : Scope) (active : Active) where
   name_means (T.Variable ty x) st is none = ap (λ (o : Option ℕ). Gives (read st (variable_target o x 0)) st) none
   name_means (T.Brackets' ty p inner) st is none = name_means inner st is.1 (ap (λ (y : ValueType). y.shape) (sym is.0) ∙ none)
   name_means (T.Convert' ty p operand) st is none =
-      ap (λ (o : Outcome Value). then_do o (λ v after. Gives (convert_to ty (type_of operand).elem v) after)) (name_means operand st is.1 is.0.0)
+      ap (λ (o : Outcome Value). then_do o (λ v after. Gives (convert_to ty (type_of operand).elem v) after)) (name_means operand st is.2 is.1.0)
       ∙ ap (λ (y : ValueType). Gives (convert_to y (type_of operand).elem (Scalar (variable_in st operand))) st) (as_scalar ty none)
   name_means _ st is none = absurd is
 
@@ -155,25 +167,18 @@ module _ (scope : Scope) (active : Active) where
       by true o is_c is_o h = subst (λ (o : Option ℕ). Const.IsValueOf e o) (is_o ∙ h) (value_means e is_c) scope active st
       by false o is_c is_o h = cc
 
-  pub not_constant : (e : TExpr) → IsScalarName e → is_constant e ≡ false
-  unfolding IsScalarName is_constant
-  not_constant (T.Variable ty x) is = refl
-  not_constant (T.Brackets' ty p inner) is = right_false (is_none ty.shape && ty.elem.bits == (type_of inner).elem.bits) (is_constant inner) (not_constant inner is.1)
-  not_constant (T.Convert' ty p operand) is = right_false (is_none ty.shape) (is_constant operand) (not_constant operand is.1)
-  not_constant _ is = absurd is
-
   pub everywhere_means : (e : TExpr) (st : State) → IsEverywhere e → evaluated scope e active st ≡ Gives (Scalar (scalar_in st e)) st
   unfolding scalar_in
-  everywhere_means e st (word, inl constant) =
+  everywhere_means e st (none, inl constant) =
       constant_means e constant.0 st constant.1 ∙ ap (λ (o : Option ℕ). Gives (Scalar (elim o [ Some word ↦ word | None ↦ variable_in st e ])) st) (sym constant.1)
-  everywhere_means e st (word, inr variable) =
-      name_means e st variable word.0 ∙ ap (λ (o : Option ℕ). Gives (Scalar (elim o [ Some word ↦ word | None ↦ variable_in st e ])) st) (sym (no_constant e (not_constant e variable)))
+  everywhere_means e st (none, inr variable) =
+      name_means e st variable none ∙ ap (λ (o : Option ℕ). Gives (Scalar (elim o [ Some word ↦ word | None ↦ variable_in st e ])) st) (sym (no_constant e (scalar_constant e variable)))
 
   pub promoted_means : (set : ℕ) (e : TExpr) (st : State) → IsPromoted set e → evaluated scope e active st ≡ Gives (Parallel (λ q. value_in (scope.extents set) st e q)) st
   unfolding IsPromoted evaluated value_in then_do at
   promoted_means set (T.Promote' ty p operand) st is =
-      ap (λ (o : Outcome Value). then_do o (λ v after. Gives (mapped ty (λ w. w) v) after)) (everywhere_means operand st is.1)
-      ∙ ap (λ (v : Value). Gives v st) (mapped_is ty set (λ w. w) (Scalar (scalar_in st operand)) is.0.0)
+      ap (λ (o : Outcome Value). then_do o (λ v after. Gives (mapped ty (λ w. w) v) after)) (everywhere_means operand st is.2)
+      ∙ ap (λ (v : Value). Gives v st) (mapped_is ty set (λ w. w) (Scalar (scalar_in st operand)) is.0)
   promoted_means set (T.Brackets' ty p inner) st is = promoted_means set inner st is.1
   promoted_means set _ st is = absurd is
 

@@ -29,8 +29,9 @@ use Rattle.source_meaning.specs.Values.{Active, Parallel, Scope, Value, at, each
 use Rattle.vp_sets.specs.Positions.{are_positive, coordinate, moved, number_at, position_count, positions_fit}
 use Rattle.vp_sets.proofs.PositionLaws.{extent_bound, extent_positive}
 use Rattle.code_follows.proofs.Standing.{some_same}
+use Rattle.code_follows.proofs.Words.{within_word}
 use Rattle.fields_follow.specs.Fragment.{AreWrapping, IsConstant, IsDot, IsIndex, IsOffset, IsPromoted, IsScalarName, IsWrapping, NameExtents, NamesExtent}
-use Rattle.fields_follow.proofs.Meaning.{always_checked, coordinate_behind, coordinates_behind, divides_nothing, no_constant, none_fails, not_constant, operated_is, promoted_means, scalar_in, value_in, variable_in}
+use Rattle.fields_follow.proofs.Meaning.{always_checked, coordinate_behind, coordinates_behind, divides_nothing, no_constant, none_fails, scalar_constant, operated_is, promoted_means, scalar_in, value_in, variable_in}
 use Rattle.fields_follow.proofs.Wrapping.{IsStep, index_number, near_is, moved_within, still_there, turned_step, within_extent, wrapped_word}
 
 -- a grid of few positions
@@ -61,12 +62,12 @@ module _ (scope : Scope) (active : Active) where
           (ap (λ (o : Option ℕ). elim o [ Some word ↦ word | None ↦ variable_in st operand ]) constant ∙ near_by.0, subst IsStep near_by.0 near_by.1)
 
       by_constant : IsConstant operand ⊎ IsScalarName operand → then_value (constant_of operand) near ≡ Some k → (scalar_in st operand ≡ k) × IsStep k
-      by_constant (inl constant) h = by_near constant.0 constant.1 constant.2 h
-      by_constant (inr name) h = let none : None ≡ Some k = ap (λ (o : Option ℕ). then_value o near) (sym (no_constant operand (not_constant scope active operand name))) ∙ h in cc
+      by_constant (inl constant) h = by_near constant.0 constant.1 (within_word (type_of operand).elem constant.0 constant.2) h
+      by_constant (inr name) h = let none : None ≡ Some k = ap (λ (o : Option ℕ). then_value o near) (sym (no_constant operand (scalar_constant operand name))) ∙ h in cc
 
       by : (b : Bool) → (if b then None else then_value (constant_of operand) near) ≡ Some k → (scalar_in st operand ≡ k) × IsStep k
       by true h = cc
-      by false h = by_constant is.1.1 h
+      by false h = by_constant is.2.1 h
   number_is set k q _ extents st is known = cc
 
   turned_sum : (a c : ℕ) → (a + (2 ^ 32 - c)) % 2 ^ 32 ≡ (a + negated c) % 2 ^ 32

@@ -1,7 +1,9 @@
 -- The code of a get from neighbours round the ends of the grid puts the numbers in a field by its last instruction.
 use denote.Hole.Carrier
-use Rattle.std.proofs.Common.{◌≡◌, ◌∙◌, ℕ, ◌+◌, ◌<◌, ◌≤◌, ◌^◌, ◌&&◌, Bool, true, List, [], length, Option, Some, None, refl, sym, ap, subst, arith, if◌then◌else◌}
+use Rattle.std.proofs.Common.{◌≡◌, ◌∙◌, ℕ, ◌+◌, ◌<◌, ◌≤◌, ◌^◌, ◌%◌, ◌&&◌, Bool, true, List, [], length, Option, Some, None, refl, sym, ap, subst, arith, if◌then◌else◌, false, inl, inr}
 use Rattle.std.specs.Prelude.{is_some, nat_lt}
+use Rattle.std.proofs.lemmas.Bool.Decides.{nat_tests}
+use Rattle.cstar_base.specs.declared.elem.Elem.{Elem}
 use Rattle.cstar_base.specs.declared.operators.Place.{Place}
 use Rattle.cstar_tree.specs.declared.typed.TExpr.{TExpr, Row_of-TExpr, items-the_row-TExpr, items_shown-the_row-TExpr-0, out-TExpr}
 use Rattle.cstar_tree.specs.declared.typed.TExpr as T
@@ -30,22 +32,23 @@ use Rattle.paris_code.specs.declared.operands.GridStep.{GridStep}
 use Rattle.paris_code.specs.declared.program.Owner.{Owner}
 use Rattle.paris_code.specs.declared.program.Owner.TheVariants as W
 use Rattle.paris_code.specs.Code.{CodeState}
-use Rattle.paris_code.specs.Memory.{field_number, processors}
-use Rattle.paris_code.specs.Proper.{IsEntry}
+use Rattle.paris_code.specs.Memory.{processors}
 use Rattle.source_meaning.specs.State.{State}
 use Rattle.vp_sets.specs.Positions.{are_positive, number_at}
-use Rattle.code_follows.proofs.Following.{Sim}
+use Rattle.code_follows.proofs.Following.{Sim, held}
 use Rattle.code_follows.proofs.Settings.{At, Setting, Within, layout}
-use Rattle.fields_follow.specs.Fragment.{AreWrapping, IsWide, NameExtents, extents_in}
+use Rattle.fields_follow.specs.Fragment.{AreWrapping, NameExtents, extents_in}
 use Rattle.fields_follow.specs.Fields.{IsElement, file_number}
 use Rattle.fields_follow.proofs.Forms.{element_is, field_is}
 use Rattle.fields_follow.proofs.Gets.{names_long, steps_lead, steps_move, wrapping_goes, wrapping_unchecked}
-use Rattle.fields_follow.proofs.Hops.{HasEverywhere, MovesLast, moves_last, origin, puts_same, steps_extend}
-use Rattle.fields_follow.proofs.Instructions.{Puts, extents, shapes}
-use Rattle.fields_follow.proofs.Meaning.{coordinates_behind, value_in}
+use Rattle.fields_follow.proofs.Hops.{HasEverywhere, MovesLast, Reads, moves_last, origin, origin_below, puts_same, steps_extend}
+use Rattle.fields_follow.proofs.Instructions.{Puts, extents, number_in, shapes}
+use Rattle.fields_follow.proofs.Lengths.{held_has}
+use Rattle.fields_follow.proofs.Meaning.{coordinates_behind, value_in, word_at}
 use Rattle.fields_follow.proofs.Neighbours.{fit_positive}
-use Rattle.fields_follow.proofs.Passing.{After, Passes, after_same, made_after, passes_from}
+use Rattle.fields_follow.proofs.Passing.{After, Passes, after_same, in_file_numbers, made_after, passes_from, small_there}
 use Rattle.fields_follow.proofs.Places.{HoldsTheFields, IsFileField, PlacesFields}
+use Rattle.fields_follow.proofs.Totals.{held_below}
 use Rattle.fields_follow.proofs.Values.{and_entry, next_field, one_more, taken, with_entry}
 
 -- such a get goes by NEWS
@@ -79,72 +82,97 @@ module _ (g : Setting) where
   abbrev for_variable : ℕ → ℕ → VarInfo → Draft → Draft
   for_variable set k info d = with_entry set info.elem.bits (owner_of k) d
 
-  abbrev for_hop : ℕ → ℕ → VarInfo → Draft → Draft
-  for_hop set k info d = with_entry set 32 W.Own (for_variable set k info d)
+  abbrev for_hop : ℕ → ℕ → ℕ → VarInfo → Draft → Draft
+  for_hop read set k info d = with_entry set read W.Own (for_variable set k info d)
 
-  abbrev for_hops : ℕ → ℕ → VarInfo → Draft → Draft
-  for_hops set k info d = with_entry set 32 W.Own (for_hop set k info d)
+  abbrev for_hops : ℕ → ℕ → ℕ → VarInfo → Draft → Draft
+  for_hops read set k info d = with_entry set read W.Own (for_hop read set k info d)
 
-  abbrev hop_of : ℕ → ℕ → VarInfo → Draft → Hop
-  hop_of set k info d = record { source = next_field set 32 d; next = next_field set 32 (for_variable set k info d); spare = next_field set 32 (for_hop set k info d) }
+  abbrev hop_of : ℕ → ℕ → ℕ → VarInfo → Draft → Hop
+  hop_of read set k info d = record { source = next_field set read d; next = next_field set read (for_variable set k info d); spare = next_field set read (for_hop read set k info d) }
 
-  read_is : (ty : ValueType) (k set offset : ℕ) (info : VarInfo) (items : List TExpr) (d : Draft) → ty.elem.bits ≡ 32
-      → gotten_by_steps set items ty.elem (next_field set info.elem.bits d) (record { set = set; offset = offset; len = 32 }) (for_variable set k info d)
-      ≡ Makes (O.Field (record { set = set; offset = offset; len = 32 })) (stepwise ty.elem (record { set = set; offset = offset; len = 32 }) (moving_steps set 0 items) (hop_of set k info d) (for_hops set k info d))
-  unfolding gotten_by_steps bits_read is_extended first_bits then_make an_entry
-  read_is ty k set offset info items d word =
-      ap (λ (bits : ℕ). then_make (an_entry set (if nat_lt bits 32 then next_field set info.elem.bits d else first_bits 32 (next_field set info.elem.bits d)).len W.Own (for_variable set k info d)) (λ one b. then_make (an_entry set (if nat_lt bits 32 then next_field set info.elem.bits d else first_bits 32 (next_field set info.elem.bits d)).len W.Own b) (λ other c.
-      Makes (O.Field (record { set = set; offset = offset; len = 32 })) (stepwise ty.elem (record { set = set; offset = offset; len = 32 }) (moving_steps set 0 items) (record { source = if nat_lt bits 32 then next_field set info.elem.bits d else first_bits 32 (next_field set info.elem.bits d); next = one; spare = other }) c)))) word
+  -- so many bits are read of a variable
+  unfoldable read_bits : Elem → ℕ → ℕ
+  read_bits elem bits = if nat_lt elem.bits bits then elem.bits else bits
 
-  code_is : (ty : ValueType) (place : Place) (p : _) (indexes : Row_of-TExpr _) (k of set offset : ℕ) (info : VarInfo) (spot : Draft → Made Spot) (d : Draft) → IsWide set ty → of ≡ set → AreWrapping set 0 indexes → IsElement g.typed k info set 0
-      → index_read_to g.typed (layout g) (T.LeftIndex' ty place p indexes (V.File k) of) spot (O.Field (record { set = set; offset = offset; len = 32 })) d
-      ≡ Makes (O.Field (record { set = set; offset = offset; len = 32 })) (stepwise ty.elem (record { set = set; offset = offset; len = 32 }) (moving_steps set 0 (items-the_row-TExpr _ indexes)) (hop_of set k info d) (for_hops set k info d))
+  read_is : (elem : Elem) (k set offset bits : ℕ) (info : VarInfo) (items : List TExpr) (d : Draft) → info.elem.bits ≡ elem.bits
+      → gotten_by_steps set items elem (next_field set info.elem.bits d) (record { set = set; offset = offset; len = bits }) (for_variable set k info d)
+      ≡ Makes (O.Field (record { set = set; offset = offset; len = bits })) (stepwise elem (record { set = set; offset = offset; len = bits }) (moving_steps set 0 items) (hop_of (read_bits elem bits) set k info d) (for_hops (read_bits elem bits) set k info d))
+  unfolding gotten_by_steps bits_read is_extended first_bits then_make an_entry read_bits
+  read_is elem k set offset bits info items d same =
+      ap (λ (read : Field). then_make (an_entry set read.len W.Own (for_variable set k info d)) (λ one b. then_make (an_entry set read.len W.Own b) (λ other c. Makes (O.Field dest) (stepwise elem dest (moving_steps set 0 items) (record { source = read; next = one; spare = other }) c)))) (by (nat_lt elem.bits bits))
+    where
+      dest : Field
+      dest = record { set = set; offset = offset; len = bits }
+
+      by : (b : Bool) → (if b then next_field set info.elem.bits d else first_bits bits (next_field set info.elem.bits d)) ≡ next_field set (if b then elem.bits else bits) d
+      by true = ap (λ (n : ℕ). next_field set n d) same
+      by false = refl
+
+  code_is : (ty : ValueType) (place : Place) (p : _) (indexes : Row_of-TExpr _) (k of set offset bits : ℕ) (info : VarInfo) (spot : Draft → Made Spot) (d : Draft) → ty.shape ≡ Some set → of ≡ set → AreWrapping set 0 indexes → info.elem.bits ≡ ty.elem.bits → IsElement g.typed k info set 0
+      → index_read_to g.typed (layout g) (T.LeftIndex' ty place p indexes (V.File k) of) spot (O.Field (record { set = set; offset = offset; len = bits })) d
+      ≡ Makes (O.Field (record { set = set; offset = offset; len = bits })) (stepwise ty.elem (record { set = set; offset = offset; len = bits }) (moving_steps set 0 (items-the_row-TExpr _ indexes)) (hop_of (read_bits ty.elem bits) set k info d) (for_hops (read_bits ty.elem bits) set k info d))
   unfolding index_read_to news_to then_make read_at in_field an_entry
-  code_is ty place p indexes k of set offset info spot d wide same are is =
-      ap (λ (b : Bool). if b then news_to g.typed (layout g) e (O.Field f) d else read_to g.typed (layout g) e spot (O.Field f) d) (goes ty place p indexes k of set wide.0 same are)
+  code_is ty place p indexes k of set offset bits info spot d shaped same are long is =
+      ap (λ (b : Bool). if b then news_to g.typed (layout g) e (O.Field f) d else read_to g.typed (layout g) e spot (O.Field f) d) (goes ty place p indexes k of set shaped same are)
       ∙ ap (λ (m : Made Out). then_make m (λ _ after. communicated g.typed (layout g) e O.Nothing [] (O.Field f) after)) (grid_is ty place p indexes k of set d same are)
       ∙ field_read g.typed (layout g) ty place p indexes k of (O.Field f) d
       ∙ ap (λ (m : Made Field). then_make m (λ source after. read_at of (items-the_row-TExpr _ indexes) ty.elem source O.Nothing (O.Field f) after)) (field_is g k 0 set info d is)
       ∙ ap (λ (n : ℕ). gotten_by_steps n (items-the_row-TExpr _ indexes) ty.elem (next_field set info.elem.bits d) f (for_variable set k info d)) same
-      ∙ read_is ty k set offset info (items-the_row-TExpr _ indexes) d wide.1
+      ∙ read_is ty.elem k set offset bits info (items-the_row-TExpr _ indexes) d long
     where
       f : Field
-      f = record { set = set; offset = offset; len = 32 }
+      f = record { set = set; offset = offset; len = bits }
 
       e : TExpr
       e = T.LeftIndex' ty place p indexes (V.File k) of
 
   module _ (alive : Variable → Type 0) (n : ℕ) (places : PlacesFields g) (fields : HoldsTheFields g) where
-    -- the variable has its numbers at every position
-    file_everywhere : (set k : ℕ) (info : VarInfo) (f : Field) (s : CodeState) (st : State) → IsElement g.typed k info set 0 → info.elem.bits ≡ 32 → IsFileField g k 0 f → f.set ≡ set → f.len ≡ 32 → Sim g alive st s
-        → HasEverywhere g set f s (λ q. st.parallel (V.File k) 0 q)
-    file_everywhere set k info f s st is word file of_set wide sim = record {
+    -- the position that a get leads to is one
+    pub get_below : {m : _} (k of set : ℕ) (info : VarInfo) (indexes : Row_of-TExpr m) → IsElement g.typed k info set 0 → of ≡ set → AreWrapping set 0 indexes → NameExtents (extents_in g.typed of) indexes → (q : ℕ) → q < processors (shapes g) set
+        → number_at (extents g set) (coordinates_behind (extents g set) of 0 (items-the_row-TExpr _ indexes) q) < processors (shapes g) set
+    get_below k of set info indexes is same are names q below =
+        let exists : set < length (shapes g) = places.exists k 0 set info is in
+        let positive : are_positive (extents g set) ≡ true = fit_positive (extents g set) (places.grids set exists).1 in
+        let long : length (items-the_row-TExpr _ indexes) ≡ length (extents g set) = names_long (extents g set) indexes (subst (λ (xs : List ℕ). NameExtents xs indexes) (ap (extents_in g.typed) same ∙ (places.grids set exists).0) names) in
+        subst (λ (n : ℕ). n < processors (shapes g) set)
+        (steps_lead g set positive indexes q are long below ∙ ap (λ (m : ℕ). number_at (extents g set) (coordinates_behind (extents g set) m 0 (items-the_row-TExpr _ indexes) q)) (sym same))
+        (origin_below g set (moving_steps set 0 (items-the_row-TExpr _ indexes)) q (steps_move g set positive indexes are long) below)
+
+    -- the variable has its words at every position
+    file_everywhere : (bits set k : ℕ) (info : VarInfo) (f : Field) (s : CodeState) (st : State) → IsElement g.typed k info set 0 → IsFileField g k 0 (record f { len = info.elem.bits }) → f.set ≡ set → f.len ≡ bits → bits ≤ info.elem.bits → Sim g alive st s
+        → HasEverywhere g bits set f s (λ q. held info.elem (st.parallel (V.File k) 0 q))
+    file_everywhere bits set k info f s st is file of_set len fits sim = record {
       of_set = of_set;
       exists = places.exists k 0 set info is;
-      len = wide;
-      are = λ p below.
-          ap (λ (x : Field). field_number s.memory x p) (places.file k 0 info f (subst (λ (n : ℕ). IsElement g.typed k info n 0) (sym of_set) is) (word ∙ sym wide) file)
-          ∙ (fields.opens st s.memory sim.memory).numbers k 0 set p info is below;
-      small = λ p below. subst (λ (n : ℕ). st.parallel (V.File k) 0 p < 2 ^ n) word ((fields.opens st s.memory sim.memory).small k 0 set p info is below);
+      len = len;
+      are = λ p below. (numbers p below).0;
+      small = λ p below. (numbers p below).1;
     }
+      where
+        numbers : (p : ℕ) → p < processors (shapes g) set → (number_in g f s p ≡ held info.elem (st.parallel (V.File k) 0 p) % 2 ^ bits) × (held info.elem (st.parallel (V.File k) 0 p) < 2 ^ 32)
+        numbers = in_file_numbers g alive places fields bits set f st (λ q. held info.elem (st.parallel (V.File k) 0 q)) s (record { k = k; info = info; is = is; file = file; of_set = of_set; len = len; fits = subst (λ (n : ℕ). n ≤ info.elem.bits) (sym len) fits; same = λ p below. (refl, held_below info.elem (st.parallel (V.File k) 0 p)) }) sim
 
     -- so the last instruction puts those of the neighbours
-    pub get_last : (ty : ValueType) (place : Place) (p : _) (indexes : Row_of-TExpr _) (k of set offset : ℕ) (spot : Draft → Made Spot) (bound : ℕ) (d : Draft) (s : CodeState) (st : State) → IsWide set ty → of ≡ set → AreWrapping set 0 indexes
+    pub get_last : (ty : ValueType) (place : Place) (p : _) (indexes : Row_of-TExpr _) (k of set offset bits : ℕ) (spot : Draft → Made Spot) (bound : ℕ) (d : Draft) (s : CodeState) (st : State) → bits ≤ 32 → ty.shape ≡ Some set → of ≡ set → AreWrapping set 0 indexes
         → HasVariable g.typed g.instance n (V.File k) (plain (parallel ty.elem of)) → NameExtents (extents_in g.typed of) indexes → bound ≤ length d.fields → At g s (length d.code) → Sim g alive st s → (Q : Out → Draft → Type 0)
-        → ((e2 : Draft) (i : Instr) → Within g (with_instr i e2) → (passes : Passes g alive bound d e2 s st (Unit {0})) → Puts g set i (record { set = set; offset = offset; len = 32 }) passes.t (λ q. value_in (extents g set) st (T.LeftIndex' ty place p indexes (V.File k) of) q) → Q (O.Field (record { set = set; offset = offset; len = 32 })) (with_instr i e2))
-        → After g Q (index_read_to g.typed (layout g) (T.LeftIndex' ty place p indexes (V.File k) of) spot (O.Field (record { set = set; offset = offset; len = 32 })) d)
-    unfolding passes_from value_in
-    get_last ty place p indexes k of set offset spot bound d s st wide same are v names less here sim Q last =
-        after_same g Q (code_is ty place p indexes k of set offset info spot d wide same are is) (made_after g Q (O.Field f) made (λ within. by within (moves within)))
+        → ((e2 : Draft) (i : Instr) → Within g (with_instr i e2) → (passes : Passes g alive bound d e2 s st (Unit {0})) → Puts g set i (record { set = set; offset = offset; len = bits }) passes.t (λ q. word_at (extents g set) st (T.LeftIndex' ty place p indexes (V.File k) of) q) → Q (O.Field (record { set = set; offset = offset; len = bits })) (with_instr i e2))
+        → After g Q (index_read_to g.typed (layout g) (T.LeftIndex' ty place p indexes (V.File k) of) spot (O.Field (record { set = set; offset = offset; len = bits })) d)
+    unfolding passes_from value_in is_extended read_bits
+    get_last ty place p indexes k of set offset bits spot bound d s st most shaped same are v names less here sim Q last =
+        after_same g Q (code_is ty place p indexes k of set offset bits info spot d shaped same are refl is) (made_after g Q (O.Field f) made (λ within. by within (moves within)))
       where
         info : VarInfo
         info = variable_info v.word (plain (parallel ty.elem of)) v.start
 
         is : IsElement g.typed k info set 0
-        is = element_is g.typed g.instance n k set (parallel ty.elem of) (ap Some same, wide.1) v
+        is = element_is g.typed g.instance n k set (parallel ty.elem of) (ap Some same) v
 
         f : Field
-        f = record { set = set; offset = offset; len = 32 }
+        f = record { set = set; offset = offset; len = bits }
+
+        read : ℕ
+        read = read_bits ty.elem bits
 
         steps : List GridStep
         steps = moving_steps set 0 (items-the_row-TExpr _ indexes)
@@ -153,28 +181,39 @@ module _ (g : Setting) where
         d1 = for_variable set k info d
 
         d2 : Draft
-        d2 = for_hop set k info d
+        d2 = for_hop read set k info d
 
         d3 : Draft
-        d3 = for_hops set k info d
+        d3 = for_hops read set k info d
 
         hop : Hop
-        hop = hop_of set k info d
+        hop = hop_of read set k info d
 
         made : Draft
         made = stepwise ty.elem f steps hop d3
 
+        -- what is read is no more than the variable has
+        reads_or_extends : (b : Bool) → nat_lt ty.elem.bits bits ≡ b → Reads g places fields alive ty.elem f read × (read ≤ ty.elem.bits)
+        reads_or_extends true more = let is_all : read ≡ ty.elem.bits = ap (λ (b : Bool). if b then ty.elem.bits else bits) more in (inr (more, sym is_all, most), omega (arith, is_all))
+        reads_or_extends false enough = let is_part : read ≡ bits = ap (λ (b : Bool). if b then ty.elem.bits else bits) enough in (inl (enough, sym is_part), (let low : bits ≤ ty.elem.bits = grind (arith, nat_tests, enough) in omega (arith, is_part, low)))
+
+        reads : Reads g places fields alive ty.elem f read
+        reads = (reads_or_extends (nat_lt ty.elem.bits bits) refl).0
+
+        fits : read ≤ ty.elem.bits
+        fits = (reads_or_extends (nat_lt ty.elem.bits bits) refl).1
+
         more : (n : ℕ) × Extended d3 n made
-        more = steps_extend g places fields alive ty.elem f wide.1 refl steps hop d3
+        more = steps_extend g places fields alive ty.elem f read reads steps hop d3
 
         behind2 : Extended d2 (0 + more.0) made
-        behind2 = extended d2 d3 made 0 more.0 (and_entry set 32 W.Own d2) more.1
+        behind2 = extended d2 d3 made 0 more.0 (and_entry set read W.Own d2) more.1
 
         behind1 : Extended d1 (0 + (0 + more.0)) made
-        behind1 = extended d1 d2 made 0 (0 + more.0) (and_entry set 32 W.Own d1) behind2
+        behind1 = extended d1 d2 made 0 (0 + more.0) (and_entry set read W.Own d1) behind2
 
         numbers : ℕ → ℕ
-        numbers = λ q. st.parallel (V.File k) 0 q
+        numbers = λ q. held ty.elem (st.parallel (V.File k) 0 q)
 
         exists : set < length (shapes g)
         exists = places.exists k 0 set info is
@@ -185,23 +224,22 @@ module _ (g : Setting) where
         long : length (items-the_row-TExpr _ indexes) ≡ length (extents g set)
         long = names_long (extents g set) indexes (subst (λ (xs : List ℕ). NameExtents xs indexes) (ap (extents_in g.typed) same ∙ (places.grids set exists).0) names)
 
-        moves : Within g made → MovesLast g places fields alive ty.elem f wide.1 refl bound set steps hop numbers d3 s st
+        moves : Within g made → MovesLast g places fields alive ty.elem f read reads bound set steps hop numbers d3 s st
         moves within =
-            let file : IsFileField g k 0 (next_field set 32 d) =
-            subst (λ (len : ℕ). IsEntry g.unit (length d.fields) (record { set = set; len = len; owner = owner_of k })) wide.1 (taken g set info.elem.bits (owner_of k) d made (0 + (0 + more.0)) within behind1) in
-            moves_last g places fields alive ty.elem f wide.1 refl bound set steps hop numbers d3 s st (steps_move g set positive indexes are long)
-            (let one = one_more set info.elem.bits (owner_of k) d in omega (arith, less, one), taken g set 32 W.Own d1 made (0 + more.0) within behind2, refl, refl)
-            (let one = one_more set info.elem.bits (owner_of k) d in let two = one_more set 32 W.Own d1 in omega (arith, less, one, two), taken g set 32 W.Own d2 made more.0 within more.1, refl, refl)
-            (file_everywhere set k info (next_field set 32 d) s st is wide.1 file refl refl sim) within here sim
+            moves_last g places fields alive ty.elem f read reads bound set steps hop numbers d3 s st (steps_move g set positive indexes are long)
+            (λ q below. held_has ty.elem (st.parallel (V.File k) 0 q) (small_there g alive places fields set k info st s is sim q below))
+            (let one = one_more set info.elem.bits (owner_of k) d in omega (arith, less, one), taken g set read W.Own d1 made (0 + more.0) within behind2, refl, refl)
+            (let one = one_more set info.elem.bits (owner_of k) d in let two = one_more set read W.Own d1 in omega (arith, less, one, two), taken g set read W.Own d2 made more.0 within more.1, refl, refl)
+            (file_everywhere read set k info (next_field set read d) s st is (taken g set info.elem.bits (owner_of k) d made (0 + (0 + more.0)) within behind1) refl refl fits sim) within here sim
 
-        found : (q : ℕ) → q < processors (shapes g) set → numbers (origin g set steps q) ≡ value_in (extents g set) st (T.LeftIndex' ty place p indexes (V.File k) of) q
+        found : (q : ℕ) → q < processors (shapes g) set → numbers (origin g set steps q) ≡ word_at (extents g set) st (T.LeftIndex' ty place p indexes (V.File k) of) q
         found q below =
             ap numbers (steps_lead g set positive indexes q are long below)
             ∙ ap (λ (m : ℕ). numbers (number_at (extents g set) (coordinates_behind (extents g set) m 0 (items-the_row-TExpr _ indexes) q))) (sym same)
 
-        by : Within g made → MovesLast g places fields alive ty.elem f wide.1 refl bound set steps hop numbers d3 s st → Q (O.Field f) made
+        by : Within g made → MovesLast g places fields alive ty.elem f read reads bound set steps hop numbers d3 s st → Q (O.Field f) made
         by within (e2, (i, (is_made, (passes, puts)))) =
             subst (λ (e : Draft). Q (O.Field f) e) (sym is_made)
             (last e2 i (subst (λ (e : Draft). Within g e) is_made within)
-            (passes_from g alive bound d d1 e2 s st (Unit {0}) (and_entry set info.elem.bits (owner_of k) d) (passes_from g alive bound d1 d2 e2 s st (Unit {0}) (and_entry set 32 W.Own d1) (passes_from g alive bound d2 d3 e2 s st (Unit {0}) (and_entry set 32 W.Own d2) passes)))
-            (puts_same g set i f passes.t (λ q. numbers (origin g set steps q)) (λ q. value_in (extents g set) st (T.LeftIndex' ty place p indexes (V.File k) of) q) found puts))
+            (passes_from g alive bound d d1 e2 s st (Unit {0}) (and_entry set info.elem.bits (owner_of k) d) (passes_from g alive bound d1 d2 e2 s st (Unit {0}) (and_entry set read W.Own d1) (passes_from g alive bound d2 d3 e2 s st (Unit {0}) (and_entry set read W.Own d2) passes)))
+            (puts_same g set i f passes.t (λ q. numbers (origin g set steps q)) (λ q. word_at (extents g set) st (T.LeftIndex' ty place p indexes (V.File k) of) q) found puts))

@@ -1,5 +1,5 @@
 -- Code of a parallel expression as it grows: what it leaves of what stood before it, and where its value stands.
-use Rattle.std.proofs.Common.{◌≡◌, ◌∙◌, ℕ, ◌+◌, ◌<◌, ◌≤◌, true, List, ◌∷◌, ◌++◌, Any, length, refl, sym, ap, subst, arith, ◌^◌, ◌⊎◌, inl, inr, length-append}
+use Rattle.std.proofs.Common.{◌≡◌, ◌∙◌, ℕ, ◌+◌, ◌<◌, ◌≤◌, ◌%◌, true, List, ◌∷◌, ◌++◌, Any, length, refl, sym, ap, subst, arith, ◌^◌, ◌⊎◌, inl, inr, length-append}
 use Rattle.cstar_tree.specs.declared.typed.VarInfo.{VarInfo}
 use Rattle.cstar_tree.specs.declared.typed.Variable.{Variable}
 use Rattle.cstar_tree.specs.declared.typed.Variable.TheVariants as V
@@ -10,13 +10,17 @@ use Rattle.paris_code.specs.declared.instr.Instr.{Instr}
 use Rattle.paris_code.specs.declared.operands.Field.{Field}
 use Rattle.paris_code.specs.Code.{CodeState}
 use Rattle.paris_code.specs.Memory.{field_number, is_active, processors}
+use Rattle.paris_code.specs.Shapes.{bits_at}
 use Rattle.paris_code.specs.Spans.{IsNamedAt, StandsAt, entry_of, fields_of}
 use Rattle.source_meaning.specs.State.{State}
-use Rattle.code_follows.proofs.Following.{Extends, Sim}
+use Rattle.phase_meaning.proofs.Widths.{cut_cut}
+use Rattle.code_follows.proofs.Following.{Extends, Sim, held}
 use Rattle.code_follows.proofs.Settings.{At, Reaches, Setting, Within, and_one, code_more, earlier, onto, stay}
 use Rattle.fields_follow.specs.Fields.{IsElement}
-use Rattle.fields_follow.proofs.Instructions.{HasNumbers, Puts, has_alike, number_in, shapes}
-use Rattle.fields_follow.proofs.Places.{HoldsTheFields, IsFileField, IsOwnField, PlacesFields, names_first, stands_here}
+use Rattle.fields_follow.proofs.Bits.{first_number}
+use Rattle.fields_follow.proofs.Instructions.{AreAlike, HasNumbers, Puts, has_alike, number_in, place, shapes}
+use Rattle.fields_follow.proofs.Lengths.{held_first}
+use Rattle.fields_follow.proofs.Places.{HoldsTheFields, IsFileField, IsOwnField, PlacesFields, names_first, of_file, stands_here}
 use Rattle.fields_follow.proofs.Writing.{own_written}
 
 longer : {A : Type 0} (xs ys zs : List A) → ys ≡ xs ++ zs → length xs ≤ length ys
@@ -127,120 +131,171 @@ module _ (g : Setting) where
       stays = λ wanted h first last q below. p.stays wanted h first last q (omega (arith, below, less));
     }
 
-    -- a value of numbers stands in an own entry that is new and named by now, or in the field of a variable
-    pub record InOwn (bound : ℕ) (e : Draft) (set : ℕ) (f : Field) (t : CodeState) (v : ℕ → ℕ) : Type 0 where
-      pub own : IsOwnField g f
+    -- The lowest bits of words stand in an own entry that is new and named by now, in its first bits, or in the first bits
+    -- of the field of a variable.
+    pub record InOwn (bits bound : ℕ) (e : Draft) (set : ℕ) (f : Field) (t : CodeState) (v : ℕ → ℕ) : Type 0 where
+      pub long : ℕ
+      pub own : IsOwnField g (record f { len = long })
+      pub fits : f.len ≤ long
+      pub ends : (place g f).offset + long ≤ bits_at (shapes g) f.set
       pub newer : bound ≤ f.offset
       pub older : f.offset < length e.fields
       pub somewhere : ℕ
       pub named : IsNamedAt g.unit f.offset somewhere
       pub before : somewhere < length e.code
-      pub has : HasNumbers g set f t v
+      pub has : HasNumbers g bits set f t v
 
-    pub record InFile (set : ℕ) (f : Field) (st : State) (v : ℕ → ℕ) : Type 0 where
+    pub record InFile (bits set : ℕ) (f : Field) (st : State) (v : ℕ → ℕ) : Type 0 where
       pub k : ℕ
       pub info : VarInfo
       pub is : IsElement g.typed k info set 0
-      pub word : info.elem.bits ≡ 32
-      pub file : IsFileField g k 0 f
+      pub file : IsFileField g k 0 (record f { len = info.elem.bits })
       pub of_set : f.set ≡ set
-      pub wide : f.len ≡ 32
-      pub same : (p : ℕ) → p < processors (shapes g) set → v p ≡ st.parallel (V.File k) 0 p
+      pub len : f.len ≡ bits
+      pub fits : f.len ≤ info.elem.bits
+      pub same : (p : ℕ) → p < processors (shapes g) set → (v p % 2 ^ bits ≡ held info.elem (st.parallel (V.File k) 0 p) % 2 ^ bits) × (v p < 2 ^ 32)
 
-    abbrev pub Stands : ℕ → Draft → ℕ → Field → CodeState → State → (ℕ → ℕ) → Type 0
-    Stands bound e set f t st v = InOwn bound e set f t v ⊎ InFile set f st v
+    abbrev pub Stands : ℕ → ℕ → Draft → ℕ → Field → CodeState → State → (ℕ → ℕ) → Type 0
+    Stands bits bound e set f t st v = InOwn bits bound e set f t v ⊎ InFile bits set f st v
 
-    -- the field is given by code that passes, and it has the numbers
-    pub record GivesField (bound : ℕ) (d : Draft) (s : CodeState) (set : ℕ) (st : State) (v : ℕ → ℕ) (f : Field) (e : Draft) : Type 0 where
+    -- the field is given by code that passes, and it has the lowest bits of the words
+    pub record GivesField (bits bound : ℕ) (d : Draft) (s : CodeState) (set : ℕ) (st : State) (v : ℕ → ℕ) (f : Field) (e : Draft) : Type 0 where
       pub passes : Passes bound d e s st (Behind f e)
-      pub stands : Stands bound e set f passes.t st v
+      pub stands : Stands bits bound e set f passes.t st v
 
     -- an entry that is taken before it is no part of the code
-    pub gives_from : (bound : ℕ) (d e f : Draft) (s : CodeState) (set : ℕ) (st : State) (v : ℕ → ℕ) (h : Field) → Extended d 0 e → GivesField bound e s set st v h f → GivesField bound d s set st v h f
+    pub gives_from : (bits bound : ℕ) (d e f : Draft) (s : CodeState) (set : ℕ) (st : State) (v : ℕ → ℕ) (h : Field) → Extended d 0 e → GivesField bits bound e s set st v h f → GivesField bits bound d s set st v h f
     unfolding passes_from
-    gives_from bound d e f s set st v h taken gives = record { passes = passes_from bound d e f s st (Behind h f) taken gives.passes; stands = gives.stands }
+    gives_from bits bound d e f s set st v h taken gives = record { passes = passes_from bound d e f s st (Behind h f) taken gives.passes; stands = gives.stands }
 
-    stands_less : (bound other : ℕ) (e : Draft) (set : ℕ) (f : Field) (t : CodeState) (st : State) (v : ℕ → ℕ) → bound ≤ other → Stands other e set f t st v → Stands bound e set f t st v
-    stands_less bound other e set f t st v less (inl h) = inl (record { own = h.own; newer = omega (arith, less, h.newer); older = h.older; somewhere = h.somewhere; named = h.named; before = h.before; has = h.has })
-    stands_less bound other e set f t st v less (inr h) = inr h
+    stands_less : (bits bound other : ℕ) (e : Draft) (set : ℕ) (f : Field) (t : CodeState) (st : State) (v : ℕ → ℕ) → bound ≤ other → Stands bits other e set f t st v → Stands bits bound e set f t st v
+    stands_less bits bound other e set f t st v less (inl h) = inl (record { long = h.long; own = h.own; fits = h.fits; ends = h.ends; newer = omega (arith, less, h.newer); older = h.older; somewhere = h.somewhere; named = h.named; before = h.before; has = h.has })
+    stands_less bits bound other e set f t st v less (inr h) = inr h
 
     -- behind code that passes
-    pub gives_on : (bound other : ℕ) (d e f : Draft) (s : CodeState) (set : ℕ) (st : State) (v : ℕ → ℕ) (h : Field) (one : Type 0) → bound ≤ other → (a : Passes bound d e s st one) → (Behind h f → one) → GivesField other e a.t set st v h f → GivesField bound d s set st v h f
+    pub gives_on : (bits bound other : ℕ) (d e f : Draft) (s : CodeState) (set : ℕ) (st : State) (v : ℕ → ℕ) (h : Field) (one : Type 0) → bound ≤ other → (a : Passes bound d e s st one) → (Behind h f → one) → GivesField bits other e a.t set st v h f → GivesField bits bound d s set st v h f
     unfolding passes_on
-    gives_on bound other d e f s set st v h one less a wanted gives = record {
+    gives_on bits bound other d e f s set st v h one less a wanted gives = record {
       passes = passes_on bound other d e f s st one (Behind h f) (Behind h f) less a gives.passes wanted (λ behind. behind);
-      stands = stands_less bound other f set h gives.passes.t st v less gives.stands;
+      stands = stands_less bits bound other f set h gives.passes.t st v less gives.stands;
     }
 
-    pub gives_less : (bound other : ℕ) (d e : Draft) (s : CodeState) (set : ℕ) (st : State) (v : ℕ → ℕ) (h : Field) → bound ≤ other → GivesField other d s set st v h e → GivesField bound d s set st v h e
+    pub gives_less : (bits bound other : ℕ) (d e : Draft) (s : CodeState) (set : ℕ) (st : State) (v : ℕ → ℕ) (h : Field) → bound ≤ other → GivesField bits other d s set st v h e → GivesField bits bound d s set st v h e
     unfolding passes_less
-    gives_less bound other d e s set st v h less gives = record { passes = passes_less bound other d e s st (Behind h e) less gives.passes; stands = stands_less bound other e set h gives.passes.t st v less gives.stands }
+    gives_less bits bound other d e s set st v h less gives = record { passes = passes_less bound other d e s st (Behind h e) less gives.passes; stands = stands_less bits bound other e set h gives.passes.t st v less gives.stands }
 
     module _ (places : PlacesFields g) (fields : HoldsTheFields g) where
       -- which positions are active
       pub flags_of : (st : State) (t : CodeState) (set p : ℕ) → Sim g alive st t → set < length (shapes g) → p < processors (shapes g) set → is_active (shapes g) t.memory set p ≡ fields.active set p
       flags_of st t set p sim exists below = (fields.opens st t.memory sim.memory).flags set p exists below
 
-      -- the numbers of a variable are words at every position
-      in_file_small : (set : ℕ) (f : Field) (st : State) (v : ℕ → ℕ) (t : CodeState) → InFile set f st v → Sim g alive st t → (p : ℕ) → p < processors (shapes g) set → v p < 2 ^ 32
-      in_file_small set f st v t h sim p below =
-          subst (λ (n : ℕ). n < 2 ^ 32) (sym (h.same p below)) (subst (λ (n : ℕ). st.parallel (V.File h.k) 0 p < 2 ^ n) h.word ((fields.opens st t.memory sim.memory).small h.k 0 set p h.info h.is below))
+      -- the number of a variable is one of its type
+      pub small_there : (set k : ℕ) (info : VarInfo) (st : State) (t : CodeState) → IsElement g.typed k info set 0 → Sim g alive st t → (p : ℕ) → p < processors (shapes g) set → st.parallel (V.File k) 0 p < 2 ^ info.elem.bits
+      small_there set k info st t is sim p below = (fields.opens st t.memory sim.memory).small k 0 set p info is below
 
-      pub in_file_has : (set : ℕ) (f : Field) (st : State) (v : ℕ → ℕ) (t : CodeState) → InFile set f st v → Sim g alive st t → HasNumbers g set f t v
-      in_file_has set f st v t h sim = record {
+      -- first bits of a field have the lowest bits of its number
+      pub first_there : (set : ℕ) (f : Field) (long : ℕ) (st : State) (t : CodeState) → Sim g alive st t → f.set ≡ set → set < length (shapes g) → f.len ≤ long → (place g f).offset + long ≤ bits_at (shapes g) f.set → (p : ℕ) → p < processors (shapes g) set
+          → number_in g f t p ≡ number_in g (record f { len = long }) t p % 2 ^ f.len
+      first_there set f long st t sim of_set exists fits ends p below =
+          first_number (shapes g) t.memory (place g (record f { len = long })) p f.len (fields.opens st t.memory sim.memory).bits (subst (λ (n : ℕ). n < length (shapes g)) (sym of_set) exists) (subst (λ (n : ℕ). p < processors (shapes g) n) (sym of_set) below) ends fits
+
+      -- the words of a variable are there at every position
+      pub in_file_numbers : (bits set : ℕ) (f : Field) (st : State) (v : ℕ → ℕ) (t : CodeState) → InFile bits set f st v → Sim g alive st t → (p : ℕ) → p < processors (shapes g) set → (number_in g f t p ≡ v p % 2 ^ bits) × (v p < 2 ^ 32)
+      in_file_numbers bits set f st v t h sim p below =
+          let exists : set < length (shapes g) = places.exists h.k 0 set h.info h.is in
+          let at_file : place g (record f { len = h.info.elem.bits }) ≡ of_file g h.k 0 = places.file h.k 0 h.info (record f { len = h.info.elem.bits }) (subst (λ (n : ℕ). IsElement g.typed h.k h.info n 0) (sym h.of_set) h.is) refl h.file in
+          let ends : (place g f).offset + h.info.elem.bits ≤ bits_at (shapes g) f.set = subst (λ (x : Field). x.offset + x.len ≤ bits_at (shapes g) x.set) (sym at_file) (places.files_end h.k 0 set h.info h.is) in (
+            first_there set f h.info.elem.bits st t sim h.of_set exists h.fits ends p below
+                ∙ ap (λ (x : Field). field_number t.memory x p % 2 ^ f.len) at_file
+                ∙ ap (λ (n : ℕ). n % 2 ^ f.len) ((fields.opens st t.memory sim.memory).numbers h.k 0 set p h.info h.is below)
+                ∙ sym (held_first h.info.elem (st.parallel (V.File h.k) 0 p) f.len (small_there set h.k h.info st t h.is sim p below) h.fits)
+                ∙ ap (λ (n : ℕ). held h.info.elem (st.parallel (V.File h.k) 0 p) % 2 ^ n) h.len ∙ sym (h.same p below).0,
+            (h.same p below).1,
+          )
+
+      pub in_file_has : (bits set : ℕ) (f : Field) (st : State) (v : ℕ → ℕ) (t : CodeState) → InFile bits set f st v → Sim g alive st t → HasNumbers g bits set f t v
+      in_file_has bits set f st v t h sim = record {
         of_set = h.of_set;
         exists = places.exists h.k 0 set h.info h.is;
-        len = h.wide;
-        are = λ p below on.
-            ap (λ (x : Field). field_number t.memory x p) (places.file h.k 0 h.info f (subst (λ (n : ℕ). IsElement g.typed h.k h.info n 0) (sym h.of_set) h.is) (h.word ∙ sym h.wide) h.file)
-            ∙ (fields.opens st t.memory sim.memory).numbers h.k 0 set p h.info h.is below ∙ sym (h.same p below);
-        small = λ p below on. in_file_small set f st v t h sim p below;
+        len = h.len;
+        are = λ p below on. (in_file_numbers bits set f st v t h sim p below).0;
+        small = λ p below on. (h.same p below).1;
       }
 
       -- so the numbers are there at once
-      pub gives_numbers : (bound : ℕ) (d : Draft) (s : CodeState) (set : ℕ) (st : State) (v : ℕ → ℕ) (f : Field) (e : Draft) → (h : GivesField bound d s set st v f e) → HasNumbers g set f h.passes.t v
-      gives_numbers bound d s set st v f e h = by h.stands
+      pub gives_numbers : (bits bound : ℕ) (d : Draft) (s : CodeState) (set : ℕ) (st : State) (v : ℕ → ℕ) (f : Field) (e : Draft) → (h : GivesField bits bound d s set st v f e) → HasNumbers g bits set f h.passes.t v
+      gives_numbers bits bound d s set st v f e h = by h.stands
         where
-          by : Stands bound e set f h.passes.t st v → HasNumbers g set f h.passes.t v
+          by : Stands bits bound e set f h.passes.t st v → HasNumbers g bits set f h.passes.t v
           by (inl own) = own.has
-          by (inr file) = in_file_has set f st v h.passes.t file h.passes.sim
+          by (inr file) = in_file_has bits set f st v h.passes.t file h.passes.sim
 
-      -- numbers that are the same where they are words are there too
-      pub gives_alike : (bound : ℕ) (d : Draft) (s : CodeState) (set : ℕ) (st : State) (v w : ℕ → ℕ) (f : Field) (e : Draft) → ((p : ℕ) → v p < 2 ^ 32 → w p ≡ v p) → GivesField bound d s set st v f e → GivesField bound d s set st w f e
-      gives_alike bound d s set st v w f e alike h = record { passes = h.passes; stands = by h.stands }
+      -- other words with the same lowest bits are there too
+      pub gives_alike : (bits bound : ℕ) (d : Draft) (s : CodeState) (set : ℕ) (st : State) (v w : ℕ → ℕ) (f : Field) (e : Draft) → AreAlike g bits set v w → GivesField bits bound d s set st v f e → GivesField bits bound d s set st w f e
+      gives_alike bits bound d s set st v w f e alike h = record { passes = h.passes; stands = by h.stands }
         where
-          has : HasNumbers g set f h.passes.t v
-          has = gives_numbers bound d s set st v f e h
+          by : Stands bits bound e set f h.passes.t st v → Stands bits bound e set f h.passes.t st w
+          by (inl own) = inl (record { long = own.long; own = own.own; fits = own.fits; ends = own.ends; newer = own.newer; older = own.older; somewhere = own.somewhere; named = own.named; before = own.before; has = has_alike g bits set f h.passes.t v w alike own.has })
+          by (inr file) = inr (record { k = file.k; info = file.info; is = file.is; file = file.file; of_set = file.of_set; len = file.len; fits = file.fits; same = λ p below. let same = file.same p below in let other = alike p below same.1 in (other.0 ∙ same.0, other.1) })
 
-          by : Stands bound e set f h.passes.t st v → Stands bound e set f h.passes.t st w
-          by (inl own) = inl (record { own = own.own; newer = own.newer; older = own.older; somewhere = own.somewhere; named = own.named; before = own.before; has = has_alike g set f h.passes.t v w alike own.has })
-          by (inr file) = inr (record { k = file.k; info = file.info; is = file.is; word = file.word; file = file.file; of_set = file.of_set; wide = file.wide; same = λ p below. alike p (in_file_small set f st v h.passes.t file h.passes.sim p below) ∙ file.same p below })
+      -- fewer bits of a field that is given
+      pub gives_first : (bits fewer bound : ℕ) (d : Draft) (s : CodeState) (set : ℕ) (st : State) (v : ℕ → ℕ) (f : Field) (e : Draft) → fewer ≤ bits → GivesField bits bound d s set st v f e → GivesField fewer bound d s set st v (record f { len = fewer }) e
+      gives_first bits fewer bound d s set st v f e less h = record { passes = h.passes; stands = by h.stands }
+        where
+          by : Stands bits bound e set f h.passes.t st v → Stands fewer bound e set (record f { len = fewer }) h.passes.t st v
+          by (inl own) =
+              let fits : fewer ≤ f.len = subst (λ (n : ℕ). fewer ≤ n) (sym own.has.len) less in
+              inl (record {
+                long = own.long;
+                own = own.own;
+                fits = omega (arith, fits, own.fits);
+                ends = own.ends;
+                newer = own.newer;
+                older = own.older;
+                somewhere = own.somewhere;
+                named = own.named;
+                before = own.before;
+                has = record {
+                  of_set = own.has.of_set;
+                  exists = own.has.exists;
+                  len = refl;
+                  are = λ p below on.
+                      first_there set (record f { len = fewer }) f.len st h.passes.t h.passes.sim own.has.of_set own.has.exists fits (omega (arith, own.ends, own.fits)) p below
+                      ∙ ap (λ (n : ℕ). n % 2 ^ fewer) (own.has.are p below on) ∙ cut_cut (v p) fewer bits less;
+                  small = own.has.small;
+                };
+              })
+          by (inr file) = inr (record { k = file.k; info = file.info; is = file.is; file = file.file; of_set = file.of_set; len = refl; fits = (let whole = subst (λ (n : ℕ). n ≤ file.info.elem.bits) file.len file.fits in omega (arith, less, whole)); same = λ p below. (sym (cut_cut (v p) fewer bits less) ∙ ap (λ (n : ℕ). n % 2 ^ fewer) (file.same p below).0 ∙ cut_cut (held file.info.elem (st.parallel (V.File file.k) 0 p)) fewer bits less, (file.same p below).1) })
 
       -- and behind code that passes, where an instruction names the field then
-      pub still_numbers : (bound other : ℕ) (d : Draft) (s : CodeState) (set : ℕ) (st : State) (v : ℕ → ℕ) (f : Field) (e e2 : Draft) (used : Type 0) → (h : GivesField bound d s set st v f e) → (b : Passes other e e2 h.passes.t st used) → used → length e.fields ≤ other → Behind f e2
-          → HasNumbers g set f b.t v
-      still_numbers bound other d s set st v f e e2 used h b wanted more behind = by h.stands
+      pub still_numbers : (bits bound other : ℕ) (d : Draft) (s : CodeState) (set : ℕ) (st : State) (v : ℕ → ℕ) (f : Field) (e e2 : Draft) (used : Type 0) → (h : GivesField bits bound d s set st v f e) → (b : Passes other e e2 h.passes.t st used) → used → length e.fields ≤ other → Behind f e2
+          → HasNumbers g bits set f b.t v
+      still_numbers bits bound other d s set st v f e e2 used h b wanted more behind = by h.stands
         where
-          by : Stands bound e set f h.passes.t st v → HasNumbers g set f b.t v
+          by : Stands bits bound e set f h.passes.t st v → HasNumbers g bits set f b.t v
           by (inl own) = record {
             of_set = own.has.of_set;
             exists = own.has.exists;
             len = own.has.len;
-            are = λ p below on. b.stays wanted f own.somewhere behind.0 p (let l = own.older in omega (arith, l, more)) own.own own.named own.before behind.1.0 behind.1.1 ∙ own.has.are p below (was_on own.has.exists p below on);
+            are = λ p below on.
+                first_there set f own.long st b.t b.sim own.has.of_set own.has.exists own.fits own.ends p below
+                ∙ ap (λ (n : ℕ). n % 2 ^ f.len) (b.stays wanted (record f { len = own.long }) own.somewhere behind.0 p (let l = own.older in omega (arith, l, more)) own.own own.named own.before behind.1.0 behind.1.1)
+                ∙ sym (first_there set f own.long st h.passes.t h.passes.sim own.has.of_set own.has.exists own.fits own.ends p below)
+                ∙ own.has.are p below (was_on own.has.exists p below on);
             small = λ p below on. own.has.small p below (was_on own.has.exists p below on);
           }
             where
               was_on : set < length (shapes g) → (p : ℕ) → p < processors (shapes g) set → is_active (shapes g) b.t.memory set p ≡ true → is_active (shapes g) h.passes.t.memory set p ≡ true
               was_on exists p below on = flags_of st h.passes.t set p h.passes.sim exists below ∙ sym (flags_of st b.t set p b.sim exists below) ∙ on
-          by (inr file) = in_file_has set f st v b.t file b.sim
+          by (inr file) = in_file_has bits set f st v b.t file b.sim
 
       -- an instruction by which an own entry takes numbers
-      pub puts_own : (bound : ℕ) (set : ℕ) (i : Instr) (d : Field) (e : Draft) (s : CodeState) (st : State) (v : ℕ → ℕ) → bound ≤ d.offset → d.offset < length e.fields → IsOwnField g d → d.set ≡ set → d.len ≡ 32
-          → Within g (with_instr i e) → At g s (length e.code) → Sim g alive st s → Puts g set i d s v → GivesField bound e s set st v d (with_instr i e)
-      puts_own bound set i d e s st v newer older own of_set wide within here sim puts =
-          let w = own_written g places fields alive set i d e s st v within here sim of_set wide puts own in
+      pub puts_own : (bits bound : ℕ) (set : ℕ) (i : Instr) (d : Field) (e : Draft) (s : CodeState) (st : State) (v : ℕ → ℕ) → bound ≤ d.offset → d.offset < length e.fields → IsOwnField g d → d.set ≡ set → d.len ≡ bits
+          → Within g (with_instr i e) → At g s (length e.code) → Sim g alive st s → Puts g set i d s v → GivesField bits bound e s set st v d (with_instr i e)
+      puts_own bits bound set i d e s st v newer older own of_set long within here sim puts =
+          let w = own_written g places fields alive set i d e s st v within here sim of_set puts own in
           let x : Extended e 1 (with_instr i e) = and_one g i e in
-          let long : length (with_instr i e).code ≡ length e.code + 1 = code_more g i e in
+          let longer : length (with_instr i e).code ≡ length e.code + 1 = code_more g i e in
           record {
             passes = record {
               grown = (1, x);
@@ -250,15 +305,18 @@ module _ (g : Setting) where
               registers = w.registers;
               sim = w.sim;
               stays = λ wanted h first last p below is_own before low after high.
-                  w.stays (wanted.0, (wanted.1.0, let l = wanted.1.1 in omega (arith, l, long))) h first last p (λ same. omega (arith, same, below, newer)) is_own before after (omega (arith, low)) (omega (arith, high, long));
+                  w.stays (wanted.0, (wanted.1.0, let l = wanted.1.1 in omega (arith, l, longer))) h first last p (λ same. omega (arith, same, below, newer)) is_own before after (omega (arith, low)) (omega (arith, high, longer));
             };
             stands = inl (record {
+              long = d.len;
               own = own;
+              fits = omega arith;
+              ends = (places.ends (length e.code) i d puts.others (stands_here g i e within puts.plain) puts.plain puts.simple puts.names).1;
               newer = newer;
               older = let l = fields_longer e (with_instr i e) 1 x in omega (arith, older, l);
               somewhere = length e.code;
               named = names_first g i d puts.others (length e.code) (stands_here g i e within puts.plain) puts.names;
-              before = omega (arith, long);
-              has = w.has;
+              before = omega (arith, longer);
+              has = subst (λ (n : ℕ). HasNumbers g n set d w.t v) long w.has;
             });
           }

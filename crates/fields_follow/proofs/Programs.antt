@@ -1,5 +1,5 @@
 -- The run of a program with parallel variables: what its memory holds from the first instruction to the end.
-use Rattle.std.proofs.Common.{◌≡◌, ◌∙◌, ℕ, ◌<◌, ◌^◌, ◌⊎◌, inl, inr, true, List, [], slice_get, Option, Some, None, sym, ap, subst}
+use Rattle.std.proofs.Common.{◌≡◌, ◌∙◌, ℕ, ◌<◌, ◌^◌, ◌⊎◌, inl, inr, true, List, [], slice_get, Option, Some, None, sym, ap, subst, arith}
 use Rattle.std.proofs.lemmas.Nat.{pow_pos}
 use Rattle.cstar_base.specs.declared.operators.Winner.{Winner}
 use Rattle.cstar_compile.specs.Compiled.{IsCompiled}
@@ -28,7 +28,7 @@ use Rattle.fields_follow.specs.Fragment.{IsParallelProgram, fields_beside}
 use Rattle.fields_follow.specs.Laws.{ComesToAll, HasTheNumbers, IsNew, ParallelCodeMeansSource}
 use Rattle.fields_follow.proofs.Besides.{besides}
 use Rattle.fields_follow.proofs.Fields.{HoldsFields, HoldsNumbers, fields_held}
-use Rattle.fields_follow.proofs.FileFields.{IsTranslated, extents_are, file_exists, fresh_active, fresh_file, processors_of, translated}
+use Rattle.fields_follow.proofs.FileFields.{IsTranslated, extents_are, file_exists, fresh_active, fresh_bit, fresh_file, processors_of, translated}
 use Rattle.fields_follow.proofs.Instructions.{SameExtents}
 use Rattle.fields_follow.proofs.Joining.{places_fields}
 use Rattle.fields_follow.proofs.Knowing.{KnowsFields}
@@ -111,6 +111,7 @@ module _ (t : Typed) (image : Image) (p : IsParallelProgram t) (codable : IsCoda
     small = λ k e set q info is below. subst (λ (n : ℕ). n < 2 ^ info.elem.bits) (sym (begins_at_zero k info set is.known is.parallel)) (pow_pos info.elem.bits);
     flags = λ set q exists below. fresh_active (shapes_of image) m set q new.bits exists below;
     winner = new.winner;
+    bits = λ set q index exists below low. subst (λ (b : ℕ). b < 2) (sym (fresh_bit (shapes_of image) m set q index new.bits exists below low)) (omega arith);
   }
 
   -- what it holds of the state at the end, at the positions of the source

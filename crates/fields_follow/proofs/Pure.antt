@@ -15,7 +15,7 @@ use Rattle.source_meaning.specs.Expressions.{evaluated}
 use Rattle.source_meaning.specs.State.{Gives, Outcome, State, then_do}
 use Rattle.source_meaning.specs.Values.{Active, Parallel, Scope, Value, at, convert_to, each, own_coordinate}
 use Rattle.vp_sets.specs.Positions.{positions_fit}
-use Rattle.fields_follow.specs.Fragment.{IsPure, IsWide, KnowsExtents, NameExtents, extents_in}
+use Rattle.fields_follow.specs.Fragment.{IsPure, KnowsExtents, NameExtents, extents_in}
 use Rattle.fields_follow.proofs.Meaning.{as_shaped, binary_means, either, left_of, promoted_means, read_is, right_of, unary_means, value_in}
 use Rattle.fields_follow.specs.Fields.{IsElement}
 use Rattle.fields_follow.proofs.Forms.{divisor_never_zero, element_is}
@@ -35,20 +35,19 @@ AreGrids scope t set = (k : ℕ) (info : VarInfo) → IsElement t k info set 0 �
 module _ (scope : Scope) (active : Active) (t : Typed) (i : Instance) (n : ℕ) where
   pub pure_means : (set : ℕ) (e : TExpr) (st : State) → IsPure set e → AreGrids scope t set → NamesVariables t i n e → KnowsExtents (extents_in t) e → evaluated scope e active st ≡ Gives (Parallel (λ q. value_in (scope.extents set) st e q)) st
   unfolding IsPure KnowsExtents NamesVariables evaluated value_in then_do at convert_to each own_coordinate
-  pure_means set (T.Variable ty (V.File k)) st is grids names knows = ap (λ (v : Value). Gives v st) (read_is scope active ty set k st is.0)
+  pure_means set (T.Variable ty (V.File k)) st is grids names knows = ap (λ (v : Value). Gives v st) (read_is scope active ty set k st is)
   pure_means set (T.Brackets' ty p inner) st is grids names knows = pure_means set inner st is.1 grids names knows
   pure_means set (T.Unary' ty op p operand) st is grids names knows = unary_means scope active set ty op p operand (λ q. value_in (scope.extents set) st operand q) st is.0.0 (pure_means set operand st is.2 grids names knows)
   pure_means set (T.Binary' ty place op p left q right) st is grids names knows =
       binary_means scope active set ty place op p q left right (λ q. value_in (scope.extents set) st left q) (λ q. value_in (scope.extents set) st right q) st is.0.0 (divisor_never_zero set op right (scope.extents set) st is.1 (right_of set left right is.2))
       (either (λ h. pure_means set left st h grids names.0 knows.0) (λ h. promoted_means scope active set left st h) (left_of set left right is.2)) (either (λ h. pure_means set right st h grids names.1 knows.1) (λ h. promoted_means scope active set right st h) (right_of set left right is.2))
   pure_means set (T.Convert' ty p operand) st is grids names knows =
-      ap (λ (o : Outcome Value). then_do o (λ v after. Gives (convert_to ty (type_of operand).elem v) after)) (pure_means set operand st is.1 grids names knows)
-      ∙ ap (λ (y : ValueType). Gives (convert_to y (type_of operand).elem (Parallel (λ q. value_in (scope.extents set) st operand q))) st) (as_shaped ty set is.0.0)
+      ap (λ (o : Outcome Value). then_do o (λ v after. Gives (convert_to ty (type_of operand).elem v) after)) (pure_means set operand st is.2 grids names knows)
+      ∙ ap (λ (y : ValueType). Gives (convert_to y (type_of operand).elem (Parallel (λ q. value_in (scope.extents set) st operand q))) st) (as_shaped ty set is.0)
   pure_means set (T.Pcoord ty axis) st is grids names knows = ap (λ (o : Option ℕ). Gives (own_coordinate scope o axis) st) is.0
   pure_means set (T.LeftIndex' ty place p indexes (V.File k) of) st is grids names knows =
-      let wide : IsWide set (parallel ty.elem of) = (ap Some is.1, is.0.1) in
-      let grid : IsGrid scope (extents_in t) set = grids k (variable_info names.0.word (plain (parallel ty.elem of)) names.0.start) (element_is t i n k set (parallel ty.elem of) wide names.0) in
-      get_means scope active set k ty place p indexes of st is.0.0 is.1 is.2 grid.1 (subst (λ (xs : List ℕ). NameExtents xs indexes) (ap (extents_in t) is.1 ∙ grid.0) knows)
+      let grid : IsGrid scope (extents_in t) set = grids k (variable_info names.0.word (plain (parallel ty.elem of)) names.0.start) (element_is t i n k set (parallel ty.elem of) (ap Some is.1) names.0) in
+      get_means scope active set k ty place p indexes of st is.0 is.1 is.2 grid.1 (subst (λ (xs : List ℕ). NameExtents xs indexes) (ap (extents_in t) is.1 ∙ grid.0) knows)
   pure_means set _ st is grids names knows = absurd is
 
 -- a shape of the image is such a grid

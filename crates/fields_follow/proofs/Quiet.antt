@@ -59,12 +59,12 @@ variable_quiet : (e : TExpr) → IsScalarName e → is_quiet e ≡ true
 unfolding IsScalarName is_quiet
 variable_quiet (T.Variable ty x) is = refl
 variable_quiet (T.Brackets' ty p inner) is = variable_quiet inner is.1
-variable_quiet (T.Convert' ty p operand) is = variable_quiet operand is.1
+variable_quiet (T.Convert' ty p operand) is = variable_quiet operand is.2
 variable_quiet _ is = absurd is
 
 pub promoted_quiet : (set : ℕ) (e : TExpr) → IsPromoted set e → is_quiet e ≡ true
 unfolding IsPromoted is_quiet
-promoted_quiet set (T.Promote' ty p operand) is = either (λ (constant : IsConstant operand). constant_quiet operand (known_constant operand constant.0 constant.1)) (λ variable. variable_quiet operand variable) is.1.1
+promoted_quiet set (T.Promote' ty p operand) is = either (λ (constant : IsConstant operand). constant_quiet operand (known_constant operand constant.0 constant.1)) (λ variable. variable_quiet operand variable) is.2.1
 promoted_quiet set (T.Brackets' ty p inner) is = promoted_quiet set inner is.1
 promoted_quiet set _ is = absurd is
 
@@ -112,7 +112,7 @@ pure_quiet set (T.Brackets' ty p inner) is = pure_quiet set inner is.1
 pure_quiet set (T.Unary' ty op p operand) is = pure_quiet set operand is.2
 pure_quiet set (T.Binary' ty place op p left q right) is =
     both (is_quiet left) (is_quiet right) (either (λ h. pure_quiet set left h) (λ h. promoted_quiet set left h) (left_of set left right is.2)) (either (λ h. pure_quiet set right h) (λ h. promoted_quiet set right h) (right_of set left right is.2))
-pure_quiet set (T.Convert' ty p operand) is = pure_quiet set operand is.1
+pure_quiet set (T.Convert' ty p operand) is = pure_quiet set operand is.2
 pure_quiet set (T.Pcoord ty axis) is = refl
 pure_quiet set (T.LeftIndex' ty place p indexes (V.File k) of) is = wrapping_quiet set 0 indexes is.2
 pure_quiet set _ is = absurd is

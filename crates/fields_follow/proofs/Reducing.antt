@@ -44,7 +44,7 @@ use Rattle.code_follows.proofs.Values.{Dest}
 use Rattle.code_follows.proofs.Words.{below_bits, held_wide}
 use Rattle.fields_follow.specs.Fragment.{IsWide}
 use Rattle.fields_follow.proofs.Folds.{folding, global_is}
-use Rattle.fields_follow.proofs.Instructions.{HasNumbers, place, shapes}
+use Rattle.fields_follow.proofs.Instructions.{HasNumbers, has_words, place, shapes}
 use Rattle.fields_follow.proofs.Passing.{After, Behind, GivesField, Passes, after_same, flags_of, gives_numbers, made_after, then_after}
 use Rattle.fields_follow.proofs.Places.{HoldsTheFields, PlacesFields, names_first, stands_here}
 
@@ -164,11 +164,11 @@ module _ (g : Setting) (alive : Variable → Type 0) where
       number = reduced op (not signed) (fields.active set) v (processors (shapes g) set)
 
       -- the fold of a field that has these is theirs, and a word
-      pub whole_is : (f : Field) (t : CodeState) (st : State) → HasNumbers g set f t v → Sim g alive st t → (global_fold (shapes g) t.memory (folding op signed) (place g f) ≡ whole) × (whole < 2 ^ 32)
+      pub whole_is : (f : Field) (t : CodeState) (st : State) → HasNumbers g 32 set f t v → Sim g alive st t → (global_fold (shapes g) t.memory (folding op signed) (place g f) ≡ whole) × (whole < 2 ^ 32)
       whole_is f t st h sim =
           subst (λ (n : ℕ). (global_fold (shapes g) t.memory (folding op signed) (place g f) ≡ folded (combiner_of op) (not signed) (fields.active set) v n) × (folded (combiner_of op) (not signed) (fields.active set) v n < 2 ^ 32))
           (ap (λ (k : ℕ). processors (shapes g) k) h.of_set)
-          (global_is (shapes g) t.memory op signed (place g f) (fields.active set) v h.len (λ q below. ap (λ (k : ℕ). is_active (shapes g) t.memory k q) h.of_set ∙ alike q (inside q below)) (λ q below on. h.are q (inside q below) (alike q (inside q below) ∙ on)) (λ q below on. h.small q (inside q below) (alike q (inside q below) ∙ on)))
+          (global_is (shapes g) t.memory op signed (place g f) (fields.active set) v h.len (λ q below. ap (λ (k : ℕ). is_active (shapes g) t.memory k q) h.of_set ∙ alike q (inside q below)) (λ q below on. has_words g set f t v h q (inside q below) (alike q (inside q below) ∙ on)) (λ q below on. h.small q (inside q below) (alike q (inside q below) ∙ on)))
         where
           inside : (q : ℕ) → q < processors (shapes g) f.set → q < processors (shapes g) set
           inside q below = subst (λ (k : ℕ). q < processors (shapes g) k) h.of_set below
@@ -176,12 +176,12 @@ module _ (g : Setting) (alive : Variable → Type 0) where
           alike : (q : ℕ) → q < processors (shapes g) set → is_active (shapes g) t.memory set q ≡ fields.active set q
           alike q below = flags_of g alive places fields st t set q sim h.exists below
 
-      global_puts : (r : ℕ) (f : Field) (t : CodeState) (st : State) → HasNumbers g set f t v → Sim g alive st t → begun g.image (placed_instr g (global r f)) t ≡ Goes (with_register r whole t)
+      global_puts : (r : ℕ) (f : Field) (t : CodeState) (st : State) → HasNumbers g 32 set f t v → Sim g alive st t → begun g.image (placed_instr g (global r f)) t ≡ Goes (with_register r whole t)
       unfolding begun applied after
       global_puts r f t st h sim = ap (λ (w : ℕ). Goes (with_register r w t)) (whole_is f t st h sim).0
 
       -- the fold behind the code that gives the field
-      reduces : (d e : Draft) (s : CodeState) (st : State) (r w : ℕ) (f : Field) → (set < length (shapes g) → number ≡ w) → GivesField g alive (length d.fields) d s set st v f e → Within g (made r f e) → GivesNumber d s st r w (made r f e)
+      reduces : (d e : Draft) (s : CodeState) (st : State) (r w : ℕ) (f : Field) → (set < length (shapes g) → number ≡ w) → GivesField g alive 32 (length d.fields) d s set st v f e → Within g (made r f e) → GivesNumber d s st r w (made r f e)
       unfolding step_of
       reduces d e s st r w f is h within = record {
         middle = e;
@@ -190,8 +190,8 @@ module _ (g : Setting) (alive : Variable → Type 0) where
             (ends op (global r f) e h.passes.t r whole refl (global_puts r f h.passes.t st has h.passes.sim) (whole_is f h.passes.t st has h.passes.sim).1 h.passes.at within);
       }
         where
-          has : HasNumbers g set f h.passes.t v
-          has = gives_numbers g alive places fields (length d.fields) d s set st v f e h
+          has : HasNumbers g 32 set f h.passes.t v
+          has = gives_numbers g alive places fields 32 (length d.fields) d s set st v f e h
 
           after_fold : Within g (with_instr (global r f) e)
           after_fold = let x = negated_more op r 0 (with_instr (global r f) e) (with_instr (global r f) e) (as_it_was (with_instr (global r f) e)) in earlier g (with_instr (global r f) e) (made r f e) x.0 x.1 within
@@ -220,12 +220,12 @@ module _ (g : Setting) (alive : Variable → Type 0) where
 
     module _ (d : Draft) (s : CodeState) (st : State) (v : ℕ → ℕ) (r w : ℕ) (number_is : set < length (shapes g) → number op signed_operand places fields set v ≡ w) where
       abbrev Given : Out → Draft → Type 0
-      Given out x = (f : Field) × ((out ≡ O.Field f) × GivesField g alive (length d.fields) d s set st v f x)
+      Given out x = (f : Field) × ((out ≡ O.Field f) × GivesField g alive 32 (length d.fields) d s set st v f x)
 
       abbrev Reduced : Out → Draft → Type 0
       Reduced out x = (out ≡ O.Scalar r) × GivesNumber d s st r w x
 
-      reduced_next : (out : Out) (x : Draft) (f : Field) → out ≡ O.Field f → GivesField g alive (length d.fields) d s set st v f x → After g Reduced (next r out x)
+      reduced_next : (out : Out) (x : Draft) (f : Field) → out ≡ O.Field f → GivesField g alive 32 (length d.fields) d s set st v f x → After g Reduced (next r out x)
       reduced_next out x f is h =
           after_same g Reduced (ap (λ (o : Out). next r o x) is ∙ made_is r f x)
           (made_after g Reduced (O.Scalar r) (made op signed_operand r f x) (λ within. (refl, reduces op signed_operand places fields set v d x s st r w f number_is h within)))

@@ -1,5 +1,5 @@
 -- What instructions that test leave in the test flags of a set: all else is as it was.
-use Rattle.std.proofs.Common.{◌≡◌, ◌∙◌, ℕ, ◌+◌, ◌%◌, ◌<◌, ◌≤◌, ◌==◌, Bool, true, false, not, [], length, refl, ap, arith}
+use Rattle.std.proofs.Common.{◌≡◌, ◌∙◌, ℕ, ◌+◌, ◌%◌, ◌<◌, ◌≤◌, ◌==◌, Bool, true, false, not, [], length, refl, ap, arith, ◌^◌}
 use Rattle.std.specs.Int.{from_bool}
 use Rattle.cstar_base.specs.declared.operators.Op.{Op}
 use Rattle.cstar_base.specs.declared.operators.Op.TheVariants as P
@@ -25,7 +25,7 @@ use Rattle.source_meaning.specs.State.{State}
 use Rattle.source_meaning.specs.Values.{nonzero}
 use Rattle.code_follows.proofs.Besides.{sim_saying}
 use Rattle.code_follows.proofs.Settings.{Setting, Within, and_one, at_next, begins_here, code_more, one_writes, onto, placed_instr}
-use Rattle.fields_follow.proofs.Bits.{field_apart}
+use Rattle.fields_follow.proofs.Bits.{bits_written, field_apart}
 use Rattle.fields_follow.proofs.Fields.{HoldsFields}
 use Rattle.fields_follow.proofs.Flags.{above_fields, bit_is, context_under_test, test_taken, written_to}
 use Rattle.fields_follow.proofs.Instructions.{HasNumbers, number_in, place, shapes, wrote}
@@ -77,26 +77,27 @@ module _ (g : Setting) where
     pub value : (p : ℕ) → p < processors (shapes g) set → is_active (shapes g) s.memory set p ≡ true → takes p ≡ from_bool (nonzero (v p))
     pub goes : begun g.image (placed_instr g i) s ≡ Goes (wrote g (written_to (test_run (shapes g) set) (λ p. is_active (shapes g) s.memory set p) takes) s)
 
-  pub puts_compare : (set : ℕ) (op : Op) (signed : Bool) (c : ComparesAs op signed) (a b : Field) (s : CodeState) (v w : ℕ → ℕ) → relates op ≡ true → HasNumbers g set a s v → HasNumbers g set b s w
-      → PutsTest set (I.Compare c.relation a b) s (λ p. outcome op 32 (not signed) (v p) (w p))
+  pub puts_compare : (bits set : ℕ) (relation : Compare) (a b : Field) (s : CodeState) (v w u : ℕ → ℕ)
+      → ((p : ℕ) → p < processors (shapes g) set → outcome (comparison_of relation).0 bits (comparison_of relation).1 (v p % 2 ^ bits) (w p % 2 ^ bits) ≡ from_bool (nonzero (u p))) → HasNumbers g bits set a s v → HasNumbers g bits set b s w
+      → PutsTest set (I.Compare relation a b) s u
   unfolding begun applied after step_of
-  puts_compare set op signed c a b s v w relation one other = record {
+  puts_compare bits set relation a b s v w u same one other = record {
     plain = refl;
-    takes = λ p. element (shapes g) (I.Compare c.relation (place g a) (place g b)) [] s.memory p;
+    takes = λ p. element (shapes g) (I.Compare relation (place g a) (place g b)) [] s.memory p;
     value = λ p below active.
-        ap (λ (n : ℕ). outcome (comparison_of c.relation).0 n (comparison_of c.relation).1 (number_in g a s p) (number_in g b s p)) one.len
-        ∙ ap (λ (n : ℕ). outcome (comparison_of c.relation).0 32 (comparison_of c.relation).1 n (number_in g b s p)) (one.are p below active)
-        ∙ ap (λ (n : ℕ). outcome (comparison_of c.relation).0 32 (comparison_of c.relation).1 (v p) n) (other.are p below active)
-        ∙ c.same (v p) (w p) ∙ is_truth op 32 (not signed) (v p) (w p) relation;
-    goes = ap (λ (q : ℕ). Goes (wrote g (written_to (test_run (shapes g) q) (λ p. is_active (shapes g) s.memory q p) (λ p. element (shapes g) (I.Compare c.relation (place g a) (place g b)) [] s.memory p)) s)) one.of_set;
+        ap (λ (n : ℕ). outcome (comparison_of relation).0 n (comparison_of relation).1 (number_in g a s p) (number_in g b s p)) one.len
+        ∙ ap (λ (n : ℕ). outcome (comparison_of relation).0 bits (comparison_of relation).1 n (number_in g b s p)) (one.are p below active)
+        ∙ ap (λ (n : ℕ). outcome (comparison_of relation).0 bits (comparison_of relation).1 (v p % 2 ^ bits) n) (other.are p below active)
+        ∙ same p below;
+    goes = ap (λ (q : ℕ). Goes (wrote g (written_to (test_run (shapes g) q) (λ p. is_active (shapes g) s.memory q p) (λ p. element (shapes g) (I.Compare relation (place g a) (place g b)) [] s.memory p)) s)) one.of_set;
   }
 
   -- a field of a set is zero where these numbers are, at active positions
   abbrev pub Tells : ℕ → Field → CodeState → (ℕ → ℕ) → Type 0
   Tells set a s v = (a.set ≡ set) × ((p : ℕ) → p < processors (shapes g) set → is_active (shapes g) s.memory set p ≡ true → (number_in g a s p == 0) ≡ (v p == 0))
 
-  pub numbers_tell : (set : ℕ) (a : Field) (s : CodeState) (v : ℕ → ℕ) → HasNumbers g set a s v → Tells set a s v
-  numbers_tell set a s v has = (has.of_set, λ p below active. ap (λ (n : ℕ). n == 0) (has.are p below active))
+  pub numbers_tell : (bits set : ℕ) (a : Field) (s : CodeState) (v u : ℕ → ℕ) → ((p : ℕ) → p < processors (shapes g) set → (v p % 2 ^ bits == 0) ≡ (u p == 0)) → HasNumbers g bits set a s v → Tells set a s u
+  numbers_tell bits set a s v u same has = (has.of_set, λ p below active. ap (λ (n : ℕ). n == 0) (has.are p below active) ∙ same p below)
 
   pub puts_nonzero : (set : ℕ) (a : Field) (s : CodeState) (v : ℕ → ℕ) → Tells set a s v → PutsTest set (I.NeZero a) s v
   unfolding begun applied after step_of
@@ -137,6 +138,7 @@ module _ (g : Setting) where
           small = was.small;
           flags = λ q x there below. context_under_test (shapes g) set writes puts.takes p.t.memory x q ∙ was.flags q x there below;
           winner = same_winner;
+          bits = bits_written (shapes g) flag p.t.memory was.bits;
         })) p.sim;
         stays = λ u h first last q below own ends before low after high.
             still (place g h) q ends

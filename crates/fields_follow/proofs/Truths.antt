@@ -92,11 +92,11 @@ module _ (g : Setting) (alive : Variable → Type 0) (places : PlacesFields g) (
     );
   }
 
-  pub field_told : (d : Draft) (s : CodeState) (set : ℕ) (st : State) (v : ℕ → ℕ) (f : Field) (e : Draft) → GivesField g alive (length d.fields) d s set st v f e → GivesTold d s set st v f e
+  pub field_told : (bits : ℕ) (d : Draft) (s : CodeState) (set : ℕ) (st : State) (v u : ℕ → ℕ) (f : Field) (e : Draft) → ((q : ℕ) → q < processors (shapes g) set → (v q % 2 ^ bits == 0) ≡ (u q == 0)) → GivesField g alive bits (length d.fields) d s set st v f e → GivesTold d s set st u f e
   unfolding tests_passed
-  field_told d s set st v f e h =
-      let numbers = gives_numbers g alive places fields (length d.fields) d s set st v f e h in
-      record { passes = tests_passed g alive (length d.fields) d e s st (Behind g f e) (omega arith) h.passes; exists = numbers.exists; tells = numbers_tell g set f h.passes.t v numbers }
+  field_told bits d s set st v u f e same h =
+      let numbers = gives_numbers g alive places fields bits (length d.fields) d s set st v f e h in
+      record { passes = tests_passed g alive (length d.fields) d e s st (Behind g f e) (omega arith) h.passes; exists = numbers.exists; tells = numbers_tell g bits set f h.passes.t v u same numbers }
 
   -- behind code of conditions, an instruction by which an own entry that is new takes these bits
   module _ (set : ℕ) (d e : Draft) (i : Instr) (f : Field) (others : List Field) (s : CodeState) (st : State) (v value : ℕ → ℕ) (used : Type 0) (p : PassesTests g alive d e s st used) (wanted : used) (newer : length d.fields ≤ f.offset) (older : f.offset < length e.fields) (own : IsOwnField g f)

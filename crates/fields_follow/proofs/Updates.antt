@@ -1,5 +1,5 @@
 -- What assignments to parallel variables and steps of them mean: the variable takes numbers where it is active.
-use Rattle.std.proofs.Common.{◌≡◌, ◌∙◌, ℕ, ◌<◌, ◌^◌, Bool, true, false, not, ◌&&◌, ◌||◌, Option, Some, None, refl, sym, ap, subst, arith, if◌then◌else◌}
+use Rattle.std.proofs.Common.{◌≡◌, ◌∙◌, ℕ, ◌<◌, ◌≤◌, ◌==◌, ◌%◌, ◌^◌, Bool, true, false, not, ◌&&◌, ◌||◌, Option, Some, None, refl, sym, ap, subst, arith, if◌then◌else◌}
 use Rattle.std.specs.Prelude.{IfSome, is_none, nat_le, nat_lt}
 use Rattle.std.proofs.lemmas.Bool.Decides.{nat_tests}
 use Rattle.cstar_base.specs.declared.elem.Elem.{Elem}
@@ -34,47 +34,62 @@ use Rattle.source_meaning.specs.State.{Gives, Outcome, State, then_do, with_posi
 use Rattle.source_meaning.specs.Targets.{OfElement, Target, assign_to, assigned, new_value, read, step_op, step_value, stepped, stored, variable_target}
 use Rattle.source_meaning.specs.Values.{Active, Parallel, Scope, Value, at, each, failing, positions, unless}
 use Rattle.source_meaning.proofs.ConstantLaws.{Boxed}
+use Rattle.cstar_base.proofs.NumberLaws.{kind_bits}
+use Rattle.code_follows.proofs.Following.{held}
 use Rattle.code_follows.proofs.Operators.{wide_signed}
-use Rattle.fields_follow.specs.Fragment.{IsTarget, IsWide}
+use Rattle.code_follows.proofs.Words.{held_converted}
+use Rattle.fields_follow.proofs.Lengths.{cut_converted}
+use Rattle.fields_follow.specs.Fragment.{IsTarget}
 use Rattle.fields_follow.specs.Fields.{IsElement}
 use Rattle.fields_follow.proofs.Forms.{element_is}
-use Rattle.fields_follow.proofs.Meaning.{DividesByNoZero, as_shaped, none_fails, wide_same}
+use Rattle.fields_follow.proofs.Meaning.{DividesByNoZero, as_shaped, none_fails}
 
-working_so : (o : Op) (to at_type : Elem) (signed : Bool) (old w : ℕ) → to.bits ≡ 32 → at_type.bits ≡ 32 → signed ≡ at_type.signed → old < 2 ^ 32 → outcome o 32 (not signed) old w < 2 ^ 32
-    → converted to at_type (outcome o 32 (not at_type.signed) (converted at_type to old) w) ≡ outcome o 32 (not signed) old w
-working_so o to at_type signed old w wide also same few small =
-    ap (λ (n : ℕ). converted to at_type (outcome o 32 (not at_type.signed) n w)) (wide_same at_type to old also wide few)
-    ∙ ap (λ (b : Bool). converted to at_type (outcome o 32 (not b) old w)) (sym same) ∙ wide_same to at_type (outcome o 32 (not signed) old w) wide also small
+working_so : (o : Op) (to at_type : Elem) (signed : Bool) (old w : ℕ) → (to.bits == 1) ≡ false → at_type.bits ≡ 32 → signed ≡ at_type.signed → outcome o 32 (not signed) (held to old) w < 2 ^ 32
+    → converted to at_type (outcome o 32 (not at_type.signed) (converted at_type to old) w) ≡ outcome o 32 (not signed) (held to old) w % 2 ^ to.bits
+working_so o to at_type signed old w no_truth also same small =
+    ap (λ (n : ℕ). converted to at_type (outcome o 32 (not at_type.signed) n w)) (held_converted at_type to old also)
+    ∙ ap (λ (b : Bool). converted to at_type (outcome o 32 (not b) (held to old) w)) (sym same) ∙ cut_converted to at_type (outcome o 32 (not signed) (held to old) w) no_truth also small
 
-pub promoted_wide : (elem : Elem) → elem.bits ≡ 32 → promoted elem ≡ elem
+-- a type as an operand
+pub promoted_wide : (elem : Elem) → (promoted elem).bits ≡ 32
 unfolding promoted
-promoted_wide elem wide = by (nat_lt elem.bits 32) (let h : nat_lt elem.bits 32 ≡ false = grind (arith, nat_tests, wide) in h)
+promoted_wide elem = by (nat_lt elem.bits 32) refl
   where
-    by : (b : Bool) → b ≡ false → (if b then int_type else elem) ≡ elem
-    by false e = refl
-    by true e = cc
+    by : (b : Bool) → nat_lt elem.bits 32 ≡ b → (if nat_lt elem.bits 32 then int_type else elem).bits ≡ 32
+    by true e = ap (λ (b : Bool). (if b then int_type else elem).bits) e
+    by false e = ap (λ (b : Bool). (if b then int_type else elem).bits) e ∙ (let most = (kind_bits elem.bits elem.signed elem.kind).1 in let least : 32 ≤ elem.bits = grind (arith, nat_tests, e) in omega (arith, most, least))
 
--- What an assignment with an operator stores is what the operator gives, which reads its operands as the machine does.
-pub updated_is : (op : AssignOp) (o : Op) (to from : Elem) (old w : ℕ) → assign_op_of op ≡ Some o → to.bits ≡ 32 → from.bits ≡ 32 → old < 2 ^ 32 → outcome o 32 (not (assigned_signed o to from)) old w < 2 ^ 32
-    → updated op to from old w ≡ outcome o 32 (not (assigned_signed o to from)) old w
+promoted_signed : (elem : Elem) → is_signed elem ≡ (promoted elem).signed
+unfolding promoted is_signed
+promoted_signed elem = by (nat_lt elem.bits 32) elem.signed refl refl
+  where
+    by : (b c : Bool) → nat_lt elem.bits 32 ≡ b → elem.signed ≡ c → (elem.signed || nat_lt elem.bits 32) ≡ (if nat_lt elem.bits 32 then int_type else elem).signed
+    by true true e f = ap (λ (b : Bool). elem.signed || b) e ∙ ap (λ (c : Bool). c || true) f ∙ sym (ap (λ (b : Bool). (if b then int_type else elem).signed) e)
+    by true false e f = ap (λ (b : Bool). elem.signed || b) e ∙ ap (λ (c : Bool). c || true) f ∙ sym (ap (λ (b : Bool). (if b then int_type else elem).signed) e)
+    by false true e f = ap (λ (b : Bool). elem.signed || b) e ∙ ap (λ (c : Bool). c || false) f ∙ sym (ap (λ (b : Bool). (if b then int_type else elem).signed) e ∙ f)
+    by false false e f = ap (λ (b : Bool). elem.signed || b) e ∙ ap (λ (c : Bool). c || false) f ∙ sym (ap (λ (b : Bool). (if b then int_type else elem).signed) e ∙ f)
+
+-- What an assignment with an operator stores is the lowest bits of what the operator gives, which reads its operands as
+-- the machine does.
+pub updated_is : (op : AssignOp) (o : Op) (to from : Elem) (old w : ℕ) → assign_op_of op ≡ Some o → (to.bits == 1) ≡ false → from.bits ≡ 32 → outcome o 32 (not (assigned_signed o to from)) (held to old) w < 2 ^ 32
+    → updated op to from old w ≡ outcome o 32 (not (assigned_signed o to from)) (held to old) w % 2 ^ to.bits
 unfolding updated working_type assign_op_of assigned_signed step_of
-updated_is op o to from old w is wide also few small = by op o is small
+updated_is op o to from old w is no_truth also small = by op o is small
   where
-    like_value : (o : Op) → outcome o 32 (not (is_signed from)) old w < 2 ^ 32 → converted to from (outcome o 32 (not from.signed) (converted from to old) w) ≡ outcome o 32 (not (is_signed from)) old w
-    like_value o below = working_so o to from (is_signed from) old w wide also (wide_signed from also) few below
+    like_value : (o : Op) → outcome o 32 (not (is_signed from)) (held to old) w < 2 ^ 32 → converted to from (outcome o 32 (not from.signed) (converted from to old) w) ≡ outcome o 32 (not (is_signed from)) (held to old) w % 2 ^ to.bits
+    like_value o below = working_so o to from (is_signed from) old w no_truth also (wide_signed from also) below
 
-    like_target : (o : Op) → outcome o 32 (not (is_signed to)) old w < 2 ^ 32 → converted to (promoted to) (outcome o 32 (not (promoted to).signed) (converted (promoted to) to old) w) ≡ outcome o 32 (not (is_signed to)) old w
-    like_target o below =
-        ap (λ (e : Elem). converted to e (outcome o 32 (not e.signed) (converted e to old) w)) (promoted_wide to wide) ∙ working_so o to to (is_signed to) old w wide wide (wide_signed to wide) few below
+    like_target : (o : Op) → outcome o 32 (not (is_signed to)) (held to old) w < 2 ^ 32 → converted to (promoted to) (outcome o 32 (not (promoted to).signed) (converted (promoted to) to old) w) ≡ outcome o 32 (not (is_signed to)) (held to old) w % 2 ^ to.bits
+    like_target o below = working_so o to (promoted to) (is_signed to) old w no_truth (promoted_wide to) (promoted_signed to) below
 
     inner : (a b : Op) → Some a ≡ Some b → a ≡ b
     inner a b e = ap (λ (x : Option Op). elim x [ None ↦ a | Some y ↦ y ]) e
 
-    along : (op : AssignOp) (a o : Op) → Some a ≡ Some o → (outcome a 32 (not (assigned_signed a to from)) old w < 2 ^ 32 → updated op to from old w ≡ outcome a 32 (not (assigned_signed a to from)) old w)
-        → outcome o 32 (not (assigned_signed o to from)) old w < 2 ^ 32 → updated op to from old w ≡ outcome o 32 (not (assigned_signed o to from)) old w
-    along op a o e f = subst (λ (x : Op). outcome x 32 (not (assigned_signed x to from)) old w < 2 ^ 32 → updated op to from old w ≡ outcome x 32 (not (assigned_signed x to from)) old w) (inner a o e) f
+    along : (op : AssignOp) (a o : Op) → Some a ≡ Some o → (outcome a 32 (not (assigned_signed a to from)) (held to old) w < 2 ^ 32 → updated op to from old w ≡ outcome a 32 (not (assigned_signed a to from)) (held to old) w % 2 ^ to.bits)
+        → outcome o 32 (not (assigned_signed o to from)) (held to old) w < 2 ^ 32 → updated op to from old w ≡ outcome o 32 (not (assigned_signed o to from)) (held to old) w % 2 ^ to.bits
+    along op a o e f = subst (λ (x : Op). outcome x 32 (not (assigned_signed x to from)) (held to old) w < 2 ^ 32 → updated op to from old w ≡ outcome x 32 (not (assigned_signed x to from)) (held to old) w % 2 ^ to.bits) (inner a o e) f
 
-    by : (op : AssignOp) (o : Op) → assign_op_of op ≡ Some o → outcome o 32 (not (assigned_signed o to from)) old w < 2 ^ 32 → updated op to from old w ≡ outcome o 32 (not (assigned_signed o to from)) old w
+    by : (op : AssignOp) (o : Op) → assign_op_of op ≡ Some o → outcome o 32 (not (assigned_signed o to from)) (held to old) w < 2 ^ 32 → updated op to from old w ≡ outcome o 32 (not (assigned_signed o to from)) (held to old) w % 2 ^ to.bits
     by A.Set o e = cc
     by A.Add o e = along A.Add P.Add o e (like_value P.Add)
     by A.Sub o e = along A.Sub P.Sub o e (like_value P.Sub)
@@ -107,8 +122,8 @@ pub record IsFileTarget (t : Typed) (set : ℕ) (target : TExpr) : Type 0 where
   pub info : VarInfo
   pub own : own_of 1 target ≡ Some (record { shape = Some set; variable = V.File k })
   pub is : IsElement t k info set 0
-  pub wide : info.elem.bits ≡ 32
-  pub type : IsWide set (type_of target)
+  pub shape : (type_of target).shape ≡ Some set
+  pub elem : (type_of target).elem ≡ info.elem
   pub means : (scope : Scope) (active : Active) (st : State) → located scope target active st ≡ Gives (OfElement (V.File k) 0 set) st
 
 pub file_target : (t : Typed) (i : Instance) (n set : ℕ) (target : TExpr) → IsTarget set target → NamesVariables t i n target → IsFileTarget t set target
@@ -116,11 +131,11 @@ unfolding IsTarget own_of NamesVariables located variable_target
 file_target t i n set (T.Variable ty (V.File k)) is v = record {
   k = k;
   info = variable_info v.word (plain ty) v.start;
-  own = by (is_none ty.shape) (nat_le 1 ty.elem.bits) (let wide = is.1 in grind (arith, nat_tests, wide)) ∙ ap (λ (o : Option ℕ). Some (record { shape = o; variable = V.File k })) is.0;
+  own = by (is_none ty.shape) (nat_le 1 ty.elem.bits) (let some = (kind_bits ty.elem.bits ty.elem.signed ty.elem.kind).0 in grind (arith, nat_tests, some)) ∙ ap (λ (o : Option ℕ). Some (record { shape = o; variable = V.File k })) is;
   is = element_is t i n k set ty is v;
-  wide = is.1;
-  type = is;
-  means = λ scope active st. ap (λ (o : Option ℕ). Gives (variable_target o (V.File k) 0) st) is.0;
+  shape = is;
+  elem = refl;
+  means = λ scope active st. ap (λ (o : Option ℕ). Gives (variable_target o (V.File k) 0) st) is;
 }
   where
     own : Own
@@ -132,7 +147,7 @@ file_target t i n set (T.Variable ty (V.File k)) is v = record {
     by false false e = cc
 file_target t i n set (T.Brackets' ty p inner) is v =
     let h = file_target t i n set inner is.1 v in
-    record { k = h.k; info = h.info; own = h.own; is = h.is; wide = h.wide; type = subst (λ (y : ValueType). IsWide set y) (sym is.0) h.type; means = h.means }
+    record { k = h.k; info = h.info; own = h.own; is = h.is; shape = ap (λ (y : ValueType). y.shape) is.0 ∙ h.shape; elem = ap (λ (y : ValueType). y.elem) is.0 ∙ h.elem; means = h.means }
 file_target t i n set _ is v = absurd is
 
 module _ (scope : Scope) (active : Active) where

@@ -1,6 +1,7 @@
 -- What an instruction on fields leaves: its destination has the numbers, and all else is as it was.
 use Rattle.std.proofs.Common.{◌≡◌, ◌≢◌, ◌∙◌, ℕ, ◌+◌, ◌%◌, ◌<◌, ◌≤◌, ◌^◌, ◌⊎◌, inl, inr, Bool, true, false, ◌&&◌, ◌==◌, List, length, slice_get, refl, sym, ap, subst, arith, if◌then◌else◌}
 use Rattle.std.proofs.lemmas.Bool.{cases_eq}
+use Rattle.std.proofs.lemmas.Nat.{mod_below, pow_pos}
 use Rattle.std.proofs.lemmas.Bool.Decides.{nat_tests}
 use Rattle.cstar_tree.specs.declared.typed.VarInfo.{VarInfo}
 use Rattle.cstar_tree.specs.declared.typed.Variable.{Variable}
@@ -19,7 +20,7 @@ use Rattle.code_follows.specs.Agreement.{AreBytes, mark_of}
 use Rattle.code_follows.proofs.Following.{Sim, held}
 use Rattle.code_follows.proofs.Standing.{some_same}
 use Rattle.code_follows.proofs.Settings.{At, Reaches, Setting, StandsBelow, Within, and_one, at_next, begins_here, one_writes}
-use Rattle.fields_follow.proofs.Bits.{active_apart, field_apart, field_kept, field_written}
+use Rattle.fields_follow.proofs.Bits.{active_apart, bits_written, field_apart, field_kept, field_written}
 use Rattle.fields_follow.proofs.Fields.{HoldsFields}
 use Rattle.fields_follow.specs.Fields.{IsElement}
 use Rattle.fields_follow.proofs.FileFields.{Apart, apart_back}
@@ -27,15 +28,16 @@ use Rattle.fields_follow.proofs.Instructions.{HasNumbers, Puts, number_in, place
 use Rattle.fields_follow.proofs.Places.{HoldsTheFields, IsFileField, IsOwnField, PlacesFields, names_first, of_file, stands_here}
 
 module _ (g : Setting) where
-  -- a write of a field, by which it takes these numbers where it is active
+  -- a write of a field, by which it takes the lowest bits of these words where it is active
   pub record Takes (set : ℕ) (d : Field) (s : CodeState) (v : ℕ → ℕ) : Type 0 where
     pub write : Write
     pub run : write.run ≡ place g d
     pub writes : (p : ℕ) → write.writes p ≡ is_active (shapes g) s.memory d.set p
-    pub value : (p : ℕ) → p < processors (shapes g) set → is_active (shapes g) s.memory set p ≡ true → write.value p % 2 ^ d.len ≡ v p
+    pub value : (p : ℕ) → p < processors (shapes g) set → is_active (shapes g) s.memory set p ≡ true → write.value p % 2 ^ d.len ≡ v p % 2 ^ d.len
+    pub small : (p : ℕ) → p < processors (shapes g) set → is_active (shapes g) s.memory set p ≡ true → v p < 2 ^ 32
 
   abbrev puts_take : (set : ℕ) (i : Instr) (d : Field) (s : CodeState) (v : ℕ → ℕ) → Puts g set i d s v → Takes set d s v
-  puts_take set i d s v puts = record { write = puts.write; run = puts.run; writes = puts.writes; value = puts.value }
+  puts_take set i d s v puts = record { write = puts.write; run = puts.run; writes = puts.writes; value = puts.value; small = puts.small }
 
   -- the code from one draft to another does no more than such a write
   pub record TakesBehind (set : ℕ) (d : Field) (e f : Draft) (s : CodeState) (v : ℕ → ℕ) : Type 0 where
@@ -83,24 +85,24 @@ module _ (g : Setting) (places : PlacesFields g) (fields : HoldsTheFields g) (al
     pub at : At g t (length (with_instr i e).code)
     pub registers : t.registers ≡ s.registers
     pub sim : Sim g alive u t
-    pub has : HasNumbers g set d t v
+    pub has : HasNumbers g d.len set d t v
     pub stays : used → (h : Field) (first last p : ℕ) → (h.offset ≡ d.offset → ⊥) → IsOwnField g h → IsNamedAt g.unit h.offset first → IsNamedAt g.unit h.offset last → first ≤ length e.code → length e.code < last → number_in g h t p ≡ number_in g h s p
 
   -- the entry for an element of the file stands at its field, below the flags
-  pub entry_place : (set k element : ℕ) (info : VarInfo) (d : Field) → IsElement g.typed k info set element → info.elem.bits ≡ 32 → IsFileField g k element d → d.set ≡ set → d.len ≡ 32 → place g d ≡ of_file g k element
-  entry_place set k element info d is word own of_set wide = places.file k element info d (subst (λ (n : ℕ). IsElement g.typed k info n element) (sym of_set) is) (word ∙ sym wide) own
+  pub entry_place : (set k element : ℕ) (info : VarInfo) (d : Field) → IsElement g.typed k info set element → info.elem.bits ≡ d.len → IsFileField g k element d → d.set ≡ set → place g d ≡ of_file g k element
+  entry_place set k element info d is long own of_set = places.file k element info d (subst (λ (n : ℕ). IsElement g.typed k info n element) (sym of_set) is) long own
 
-  pub entry_ends : (set k element : ℕ) (info : VarInfo) (d : Field) → IsElement g.typed k info set element → info.elem.bits ≡ 32 → IsFileField g k element d → d.set ≡ set → d.len ≡ 32 → (d.set < length (shapes g)) × ((place g d).offset + d.len ≤ bits_at (shapes g) d.set)
-  entry_ends set k element info d is word own of_set wide = (
+  pub entry_ends : (set k element : ℕ) (info : VarInfo) (d : Field) → IsElement g.typed k info set element → info.elem.bits ≡ d.len → IsFileField g k element d → d.set ≡ set → (d.set < length (shapes g)) × ((place g d).offset + d.len ≤ bits_at (shapes g) d.set)
+  entry_ends set k element info d is long own of_set = (
     subst (λ (n : ℕ). n < length (shapes g)) (sym of_set) (places.exists k element set info is),
-    subst (λ (h : Field). h.offset + h.len ≤ bits_at (shapes g) h.set) (sym (entry_place set k element info d is word own of_set wide)) (places.files_end k element set info is),
+    subst (λ (h : Field). h.offset + h.len ≤ bits_at (shapes g) h.set) (sym (entry_place set k element info d is long own of_set)) (places.files_end k element set info is),
   )
 
   -- and apart from what stands below the unit's entries
-  pub entry_and_below : (set k element : ℕ) (info : VarInfo) (d : Field) → IsElement g.typed k info set element → info.elem.bits ≡ 32 → IsFileField g k element d → d.set ≡ set → d.len ≡ 32 → (f : Field) → StandsBelow g.image g.placed g.number f → Apart (place g d) f
-  entry_and_below set k element info d is word own of_set wide f there = subst (λ (h : Field). Apart h f) (sym (entry_place set k element info d is word own of_set wide)) (places.file_and_below k element set info f is there)
+  pub entry_and_below : (set k element : ℕ) (info : VarInfo) (d : Field) → IsElement g.typed k info set element → info.elem.bits ≡ d.len → IsFileField g k element d → d.set ≡ set → (f : Field) → StandsBelow g.image g.placed g.number f → Apart (place g d) f
+  entry_and_below set k element info d is long own of_set f there = subst (λ (h : Field). Apart h f) (sym (entry_place set k element info d is long own of_set)) (places.file_and_below k element set info f is there)
 
-  module _ (set : ℕ) (d : Field) (s : CodeState) (st : State) (v : ℕ → ℕ) (sim : Sim g alive st s) (of_set : d.set ≡ set) (wide : d.len ≡ 32) (exists : d.set < length (shapes g)) (ends : (place g d).offset + d.len ≤ bits_at (shapes g) d.set) (takes : Takes g set d s v) where
+  module _ (set : ℕ) (d : Field) (s : CodeState) (st : State) (v : ℕ → ℕ) (sim : Sim g alive st s) (of_set : d.set ≡ set) (exists : d.set < length (shapes g)) (ends : (place g d).offset + d.len ≤ bits_at (shapes g) d.set) (takes : Takes g set d s v) where
     was : Opened st s.memory
     was = fields.opens st s.memory sim.memory
 
@@ -118,17 +120,14 @@ module _ (g : Setting) (places : PlacesFields g) (fields : HoldsTheFields g) (al
     writes_where : (p : ℕ) → p < processors (shapes g) set → takes.write.writes p ≡ fields.active set p
     writes_where p below = takes.writes p ∙ ap (λ (q : ℕ). is_active (shapes g) s.memory q p) of_set ∙ was.flags set p set_exists below
 
-    value_is : (p : ℕ) → p < processors (shapes g) set → fields.active set p ≡ true → field_number behind (place g d) p ≡ v p
+    value_is : (p : ℕ) → p < processors (shapes g) set → fields.active set p ≡ true → field_number behind (place g d) p ≡ v p % 2 ^ d.len
     value_is p below on =
         ap (λ (f : Field). field_number behind f p) (sym takes.run)
         ∙ field_written takes.write s.memory p (writes_where p below ∙ on)
         ∙ ap (λ (f : Field). takes.write.value p % 2 ^ f.len) takes.run ∙ takes.value p below (was.flags set p set_exists below ∙ on)
 
     pub few : (p : ℕ) → p < processors (shapes g) set → fields.active set p ≡ true → v p < 2 ^ 32
-    few p below on = subst (λ (n : ℕ). n < 2 ^ 32) (ap (λ (n : ℕ). takes.write.value p % 2 ^ n) (sym wide) ∙ takes.value p below (was.flags set p set_exists below ∙ on)) (small (takes.write.value p))
-      where
-        small : (n : ℕ) → n % 2 ^ 32 < 2 ^ 32
-        small n = omega arith
+    few p below on = takes.small p below (was.flags set p set_exists below ∙ on)
 
     elsewhere : (f : Field) (p : ℕ) → Apart (place g d) f → field_number behind f p ≡ field_number s.memory f p
     elsewhere f p apart = field_apart takes.write s.memory f p (subst (λ (h : Field). Apart h f) (sym takes.run) apart)
@@ -139,15 +138,15 @@ module _ (g : Setting) (places : PlacesFields g) (fields : HoldsTheFields g) (al
 
     -- Where it is that of a variable of the file, the state has what this takes where it is active, or other numbers that
     -- are the same there.
-    module _ (k element : ℕ) (info : VarInfo) (is : IsElement g.typed k info set element) (word : info.elem.bits ≡ 32) (own : IsFileField g k element d) where
+    module _ (k element : ℕ) (info : VarInfo) (is : IsElement g.typed k info set element) (long : info.elem.bits ≡ d.len) (own : IsFileField g k element d) where
       at_file : place g d ≡ of_file g k element
-      at_file = entry_place set k element info d is word own of_set wide
+      at_file = entry_place set k element info d is long own of_set
 
       -- own entries stay
       pub own_stays : (h : Field) (p : ℕ) → IsOwnField g h → field_number behind (place g h) p ≡ field_number s.memory (place g h) p
       own_stays h p is_own = elsewhere (place g h) p (subst (λ (f : Field). Apart f (place g h)) (sym at_file) (apart_back (place g h) (of_file g k element) (places.own_file k element set info h is is_own)))
 
-      pub file_sim : (at : ℕ) (passes : ℕ → Bool) (w : ℕ → ℕ) → ((p : ℕ) → p < processors (shapes g) set → passes p ≡ fields.active set p) → ((p : ℕ) → p < processors (shapes g) set → fields.active set p ≡ true → w p ≡ v p)
+      pub file_sim : (at : ℕ) (passes : ℕ → Bool) (w : ℕ → ℕ) → ((p : ℕ) → p < processors (shapes g) set → passes p ≡ fields.active set p) → ((p : ℕ) → p < processors (shapes g) set → fields.active set p ≡ true → w p ≡ v p % 2 ^ d.len)
           → Sim g alive (with_positions (V.File k) element passes w st) (record s { at = at; memory = behind })
       unfolding with_positions is_same
       file_sim at passes w passing same_numbers =
@@ -156,6 +155,7 @@ module _ (g : Setting) (places : PlacesFields g) (fields : HoldsTheFields g) (al
             small = λ j other q p of which below. small_still j other q p of which below (cases_eq k j) (cases_eq other element);
             flags = active_still;
             winner = winner_still;
+            bits = bits_written (shapes g) takes.write s.memory was.bits;
           }) sim
         where
           -- the variable behind it, at one of its active positions and elsewhere
@@ -169,11 +169,11 @@ module _ (g : Setting) (places : PlacesFields g) (fields : HoldsTheFields g) (al
           there_is j other p old (inl differ) = grind (arith, nat_tests, differ)
           there_is j other p old (inr differ) = grind (arith, nat_tests, differ)
 
-          same_set : (j other q : ℕ) (of : VarInfo) → IsElement g.typed j of q other → k ≡ j → (q ≡ set) × (of.elem.bits ≡ 32)
+          same_set : (j other q : ℕ) (of : VarInfo) → IsElement g.typed j of q other → k ≡ j → (q ≡ set) × (of.elem.bits ≡ d.len)
           same_set j other q of which same =
               let infos : of ≡ info = some_same of info (sym which.known ∙ ap (λ (n : ℕ). slice_get g.typed.vars.items n) (sym same) ∙ is.known) in (
                 some_same q set (sym which.parallel ∙ ap (λ (i : VarInfo). i.shape) infos ∙ is.parallel),
-                ap (λ (i : VarInfo). i.elem.bits) infos ∙ word,
+                ap (λ (i : VarInfo). i.elem.bits) infos ∙ long,
               )
 
           moved_on : (j other q p : ℕ) (of : VarInfo) → IsElement g.typed j of q other → p < processors (shapes g) q → ((k ≢ j) ⊎ (other ≢ element)) → (k ≡ j → element ≡ other → ⊥)
@@ -207,7 +207,7 @@ module _ (g : Setting) (places : PlacesFields g) (fields : HoldsTheFields g) (al
           small_still j other q p of which below (inl same) (inl equal) =
               by (fields.active set p) refl
             where
-              both : (q ≡ set) × (of.elem.bits ≡ 32)
+              both : (q ≡ set) × (of.elem.bits ≡ d.len)
               both = same_set j other q of which same
 
               inside : p < processors (shapes g) set
@@ -215,12 +215,12 @@ module _ (g : Setting) (places : PlacesFields g) (fields : HoldsTheFields g) (al
 
               by : (b : Bool) → fields.active set p ≡ b → (with_positions (V.File k) element passes w st).parallel (V.File j) other p < 2 ^ of.elem.bits
               by true on =
-                  subst (λ (n : ℕ). n < 2 ^ of.elem.bits) (sym (here_is j other p (st.parallel (V.File j) other p) same equal (passing p inside ∙ on))) (subst (λ (n : ℕ). w p < 2 ^ n) (sym both.1) (subst (λ (n : ℕ). n < 2 ^ 32) (sym (same_numbers p inside on)) (few p inside on)))
+                  subst (λ (n : ℕ). n < 2 ^ of.elem.bits) (sym (here_is j other p (st.parallel (V.File j) other p) same equal (passing p inside ∙ on))) (subst (λ (n : ℕ). w p < 2 ^ n) (sym both.1) (subst (λ (n : ℕ). n < 2 ^ d.len) (sym (same_numbers p inside on)) (mod_below (v p) (2 ^ d.len) (pow_pos d.len))))
               by false off = subst (λ (n : ℕ). n < 2 ^ of.elem.bits) (sym (off_is j other p (st.parallel (V.File j) other p) (passing p inside ∙ off))) (was.small j other q p of which below)
           small_still j other q p of which below (inr differ) any = subst (λ (n : ℕ). n < 2 ^ of.elem.bits) (sym (there_is j other p (st.parallel (V.File j) other p) (inl differ))) (was.small j other q p of which below)
           small_still j other q p of which below (inl same) (inr differ) = subst (λ (n : ℕ). n < 2 ^ of.elem.bits) (sym (there_is j other p (st.parallel (V.File j) other p) (inr differ))) (was.small j other q p of which below)
 
-  module _ (set : ℕ) (i : Instr) (d : Field) (e : Draft) (s : CodeState) (st : State) (v : ℕ → ℕ) (within : Within g (with_instr i e)) (here : At g s (length e.code)) (sim : Sim g alive st s) (of_set : d.set ≡ set) (wide : d.len ≡ 32) (puts : Puts g set i d s v) where
+  module _ (set : ℕ) (i : Instr) (d : Field) (e : Draft) (s : CodeState) (st : State) (v : ℕ → ℕ) (within : Within g (with_instr i e)) (here : At g s (length e.code)) (sim : Sim g alive st s) (of_set : d.set ≡ set) (puts : Puts g set i d s v) where
     there : StandsAt g.unit (length e.code) i
     there = stands_here g i e within puts.plain
 
@@ -241,24 +241,25 @@ module _ (g : Setting) (places : PlacesFields g) (fields : HoldsTheFields g) (al
         numbers = λ k element q p info is below. still (of_file g k element) p (places.own_file k element q info d is own) ∙ (fields.opens st s.memory sim.memory).numbers k element q p info is below;
         small = (fields.opens st s.memory sim.memory).small;
         flags = active;
-        winner = winner_still set d s st v sim of_set wide d_ends.0 d_ends.1 takes;
+        winner = winner_still set d s st v sim of_set d_ends.0 d_ends.1 takes;
+        bits = bits_written (shapes g) puts.write s.memory (fields.opens st s.memory sim.memory).bits;
       }) sim;
       has = record {
         of_set = of_set;
         exists = exists;
-        len = wide;
-        are = λ p below on. value_is set d s st v sim of_set wide d_ends.0 d_ends.1 takes p below (sym (active set p exists below) ∙ on);
-        small = λ p below on. few set d s st v sim of_set wide d_ends.0 d_ends.1 takes p below (sym (active set p exists below) ∙ on);
+        len = refl;
+        are = λ p below on. value_is set d s st v sim of_set d_ends.0 d_ends.1 takes p below (sym (active set p exists below) ∙ on);
+        small = λ p below on. few set d s st v sim of_set d_ends.0 d_ends.1 takes p below (sym (active set p exists below) ∙ on);
       };
       stays = λ again h first last p other is_own before after low high.
           still (place g h) p (apart_back (place g h) (place g d) (places.owns_apart h d first (length e.code) last again.0 other is_own own d_ends.0 before after low high (names_first g i d puts.others (length e.code) there puts.names) again.1.0 again.1.1));
     }
       where
         exists : set < length (shapes g)
-        exists = set_exists set d s st v sim of_set wide d_ends.0 d_ends.1 takes
+        exists = set_exists set d s st v sim of_set d_ends.0 d_ends.1 takes
 
         active : (q p : ℕ) → q < length (shapes g) → p < processors (shapes g) q → is_active (shapes g) (written puts.write s.memory) q p ≡ fields.active q p
-        active = active_still set d s st v sim of_set wide d_ends.0 d_ends.1 takes
+        active = active_still set d s st v sim of_set d_ends.0 d_ends.1 takes
 
         still : (f : Field) (p : ℕ) → Apart (place g d) f → field_number (written puts.write s.memory) f p ≡ field_number s.memory f p
-        still = elsewhere set d s st v sim of_set wide d_ends.0 d_ends.1 takes
+        still = elsewhere set d s st v sim of_set d_ends.0 d_ends.1 takes

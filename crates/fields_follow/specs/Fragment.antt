@@ -1,11 +1,12 @@
 -- The programs with parallel variables of which it is said so far that their code means them. Their parallel
--- expressions are pure ones of 32 bits, of variables of the file, gets from neighbours round the ends of the grid, own
+-- expressions are pure ones, of variables of the file of all types, gets from neighbours round the ends of the grid, own
 -- coordinates, promoted scalars, and quotients and remainders by constants other than 0, which change nothing and never
 -- fail; they are assigned to such variables, as truth values of them are, and folded into numbers and onto scalar
 -- variables, and they are the conditions of `where`. Folds are of the active positions.
 -- Under `where` and `everywhere` stand the statements of scalar programs with these, but for calls, `return` and jumps
 -- that lead out of them.
-use Rattle.std.specs.Prelude.{ℕ, ◌≡◌, ◌<◌, ◌+◌, ◌^◌, ◌⊎◌, List, [], ◌∷◌, true, false, slice_get, IfSome, Some, None}
+use Rattle.std.specs.Prelude.{ℕ, ◌≡◌, ◌<◌, ◌+◌, ◌^◌, ◌⊎◌, ◌==◌, List, [], ◌∷◌, true, false, slice_get, Some, None}
+use Rattle.cstar_base.specs.declared.elem.Elem.{Elem}
 use Rattle.cstar_base.specs.declared.operators.Op.{Op}
 use Rattle.cstar_base.specs.Operators.{divides}
 use Rattle.cstar_tree.specs.declared.syntax.AssignOp.{AssignOp}
@@ -20,8 +21,10 @@ use Rattle.cstar_tree.specs.declared.typed.VarInfo.{VarInfo}
 use Rattle.cstar_tree.specs.declared.typed.Variable.TheVariants as V
 use Rattle.cstar_tree.specs.Typed.{type_of}
 use Rattle.lower_base.specs.Operators.{assign_op_of, negates, relates}
+use Rattle.lower_base.specs.Kinds.{kind_of}
 use Rattle.lower_comm.specs.declared.news.NewsStep.{NewsStep}
 use Rattle.lower_comm.specs.News.{step_of}
+use Rattle.lower_expr.specs.Kinds.{operation_bits}
 use Rattle.lower_expr.specs.Operands.{ignores_context}
 use Rattle.source_meaning.specs.Constants.{constant_of}
 use Rattle.source_meaning.specs.Programs.{extents_of}
@@ -33,7 +36,7 @@ IsWide set ty = (ty.shape ≡ Some set) × (ty.elem.bits ≡ 32)
 
 -- a constant
 abbrev pub IsConstant : TExpr → Type 0
-IsConstant e = (word : ℕ) × (constant_of e ≡ Some word) × (word < 2 ^ 32)
+IsConstant e = (word : ℕ) × (constant_of e ≡ Some word) × (word < 2 ^ (type_of e).elem.bits)
 
 -- a constant that is not 0, promoted
 unfoldable pub IsDivisor : TExpr → Type 0
@@ -49,16 +52,16 @@ IsOperation op right = (relates op ≡ false) × ((divides op ≡ false) ⊎ IsD
 unfoldable pub IsScalarName : TExpr → Type 0
 IsScalarName (T.Variable ty x) = Unit {0}
 IsScalarName (T.Brackets' ty p inner) = (ty ≡ type_of inner) × IsScalarName inner
-IsScalarName (T.Convert' ty p operand) = IsWord (type_of operand) × IsScalarName operand
+IsScalarName (T.Convert' ty p operand) = IsWord ty × IsWord (type_of operand) × IsScalarName operand
 IsScalarName _ = ⊥
 
--- a scalar of 32 bits: a constant, or a variable
+-- a scalar: a constant, or a variable
 abbrev pub IsEverywhere : TExpr → Type 0
-IsEverywhere e = IsWord (type_of e) × (IsConstant e ⊎ IsScalarName e)
+IsEverywhere e = ((type_of e).shape ≡ None) × (IsConstant e ⊎ IsScalarName e)
 
 -- such a scalar, promoted to a shape
 unfoldable pub IsPromoted : ℕ → TExpr → Type 0
-IsPromoted set (T.Promote' ty p operand) = IsWide set ty × IsEverywhere operand
+IsPromoted set (T.Promote' ty p operand) = (ty.shape ≡ Some set) × (ty.elem ≡ (type_of operand).elem) × IsEverywhere operand
 IsPromoted set (T.Brackets' ty p inner) = (ty ≡ type_of inner) × IsPromoted set inner
 IsPromoted set _ = ⊥
 
@@ -90,16 +93,17 @@ unfoldable pub AreWrapping : {k : _} → ℕ → ℕ → Row_of-TExpr k → Type
 AreWrapping set axis end_of-TExpr = Unit {0}
 AreWrapping set axis (more_of-TExpr index rest) = IsWrapping set axis index × AreWrapping set (axis + 1) rest
 
--- a parallel expression that is not promoted; of an operator's two operands one may be
+-- A parallel expression that is not promoted; of an operator's two operands one may be. Operators work at 32 bits, to
+-- which narrower values are converted; no value is converted to `bool`.
 unfoldable pub IsPure : ℕ → TExpr → Type 0
-IsPure set (T.Variable ty (V.File k)) = IsWide set ty
+IsPure set (T.Variable ty (V.File k)) = ty.shape ≡ Some set
 IsPure set (T.Brackets' ty p inner) = (ty ≡ type_of inner) × IsPure set inner
-IsPure set (T.Unary' ty op p operand) = IsWide set ty × (negates op ≡ false) × IsPure set operand
+IsPure set (T.Unary' ty op p operand) = IsWide set ty × (negates op ≡ false) × IsPure set operand × IsWide set (type_of operand)
 IsPure set (T.Binary' ty place op p left q right) =
-    IsWide set ty × IsOperation op right × ((IsPure set left × (IsPure set right ⊎ IsPromoted set right)) ⊎ (IsPromoted set left × IsPure set right))
-IsPure set (T.Convert' ty p operand) = IsWide set ty × IsPure set operand
+    IsWide set ty × IsOperation op right × ((IsPure set left × (IsPure set right ⊎ IsPromoted set right)) ⊎ (IsPromoted set left × IsPure set right)) × IsWide set (type_of left) × IsWide set (type_of right)
+IsPure set (T.Convert' ty p operand) = (ty.shape ≡ Some set) × ((ty.elem.bits == 1) ≡ false) × IsPure set operand
 IsPure set (T.Pcoord ty axis) = IsWide set ty
-IsPure set (T.LeftIndex' ty place p indexes (V.File k) of) = IsWide set ty × (of ≡ set) × AreWrapping set 0 indexes
+IsPure set (T.LeftIndex' ty place p indexes (V.File k) of) = (ty.shape ≡ Some set) × (of ≡ set) × AreWrapping set 0 indexes
 IsPure set _ = ⊥
 
 -- an index names this extent, if any
@@ -133,27 +137,39 @@ KnowsExtents extents _ = Unit {0}
 abbrev pub IsOperand : ℕ → TExpr → Type 0
 IsOperand set e = IsPure set e ⊎ IsPromoted set e
 
+-- one of which no type of fewer than 32 bits is known
+abbrev pub IsWhole : ℕ → TExpr → Type 0
+IsWhole set e = IsPure set e × (kind_of e ≡ None)
+
+-- of two operands one may be promoted
+abbrev pub AreWhole : ℕ → TExpr → TExpr → Type 0
+AreWhole set left right = (IsWhole set left × (IsWhole set right ⊎ (IsPromoted set right × IsWide set (type_of right)))) ⊎ ((IsPromoted set left × IsWide set (type_of left)) × IsWhole set right)
+
 -- what is assigned to: a variable of the file
 unfoldable pub IsTarget : ℕ → TExpr → Type 0
-IsTarget set (T.Variable ty (V.File k)) = IsWide set ty
+IsTarget set (T.Variable ty (V.File k)) = ty.shape ≡ Some set
 IsTarget set (T.Brackets' ty p inner) = (ty ≡ type_of inner) × IsTarget set inner
 IsTarget set _ = ⊥
 
--- the operator of an assignment of this value, if it has one
-abbrev pub HasOperation : AssignOp → TExpr → Type 0
-HasOperation op value = IfSome (assign_op_of op) (λ o. IsOperation o value)
+-- The operator of an assignment to a variable of this type of this value, if it has one: it works at 32 bits, and needs no
+-- more bits than the variable has, which is no `bool`. A value without an operator has as many.
+abbrev pub HasOperation : AssignOp → Elem → TExpr → Type 0
+HasOperation op elem value = elim (assign_op_of op) [
+  | None ↦ (type_of value).elem.bits ≡ elem.bits
+  | Some o ↦ IsOperation o value × ((type_of value).elem.bits ≡ 32) × ((elem.bits == 1) ≡ false) × (operation_bits elem.bits o value ≡ elem.bits)
+]
 
 -- A condition of `where`: a relation of two operands, a value that is not zero and is no quotient itself, `!` of a
 -- condition, or two joined by `&&` or `||`. The right one of these ignores the context: it has no get and no quotient,
--- not even one of constants.
+-- not even one of constants. Of the values no narrow type is known.
 unfoldable pub IsCondition : ℕ → TExpr → Type 0
 IsCondition set (T.Brackets' ty p inner) = (ty ≡ type_of inner) × IsCondition set inner
-IsCondition set (T.Unary' ty op p operand) = IsWide set ty × (((negates op ≡ true) × IsCondition set operand) ⊎ ((negates op ≡ false) × IsPure set operand))
+IsCondition set (T.Unary' ty op p operand) = IsWide set ty × (((negates op ≡ true) × IsCondition set operand) ⊎ ((negates op ≡ false) × IsWhole set operand))
 IsCondition set (T.LogicalOr' ty p left q right) = IsWide set ty × IsCondition set left × IsCondition set right × (ignores_context right ≡ true)
 IsCondition set (T.LogicalAnd' ty p left q right) = IsWide set ty × IsCondition set left × IsCondition set right × (ignores_context right ≡ true)
 IsCondition set (T.Binary' ty place op p left q right) =
-    IsWide set ty × (divides op ≡ false) × ((IsPure set left × (IsPure set right ⊎ IsPromoted set right)) ⊎ (IsPromoted set left × IsPure set right))
-IsCondition set e = IsPure set e
+    IsWide set ty × (divides op ≡ false) × AreWhole set left right
+IsCondition set e = IsWhole set e
 
 -- A truth value: a relation, `!` of a condition, or two conditions joined.
 unfoldable pub IsTruth : ℕ → TExpr → Type 0
@@ -170,13 +186,13 @@ IsOperandOrTruth set op e = IsOperand set e ⊎ ((assign_op_of op ≡ None) × I
 
 -- an assignment to a parallel variable, or a step of one
 unfoldable pub IsUpdate : TExpr → Type 0
-IsUpdate (T.Assign' ty place op p target q value) = (set : ℕ) × ((ty ≡ type_of target) × IsTarget set target × HasOperation op value × IsOperandOrTruth set op value)
-IsUpdate (T.Step' ty op order p target) = (set : ℕ) × ((ty ≡ type_of target) × IsTarget set target)
+IsUpdate (T.Assign' ty place op p target q value) = (set : ℕ) × ((ty ≡ type_of target) × IsTarget set target × HasOperation op ty.elem value × IsOperandOrTruth set op value)
+IsUpdate (T.Step' ty op order p target) = (set : ℕ) × ((ty ≡ type_of target) × IsTarget set target × ((ty.elem.bits == 1) ≡ false))
 IsUpdate _ = ⊥
 
 -- the numbers of a value at the active positions are folded into one
 unfoldable pub IsFold : TExpr → Type 0
-IsFold (T.Reduce' ty op p operand) = IsWord ty × ((set : ℕ) × IsPure set operand)
+IsFold (T.Reduce' ty op p operand) = IsWord ty × ((set : ℕ) × IsWhole set operand)
 IsFold _ = ⊥
 
 -- the assignment with the operator of a reduction
@@ -197,16 +213,16 @@ IsScalarTarget _ = ⊥
 
 -- the numbers of a value at the active positions are folded onto a scalar variable
 unfoldable pub IsFoldOnto : TExpr → Type 0
-IsFoldOnto (T.Assign' ty place op p target q value) = (ty ≡ type_of target) × IsScalarTarget target × ((reduction : ReduceOp) × (op ≡ assignment_of reduction)) × ((set : ℕ) × IsPure set value)
+IsFoldOnto (T.Assign' ty place op p target q value) = (ty ≡ type_of target) × IsScalarTarget target × ((reduction : ReduceOp) × (op ≡ assignment_of reduction)) × ((set : ℕ) × IsWhole set value)
 IsFoldOnto _ = ⊥
 
 -- a parallel expression whose value is not used
 abbrev pub IsParallelEffect : TExpr → Type 0
 IsParallelEffect e = IsUpdate e ⊎ IsFoldOnto e
 
--- a parallel variable of 32 bits, which is no array
+-- a parallel variable, which is no array
 abbrev pub IsParallelVariable : VarInfo → Type 0
-IsParallelVariable info = (set : ℕ) × ((info.shape ≡ Some set) × (info.array ≡ None) × (info.elem.bits ≡ 32))
+IsParallelVariable info = (set : ℕ) × ((info.shape ≡ Some set) × (info.array ≡ None))
 
 -- the extents of a shape of a program
 abbrev pub extents_in : Typed → ℕ → List ℕ

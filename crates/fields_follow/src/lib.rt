@@ -4,18 +4,20 @@
 ghost use Rattle.fields_follow.specs.Example.{ExampleIsParallel};
 ghost use Rattle.fields_follow.specs.Laws.{ParallelCodeMeansSource};
 
-/// The code that the compiler makes of a program of functions without recursion on scalars, with parallel variables
-/// of the file, comes from a new memory to the end of the source's meaning, with its turns, its output and the final
-/// numbers of these variables at each of their positions, on every input of bytes. The variables have 32 bits and are
-/// no arrays, and all positions are active at first. They are assigned, also with an operator, and stepped; and
-/// parallel values of the active positions are folded into numbers by unary reductions, and onto scalar variables by
-/// `s += x` and its like. All of it may stand within `with`, and also under `where` and `everywhere`: there any of
-/// these statements may stand, scalar ones, loops, calls and `printf` too, and `return`, `break` and `continue` that
-/// lead out. The conditions of `where` are parallel values and relations of them, also with `!`, `&&`
-/// and `||`. Parallel expressions are of such variables, of gets from neighbours that wrap around,
-/// `[(. + 1) %% dimof(S, 0)]x`, of own coordinates, of constants and of scalar variables, signed or not, with the
-/// operators `+ - * & | ^ ~ << >> <? >?`, and `/ % %%` by constants other than 0. Truth values of relations, `!`,
-/// `&&` and `||` are assigned, too.
+/// The code that the compiler makes of a program of functions without recursion on scalars, with parallel variables of
+/// the file, comes from a new memory to the end of the source's meaning, with its turns, its output and the final
+/// numbers of these variables at each of their positions, on every input of bytes. The variables are of all types and
+/// no arrays, and all positions are active at first. They are assigned, also with an operator that needs no more bits
+/// than a narrow variable has, and stepped, but for those of `bool`, which are assigned alone; and parallel values of
+/// the active positions are folded into numbers by unary reductions, and onto scalar variables by `s += x` and its
+/// like. All of it may stand within `with`, and also under `where` and `everywhere`: there any of these statements may
+/// stand, scalar ones, loops, calls and `printf` too, and `return`, `break` and `continue` that lead out. The
+/// conditions of `where` are parallel values and relations of them, also with `!`, `&&` and `||`. Parallel expressions
+/// are of such variables, of gets from neighbours that wrap around, `[(. + 1) %% dimof(S, 0)]x`, of own coordinates, of
+/// constants and of scalar variables, converted to other types than `bool`, with the operators
+/// `+ - * & | ^ ~ << >> <? >?`, and `/ % %%` by constants other than 0. Truth values of relations, `!`, `&&` and `||`
+/// are assigned to variables of 32 bits, too. Of what is folded, tested or compared no type of fewer than 32 bits is
+/// known.
 pub fn parallel_code_means_source()
     ensures { ParallelCodeMeansSource }
 {}
