@@ -67,9 +67,9 @@ use Rattle.fields_follow.proofs.PassingTests.{tests_passed}
 use Rattle.fields_follow.proofs.Places.{HoldsTheFields, IsFileField, PlacesFields}
 use Rattle.fields_follow.proofs.Pure.{are_grids, pure_means}
 use Rattle.fields_follow.proofs.Updates.{AssignsByNoZero, IsFileTarget, assign_means, file_target, promoted_wide, step_means, updated_is}
+use Rattle.fields_follow.proofs.Sizes.{operand_small}
 use Rattle.fields_follow.proofs.Values.{and_entry, next_field, one_more, taken, variable_has, with_entry}
 use Rattle.fields_follow.proofs.Writing.{TakesBehind, entry_and_below, entry_ends, few, file_sim, instr_takes, own_stays}
-use Rattle.fields_follow.proofs.Sizes.{operand_small}
 use Rattle.fields_follow.proofs.Effects.{IsEntryFor, in_place_last, put_last}
 use Rattle.fields_follow.proofs.Expressions.{operand_at}
 use Rattle.code_follows.specs.Fragment.{ScalarsAmong}

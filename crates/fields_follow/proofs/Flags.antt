@@ -19,7 +19,7 @@ use Rattle.source_meaning.specs.State.{State}
 use Rattle.source_meaning.specs.Values.{Active}
 use Rattle.code_follows.proofs.Besides.{sim_saying}
 use Rattle.code_follows.proofs.Following.{Sim}
-use Rattle.code_follows.proofs.Settings.{At, Reaches, Setting, Within, at_next, begins_here, one, one_writes, placed_instr}
+use Rattle.code_follows.proofs.Settings.{At, Reaches, Setting, Within, at_next, begins_here, one_writes, placed_instr}
 use Rattle.fields_follow.proofs.Bits.{active_apart, bits_written, covers_flag, field_apart, field_written, if_false, if_true}
 use Rattle.fields_follow.proofs.FileFields.{Apart, apart_back}
 use Rattle.fields_follow.proofs.Instructions.{number_in, place, shapes, wrote}

@@ -29,7 +29,7 @@ use Rattle.phase_meaning.proofs.Widths.{cut_cut}
 use Rattle.source_meaning.specs.State.{State}
 use Rattle.vp_sets.specs.Positions.{are_positive, shifted}
 use Rattle.code_follows.proofs.Following.{Sim}
-use Rattle.code_follows.proofs.Settings.{At, Setting, Within, and_one, at_next, begins_here, code_more, earlier, one, one_writes, placed_instr}
+use Rattle.code_follows.proofs.Settings.{At, Setting, Within, and_one, at_next, begins_here, code_more, earlier, one_writes, placed_instr}
 use Rattle.fields_follow.proofs.Bits.{active_apart, bits_written, field_apart, field_written}
 use Rattle.fields_follow.proofs.Fields.{HoldsFields}
 use Rattle.fields_follow.proofs.FileFields.{apart_back}

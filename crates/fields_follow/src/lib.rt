@@ -4,14 +4,14 @@
 ghost use Rattle.fields_follow.specs.Example.{ExampleIsParallel};
 ghost use Rattle.fields_follow.specs.Laws.{ParallelCodeMeansSource};
 
-/// The code that the compiler makes of a program of functions without recursion on scalars, with parallel variables
-/// of the file, comes from a new memory to the end of the source's meaning, with its turns, its output and the final
+/// The code that the compiler makes of a program of functions without recursion on scalars, with parallel variables of
+/// the file, comes from a new memory to the end of the source's meaning, with its turns, its output and the final
 /// numbers of these variables at each of their positions, on every input of bytes. The variables are of all types and
 /// no arrays, and all positions are active at first. They are assigned, also with an operator that needs no more bits
 /// than a narrow variable has, and stepped, but for those of `bool`, which are assigned alone; and parallel values of
-/// the active positions are folded into numbers by unary reductions, and onto scalar variables by `s += x` and its like.
-/// All of it may stand within `with`, and also under `where` and `everywhere`: there any of these statements may stand,
-/// scalar ones, loops, calls and `printf` too, and `return`, `break` and `continue` that lead out. The
+/// the active positions are folded into numbers by unary reductions, and onto scalar variables by `s += x` and its
+/// like. All of it may stand within `with`, and also under `where` and `everywhere`: there any of these statements may
+/// stand, scalar ones, loops, calls and `printf` too, and `return`, `break` and `continue` that lead out. The
 /// conditions of `where` are parallel values and relations of them, also with `!`, `&&` and `||`. Parallel expressions
 /// are of such variables, of gets from neighbours that wrap around, `[(. + 1) %% dimof(S, 0)]x`, of own coordinates, of
 /// constants and of scalar variables, converted to other types than `bool`, with the operators
@@ -22,9 +22,9 @@ pub fn parallel_code_means_source()
     ensures { ParallelCodeMeansSource }
 {}
 
-/// Such a program is this one, which gives a parallel variable its own coordinates, adds 1 to them, adds 10 where they
-/// are less than 2 and makes them 0 elsewhere, by `where` with an `else`, and prints their sum: so the law speaks of
-/// some, with contexts.
+/// Such a program is this one, which gives a parallel variable its own coordinates, adds 1 to them, calls a function where
+/// they are less than 3 and makes them 0 elsewhere, by `where` with an `else`, and prints their sum. The function adds 10
+/// where they are less than 2, and returns from there. So the law speaks of some, with contexts.
 pub fn example_is_parallel()
     ensures { ExampleIsParallel }
 {}
