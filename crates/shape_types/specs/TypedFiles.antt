@@ -15,9 +15,9 @@ use Rattle.shape_types.specs.declared.instances.Program.{Program}
 
 -- The names of a file stand for all these shapes and variables, so that each has the number of its name: none is
 -- declared twice.
-pub record HaveOwnNames (tree : Tree) (shapes : List ShapeInfo) (vars : List VarInfo) : Type 0 where
+pub record HaveOwnNames (tree : Tree) (infos : List ShapeInfo) (vars : List VarInfo) : Type 0 where
   pub variables : NamesAll tree vars
-  pub shapes : (file_known tree).shapes ≡ map (λ (s : ShapeInfo). s.extents.items) shapes
+  pub shapes : (file_known tree).shapes ≡ map (λ (s : ShapeInfo). s.extents.items) infos
 
 -- the file becomes this program, whose needs are told as far as 32 bits count them
 pub record IsTypedFile (tree : Tree) (typed : Typed) : Type 0 where
