@@ -1,7 +1,9 @@
 pub mod AlongAxes
+pub mod AlongRecording
 pub mod Assigned
 pub mod AtSites
 pub mod CallArguments
+pub mod CallFaults
 pub mod CalledFunctions
 pub mod CallsWithin
 pub mod Combined
@@ -11,9 +13,15 @@ pub mod Listing
 pub mod Meetings
 pub mod NamesInExpressions
 pub mod NodeCalls
+pub mod NodeFaults
+pub mod NodeRecording
 pub mod OfShapes
 pub mod OnOperands
+pub mod OtherKinds
 pub mod Printed
+pub mod Recording
 pub mod SegmentBits
 pub mod Told
+pub mod WalkListing
+pub mod WalkRecording
 pub mod Walking

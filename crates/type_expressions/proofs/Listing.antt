@@ -27,7 +27,7 @@ use Rattle.type_expressions.specs.declared.found.Instances.{Instances}
 use Rattle.type_expressions.specs.Walks.{AreListed, AreMore, IsAround, IsPlain, ArePlain, IsValue, dot_at}
 use Rattle.type_expressions.proofs.CallsWithin.{earlier, in_call, in_left_index, in_printf, moved, narrowed}
 
-abbrev IsLeftIndexOf : Expr → Name → Type 0
+abbrev pub IsLeftIndexOf : Expr → Name → Type 0
 IsLeftIndexOf e n = (p : Place) × (indexes : Vec Expr Global) × (e ≡ E.LeftIndex p indexes n)
 
 -- of a left index it is told whether its variable is of the current shape
@@ -77,7 +77,7 @@ around_dot here dot a = record {
   few = a.few;
 }
 
-index_is : (here : Here) (n : Name) (k : ℕ) (b : Bool) → b ≡ stands_under here.current (meaning here n.word) → index_place here n.word k ≡ part (record here { dot = dot_at (Some b) here.dot k })
+pub index_is : (here : Here) (n : Name) (k : ℕ) (b : Bool) → b ≡ stands_under here.current (meaning here n.word) → index_place here n.word k ≡ part (record here { dot = dot_at (Some b) here.dot k })
 unfolding index_place
 index_is here n k true is = rw (sym is) refl
 index_is here n k false is = rw (sym is) refl
@@ -126,12 +126,12 @@ listed_more so_far file locals site e indexed items k axis x (Some y) (Some xs) 
 
 -- ---- the whole list
 
-row_plain : (n : Count) (row : Row_of-Expr n) → ArePlain row → All IsPlain (items-the_row-Expr n row)
+pub row_plain : (n : Count) (row : Row_of-Expr n) → ArePlain row → All IsPlain (items-the_row-Expr n row)
 unfolding ArePlain
 row_plain n end_of-Expr plain = All-nil IsPlain
 row_plain n (more_of-Expr e rest) plain = All-cons IsPlain e _ plain.0 (row_plain _ rest plain.1)
 
-abbrev written_row : Expr → (n : Count) × Row_of-Expr n
+abbrev pub written_row : Expr → (n : Count) × Row_of-Expr n
 written_row (E.LeftIndex' _ _ row _) = (_, row)
 written_row (E.Call' _ _ row) = (_, row)
 written_row (E.Printf' _ _ _ row) = (_, row)

@@ -180,25 +180,25 @@ calls_of_leaf here (inr (inr (inr (inr (inr (p, is)))))) = by_node here (Expr-F.
 
 -- ---- other expressions
 
-abbrev NotAssign : Expr → Type 0
+abbrev pub NotAssign : Expr → Type 0
 NotAssign e = (p : Place) (op : AssignOp) (target value : Box Expr Global) → e ≡ E.Assign p op target value → ⊥
 
-abbrev NotChoice : Expr → Type 0
+abbrev pub NotChoice : Expr → Type 0
 NotChoice e = (p : Place) (test second third : Box Expr Global) → e ≡ E.Choice p test second third → ⊥
 
-abbrev NotBinary : Expr → Type 0
+abbrev pub NotBinary : Expr → Type 0
 NotBinary e = (p : Place) (op : BinaryOp) (left right : Box Expr Global) → e ≡ E.Binary p op left right → ⊥
 
-abbrev NotScan : Expr → Type 0
+abbrev pub NotScan : Expr → Type 0
 NotScan e = (p : Place) (source axis : Box Expr Global) (combiner : Combiner) (direction : Direction) (mode : SegmentMode) (bit : Option Name) (inclusion : Inclusion) → e ≡ E.Scan p source axis combiner direction mode bit inclusion → ⊥
 
-abbrev NotCall : Expr → Type 0
+abbrev pub NotCall : Expr → Type 0
 NotCall e = (n : Name) (arguments : Vec Expr Global) → e ≡ E.Call n arguments → ⊥
 
-abbrev NotPrintf : Expr → Type 0
+abbrev pub NotPrintf : Expr → Type 0
 NotPrintf e = (p : Place) (text : List ℕ) (arguments : Vec Expr Global) → e ≡ E.Printf p text arguments → ⊥
 
-abbrev NotLeftIndex : Expr → Type 0
+abbrev pub NotLeftIndex : Expr → Type 0
 NotLeftIndex e = (p : Place) (indexes : Vec Expr Global) (n : Name) → e ≡ E.LeftIndex p indexes n → ⊥
 
 other_operands : (here : Here) (x : Expr-F Expr) (e : Expr) → roll-Expr x ≡ e → NotAssign e → NotChoice e → NotBinary e → operand_calls here e ≡ []

@@ -189,11 +189,11 @@ pub if_answers : {A : Type 0} (are : Program → Here → A → Type 0) (x : A) 
 if_answers are x e (Ok t) h = h
 if_answers are x e (Err u) h = tt
 
-extents_known : {file : File} {locals : Locals} {site : Site} {here : Here} (n : Name) (v : Variable) (ty : Names.VariableType) (shape : Option ℕ) → IsAround file locals site here → IsVariable here n v (variable_type ty) → ty.shape ≡ shape → HasExtents here shape
+pub extents_known : {file : File} {locals : Locals} {site : Site} {here : Here} (n : Name) (v : Variable) (ty : Names.VariableType) (shape : Option ℕ) → IsAround file locals site here → IsVariable here n v (variable_type ty) → ty.shape ≡ shape → HasExtents here shape
 extents_known n v ty None a is of = tt
 extents_known n v ty (Some s) a is of = let c = counted_shape a.few (a.known.of_variable n.word v (variable_type ty) s is of) in (c.extents, c.has_extents, c.few_axes)
 
-no_array : (array : Option ℕ) → is_some array ≡ false → array ≡ None
+pub no_array : (array : Option ℕ) → is_some array ≡ false → array ≡ None
 no_array None is = refl
 no_array (Some n) is = absurd (cc)
 

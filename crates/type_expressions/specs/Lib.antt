@@ -5,4 +5,5 @@ pub mod Instances
 pub mod Meetings
 pub mod Names
 pub mod Programs
+pub mod Recorded
 pub mod Walks

@@ -1,14 +1,17 @@
 //! Intrinsics along an axis: what they go along, and what they become.
 
-ghost use Rattle.std.specs.Prelude.{◌≡◌, true, IfOk, IfSome, Ok, Some, Box};
+ghost use Rattle.std.specs.Prelude.{◌≡◌, ◌&&◌, false, true, is_some, IfOk, IfSome, Err, Ok, Some, Box};
 ghost use Rattle.std.specs.declared.alloc.Global.{Global};
+ghost use Rattle.cstar_tree.specs.ExpressionFaults.{FaultAt};
 ghost use Rattle.cstar_tree.specs.ExpressionTypes.{Types};
 ghost use Rattle.cstar_tree.specs.Headers.{Program};
 ghost use Rattle.cstar_tree.specs.Scopes.{Here};
 ghost use Rattle.cstar_tree.specs.declared.typed.TExpr.{TExpr};
+ghost use Rattle.type_scopes.specs.declared.faults.Untyped.TheVariants as U;
 ghost use Rattle.type_scopes.specs.declared.locals.Locals.{Locals};
 ghost use Rattle.type_expressions.specs.Along.{IsAxisOf, number_of_constant};
-ghost use Rattle.type_expressions.specs.Walks.{AreFoundAlong, HasItsSource, IsAround, IsFoundAlong, IsSource, IsTypedAlong, rank_under};
+ghost use Rattle.type_expressions.specs.Recorded.{IfUntyped, IsAxisSettled, TellsAt, has_source};
+ghost use Rattle.type_expressions.specs.Walks.{AreFoundAlong, HasItsSource, IsAround, IsAxisTyped, IsFoundAlong, IsPlain, IsSource, IsTypedAlong, rank_under};
 
 use crate::found::{Typing, outcome};
 use crate::intrinsics::{Axis, Walk, axis_of, dim_of, enumerate, pcoord, scan, segment_bit};
@@ -38,7 +41,8 @@ pub fn goes_along(
     e: &Expr,
     axis: Option<Box<TExpr>>,
 ) -> Result<Option<Along>, Memory>
-    ensures { IfOk result (AreFoundAlong file.now locals.now site e.now axis) }
+    ensures along { IfOk result (AreFoundAlong file.now locals.now site e.now axis) }
+    ensures faults { IfOk result (λ r. (program : Program) (here : Here) → IsAround file.now locals.now site here → IsPlain e.now → IfSome axis (IsAxisTyped program here e.now) → TellsAt program here e.now (is_some axis ≡ false) (is_some r) faults.old.least faults.new.least) }
 {
     match e {
         Expr::DimOf {
@@ -83,7 +87,8 @@ fn known_along(
     bit: Option<Option<Variable>>,
     shape: Option<u16>,
 ) -> Option<Along>
-    ensures { IfSome result (λ a. (axis ≡ Some a.axis) × (bit ≡ Some a.bit) × (a.shape ≡ shape)) }
+    ensures along { IfSome result (λ a. (axis ≡ Some a.axis) × (bit ≡ Some a.bit) × (a.shape ≡ shape)) }
+    ensures known { is_some result ≡ (is_some axis && is_some bit) }
 {
     Some(Along {
         axis: axis?,
@@ -101,7 +106,8 @@ pub fn with_axis(
     along: Along,
     source: Option<Box<TExpr>>,
 ) -> Typing
-    ensures { (locals : Locals) → IfOk result (IsTypedAlong file.now locals site e.now along source) }
+    ensures typed { (locals : Locals) → IfOk result (IsTypedAlong file.now locals site e.now along source) }
+    ensures faults { (locals : Locals) → IfOk result (λ r. (program : Program) (here : Here) → IsAround file.now locals site here → IsFoundAlong program here e.now along → (has_source e.now source ≡ true → IsSource program here e.now source) → TellsAt program here e.now (has_source e.now source ≡ false) (is_some r) faults.old.least faults.new.least) }
 {
     outcome(faults, file.alloc, intrinsic(file, site, e, along, source))
 }
@@ -116,6 +122,8 @@ fn intrinsic(
 ) -> Result<TExpr, Untyped>
     ensures source { IfOk result (λ t. HasItsSource e.now source) }
     ensures typed { (locals : Locals) → IfOk result (λ t. (program : Program) (here : Here) → IsAround file.now locals site here → IsFoundAlong program here e.now along → IsSource program here e.now source → Types program here e.now t true) }
+    ensures refused { (locals : Locals) (program : Program) (here : Here) → IsAround file.now locals site here → IsFoundAlong program here e.now along → IsSource program here e.now source → IfUntyped (FaultAt program here e.now) ⊥ result }
+    ensures without { has_source e.now source ≡ false → result ≡ Err U.Faulty }
 {
     let Along { axis, shape, bit } = along;
     match e {
@@ -167,7 +175,8 @@ fn settled_axis(
     axis: Option<Box<TExpr>>,
     rank: Option<u32>,
 ) -> Result<Option<Axis>, Memory>
-    ensures { IfOk result (λ r. IfSome r (λ a. (x : Box TExpr Global) × (axis ≡ Some x) × IsAxisOf (number_of_constant x.value) rank place (Ok a))) }
+    ensures axis { IfOk result (λ r. IfSome r (λ a. (x : Box TExpr Global) × (axis ≡ Some x) × IsAxisOf (number_of_constant x.value) rank place (Ok a))) }
+    ensures faults { IfOk result (λ r. IsAxisSettled axis rank place r faults.old.least faults.new.least) }
 {
     match axis {
         Some(axis) => faults.settle(axis_of(place, &axis, rank)),

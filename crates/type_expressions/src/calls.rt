@@ -3,20 +3,23 @@
 ghost use Rattle.cstar_tree.specs.Calls.{call_of};
 ghost use Rattle.cstar_tree.specs.Conversions.{AreFitted, ArePromoted};
 ghost use Rattle.cstar_tree.specs.ExpressionTypes.{Types, TypesEach};
-ghost use Rattle.cstar_tree.specs.Headers.{Program};
+ghost use Rattle.cstar_base.specs.declared.operators.Place.{Place};
+ghost use Rattle.cstar_tree.specs.Headers.{Program, unknown};
 ghost use Rattle.cstar_tree.specs.Scopes.{Here, meaning, part};
 ghost use Rattle.cstar_tree.specs.declared.syntax.Expr as E;
 ghost use Rattle.cstar_tree.specs.declared.syntax.Expr.{Expr};
-ghost use Rattle.std.specs.Prelude.{◌≡◌, ◌↔◌, List, IfOk, IfSome, IsTrue, MatchResult, OnOk, Some, Bool, Vec, false, is_some, length, map};
+ghost use Rattle.std.specs.Prelude.{◌≡◌, ◌↔◌, ℕ, List, IfErr, IfOk, IfSome, IsSome, IsTrue, MatchResult, OnOk, None, Option, Some, Bool, Vec, false, is_some, length, map};
 ghost use Rattle.std.specs.List.{list_all, list_any, slice_get};
 ghost use Rattle.std.specs.Option.{option_flatten};
 ghost use Rattle.std.specs.declared.alloc.Global.{Global};
 ghost use Rattle.type_scopes.specs.declared.faults.Untyped.TheVariants as U;
 ghost use Rattle.cstar_tree.specs.declared.typed.ValueType.{ValueType};
 ghost use Rattle.type_scopes.specs.Headers.{IsOfGroup, returned};
+ghost use Rattle.type_scopes.specs.declared.file.File.{File};
 ghost use Rattle.type_expressions.specs.Calls.{HasTypes, IsCallTo, IsGiven, IsReached, TakesParallel, is_unfit};
-ghost use Rattle.type_expressions.specs.Instances.{Grows, instance_of, met};
+ghost use Rattle.type_expressions.specs.Instances.{Grows, instance_of, kept_header, met};
 ghost use Rattle.type_expressions.specs.Meetings.{Meets, behind_call};
+ghost use Rattle.type_expressions.specs.Recorded.{FindsFromList, IsRefusedCall, RecordsReached};
 ghost use Rattle.type_expressions.specs.Walks.{IsTypedFromList};
 ghost use Rattle.type_expressions.specs.Answers.{IsFaultOrMemory, is_parallel, trees};
 
@@ -101,7 +104,8 @@ fn has_types(header: &Header) -> bool
 /// What a call gives, and whether it has a value. At file scope a result whose type has a fault is
 /// taken for an `int`, since the call is no constant anyway.
 fn given(returns: Returns, is_inside: bool) -> Option<(ValueType, bool)>
-    ensures { IfSome result (λ r. IsGiven is_inside (returned returns) r.0 r.1) }
+    ensures given { IfSome result (λ r. IsGiven is_inside (returned returns) r.0 r.1) }
+    ensures unknown { result ≡ None → returned returns ≡ unknown }
 {
     match returns {
         Returns::Nothing => Some((INT, false)),
@@ -118,7 +122,8 @@ fn call_node(
     instance: Option<u32>,
     arguments: Vec<Box<TExpr>>,
 ) -> Result<TypedExpr, Untyped>
-    ensures { length header.now.parameters.items ≡ length arguments.items → (TakesParallel header.now.parameters.items (trees arguments.items) → ⊥) → IfOk result (λ t. IsCallTo header.now (trees arguments.items) instance t.expr.value t.has_value) }
+    ensures typed { length header.now.parameters.items ≡ length arguments.items → (TakesParallel header.now.parameters.items (trees arguments.items) → ⊥) → IfOk result (λ t. IsCallTo header.now (trees arguments.items) instance t.expr.value t.has_value) }
+    ensures refused { (file : File) (around : Option ℕ) (f : ℕ) (place : Place) → length header.now.parameters.items ≡ length arguments.items → (TakesParallel header.now.parameters.items (trees arguments.items) → ⊥) → IfErr result (IsRefusedCall file around f header.now place (trees arguments.items)) }
 {
     if !has_types(header) {
         return Err(Untyped::Faulty);
@@ -142,7 +147,8 @@ fn call_tree(
     instance: Option<u32>,
     arguments: Vec<Box<TExpr>>,
 ) -> Result<TExpr, Untyped>
-    ensures { (has_value : Bool) → HasTypes header.now.parameters.items → IsGiven (is_some instance) (returned header.now.returns) ty has_value → length header.now.parameters.items ≡ length arguments.items → (TakesParallel header.now.parameters.items (trees arguments.items) → ⊥) → IfOk result (λ t. IsCallTo header.now (trees arguments.items) instance t has_value) }
+    ensures typed { (has_value : Bool) → HasTypes header.now.parameters.items → IsGiven (is_some instance) (returned header.now.returns) ty has_value → length header.now.parameters.items ≡ length arguments.items → (TakesParallel header.now.parameters.items (trees arguments.items) → ⊥) → IfOk result (λ t. IsCallTo header.now (trees arguments.items) instance t has_value) }
+    ensures refused { HasTypes header.now.parameters.items → length header.now.parameters.items ≡ length arguments.items → (TakesParallel header.now.parameters.items (trees arguments.items) → ⊥) → IfErr result (λ u. u ≡ U.Memory) }
 {
     match instance {
         Some(instance) => Ok(TExpr::Call {
@@ -170,6 +176,7 @@ fn call_fits(
     ensures shape { IfOk result (λ _. header.now.other_shape ≡ false) }
     ensures arguments { IfOk result (λ _. (TakesParallel header.now.parameters.items (trees arguments.now) → ⊥) × (length header.now.parameters.items ≡ length arguments.now)) }
     ensures recursion { IfOk result (λ _. IsOfGroup file.now site.function function → ⊥) }
+    ensures refused { IfErr result (IsRefusedCall file.now site.function function header.now place (trees arguments.now)) }
 {
     if header.other_shape {
         Err(fault(Fault::OtherShape, place))
@@ -196,6 +203,7 @@ pub fn call(
     ensures typed { (given : Vec Expr Global) → IfOk result (IsTypedFromList found.new.instances arguments file.now locals.now site (E.Call name.now given)) }
     ensures met { OnOk result (Grows file.now found.old.instances found.new.instances) }
     ensures calls { OnOk result (Meets found.old.instances found.new.instances file.now locals.now site (λ here. call_of here (meaning here name.now.word))) }
+    ensures faults { (given : Vec Expr Global) → IfOk result (λ r. FindsFromList found.new.instances arguments file.now locals.now site (E.Call name.now given) (is_some r) found.old.faults.least found.new.faults.least) }
 {
     let Some(function) = found.faults.settle(file.called(locals, site, name))? else {
         return Ok(None);
@@ -228,6 +236,8 @@ fn reach(
     ensures number { IfOk result (IsReached (met found.new.instances) site.function (instance_of reached)) }
     ensures met { OnOk result (Grows file.now found.old.instances found.new.instances) }
     ensures calls { OnOk result (met found.new.instances ≡ behind_call site.function (instance_of reached) (met found.old.instances)) }
+    ensures kept { OnOk result (IsSome (kept_header found.new.instances reached)) }
+    ensures faults { OnOk result (RecordsReached site.function (kept_header found.new.instances reached) found.old.faults.least found.new.faults.least) }
 {
     match site.function {
         Some(_) => Ok(Some(found.reach(file, reached)?)),
@@ -250,6 +260,7 @@ fn fitting_call(
     ensures shape { IfOk result (λ _. header.now.other_shape ≡ false) }
     ensures recursion { IfOk result (λ _. IsOfGroup file.now site.function function → ⊥) }
     ensures typed { IfOk result (λ t. IsCallTo header.now (trees arguments.items) instance t.expr.value t.has_value) }
+    ensures refused { IfErr result (IsRefusedCall file.now site.function function header.now place (trees arguments.items)) }
 {
     call_fits(file, site, place, function, header, arguments.as_slice())?;
     call_node(file.alloc, header, instance, arguments)

@@ -96,8 +96,11 @@ pub struct Found {
 }
 
 impl Found {
-    ghost use Rattle.std.specs.Prelude.{◌≡◌, [], slice_get, Some, IfOk, IsSome, OnOk};
+    ghost use Rattle.std.specs.Prelude.{◌≡◌, ◌⊎◌, [], slice_get, None, Some, IfOk, IsSome, MatchOption, OnOk};
+    ghost use Rattle.cstar_base.specs.declared.faults.Fault.TheVariants as F;
+    ghost use Rattle.type_scopes.specs.Faults.{lesser, told};
     ghost use Rattle.type_expressions.specs.Instances.{Grows, instance_of, kept_header, met, with_met};
+    ghost use Rattle.type_expressions.specs.Recorded.{IsExpected, RecordsHeader};
 
     pub fn new(alloc: Global) -> Found
         ensures headers { result.instances.headers.entries ≡ [] }
@@ -112,14 +115,16 @@ impl Found {
 
     /// Counts nodes of the tree.
     pub fn count(&mut self, nodes: u64)
-        ensures { self.new.instances ≡ self.old.instances }
+        ensures instances { self.new.instances ≡ self.old.instances }
+        ensures faults { self.new.faults.least ≡ self.old.faults.least }
     {
         self.nodes = self.nodes.saturating_add(nodes);
     }
 
     /// Takes the faults so far out, so that those of the next part are seen alone.
     pub fn set_aside(&mut self) -> Faults
-        ensures { self.new.instances ≡ self.old.instances }
+        ensures instances { self.new.instances ≡ self.old.instances }
+        ensures faults { (result.least ≡ self.old.faults.least) × (self.new.faults.least ≡ None) }
     {
         std::mem::replace(&mut self.faults, Faults::none())
     }
@@ -128,12 +133,23 @@ impl Found {
     /// Outside all functions one that has neither a type nor a fault of its own calls a function
     /// with a faulty header, and no call is constant there.
     pub fn expect_constant(&mut self, site: Site, place: Place, is_typed: bool, earlier: Faults)
-        ensures { self.new.instances ≡ self.old.instances }
+        ensures instances { self.new.instances ≡ self.old.instances }
+        ensures faults { IsExpected site place earlier.least self.old.faults.least self.new.faults.least }
     {
-        if !is_typed && site.function.is_none() && self.faults.least.is_none() {
-            self.faults.stands(Fault::Constant, place);
+        if !is_typed {
+            self.expect_fault(site, place);
         }
         self.faults.include(earlier);
+    }
+
+    /// Outside all functions an expression at the place without a type has a fault.
+    fn expect_fault(&mut self, site: Site, place: Place)
+        ensures instances { self.new.instances ≡ self.old.instances }
+        ensures faults { (self.new.faults.least ≡ self.old.faults.least) ⊎ ((site.function ≡ None) × MatchOption self.new.faults.least ⊥ (λ least. told least ≡ lesser self.old.faults.least F.Constant place)) }
+    {
+        if site.function.is_none() && self.faults.least.is_none() {
+            self.faults.stands(Fault::Constant, place);
+        }
     }
 
     /// The number of the instance, which is called here and whose header is kept from here on. Where
@@ -143,6 +159,7 @@ impl Found {
         ensures met { IfOk result (λ number. met self.new.instances ≡ with_met (instance_of reached) (met self.old.instances)) }
         ensures grows { OnOk result (Grows file.now self.old.instances self.new.instances) }
         ensures kept { OnOk result (IsSome (kept_header self.new.instances reached)) }
+        ensures faults { OnOk result (RecordsHeader (kept_header self.new.instances reached) self.old.faults.least self.new.faults.least) }
     {
         self.instances.prepare(file, reached)?;
         let (number, is_new) = self.instances.call(reached)?;

@@ -3,8 +3,9 @@
 
 ghost use Rattle.cstar_base.specs.declared.operators.Place.{Place};
 ghost use Rattle.cstar_tree.specs.declared.syntax.Expr as E;
-ghost use Rattle.std.specs.Prelude.{◌≡◌, true, false, IfOk, IfSome, OnOk, Some, Box, Vec};
+ghost use Rattle.std.specs.Prelude.{◌≡◌, ◌⊎◌, ◌&&◌, true, false, is_some, IfErr, IfOk, IfSome, OnOk, Some, Box, Vec};
 ghost use Rattle.std.specs.declared.alloc.Global.{Global};
+ghost use Rattle.cstar_tree.specs.ExpressionFaults.{FaultAt};
 ghost use Rattle.cstar_tree.specs.ExpressionTypes.{Types};
 ghost use Rattle.cstar_tree.specs.Headers.{Program};
 ghost use Rattle.cstar_tree.specs.Scopes.{Here, find};
@@ -19,6 +20,7 @@ ghost use Rattle.type_expressions.specs.Answers.{IsAssigned, OnBoth, OnThree};
 ghost use Rattle.type_expressions.specs.Instances.{Grows};
 ghost use Rattle.type_expressions.specs.Meetings.{Meets, list_calls, operand_calls, own_calls, source_calls};
 ghost use Rattle.cstar_tree.specs.Calls.{calls_in};
+ghost use Rattle.type_expressions.specs.Recorded.{Finds, FindsFrom, FindsFromList, FindsValue, HasList, HasNoValue, HasOperands, IfUntyped, IsLeaf, IsOperator, Rests, TellsAt, has_source};
 ghost use Rattle.type_expressions.specs.Walks.{AreListed, AreMore, AreParts, IsAround, IsOperand, IsPart, IsSourceValue, IsTyped, IsTypedFrom, IsTypedFromList, IsValue, dot_at};
 
 use crate::along::{goes_along, with_axis};
@@ -51,6 +53,7 @@ pub fn typed_value(
     ensures typed { IfOk result (IsValue found.new.instances file.now locals.now site e.now) }
     ensures met { OnOk result (Grows file.now found.old.instances found.new.instances) }
     ensures calls { OnOk result (Meets found.old.instances found.new.instances file.now locals.now site (λ here. calls_in here e.now)) }
+    ensures faults { IfOk result (λ r. FindsValue found.new.instances file.now locals.now site e.now (is_some r) found.old.faults.least found.new.faults.least) }
 {
     let typed = typed_expr(found, file, locals, site.part(), e)?;
     found.faults.settle(valued(e.place(), typed))
@@ -68,6 +71,7 @@ fn axis_value(
     ensures typed { IfOk result (IsValue found.new.instances file.now locals.now site axis.now) }
     ensures met { OnOk result (Grows file.now found.old.instances found.new.instances) }
     ensures calls { OnOk result (Meets found.old.instances found.new.instances file.now locals.now site (λ here. calls_in here axis.now)) }
+    ensures faults { IfOk result (λ r. FindsValue found.new.instances file.now locals.now site axis.now (is_some r) found.old.faults.least found.new.faults.least) }
 {
     let earlier = found.set_aside();
     let typed = typed_value(found, file, locals, site, axis)?;
@@ -86,6 +90,7 @@ pub fn typed_constant(
     ensures typed { IfOk result (IsTyped found.new.instances file.now locals.now (record site { whole = false }) e.now) }
     ensures met { OnOk result (Grows file.now found.old.instances found.new.instances) }
     ensures calls { OnOk result (Meets found.old.instances found.new.instances file.now locals.now site (λ here. calls_in here e.now)) }
+    ensures faults { IfOk result (λ r. Finds found.new.instances file.now locals.now (record site { whole = false }) e.now (is_some r) found.old.faults.least found.new.faults.least) }
 {
     let earlier = found.set_aside();
     let typed = typed_expr(found, file, locals, site.part(), e)?;
@@ -95,7 +100,8 @@ pub fn typed_constant(
 
 /// The expression, which needs a value. If it has none, that is a fault at the place.
 fn valued(place: Place, typed: Option<TypedExpr>) -> Result<Box<TExpr>, Untyped>
-    ensures { IfOk result (λ x. typed ≡ Some (record { expr = x; has_value = true })) }
+    ensures typed { IfOk result (λ x. typed ≡ Some (record { expr = x; has_value = true })) }
+    ensures refused { IfErr result (HasNoValue place typed) }
 {
     let Some(TypedExpr { expr, has_value }) = typed else {
         return Err(Untyped::Faulty);
@@ -119,6 +125,7 @@ pub fn typed_expr(
     ensures typed { IfOk result (IsTyped found.new.instances file.now locals.now site e.now) }
     ensures met { OnOk result (Grows file.now found.old.instances found.new.instances) }
     ensures calls { OnOk result (Meets found.old.instances found.new.instances file.now locals.now site (λ here. calls_in here e.now)) }
+    ensures faults { IfOk result (λ r. Finds found.new.instances file.now locals.now site e.now (is_some r) found.old.faults.least found.new.faults.least) }
 {
     found.count(nodes(file, locals, site, e));
     match e {
@@ -174,6 +181,7 @@ fn source_value(
     ensures typed { IfOk result (IsSourceValue found.new.instances file.now locals.now site e.now) }
     ensures met { OnOk result (Grows file.now found.old.instances found.new.instances) }
     ensures calls { OnOk result (Meets found.old.instances found.new.instances file.now locals.now site (λ here. source_calls here e.now)) }
+    ensures faults { IfOk result (λ r. Finds found.new.instances file.now locals.now site e.now (has_source e.now r) found.old.faults.least found.new.faults.least) }
 {
     match e {
         Expr::Scan { source, .. } => typed_value(found, file, locals, site, source),
@@ -200,6 +208,7 @@ fn operands(found: &mut Found, file: &File<'_>, locals: &Locals, site: Site, e: 
     ensures typed { IfOk result (IsTyped found.new.instances file.now locals.now site e.now) }
     ensures met { OnOk result (Grows file.now found.old.instances found.new.instances) }
     ensures calls { OnOk result (Meets found.old.instances found.new.instances file.now locals.now site (λ here. operand_calls here e.now)) }
+    ensures faults { HasOperands e.now → IfOk result (λ r. Finds found.new.instances file.now locals.now site e.now (is_some r) found.old.faults.least found.new.faults.least) }
 {
     match e {
         Expr::Assign {
@@ -314,7 +323,8 @@ fn with_operand(
     e: &Expr,
     operand: Option<Box<TExpr>>,
 ) -> Typing
-    ensures { IfOk result (IsTypedFrom (λ program here x. IsOperand program here e.now x) operand file.now locals.now site e.now) }
+    ensures typed { IfOk result (IsTypedFrom (λ program here x. IsOperand program here e.now x) operand file.now locals.now site e.now) }
+    ensures faults { IfOk result (λ r. FindsFrom (λ program here x. IsOperand program here e.now x) operand file.now locals.now site e.now (is_some r) faults.old.least faults.new.least) }
 {
     match e {
         Expr::ParallelCast {
@@ -335,7 +345,8 @@ fn with_operand(
 }
 
 fn on_operand(alloc: Global, e: &Expr, operand: Box<TExpr>) -> Result<TExpr, Untyped>
-    ensures { IfOk result (λ t. (program : Program) (here : Here) → IsOperand program here e.now operand → Types program here e.now t true) }
+    ensures typed { IfOk result (λ t. (program : Program) (here : Here) → IsOperand program here e.now operand → Types program here e.now t true) }
+    ensures refused { (program : Program) (here : Here) → IsOperator e.now → IsOperand program here e.now operand → IfUntyped (FaultAt program here e.now) ⊥ result }
 {
     match e {
         Expr::Prefix { place, op, .. } => prefix(alloc, *place, *op, operand),
@@ -357,7 +368,8 @@ fn cast_to(
     written: &TypeName,
     operand: Option<Box<TExpr>>,
 ) -> Typing
-    ensures { (e : Box Expr Global) → IfOk result (IsTypedFrom (λ program here x. IsPart program here e.value x) operand file.now locals.now site (E.ParallelCast place written.now e)) }
+    ensures typed { (e : Box Expr Global) → IfOk result (IsTypedFrom (λ program here x. IsPart program here e.value x) operand file.now locals.now site (E.ParallelCast place written.now e)) }
+    ensures faults { (e : Box Expr Global) → IfOk result (λ r. FindsFrom (λ program here x. IsPart program here e.value x) operand file.now locals.now site (E.ParallelCast place written.now e) (is_some r) faults.old.least faults.new.least) }
 {
     let ty = faults.settle(file.value_type(locals, site, written))?;
     let (Some(ty), Some(operand)) = (ty, operand) else {
@@ -379,7 +391,8 @@ fn element_of(
     bracket: Place,
     index: Option<Box<TExpr>>,
 ) -> Typing
-    ensures { (e : Box Expr Global) → IfOk result (IsTypedFrom (λ program here x. IsPart program here e.value x) index file.now locals.now site (E.Element name.now bracket e)) }
+    ensures typed { (e : Box Expr Global) → IfOk result (IsTypedFrom (λ program here x. IsPart program here e.value x) index file.now locals.now site (E.Element name.now bracket e)) }
+    ensures faults { (e : Box Expr Global) → IfOk result (λ r. FindsFrom (λ program here x. IsPart program here e.value x) index file.now locals.now site (E.Element name.now bracket e) (is_some r) faults.old.least faults.new.least) }
 {
     let array = faults.settle(array(file, locals, site, name))?;
     let (Some(array), Some(index)) = (array, index) else {
@@ -405,6 +418,7 @@ fn list(
     ensures typed { IfOk result (AreListed found.new.instances file.now locals.now site e.now) }
     ensures met { OnOk result (Grows file.now found.old.instances found.new.instances) }
     ensures calls { OnOk result (Meets found.old.instances found.new.instances file.now locals.now site (λ here. list_calls here e.now)) }
+    ensures faults { HasList e.now → IfOk result (λ r. Finds found.new.instances file.now locals.now site e.now (is_some r) found.old.faults.least found.new.faults.least) }
 {
     let (parts, indexed) = match e {
         Expr::Call { arguments, .. } | Expr::Printf { arguments, .. } => (arguments, None),
@@ -441,7 +455,8 @@ fn with_part(
     parts: Option<Vec<Box<TExpr>>>,
     part: Option<Box<TExpr>>,
 ) -> Result<Option<Vec<Box<TExpr>>>, Memory>
-    ensures { IfOk result (AreMore parts part) }
+    ensures more { IfOk result (AreMore parts part) }
+    ensures wanting { IfOk result (λ r. is_some r ≡ (is_some parts && is_some part)) }
 {
     let (Some(mut parts), Some(part)) = (parts, part) else {
         return Ok(None);
@@ -463,6 +478,7 @@ fn with_list(
     ensures typed { IfOk result (IsTypedFromList found.new.instances parts file.now locals.now site e.now) }
     ensures met { OnOk result (Grows file.now found.old.instances found.new.instances) }
     ensures calls { OnOk result (Meets found.old.instances found.new.instances file.now locals.now site (λ here. own_calls here e.now)) }
+    ensures faults { IfOk result (λ r. FindsFromList found.new.instances parts file.now locals.now site e.now (is_some r) found.old.faults.least found.new.faults.least) }
 {
     match e {
         Expr::Call { name, .. } => call(found, file, locals, site, name, parts),
@@ -488,7 +504,8 @@ fn indexed(
     variable: Option<(Variable, VariableType)>,
     parts: Option<Vec<Box<TExpr>>>,
 ) -> Typing
-    ensures { (locals : Locals) (site : Site) (n : Name) (indexes : Vec Expr Global) → IfSome variable (IsVariableMeant false (find (names_at file.now locals site.known) n.word)) → IfOk result (IsTypedFrom (λ program here xs. AreParts program here (E.LeftIndex place indexes n) xs) parts file.now locals site (E.LeftIndex place indexes n)) }
+    ensures typed { (locals : Locals) (site : Site) (n : Name) (indexes : Vec Expr Global) → IfSome variable (IsVariableMeant false (find (names_at file.now locals site.known) n.word)) → IfOk result (IsTypedFrom (λ program here xs. AreParts program here (E.LeftIndex place indexes n) xs) parts file.now locals site (E.LeftIndex place indexes n)) }
+    ensures faults { (locals : Locals) (site : Site) (n : Name) (indexes : Vec Expr Global) → IfSome variable (IsVariableMeant false (find (names_at file.now locals site.known) n.word)) → IfOk result (λ r. (program : Program) (here : Here) → IsAround file.now locals site here → IfSome parts (AreParts program here (E.LeftIndex place indexes n)) → TellsAt program here (E.LeftIndex place indexes n) ((is_some variable ≡ false) ⊎ (is_some parts ≡ false)) (is_some r) faults.old.least faults.new.least) }
 {
     let (Some(variable), Some(parts)) = (variable, parts) else {
         return Ok(None);
@@ -498,7 +515,8 @@ fn indexed(
 
 /// Types an expression without parts.
 fn leaf(file: &File<'_>, locals: &Locals, site: Site, e: &Expr) -> Result<TExpr, Untyped>
-    ensures { IfOk result (λ t. (program : Program) (here : Here) → IsAround file.now locals.now site here → Types program here e.now t true) }
+    ensures typed { IfOk result (λ t. (program : Program) (here : Here) → IsAround file.now locals.now site here → Types program here e.now t true) }
+    ensures refused { (program : Program) (here : Here) → IsLeaf e.now → IsAround file.now locals.now site here → IfUntyped (FaultAt program here e.now) (Rests program here e.now) result }
 {
     match e {
         Expr::Name(written) => name(file, locals, site, written),

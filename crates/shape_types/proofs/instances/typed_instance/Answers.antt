@@ -18,10 +18,10 @@ use Rattle.shape_types.proofs.TypedInstances.{IsMade, instance_made}
 use Rattle.shape_types.proofs.instances.typed_instance.Goals as goal
 
 pub returns-in_default-header-clause-met : goal.returns-in_default-header-clause-met
-returns-in_default-header-clause-met c = begins_same c.count.ensures
+returns-in_default-header-clause-met c = begins_same c.count.ensures.instances
 
 pub returns-clause-met : goal.returns-clause-met
-returns-clause-met c = begins_both (begins_same c.count.ensures) (begins_both (begins_same c.count-2.ensures) c.in_ok-body.ensures.met)
+returns-clause-met c = begins_both (begins_same c.count.ensures.instances) (begins_both (begins_same c.count-2.ensures.instances) c.in_ok-body.ensures.met)
 
 pub returns-clause-typed : goal.returns-clause-typed
 returns-clause-typed c tree whole plain headers =
@@ -32,14 +32,14 @@ returns-clause-typed c tree whole plain headers =
     let first = c.parameters.new.scopes in
     let last = c.block_in.new.scopes in
     let site = site_of c.in-Some.info c.args.reached c.in-Some-header.header.now.returns in
-    let same : c.count-2.new.self.instances ≡ old = c.count-2.ensures ∙ c.count.ensures in
-    let later : Grows file old new = begins_both (begins_same c.count.ensures) (begins_both (begins_same c.count-2.ensures) c.in_ok-body.ensures.met) in
+    let same : c.count-2.new.self.instances ≡ old = c.count-2.ensures.instances ∙ c.count.ensures.instances in
+    let later : Grows file old new = begins_both (begins_same c.count.ensures.instances) (begins_both (begins_same c.count-2.ensures.instances) c.in_ok-body.ensures.met) in
     let block = subst (λ (b : Option (Box TStmt Global)). IfSome b (λ (t : Box TStmt Global). IsTypedBlock new file first last c.body_site-site.result 0 function.body t.value)) c.in-Some-Some-Some.is-2 c.in_ok-body.ensures.typed in
     let calls = subst (λ (b : Option (Box TStmt Global)). IfSome b (λ (t : Box TStmt Global). MeetsCallsOf c.count-2.new.self.instances new file first c.body_site-site.result 0 function.body)) c.in-Some-Some-Some.is-2 c.in_ok-body.ensures.calls in
     let result = subst (λ r. IfSome r (TypesResult function.name.word (returned c.in-Some-header.header.now.returns))) c.in-Some-Some-Some.is-1 c.in_ok-result.ensures in
     let made : IsMade file old new c.args.reached c.in-Some.info function (record { name = c.in_ok-copied.field-0; current = c.args.reached.current; params = c.in-Some-Some-Some.params; result = c.in-Some-Some-Some.result; body = c.into_inner.result }) = record {
       header = c.in-Some-header.header.now;
-      kept = ap (λ (i : Instances). kept_header i c.args.reached) (sym c.count.ensures) ∙ sym c.in-Some-header.ensures;
+      kept = ap (λ (i : Instances). kept_header i c.args.reached) (sym c.count.ensures.instances) ∙ sym c.in-Some-header.ensures;
       start = c.new-scopes.result;
       first = first;
       last = last;

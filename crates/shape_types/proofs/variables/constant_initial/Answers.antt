@@ -8,5 +8,5 @@ returns-in_default c start k knows plain whole = subst (λ o. StartsAs (place_in
 
 pub returns : goal.returns
 returns c start k knows plain whole =
-    initial_settled start k c.args.file.now c.args.declared.now.known c.new-none.result c.file-site.result knows c.new-none.ensures c.file-site.ensures _ _ (ap (λ i. i.headers.entries) c.set_aside-earlier.ensures ∙ c.begin_constant.ensures whole) c.in_ok-initial.ensures.met
+    initial_settled start k c.args.file.now c.args.declared.now.known c.new-none.result c.file-site.result knows c.new-none.ensures c.file-site.ensures _ _ (ap (λ i. i.headers.entries) c.set_aside-earlier.ensures.instances ∙ c.begin_constant.ensures whole) c.in_ok-initial.ensures.met
     c.args.declarator.now.initial c.in_ok-initial.initial plain c.in_ok-initial.ensures.typed

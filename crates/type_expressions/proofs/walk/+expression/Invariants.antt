@@ -1,7 +1,9 @@
 use Rattle.std.proofs.Common.{◌≡◌, ◌+◌, ◌*◌, ◌-◌, ◌^◌, min, take}
+use Rattle.std.specs.Option.{is_some}
 use Rattle.cstar_tree.specs.Calls.{calls_in_each}
 use Rattle.type_expressions.specs.Instances.{Grows}
 use Rattle.type_expressions.specs.Meetings.{Meets}
+use Rattle.type_expressions.specs.Recorded.{Finds}
 use Rattle.type_expressions.proofs.Listing.{AreListedTo, IsToldIndexed}
 use Rattle.type_expressions.proofs.walk.+expression.Given as goal
 
@@ -30,3 +32,4 @@ invariant-list-loop-part l =
     × IsToldIndexed l.file l.locals l.site l.e l.indexed
     × Grows l.file l.fn.found.instances l.found.instances
     × Meets l.fn.found.instances l.found.instances l.file l.locals l.site (λ here. calls_in_each here (take l.part-index l.part-items))
+    × Finds l.found.instances l.file l.locals l.site l.e (is_some l.typed) l.fn.found.faults.least l.found.faults.least

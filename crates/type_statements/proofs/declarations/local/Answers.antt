@@ -18,7 +18,7 @@ returns-in_default-clause-met c =
       | then-not-new w ↦ rw w.found-is (begins_same refl)
       | else-not-new w ↦ rw w.found-is (begins_same refl)
     ] in
-    begins_both (begins_same c.count.ensures) (begins_both c.in_ok-length.ensures.met (begins_both same c.in_ok-initial.ensures.met))
+    begins_both (begins_same c.count.ensures.instances) (begins_both c.in_ok-length.ensures.met (begins_both same c.in_ok-initial.ensures.met))
 
 pub returns-clause-grown : goal.returns-clause-grown
 returns-clause-grown c = settled_local c.settle-2.result (declared_grown _ _ _ c.in_ok-new.new c.in_ok-new.ensures.names)
@@ -42,7 +42,7 @@ returns-clause-met c =
       | then-not-new w ↦ rw w.found-is (begins_same refl)
       | else-not-new w ↦ rw w.found-is (begins_same refl)
     ] in
-    settled_local c.settle-2.result (begins_both (begins_same c.count.ensures) (begins_both c.in_ok-length.ensures.met (begins_both same c.in_ok-initial.ensures.met)))
+    settled_local c.settle-2.result (begins_both (begins_same c.count.ensures.instances) (begins_both c.in_ok-length.ensures.met (begins_both same c.in_ok-initial.ensures.met)))
 
 pub returns-clause-calls : goal.returns-clause-calls
 returns-clause-calls c =
@@ -50,4 +50,4 @@ returns-clause-calls c =
       | then-not-new w ↦ rw w.found-is refl
       | else-not-new w ↦ rw w.found-is refl
     ] in
-    IfOk-weaker c.settle-2.result _ _ (λ r h. local_meets c.args.file.now c.args.scopes.now _ c.args.site c.args.scope c.args.ty c.args.declarator.now r (rw c.count.ensures at c.in_ok-length.ensures.calls) (rw same at c.in_ok-initial.ensures.calls) h) (returns-clause-typed c)
+    IfOk-weaker c.settle-2.result _ _ (λ r h. local_meets c.args.file.now c.args.scopes.now _ c.args.site c.args.scope c.args.ty c.args.declarator.now r (rw c.count.ensures.instances at c.in_ok-length.ensures.calls) (rw same at c.in_ok-initial.ensures.calls) h) (returns-clause-typed c)

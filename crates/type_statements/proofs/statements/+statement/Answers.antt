@@ -39,7 +39,7 @@ block_in-returns-then-complete-clause-typed t c =
     IfOk-weaker c.whole_block.result _ _ (λ r m. whole_typed c.args.file.now c.args.scopes.now c.declarations.new.scopes _ c.args.site c.args.scope c.args.block.now c.loop-s.s-index c.in_ok-locals.locals c.loop-s.statements r (rw c.deref-s-items.ensures.value at end) c.loop-s.invariant.3 (rw c.deref.ensures.value at c.in_ok-locals.ensures.typed) typed (rw c.loop-s.invariant.2 at m)) c.whole_block.ensures
 
 pub block_in-returns-then-complete-clause-met : goal.block_in-returns-then-complete-clause-met
-block_in-returns-then-complete-clause-met t c = settled_local c.whole_block.result (begins_both (begins_same c.count.ensures) (begins_both c.in_ok-locals.ensures.met c.loop-s.invariant.3))
+block_in-returns-then-complete-clause-met t c = settled_local c.whole_block.result (begins_both (begins_same c.count.ensures.instances) (begins_both c.in_ok-locals.ensures.met c.loop-s.invariant.3))
 
 pub chosen-returns-in-Some-branches-clause-typed : goal.chosen-returns-in-Some-branches-clause-typed
 chosen-returns-in-Some-branches-clause-typed t c =
@@ -84,10 +84,10 @@ under-returns-in_ok-body-in-Everywhere-clause-typed t c =
     rw c.in-Everywhere.is (IfOk-weaker c.everywhere.result _ _ (λ r m. everywhere_typed _ c.args.file.now c.args.scopes.now _ c.args.site c.in-Everywhere.place c.in-Everywhere.body c.in_ok-body-in-Everywhere.body r _ _ (rw c.deref-in-Everywhere.ensures at c.in_ok-body-in-Everywhere.ensures.typed) m) c.everywhere.ensures)
 
 pub block_in-returns-else-complete-clause-met : goal.block_in-returns-else-complete-clause-met
-block_in-returns-else-complete-clause-met t c = begins_both (begins_same c.count.ensures) (begins_both c.in_ok-locals.ensures.met c.loop-s.invariant.3)
+block_in-returns-else-complete-clause-met t c = begins_both (begins_same c.count.ensures.instances) (begins_both c.in_ok-locals.ensures.met c.loop-s.invariant.3)
 
 pub chosen-returns-in_default : goal.chosen-returns-in_default
-chosen-returns-in_default t c = record { kept = refl; typed = tt; met = begins_same c.count.ensures; calls = tt }
+chosen-returns-in_default t c = record { kept = refl; typed = tt; met = begins_same c.count.ensures.instances; calls = tt }
 
 pub chosen-returns-in-Some-branches-clause-met : goal.chosen-returns-in-Some-branches-clause-met
 chosen-returns-in-Some-branches-clause-met t c =
@@ -95,7 +95,7 @@ chosen-returns-in-Some-branches-clause-met t c =
       | chosen-in-Some+in_ok-statement-in-Some w ↦ rw w.found-is w.in_ok-statement-in-Some.ensures.met
       | chosen-in-None w ↦ rw w.found-is (begins_same refl)
     ] in
-    settled_local c.outcome.result (begins_both (begins_same c.count.ensures) (begins_both c.in_ok-test.ensures.met (begins_both c.in_ok-then.ensures.met later)))
+    settled_local c.outcome.result (begins_both (begins_same c.count.ensures.instances) (begins_both c.in_ok-test.ensures.met (begins_both c.in_ok-then.ensures.met later)))
 
 pub chosen-returns-in-None-branches-clause-met : goal.chosen-returns-in-None-branches-clause-met
 chosen-returns-in-None-branches-clause-met t c =
@@ -103,34 +103,34 @@ chosen-returns-in-None-branches-clause-met t c =
       | chosen-in-Some+in_ok-statement-in-Some w ↦ rw w.found-is w.in_ok-statement-in-Some.ensures.met
       | chosen-in-None w ↦ rw w.found-is (begins_same refl)
     ] in
-    begins_both (begins_same c.count.ensures) (begins_both c.in_ok-test.ensures.met (begins_both c.in_ok-then.ensures.met later))
+    begins_both (begins_same c.count.ensures.instances) (begins_both c.in_ok-test.ensures.met (begins_both c.in_ok-then.ensures.met later))
 
 pub repeated-returns-in_default : goal.repeated-returns-in_default
-repeated-returns-in_default t c = record { kept = refl; typed = tt; met = begins_same c.count.ensures; calls = tt }
+repeated-returns-in_default t c = record { kept = refl; typed = tt; met = begins_same c.count.ensures.instances; calls = tt }
 
 pub repeated-returns-in_default-2-clause-met : goal.repeated-returns-in_default-2-clause-met
-repeated-returns-in_default-2-clause-met t c = begins_both (begins_same c.count.ensures) (begins_both c.in_ok-test-in-While.ensures.met c.in_ok-body-in-While.ensures.met)
+repeated-returns-in_default-2-clause-met t c = begins_both (begins_same c.count.ensures.instances) (begins_both c.in_ok-test-in-While.ensures.met c.in_ok-body-in-While.ensures.met)
 
 pub repeated-returns-in_default-3-clause-met : goal.repeated-returns-in_default-3-clause-met
-repeated-returns-in_default-3-clause-met t c = begins_both (begins_same c.count.ensures) (begins_both c.in_ok-body-in-Do.ensures.met c.in_ok-test-in-Do.ensures.met)
+repeated-returns-in_default-3-clause-met t c = begins_both (begins_same c.count.ensures.instances) (begins_both c.in_ok-body-in-Do.ensures.met c.in_ok-test-in-Do.ensures.met)
 
 pub repeated-returns-in_default-4-clause-met : goal.repeated-returns-in_default-4-clause-met
-repeated-returns-in_default-4-clause-met t c = begins_both (begins_same c.count.ensures) (begins_both c.in_ok-heading-in-For.ensures.met c.in_ok-body-in-For.ensures.met)
+repeated-returns-in_default-4-clause-met t c = begins_both (begins_same c.count.ensures.instances) (begins_both c.in_ok-heading-in-For.ensures.met c.in_ok-body-in-For.ensures.met)
 
 pub repeated-returns-in-Some-Some-clause-met : goal.repeated-returns-in-Some-Some-clause-met
-repeated-returns-in-Some-Some-clause-met t c = settled_local c.outcome.result (begins_both (begins_same c.count.ensures) (begins_both c.in_ok-test-in-While.ensures.met c.in_ok-body-in-While.ensures.met))
+repeated-returns-in-Some-Some-clause-met t c = settled_local c.outcome.result (begins_both (begins_same c.count.ensures.instances) (begins_both c.in_ok-test-in-While.ensures.met c.in_ok-body-in-While.ensures.met))
 
 pub repeated-returns-in-Some-Some-2-clause-met : goal.repeated-returns-in-Some-Some-2-clause-met
-repeated-returns-in-Some-Some-2-clause-met t c = settled_local c.outcome-in-Do.result (begins_both (begins_same c.count.ensures) (begins_both c.in_ok-body-in-Do.ensures.met c.in_ok-test-in-Do.ensures.met))
+repeated-returns-in-Some-Some-2-clause-met t c = settled_local c.outcome-in-Do.result (begins_both (begins_same c.count.ensures.instances) (begins_both c.in_ok-body-in-Do.ensures.met c.in_ok-test-in-Do.ensures.met))
 
 pub repeated-returns-in-Some-Some-3-clause-met : goal.repeated-returns-in-Some-Some-3-clause-met
-repeated-returns-in-Some-Some-3-clause-met t c = settled_local c.outcome-in-For.result (begins_both (begins_same c.count.ensures) (begins_both c.in_ok-heading-in-For.ensures.met c.in_ok-body-in-For.ensures.met))
+repeated-returns-in-Some-Some-3-clause-met t c = settled_local c.outcome-in-For.result (begins_both (begins_same c.count.ensures.instances) (begins_both c.in_ok-heading-in-For.ensures.met c.in_ok-body-in-For.ensures.met))
 
 pub under-returns-in_default : goal.under-returns-in_default
-under-returns-in_default t c = record { kept = refl; typed = tt; met = begins_same c.count.ensures; calls = tt }
+under-returns-in_default t c = record { kept = refl; typed = tt; met = begins_same c.count.ensures.instances; calls = tt }
 
 pub under-returns-in_default-2-clause-met : goal.under-returns-in_default-2-clause-met
-under-returns-in_default-2-clause-met t c = begins_same c.count.ensures
+under-returns-in_default-2-clause-met t c = begins_same c.count.ensures.instances
 
 pub block-returns-clause-calls : goal.block-returns-clause-calls
 block-returns-clause-calls t c = block_meets c.args.found.now.instances c.block_in.new.found.instances c.args.file.now c.args.scopes.now c.args.site c.open-scope.result c.args.block.now c.in_ok-typed.typed c.open-scope.ensures c.in_ok-typed.ensures.calls
@@ -139,7 +139,7 @@ pub block_in-returns-then-complete-clause-calls : goal.block_in-returns-then-com
 block_in-returns-then-complete-clause-calls t c =
     let end : c.loop-s.s-index ≡ length c.deref-s-items.result.now = omega (arith, c.loop-s-test.false, c.loop-s.auto.s-index-end) in
     let met = rw c.deref-s-items.ensures.value at (c.loop-s.invariant.4 c.if-complete.true) in
-    IfOk-weaker c.whole_block.result _ _ (λ r m. whole_block_meets c.args.found.now.instances c.args.file.now c.args.scopes.now c.declarations.new.scopes c.args.site c.args.scope c.args.block.now c.loop-s.s-index c.in_ok-locals.locals c.loop-s.statements r (rw c.deref-s-items.ensures.value at end) c.loop-s.invariant.3 (rw c.deref.ensures.value at c.in_ok-locals.ensures.typed) (rw (c.count.ensures, c.deref.ensures.value) at c.in_ok-locals.ensures.calls) met (rw c.loop-s.invariant.2 at m)) c.whole_block.ensures
+    IfOk-weaker c.whole_block.result _ _ (λ r m. whole_block_meets c.args.found.now.instances c.args.file.now c.args.scopes.now c.declarations.new.scopes c.args.site c.args.scope c.args.block.now c.loop-s.s-index c.in_ok-locals.locals c.loop-s.statements r (rw c.deref-s-items.ensures.value at end) c.loop-s.invariant.3 (rw c.deref.ensures.value at c.in_ok-locals.ensures.typed) (rw (c.count.ensures.instances, c.deref.ensures.value) at c.in_ok-locals.ensures.calls) met (rw c.loop-s.invariant.2 at m)) c.whole_block.ensures
 
 pub chosen-returns-in-Some-branches-clause-calls : goal.chosen-returns-in-Some-branches-clause-calls
 chosen-returns-in-Some-branches-clause-calls t c =
@@ -151,7 +151,7 @@ chosen-returns-in-Some-branches-clause-calls t c =
       | chosen-in-Some+in_ok-statement-in-Some w ↦ rw (w.found-is, w.otherwise-is, w.in-Some.is) (else_met w.in-Some.otherwise (rw w.deref-in-Some.ensures at w.in_ok-statement-in-Some.ensures.calls))
       | chosen-in-None w ↦ rw (w.found-is, w.otherwise-is, w.in-None.is) (none_else refl)
     ] in
-    let test = rw c.count.ensures at c.in_ok-test.ensures.calls in
+    let test = rw c.count.ensures.instances at c.in_ok-test.ensures.calls in
     some_calls c.outcome.result (elim c.match-s.branch [
       | chosen-in-If w ↦ elim w.in-If.is [
         | inl k ↦ rw k.1 (if_meets c.args.file.now c.args.scopes.now c.statement.new.scopes c.args.site k.0 w.in-If.test w.in-If.then w.in-If.otherwise c.in_ok-test.test c.in_ok-then.then c.match-otherwise.otherwise c.in-Some-branches.parts later (rw w.test-is at test) (rw (c.deref.ensures, w.then-is) at c.in_ok-then.ensures.typed) (rw (c.deref.ensures, w.then-is) at c.in_ok-then.ensures.calls) c.in_ok-then.ensures.kept (rw w.otherwise-is at other) c.in-Some-branches.ensures)
@@ -165,20 +165,20 @@ chosen-returns-in-Some-branches-clause-calls t c =
 
 pub repeated-returns-in-Some-Some-clause-calls : goal.repeated-returns-in-Some-Some-clause-calls
 repeated-returns-in-Some-Some-clause-calls t c =
-    rw c.in-While.is (some_calls c.outcome.result (while_meets c.statement.new.found.instances c.args.file.now c.args.scopes.now c.args.site c.in-While.place c.in-While.test c.in-While.body c.in_ok-body-in-While.body (rw c.count.ensures at c.in_ok-test-in-While.ensures.calls) (rw (c.body.ensures, c.deref.ensures) at c.in_ok-body-in-While.ensures.calls) c.in-Some-Some.is-1))
+    rw c.in-While.is (some_calls c.outcome.result (while_meets c.statement.new.found.instances c.args.file.now c.args.scopes.now c.args.site c.in-While.place c.in-While.test c.in-While.body c.in_ok-body-in-While.body (rw c.count.ensures.instances at c.in_ok-test-in-While.ensures.calls) (rw (c.body.ensures, c.deref.ensures) at c.in_ok-body-in-While.ensures.calls) c.in-Some-Some.is-1))
 
 pub repeated-returns-in-Some-Some-2-clause-calls : goal.repeated-returns-in-Some-Some-2-clause-calls
 repeated-returns-in-Some-Some-2-clause-calls t c =
-    rw c.in-Do.is (some_calls c.outcome-in-Do.result (do_meets c.args.found.now.instances c.args.file.now c.args.scopes.now c.statement-in-Do.new.scopes c.args.site c.in-Do.place c.in-Do.body c.in-Do.test c.in_ok-body-in-Do.body c.in_ok-test-in-Do.ensures.met (rw (c.count.ensures, c.body-in-Do.ensures, c.deref-in-Do.ensures) at c.in_ok-body-in-Do.ensures.calls) c.in-Some-Some-2.is-0 c.in_ok-body-in-Do.ensures.kept c.in_ok-test-in-Do.ensures.calls))
+    rw c.in-Do.is (some_calls c.outcome-in-Do.result (do_meets c.args.found.now.instances c.args.file.now c.args.scopes.now c.statement-in-Do.new.scopes c.args.site c.in-Do.place c.in-Do.body c.in-Do.test c.in_ok-body-in-Do.body c.in_ok-test-in-Do.ensures.met (rw (c.count.ensures.instances, c.body-in-Do.ensures, c.deref-in-Do.ensures) at c.in_ok-body-in-Do.ensures.calls) c.in-Some-Some-2.is-0 c.in_ok-body-in-Do.ensures.kept c.in_ok-test-in-Do.ensures.calls))
 
 pub repeated-returns-in-Some-Some-3-clause-calls : goal.repeated-returns-in-Some-Some-3-clause-calls
 repeated-returns-in-Some-Some-3-clause-calls t c =
-    rw c.in-For.is (some_calls c.outcome-in-For.result (for_meets c.statement-in-For.new.found.instances c.args.file.now c.args.scopes.now c.args.site c.in-For.place c.in-For.first c.in-For.test c.in-For.step c.in-For.body c.in_ok-body-in-For.body (met_of c.in_ok-heading-in-For.heading (rw (c.count.ensures, c.in-For.is) at c.in_ok-heading-in-For.ensures.calls) c.in-Some-Some-3.is-0) (rw (c.body-in-For.ensures, c.deref-in-For.ensures) at c.in_ok-body-in-For.ensures.calls) c.in-Some-Some-3.is-1))
+    rw c.in-For.is (some_calls c.outcome-in-For.result (for_meets c.statement-in-For.new.found.instances c.args.file.now c.args.scopes.now c.args.site c.in-For.place c.in-For.first c.in-For.test c.in-For.step c.in-For.body c.in_ok-body-in-For.body (met_of c.in_ok-heading-in-For.heading (rw (c.count.ensures.instances, c.in-For.is) at c.in_ok-heading-in-For.ensures.calls) c.in-Some-Some-3.is-0) (rw (c.body-in-For.ensures, c.deref-in-For.ensures) at c.in_ok-body-in-For.ensures.calls) c.in-Some-Some-3.is-1))
 
 pub under-returns-in_ok-body-in-With-clause-calls : goal.under-returns-in_ok-body-in-With-clause-calls
 under-returns-in_ok-body-in-With-clause-calls t c =
-    rw c.in-With.is (IfOk-weaker c.under_shape.result _ _ (λ r m. with_meets c.args.found.now.instances c.statement.new.found.instances c.args.file.now c.args.scopes.now c.args.site c.in-With.place c.in-With.shape c.in-With.body c.shape-shape.result c.in_ok-shape-in-With.field-0 c.in-Some.shape c.in_ok-body-in-With.body r c.shape-shape.ensures c.in_ok-shape-in-With.ensures.part c.in-Some.is (rw (c.count.ensures, c.deref.ensures) at c.in_ok-body-in-With.ensures.calls) m) c.under_shape.ensures)
+    rw c.in-With.is (IfOk-weaker c.under_shape.result _ _ (λ r m. with_meets c.args.found.now.instances c.statement.new.found.instances c.args.file.now c.args.scopes.now c.args.site c.in-With.place c.in-With.shape c.in-With.body c.shape-shape.result c.in_ok-shape-in-With.field-0 c.in-Some.shape c.in_ok-body-in-With.body r c.shape-shape.ensures c.in_ok-shape-in-With.ensures.part c.in-Some.is (rw (c.count.ensures.instances, c.deref.ensures) at c.in_ok-body-in-With.ensures.calls) m) c.under_shape.ensures)
 
 pub under-returns-in_ok-body-in-Everywhere-clause-calls : goal.under-returns-in_ok-body-in-Everywhere-clause-calls
 under-returns-in_ok-body-in-Everywhere-clause-calls t c =
-    rw c.in-Everywhere.is (IfOk-weaker c.everywhere.result _ _ (λ r m. everywhere_meets c.args.found.now.instances c.statement-in-Everywhere.new.found.instances c.args.file.now c.args.scopes.now c.args.site c.in-Everywhere.place c.in-Everywhere.body c.in_ok-body-in-Everywhere.body r _ _ (rw (c.count.ensures, c.deref-in-Everywhere.ensures) at c.in_ok-body-in-Everywhere.ensures.calls) m) c.everywhere.ensures)
+    rw c.in-Everywhere.is (IfOk-weaker c.everywhere.result _ _ (λ r m. everywhere_meets c.args.found.now.instances c.statement-in-Everywhere.new.found.instances c.args.file.now c.args.scopes.now c.args.site c.in-Everywhere.place c.in-Everywhere.body c.in_ok-body-in-Everywhere.body r _ _ (rw (c.count.ensures.instances, c.deref-in-Everywhere.ensures) at c.in_ok-body-in-Everywhere.ensures.calls) m) c.everywhere.ensures)
