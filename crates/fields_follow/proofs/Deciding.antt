@@ -44,7 +44,7 @@ use Rattle.fields_follow.specs.Fields.{IsElement}
 use Rattle.cstar_tree.specs.Typed.{type_of}
 use Rattle.fields_follow.specs.Fragment.{IsCondition, IsTruth, IsWide}
 use Rattle.fields_follow.proofs.Clearing.{joined_behind, joined_more, truths_taken, word_field}
-use Rattle.fields_follow.proofs.Conditions.{HaveTheirCode, and_codes, condition_type, conditions_join, or_codes}
+use Rattle.fields_follow.proofs.Conditions.{HaveTheirCode, and_codes, conditions_join, or_codes}
 use Rattle.fields_follow.proofs.Sizes.{brackets_part}
 use Rattle.fields_follow.proofs.Places.{HoldsTheFields, IsFileField, PlacesFields, stands_here}
 use Rattle.fields_follow.proofs.Testing.{both_flagged, condition_means, condition_tested}
@@ -70,7 +70,13 @@ truth_condition set (T.Binary' ty place op p left q right) is = is.1
 truth_condition set _ is = absurd is
 
 pub truth_type : (set : ℕ) (e : TExpr) → IsTruth set e → IsWide set (type_of e)
-truth_type set e is = condition_type set e (truth_condition set e is)
+unfolding IsTruth IsCondition
+truth_type set (T.Brackets' ty p inner) is = subst (λ (y : ValueType). IsWide set y) (sym is.0) (truth_type set inner is.1)
+truth_type set (T.Unary' ty op p operand) is = is.0
+truth_type set (T.LogicalOr' ty p left q right) is = is.0
+truth_type set (T.LogicalAnd' ty p left q right) is = is.0
+truth_type set (T.Binary' ty place op p left q right) is = is.1.0
+truth_type set _ is = absurd is
 
 -- it is 0 or 1
 truth_bit : (extents : _) (st : State) (set : ℕ) (e : TExpr) (x : ℕ) → IsTruth set e → value_in extents st e x ≡ from_bool (nonzero (value_in extents st e x))

@@ -21,10 +21,10 @@ use Rattle.cstar_tree.specs.declared.typed.VarInfo.{VarInfo}
 use Rattle.cstar_tree.specs.declared.typed.Variable.TheVariants as V
 use Rattle.cstar_tree.specs.Typed.{type_of}
 use Rattle.lower_base.specs.Operators.{assign_op_of, negates, relates}
-use Rattle.lower_base.specs.Kinds.{kind_of}
+use Rattle.lower_base.specs.Kinds.{bits_of, kind_of}
 use Rattle.lower_comm.specs.declared.news.NewsStep.{NewsStep}
 use Rattle.lower_comm.specs.News.{step_of}
-use Rattle.lower_expr.specs.Kinds.{operation_bits}
+use Rattle.lower_expr.specs.Kinds.{operation_bits, relation_kind}
 use Rattle.lower_expr.specs.Operands.{ignores_context}
 use Rattle.source_meaning.specs.Constants.{constant_of}
 use Rattle.source_meaning.specs.Programs.{extents_of}
@@ -137,13 +137,29 @@ KnowsExtents extents _ = Unit {0}
 abbrev pub IsOperand : ℕ → TExpr → Type 0
 IsOperand set e = IsPure set e ⊎ IsPromoted set e
 
--- one of which no type of fewer than 32 bits is known
-abbrev pub IsWhole : ℕ → TExpr → Type 0
-IsWhole set e = IsPure set e × (kind_of e ≡ None)
+-- a value whose narrow type is that of a variable or of a conversion
+unfoldable pub IsNarrowed : TExpr → Type 0
+IsNarrowed (T.Variable ty x) = Unit {0}
+IsNarrowed (T.LeftIndex' ty place p indexes x of) = Unit {0}
+IsNarrowed (T.Brackets' ty p inner) = IsNarrowed inner
+IsNarrowed (T.Convert' ty p operand) = (kind_of operand ≡ None) ⊎ IsNarrowed operand
+IsNarrowed _ = ⊥
 
--- of two operands one may be promoted
-abbrev pub AreWhole : ℕ → TExpr → TExpr → Type 0
-AreWhole set left right = (IsWhole set left × (IsWhole set right ⊎ (IsPromoted set right × IsWide set (type_of right)))) ⊎ ((IsPromoted set left × IsWide set (type_of left)) × IsWhole set right)
+-- one of which no type of fewer than 32 bits is known, or one of such a type
+abbrev pub HasItsKind : ℕ → TExpr → Type 0
+HasItsKind set e = IsPure set e × ((kind_of e ≡ None) ⊎ IsNarrowed e)
+
+-- of the two sides of a relation one may be a promoted scalar of 32 bits
+abbrev pub HaveTheirKinds : ℕ → TExpr → TExpr → Type 0
+HaveTheirKinds set left right = (HasItsKind set left × (HasItsKind set right ⊎ IsPromoted set right)) ⊎ (IsPromoted set left × HasItsKind set right)
+
+-- a relation in a narrow type with a sign is one of numbers with a sign
+abbrev pub ReadsSigns : TExpr → TExpr → Type 0
+ReadsSigns left right = elim (relation_kind left right) [ None ↦ Unit {0} | Some kind ↦ kind.signed ≡ true → (type_of left).elem.signed ≡ true ]
+
+-- a relation of two operands
+abbrev pub IsRelation : ℕ → Op → TExpr → TExpr → Type 0
+IsRelation set op left right = (relates op ≡ true) × HaveTheirKinds set left right × IsWide set (type_of left) × IsWide set (type_of right) × ReadsSigns left right
 
 -- what is assigned to: a variable of the file
 unfoldable pub IsTarget : ℕ → TExpr → Type 0
@@ -161,15 +177,15 @@ HasOperation op elem value = elim (assign_op_of op) [
 
 -- A condition of `where`: a relation of two operands, a value that is not zero and is no quotient itself, `!` of a
 -- condition, or two joined by `&&` or `||`. The right one of these ignores the context: it has no get and no quotient,
--- not even one of constants. Of the values no narrow type is known.
+-- not even one of constants. A value of one bit is a condition only if it is such a truth value.
 unfoldable pub IsCondition : ℕ → TExpr → Type 0
 IsCondition set (T.Brackets' ty p inner) = (ty ≡ type_of inner) × IsCondition set inner
-IsCondition set (T.Unary' ty op p operand) = IsWide set ty × (((negates op ≡ true) × IsCondition set operand) ⊎ ((negates op ≡ false) × IsWhole set operand))
+IsCondition set (T.Unary' ty op p operand) = IsWide set ty × (((negates op ≡ true) × IsCondition set operand) ⊎ ((negates op ≡ false) × IsPure set (T.Unary' ty op p operand)))
 IsCondition set (T.LogicalOr' ty p left q right) = IsWide set ty × IsCondition set left × IsCondition set right × (ignores_context right ≡ true)
 IsCondition set (T.LogicalAnd' ty p left q right) = IsWide set ty × IsCondition set left × IsCondition set right × (ignores_context right ≡ true)
 IsCondition set (T.Binary' ty place op p left q right) =
-    IsWide set ty × (divides op ≡ false) × AreWhole set left right
-IsCondition set e = IsWhole set e
+    IsWide set ty × (divides op ≡ false) × (IsRelation set op left right ⊎ ((relates op ≡ false) × IsPure set (T.Binary' ty place op p left q right) × (kind_of (T.Binary' ty place op p left q right) ≡ None)))
+IsCondition set e = HasItsKind set e × ((bits_of (kind_of e) == 1) ≡ false)
 
 -- A truth value: a relation, `!` of a condition, or two conditions joined.
 unfoldable pub IsTruth : ℕ → TExpr → Type 0
@@ -192,7 +208,7 @@ IsUpdate _ = ⊥
 
 -- the numbers of a value at the active positions are folded into one
 unfoldable pub IsFold : TExpr → Type 0
-IsFold (T.Reduce' ty op p operand) = IsWord ty × ((set : ℕ) × IsWhole set operand)
+IsFold (T.Reduce' ty op p operand) = IsWord ty × ((set : ℕ) × (IsPure set operand × (kind_of operand ≡ None)))
 IsFold _ = ⊥
 
 -- the assignment with the operator of a reduction
@@ -213,7 +229,7 @@ IsScalarTarget _ = ⊥
 
 -- the numbers of a value at the active positions are folded onto a scalar variable
 unfoldable pub IsFoldOnto : TExpr → Type 0
-IsFoldOnto (T.Assign' ty place op p target q value) = (ty ≡ type_of target) × IsScalarTarget target × ((reduction : ReduceOp) × (op ≡ assignment_of reduction)) × ((set : ℕ) × IsWhole set value)
+IsFoldOnto (T.Assign' ty place op p target q value) = (ty ≡ type_of target) × IsScalarTarget target × ((reduction : ReduceOp) × (op ≡ assignment_of reduction)) × ((set : ℕ) × (IsPure set value × (kind_of value ≡ None)))
 IsFoldOnto _ = ⊥
 
 -- a parallel expression whose value is not used
