@@ -5,7 +5,7 @@
 -- variables, and they are the conditions of `where`. Folds are of the active positions.
 -- Under `where` and `everywhere` stand the statements of scalar programs with these, but for calls, `return` and jumps
 -- that lead out of them.
-use Rattle.std.specs.Prelude.{ℕ, ◌≡◌, ◌<◌, ◌+◌, ◌^◌, ◌⊎◌, ◌==◌, List, [], ◌∷◌, true, false, slice_get, Some, None}
+use Rattle.std.specs.Prelude.{ℕ, ◌≡◌, ◌<◌, ◌≤◌, ◌&&◌, ◌+◌, ◌^◌, ◌⊎◌, ◌==◌, List, [], ◌∷◌, true, false, slice_get, Some, None}
 use Rattle.cstar_base.specs.declared.elem.Elem.{Elem}
 use Rattle.cstar_base.specs.declared.operators.Op.{Op}
 use Rattle.cstar_base.specs.Operators.{divides}
@@ -187,22 +187,24 @@ IsCondition set (T.Binary' ty place op p left q right) =
     IsWide set ty × (divides op ≡ false) × (IsRelation set op left right ⊎ ((relates op ≡ false) × IsPure set (T.Binary' ty place op p left q right) × (kind_of (T.Binary' ty place op p left q right) ≡ None)))
 IsCondition set e = HasItsKind set e × ((bits_of (kind_of e) == 1) ≡ false)
 
--- A truth value: a relation, `!` of a condition, or two conditions joined.
-unfoldable pub IsTruth : ℕ → TExpr → Type 0
-IsTruth set (T.Brackets' ty p inner) = (ty ≡ type_of inner) × IsTruth set inner
-IsTruth set (T.Unary' ty op p operand) = IsWide set ty × (negates op ≡ true) × IsCondition set operand
-IsTruth set (T.LogicalOr' ty p left q right) = IsCondition set (T.LogicalOr' ty p left q right)
-IsTruth set (T.LogicalAnd' ty p left q right) = IsCondition set (T.LogicalAnd' ty p left q right)
-IsTruth set (T.Binary' ty place op p left q right) = (relates op ≡ true) × IsCondition set (T.Binary' ty place op p left q right)
-IsTruth set _ = ⊥
+-- A truth value that goes to so many bits: a relation, `!` of a condition, two conditions joined, or one of these
+-- converted. In one bit there is no `!` of a value of one bit.
+unfoldable pub IsTruth : ℕ → ℕ → TExpr → Type 0
+IsTruth set bits (T.Brackets' ty p inner) = (ty ≡ type_of inner) × IsTruth set bits inner
+IsTruth set bits (T.Convert' ty p operand) = (ty.shape ≡ Some set) × (bits ≤ ty.elem.bits) × IsTruth set bits operand
+IsTruth set bits (T.Unary' ty op p operand) = IsWide set ty × (negates op ≡ true) × IsCondition set operand × ((bits == 1 && bits_of (kind_of operand) == 1) ≡ false)
+IsTruth set bits (T.LogicalOr' ty p left q right) = IsCondition set (T.LogicalOr' ty p left q right)
+IsTruth set bits (T.LogicalAnd' ty p left q right) = IsCondition set (T.LogicalAnd' ty p left q right)
+IsTruth set bits (T.Binary' ty place op p left q right) = (relates op ≡ true) × IsCondition set (T.Binary' ty place op p left q right)
+IsTruth set bits _ = ⊥
 
 -- what is assigned is an operand or, without an operator, such a truth value
-abbrev pub IsOperandOrTruth : ℕ → AssignOp → TExpr → Type 0
-IsOperandOrTruth set op e = IsOperand set e ⊎ ((assign_op_of op ≡ None) × IsTruth set e)
+abbrev pub IsOperandOrTruth : ℕ → ℕ → AssignOp → TExpr → Type 0
+IsOperandOrTruth set bits op e = IsOperand set e ⊎ ((assign_op_of op ≡ None) × IsTruth set bits e)
 
 -- an assignment to a parallel variable, or a step of one
 unfoldable pub IsUpdate : TExpr → Type 0
-IsUpdate (T.Assign' ty place op p target q value) = (set : ℕ) × ((ty ≡ type_of target) × IsTarget set target × HasOperation op ty.elem value × IsOperandOrTruth set op value)
+IsUpdate (T.Assign' ty place op p target q value) = (set : ℕ) × ((ty ≡ type_of target) × IsTarget set target × HasOperation op ty.elem value × IsOperandOrTruth set ty.elem.bits op value)
 IsUpdate (T.Step' ty op order p target) = (set : ℕ) × ((ty ≡ type_of target) × IsTarget set target × ((ty.elem.bits == 1) ≡ false))
 IsUpdate _ = ⊥
 
