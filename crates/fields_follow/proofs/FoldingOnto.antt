@@ -50,7 +50,7 @@ use Rattle.code_follows.proofs.Operators.{wide_signed}
 use Rattle.code_follows.proofs.Settings.{At, Setting, layout}
 use Rattle.code_follows.proofs.Targets.{TargetIs, assign_code, assign_means, bare_target, variable_in}
 use Rattle.code_follows.proofs.Values.{and_register, with_reg}
-use Rattle.fields_follow.specs.Fragment.{IsFoldOnto, IsWhole, IsScalarTarget, assignment_of}
+use Rattle.fields_follow.specs.Fragment.{IsFoldOnto, IsScalarTarget, assignment_of}
 use Rattle.fields_follow.proofs.Forms.{HasItsCode, pure_kept}
 use Rattle.fields_follow.proofs.Instructions.{SameExtents, extents}
 use Rattle.fields_follow.proofs.Meaning.{as_shaped, value_in}
@@ -58,7 +58,7 @@ use Rattle.fields_follow.proofs.Pure.{are_grids, pure_means}
 use Rattle.fields_follow.proofs.Onto.{LeavesScalars, folds_onto, stored_in as stored_behind, stored_more}
 use Rattle.fields_follow.proofs.Passing.{After, after_same, gives_from, made_after, then_after}
 use Rattle.fields_follow.proofs.Places.{HoldsTheFields, PlacesFields}
-use Rattle.fields_follow.proofs.Reductions.{GivesPure, OperandsStand, whole_type}
+use Rattle.fields_follow.proofs.Reductions.{GivesPure, IsWhole, OperandsStand, whole_type}
 use Rattle.fields_follow.proofs.Totals.{never_by_zero, operator_is}
 
 lowest_inside : (bits : ℕ) (made : Made Out) (next : Out → Draft → Made Out) → lowest bits (then_make made next) ≡ then_make made (λ v after. lowest bits (next v after))

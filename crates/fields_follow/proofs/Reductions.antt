@@ -1,8 +1,7 @@
 -- Unary reductions of pure parallel expressions follow, where the code of these leaves their numbers in a field.
-use Rattle.std.proofs.Common.{◌≡◌, ◌∙◌, ℕ, Bool, true, false, not, length, Option, Some, None, refl, sym, ap, if◌then◌else◌, List, ◌==◌, inl, inr}
+use Rattle.std.proofs.Common.{◌≡◌, ◌∙◌, ℕ, Bool, true, false, not, length, Option, Some, None, refl, sym, ap, if◌then◌else◌, List, ◌==◌}
 use Rattle.std.proofs.lemmas.Bool.{eqb-true}
 use Rattle.cstar_base.specs.declared.elem.Elem.{Elem}
-use Rattle.cstar_base.specs.declared.operators.Op.{Op}
 use Rattle.cstar_tree.specs.declared.syntax.ReduceOp.{ReduceOp}
 use Rattle.cstar_tree.specs.declared.typed.TExpr.{TExpr}
 use Rattle.cstar_tree.specs.declared.typed.TExpr as T
@@ -16,8 +15,8 @@ use Rattle.code_lengths.specs.Shaped.{IsShaped}
 use Rattle.lower_base.specs.declared.emit.Out.{Out}
 use Rattle.lower_base.specs.declared.emit.Out.TheVariants as O
 use Rattle.lower_base.specs.Drafts.{Draft}
-use Rattle.lower_base.specs.Kinds.{binary_kind, common_kind, converted_kind, fold_by, folded_bits, has_all, is_bitwise, kind_of, narrow, truth_type}
-use Rattle.lower_base.specs.Operators.{reduce_op_of, relates}
+use Rattle.lower_base.specs.Kinds.{converted_kind, fold_by, folded_bits, has_all, kind_of, narrow}
+use Rattle.lower_base.specs.Operators.{reduce_op_of}
 use Rattle.lower_expr.specs.Effects.{computed_to}
 use Rattle.lower_expr.specs.Kinds.{reduced_bits}
 use Rattle.lower_expr.specs.Values.{next_of}
@@ -32,7 +31,7 @@ use Rattle.source_meaning.proofs.ConstantLaws.{Boxed}
 use Rattle.vp_sets.specs.Positions.{position_count}
 use Rattle.code_follows.proofs.Following.{Sim}
 use Rattle.code_follows.proofs.Settings.{At, Setting, layout}
-use Rattle.fields_follow.specs.Fragment.{AreWhole, IsFold, IsPure, IsWhole, IsWide}
+use Rattle.fields_follow.specs.Fragment.{IsFold, IsPure, IsWide}
 use Rattle.fields_follow.proofs.Forms.{HasItsCode, pure_shape}
 use Rattle.fields_follow.proofs.Instructions.{SameExtents, extents}
 use Rattle.fields_follow.proofs.Meaning.{value_in}
@@ -52,6 +51,9 @@ whole_bits elem none = by (elem.bits == 32) refl none
     by false is h = let some = ap (λ (b : Bool). if b then None else Some elem) (sym is) ∙ h in cc
 
 -- so has a value of which no narrow type is known
+abbrev pub IsWhole : ℕ → TExpr → Type 0
+IsWhole set e = IsPure set e × (kind_of e ≡ None)
+
 pub whole_type : (set : ℕ) (e : TExpr) → IsWhole set e → IsWide set (type_of e)
 unfolding IsPure kind_of converted_kind
 whole_type set e is = (pure_shape set e is.0, bits set e is.0 is.1)
@@ -73,32 +75,6 @@ whole_type set e is = (pure_shape set e is.0, bits set e is.0 is.1)
     bits set (T.Pcoord ty axis) is none = is.1
     bits set (T.LeftIndex' ty place p indexes (V.File k) of) is none = whole_bits ty.elem none
     bits set _ is none = absurd is
-
-common_first : (a b : Option Elem) → a ≡ None → common_kind a b ≡ None
-unfolding common_kind
-common_first None b is = refl
-common_first (Some k) b is = cc
-
-common_second : (a b : Option Elem) → b ≡ None → common_kind a b ≡ None
-unfolding common_kind
-common_second None b is = refl
-common_second (Some k) None is = refl
-common_second (Some k) (Some n) is = cc
-
-of_bits : (b : Bool) (one other : Option Elem) → common_kind one other ≡ None → (if b then common_kind one other else None) ≡ None
-of_bits true one other none = none
-of_bits false one other none = refl
-
--- an operator on such is such a value, but for a relation
-pub whole_binary : (set : ℕ) (op : Op) (left right : TExpr) → relates op ≡ false → AreWhole set left right → binary_kind op (kind_of left) (kind_of right) ≡ None
-unfolding binary_kind
-whole_binary set op left right operates are =
-    ap (λ (b : Bool). if b then Some truth_type else if is_bitwise op then common_kind (kind_of left) (kind_of right) else None) operates
-    ∙ of_bits (is_bitwise op) (kind_of left) (kind_of right) (by are)
-  where
-    by : AreWhole set left right → common_kind (kind_of left) (kind_of right) ≡ None
-    by (inl h) = common_first (kind_of left) (kind_of right) h.0.1
-    by (inr h) = common_second (kind_of left) (kind_of right) h.1.1
 
 -- the number of a fold is a word
 pub fold_type : (e : TExpr) → IsFold e → (type_of e).elem.bits ≡ 32
