@@ -104,6 +104,26 @@ module _ (g : Setting) (alive : Variable → Type 0) (n : ℕ) (places : PlacesF
   kind_has set (T.LeftIndex' ty place p indexes x of) st s sim is so c q below kind is_kind = absurd is
   kind_has set _ st s sim is so c q below kind is_kind = absurd so
 
+  pub kind_narrow : (set : ℕ) (e : TExpr) → IsPure set e → IsNarrowed e → (kind : Elem) → kind_of e ≡ Some kind → kind.bits < 32
+  unfolding IsPure IsNarrowed kind_of converted_kind
+  kind_narrow set (T.Variable ty x) is so kind is_kind = let h = narrow_is ty.elem kind is_kind in subst (λ (k : Elem). k.bits < 32) h.0 h.1
+  kind_narrow set (T.LeftIndex' ty place p indexes x of) is so kind is_kind = let h = narrow_is ty.elem kind is_kind in subst (λ (k : Elem). k.bits < 32) h.0 h.1
+  kind_narrow set (T.Brackets' ty p inner) is so kind is_kind = kind_narrow set inner is.1 so kind is_kind
+  kind_narrow set (T.Convert' ty p operand) is so kind is_kind = by (kind_of operand) refl so is_kind (λ narrowed k is_k. kind_narrow set operand is.2 narrowed k is_k)
+    where
+      cut : narrow ty.elem ≡ Some kind → kind.bits < 32
+      cut h = let is_elem = narrow_is ty.elem kind h in subst (λ (k : Elem). k.bits < 32) is_elem.0 is_elem.1
+
+      by : (o : Option Elem) → kind_of operand ≡ o → (kind_of operand ≡ None) ⊎ IsNarrowed operand → converted_kind ty.elem (kind_of operand) ≡ Some kind → (IsNarrowed operand → (k : Elem) → kind_of operand ≡ Some k → k.bits < 32) → kind.bits < 32
+      by None none any h before = cut (ap (λ (o : Option Elem). converted_kind ty.elem o) (sym none) ∙ h)
+      by (Some k) some (inl none) h before = let wrong = sym none ∙ some in cc
+      by (Some k) some (inr narrowed) h before = all (has_all ty.elem k) refl (ap (λ (o : Option Elem). converted_kind ty.elem o) (sym some) ∙ h)
+        where
+          all : (b : Bool) → has_all ty.elem k ≡ b → (if has_all ty.elem k then Some k else narrow ty.elem) ≡ Some kind → kind.bits < 32
+          all true it_has h = subst (λ (e : Elem). e.bits < 32) (some_same k kind (ap (λ (b : Bool). if b then Some k else narrow ty.elem) (sym it_has) ∙ h)) (before narrowed k some)
+          all false other h = cut (ap (λ (b : Bool). if b then Some k else narrow ty.elem) (sym other) ∙ h)
+  kind_narrow set _ is so kind is_kind = absurd so
+
   -- so it is 0 where its lowest bits of that type are
   pub kind_most : (set : ℕ) (e : TExpr) → HasItsKind set e → bits_of (kind_of e) ≤ 32
   unfolding bits_of
