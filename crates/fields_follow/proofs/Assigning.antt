@@ -1,8 +1,10 @@
 -- Assignments to parallel variables and steps of them follow.
-use Rattle.std.proofs.Common.{◌≡◌, ◌∙◌, ℕ, ◌+◌, ◌<◌, ◌≤◌, ◌%◌, ◌^◌, ◌==◌, ◌&&◌, ◌||◌, Bool, true, false, not, List, length, Option, Some, None, refl, sym, ap, subst, arith, inl, inr, if◌then◌else◌}
+use Rattle.std.proofs.Common.{◌≡◌, ◌∙◌, ℕ, ◌+◌, ◌<◌, ◌≤◌, ◌%◌, ◌^◌, ◌==◌, ◌&&◌, ◌||◌, Bool, true, false, not, List, length, Option, Some, None, refl, sym, ap, subst, arith, inl, inr, if◌then◌else◌, lit<}
 use Rattle.std.specs.Prelude.{IfSome, is_none}
 use Rattle.std.proofs.lemmas.Bool.{eq-eqb}
-use Rattle.std.proofs.Math.Nat.{mod-eq_of_lt}
+use Rattle.std.specs.Int.{from_bool}
+use Rattle.std.proofs.Math.Nat.{mod-eq_of_lt, pow-le-pow_right}
+use Rattle.source_meaning.specs.Values.{nonzero}
 use Rattle.cstar_base.specs.declared.elem.Elem.{Elem}
 use Rattle.cstar_base.specs.declared.operators.Op.{Op}
 use Rattle.cstar_base.specs.declared.operators.Op.TheVariants as P
@@ -56,7 +58,7 @@ use Rattle.code_follows.proofs.Following.{HasRegisters, Sim, held}
 use Rattle.code_follows.proofs.Settings.{At, Setting, Within, and_one, layout, onto}
 use Rattle.fields_follow.specs.Fragment.{HasOperation, IsOperand, IsOperandOrTruth, IsOperation, IsTarget, IsUpdate, IsWide}
 use Rattle.fields_follow.specs.Fields.{IsElement, file_number}
-use Rattle.fields_follow.proofs.Deciding.{truth_last, truth_means, truth_type}
+use Rattle.fields_follow.proofs.Deciding.{truth_bit, truth_last, truth_means}
 use Rattle.fields_follow.proofs.Forms.{HasItsCode, divisor_never_zero, field_is, operand_shape}
 use Rattle.fields_follow.proofs.Lengths.{held_first, modular_keeps}
 use Rattle.fields_follow.proofs.Instructions.{Puts, SameExtents, extents, puts_operate_constant, shapes, word_in}
@@ -176,20 +178,20 @@ module _ (g : Setting) (has : HasRegisters g) (alive : Variable → Type 0) (n :
         by (inl h) = pure_means scope fields.active g.typed g.instance n set e st h (are_grids g scope places same_extents set) c.code.names
         by (inr h) = promoted_means scope fields.active set e st h
 
-    value_means : (set : ℕ) (op : AssignOp) (e : TExpr) (st : State) → set < length (shapes g) → IsOperandOrTruth set op e → HasItsCode g.typed g.instance alive n e → evaluated scope e fields.active st ≡ Gives (Parallel (λ q. value_in (extents g set) st e q)) st
-    value_means set op e st exists (inl is) c = operand_means set e st exists is c
-    value_means set op e st exists (inr is) c = truth_means g scope places same_extents alive n fields.active set e st is.1 c exists
+    value_means : (set bits : ℕ) (op : AssignOp) (e : TExpr) (st : State) → set < length (shapes g) → IsOperandOrTruth set bits op e → HasItsCode g.typed g.instance alive n e → evaluated scope e fields.active st ≡ Gives (Parallel (λ q. value_in (extents g set) st e q)) st
+    value_means set bits op e st exists (inl is) c = operand_means set e st exists is c
+    value_means set bits op e st exists (inr is) c = truth_means g scope places same_extents alive n fields set bits e st is.1 c exists
 
-    by_no_zero : (set : ℕ) (op : AssignOp) (elem : Elem) (value : TExpr) (st : State) → HasOperation op elem value → IsOperandOrTruth set op value → AssignsByNoZero op (λ x. value_in (extents g set) st value x)
-    by_no_zero set op elem value st operates is = by (assign_op_of op) refl operates is
+    by_no_zero : (set bits : ℕ) (op : AssignOp) (elem : Elem) (value : TExpr) (st : State) → HasOperation op elem value → IsOperandOrTruth set bits op value → AssignsByNoZero op (λ x. value_in (extents g set) st value x)
+    by_no_zero set bits op elem value st operates is = by (assign_op_of op) refl operates is
       where
-        by : (o : Option Op) → assign_op_of op ≡ o → (elim o as (λ _. Type 0) [ None ↦ (type_of value).elem.bits ≡ elem.bits | Some o ↦ IsOperation o value × ((type_of value).elem.bits ≡ 32) × ((elem.bits == 1) ≡ false) × (operation_bits elem.bits o value ≡ elem.bits) ]) → IsOperandOrTruth set op value
+        by : (o : Option Op) → assign_op_of op ≡ o → (elim o as (λ _. Type 0) [ None ↦ (type_of value).elem.bits ≡ elem.bits | Some o ↦ IsOperation o value × ((type_of value).elem.bits ≡ 32) × ((elem.bits == 1) ≡ false) × (operation_bits elem.bits o value ≡ elem.bits) ]) → IsOperandOrTruth set bits op value
             → IfSome o (λ x. DividesByNoZero x (λ y. value_in (extents g set) st value y))
         by None same known is = tt
         by (Some x) same known (inl operand) = divisor_never_zero set x value (extents g set) st known.0 operand
         by (Some x) same known (inr truth) = absurd (let none = truth.0 in cc)
 
-    assigns : (ty : ValueType) (place : Place) (op : AssignOp) (p q : Boxed) (target value : TExpr) (set : ℕ) → ty ≡ type_of target → IsTarget set target → HasOperation op ty.elem value → IsOperandOrTruth set op value → NamesVariables g.typed g.instance n target → HasItsCode g.typed g.instance alive n value
+    assigns : (ty : ValueType) (place : Place) (op : AssignOp) (p q : Boxed) (target value : TExpr) (set : ℕ) → ty ≡ type_of target → IsTarget set target → HasOperation op ty.elem value → IsOperandOrTruth set ty.elem.bits op value → NamesVariables g.typed g.instance n target → HasItsCode g.typed g.instance alive n value
         → (d : Draft) (s : CodeState) (st : State) → At g s (length d.code) → Sim g alive st s
         → UpdateLeaves g alive fields scope (T.Assign' ty place op p target q value) d s st
     unfolding effect_of assignment_effect variable_operated
@@ -198,11 +200,11 @@ module _ (g : Setting) (has : HasRegisters g) (alive : Variable → Type 0) (n :
       (
         u,
         (
-          assign_means scope fields.active set ty place op p q target value h.k (λ x. value_in (extents g set) st value x) st (ap (λ (y : ValueType). y.shape) same ∙ h.shape) (by_no_zero set op ty.elem value st operates is_value) (h.means scope fields.active st) (value_means set op value st (places.exists h.k 0 set h.info h.is) is_value c),
+          assign_means scope fields.active set ty place op p q target value h.k (λ x. value_in (extents g set) st value x) st (ap (λ (y : ValueType). y.shape) same ∙ h.shape) (by_no_zero set ty.elem.bits op ty.elem value st operates is_value) (h.means scope fields.active st) (value_means set ty.elem.bits op value st (places.exists h.k 0 set h.info h.is) is_value c),
           (after_same g (λ out e. Leaves g alive d e s u)
               (ap (λ (o : Option Own). elim o as (λ _. Made Out) [ Some own ↦ then_make (whole_of g.typed (layout g) target own d) (λ dest after. variable_assigned g.typed (layout g) op place target value dest after) | None ↦ value_of g.typed (layout g) ty.elem.bits (T.Assign' ty place op p target q value) d ]) (own_is set h.k op target value h.own (subst (λ (y : ValueType). HasOperation op y.elem value) same operates))
               ∙ variable_is set h.k h.info h.is d s st target (λ dest after. variable_assigned g.typed (layout g) op place target value dest after) h.elem)
-              (by (assign_op_of op) refl (subst (λ (y : Elem). HasOperation op y value) is_elem operates) is_value)),
+              (by (assign_op_of op) refl (subst (λ (y : Elem). HasOperation op y value) is_elem operates) (subst (λ (y : Elem). IsOperandOrTruth set y.bits op value) is_elem is_value))),
         ),
       ),
     )
@@ -240,6 +242,13 @@ module _ (g : Setting) (has : HasRegisters g) (alive : Variable → Type 0) (n :
         code : Option Op → Made Out
         code o = elim o as (λ _. Made Out) [ None ↦ put_to g.typed (layout g) (O.Field f) value d1 | Some x ↦ variable_operated g.typed (layout g) x place target value (O.Field f) d1 ]
 
+        bit_below : (b : Bool) → from_bool b < 2 ^ bits
+        bit_below b = let least : 2 ^ 1 ≤ 2 ^ bits = pow-le-pow_right (lit< tt) (kind_bits h.info.elem.bits h.info.elem.signed h.info.elem.kind).0 in by b least
+          where
+            by : (b : Bool) → 2 ^ 1 ≤ 2 ^ bits → from_bool b < 2 ^ bits
+            by true least = omega (arith, least)
+            by false least = omega (arith, least)
+
         -- what is stored without an operator
         plain_stored : assign_op_of op ≡ None → (type_of value).elem.bits ≡ bits → IsOperand set value → (x : ℕ) → x < processors (shapes g) set → w x ≡ word_at (extents g set) st value x % 2 ^ bits
         plain_stored none long is_operand x below =
@@ -247,18 +256,17 @@ module _ (g : Setting) (has : HasRegisters g) (alive : Variable → Type 0) (n :
             plainly op ty.elem (type_of value).elem (old x) (number x) none
             ∙ sym (held_first (type_of value).elem (number x) bits small (omega (arith, long)) ∙ mod-eq_of_lt (subst (λ (b : ℕ). number x < 2 ^ b) long small))
 
-        by : (o : Option Op) → assign_op_of op ≡ o → (elim o as (λ _. Type 0) [ None ↦ (type_of value).elem.bits ≡ bits | Some o ↦ IsOperation o value × ((type_of value).elem.bits ≡ 32) × ((bits == 1) ≡ false) × (operation_bits bits o value ≡ bits) ]) → IsOperandOrTruth set op value
+        by : (o : Option Op) → assign_op_of op ≡ o → (elim o as (λ _. Type 0) [ None ↦ (type_of value).elem.bits ≡ bits | Some o ↦ IsOperation o value × ((type_of value).elem.bits ≡ 32) × ((bits == 1) ≡ false) × (operation_bits bits o value ≡ bits) ]) → IsOperandOrTruth set bits op value
             → After g (λ out e. Leaves g alive d e s u) (code (assign_op_of op))
         by None is known (inl is_operand) =
             after_same g (λ out e. Leaves g alive d e s u) (ap code is)
             (put_last g has alive n ready places fields set (length d.fields) bits value most is_operand c d1 s st here sim (λ out e. Leaves g alive d e s u)
             (λ e2 i within passes puts. leaves_value set h.k h.info h.is d s st (λ x. word_at (extents g set) st value x) w (λ x below small. plain_stored is known is_operand x below) e2 i within passes puts))
         by None is known (inr truth) =
-            let word : bits ≡ 32 = sym known ∙ (truth_type set value truth.1).1 in
-            after_same g (λ out e. Leaves g alive d e s u) (ap code is ∙ ap (λ (b : ℕ). put_to g.typed (layout g) (O.Field (next_field set b d)) value d1) word)
-            (truth_last g has alive n ready places fields set h.k (length d.fields) h.info h.is word d1 s st here sim (subst (λ (b : ℕ). IsEntryFor g has alive n ready places fields h.k (next_field set b d) d1) word (entry_for set h.k h.info h.is d s st)) (λ out e. Leaves g alive d e s u) value truth.1 c
-            (λ e2 f2 used within passes wanted last. leaves set h.k h.info h.is d s st number w
-            (λ x below small. plainly op ty.elem (type_of value).elem (old x) (number x) is ∙ sym (mod-eq_of_lt (subst (λ (b : ℕ). number x < 2 ^ b) (sym word) small))) e2 f2 used within passes wanted (subst (λ (b : ℕ). TakesBehind g set (next_field set b d) e2 f2 passes.t number) (sym word) last)))
+            let few : (x : ℕ) → number x < 2 ^ bits = λ x. subst (λ (m : ℕ). m < 2 ^ bits) (sym (truth_bit (extents g set) st set bits value x truth.1)) (bit_below (nonzero (number x))) in
+            after_same g (λ out e. Leaves g alive d e s u) (ap code is)
+            (truth_last g has alive n ready places fields set h.k (length d.fields) bits h.info h.is (kind_bits h.info.elem.bits h.info.elem.signed h.info.elem.kind).0 refl d1 s st here sim (entry_for set h.k h.info h.is d s st) (λ out e. Leaves g alive d e s u) value truth.1 c
+            (λ e2 f2 used within passes wanted last. leaves set h.k h.info h.is d s st number w (λ x below small. plainly op ty.elem (type_of value).elem (old x) (number x) is ∙ sym (mod-eq_of_lt (few x))) e2 f2 used within passes wanted last))
         by (Some x) is known (inl is_operand) =
             let signed : Bool = assigned_signed x (type_of target).elem (type_of value).elem in
             let wide : IsWide set (type_of value) = (operand_shape set value is_operand, known.1) in

@@ -29,7 +29,7 @@ use Rattle.fields_follow.proofs.Knowing.{KnowsFields, StaysNamed, kept_open, las
 use Rattle.fields_follow.proofs.Leaving.{Leaves, UpdateLeaves, fields_under, places_under, reaches_again, registers_under, under, within_under}
 use Rattle.fields_follow.proofs.Passing.{After, code_longer}
 use Rattle.fields_follow.proofs.Reducing.{GivesNumber, number_to}
-use Rattle.fields_follow.proofs.Reductions.{GivesRegister, OperandsStand, fold_type, folds_give, whole_type}
+use Rattle.fields_follow.proofs.Reductions.{GivesRegister, OperandsStand, fold_type, folds_give}
 
 module _ (g : Setting) (scope : Scope) (active : Active) (known : KnowsFields g scope active) (has : HasRegisters g) where
   module _ (alive : Variable → Type 0) (n : ℕ) (ready : (d : Draft) → IsReady g.typed g.instance (layout g) n d) (e : TExpr) (c : HasItsCode g.typed g.instance alive n e) (d : Draft) (s : CodeState) (st : State) (begun : Begun g d) (here : At g s (length d.code)) (sim : Sim g alive st s) where
@@ -73,9 +73,9 @@ module _ (g : Setting) (scope : Scope) (active : Active) (known : KnowsFields g 
 
     -- the code of a pure parallel expression leaves its numbers in a field
     operands_stand : OperandsStand (under g active) alive n
-    operands_stand set o is code d0 s0 st0 at_o sim_o =
+    operands_stand bits set o most is wide code d0 s0 st0 at_o sim_o =
         let there : Setting = under g active in
-        whole_after there (registers_under g active has) alive n ready (places_under g active known.places) (fields_under g active) set o true is.0 (whole_type set o is) code d0 s0 st0 at_o sim_o
+        whole_after there (registers_under g active has) alive n ready (places_under g active known.places) (fields_under g active) bits set o true most is wide code d0 s0 st0 at_o sim_o
 
     -- an update, or a fold onto a variable
     effect_follows : IsParallelEffect e → Follows g (λ v u out f. Ran g alive d s u f) s (evaluated scope e active st) (effect_of g.typed (layout g) e d)

@@ -75,30 +75,30 @@ two_writes f writes again value m some same = λ j. record { bit = λ set p inde
         ap (λ (w : Bool). if covers (lowest_bit f) set index && w then bit_at (value p) (index - f.offset) else (if covers f set index && writes p then bit_at 0 (index - f.offset) else m.bit set p index)) (same p)
         ∙ by p index (m.bit set p index) (set == f.set) (nat_le f.offset index) (nat_lt index (f.offset + 1)) (nat_lt index (f.offset + f.len)) (writes p) refl refl refl
 
--- ---- two bits joined in a word
+-- ---- two bits joined in a field of several
 
-abbrev pub word_field : ℕ → ℕ → Field
-word_field set offset = record { set = set; offset = offset; len = 32 }
+abbrev pub field_at : ℕ → ℕ → ℕ → Field
+field_at set offset bits = record { set = set; offset = offset; len = bits }
 
-abbrev clear : ℕ → ℕ → Instr
-clear set offset = I.MoveConstant (word_field set offset) (K.Imm 0)
+abbrev clear : ℕ → ℕ → ℕ → Instr
+clear set offset bits = I.MoveConstant (field_at set offset bits) (K.Imm 0)
 
-abbrev join : Bool → ℕ → ℕ → Field → Field → Instr
-join is_or set offset a b = I.Operate (operation_of is_or) (lowest_bit (word_field set offset)) a b
+abbrev join : Bool → ℕ → ℕ → ℕ → Field → Field → Instr
+join is_or set offset bits a b = I.Operate (operation_of is_or) (lowest_bit (field_at set offset bits)) a b
 
--- the word is cleared before
-abbrev cleared_behind : ℕ → ℕ → Draft → Draft
-cleared_behind set offset e = with_instr (clear set offset) e
+-- the field is cleared before
+abbrev cleared_behind : ℕ → ℕ → ℕ → Draft → Draft
+cleared_behind set offset bits e = with_instr (clear set offset bits) e
 
-abbrev pub joined_behind : Bool → ℕ → ℕ → Field → Field → Draft → Draft
-joined_behind is_or set offset a b e = with_instr (join is_or set offset a b) (cleared_behind set offset e)
+abbrev pub joined_behind : Bool → ℕ → ℕ → ℕ → Field → Field → Draft → Draft
+joined_behind is_or set offset bits a b e = with_instr (join is_or set offset bits a b) (cleared_behind set offset bits e)
 
-pub joined_more : (g : Setting) (is_or : Bool) (set offset : ℕ) (a b : Field) (e : Draft) → Extended e 2 (joined_behind is_or set offset a b e)
-joined_more g is_or set offset a b e = and_instr (join is_or set offset a b) e (cleared_behind set offset e) 1 (and_one g (clear set offset) e)
+pub joined_more : (g : Setting) (is_or : Bool) (set offset bits : ℕ) (a b : Field) (e : Draft) → Extended e 2 (joined_behind is_or set offset bits a b e)
+joined_more g is_or set offset bits a b e = and_instr (join is_or set offset bits a b) e (cleared_behind set offset bits e) 1 (and_one g (clear set offset bits) e)
 
-module _ (g : Setting) (places : PlacesFields g) (fields : HoldsTheFields g) (alive : Variable → Type 0) (set k offset : ℕ) (info : VarInfo) (is : IsElement g.typed k info set 0) (word : info.elem.bits ≡ 32) (is_or : Bool) (a b : Field) (e : Draft) (s : CodeState) where
+module _ (g : Setting) (places : PlacesFields g) (fields : HoldsTheFields g) (alive : Variable → Type 0) (set k offset : ℕ) (info : VarInfo) (is : IsElement g.typed k info set 0) (bits : ℕ) (some : 0 < bits) (word : info.elem.bits ≡ bits) (is_or : Bool) (a b : Field) (e : Draft) (s : CodeState) where
   abbrev dest : Field
-  dest = word_field set offset
+  dest = field_at set offset bits
 
   abbrev on : ℕ → Bool
   on q = is_active (shapes g) s.memory set q
@@ -115,18 +115,18 @@ module _ (g : Setting) (places : PlacesFields g) (fields : HoldsTheFields g) (al
   abbrev joins : Write
   joins = written_to (place g (lowest_bit dest)) (λ q. is_active (shapes g) s1.memory set q) number
 
-  clear_goes : begun g.image (placed_instr g (clear set offset)) s ≡ Goes s1
+  clear_goes : begun g.image (placed_instr g (clear set offset bits)) s ≡ Goes s1
   unfolding begun applied after
   clear_goes = refl
 
-  join_goes : begun g.image (placed_instr g (join is_or set offset a b)) s1 ≡ Goes (wrote g joins s1)
+  join_goes : begun g.image (placed_instr g (join is_or set offset bits a b)) s1 ≡ Goes (wrote g joins s1)
   unfolding begun applied after
   join_goes = refl
 
   -- two bits of own fields are joined in a variable of the file
-  joined_takes : (v w : ℕ → ℕ) → IsFileField g k 0 dest → IsOwnField g a → IsOwnField g b → Within g (joined_behind is_or set offset a b e) → At g s (length e.code)
+  joined_takes : (v w : ℕ → ℕ) → IsFileField g k 0 dest → IsOwnField g a → IsOwnField g b → Within g (joined_behind is_or set offset bits a b e) → At g s (length e.code)
       → ((q : ℕ) → q < processors (shapes g) set → on q ≡ true → number_in g a s q ≡ from_bool (nonzero (v q))) → ((q : ℕ) → q < processors (shapes g) set → on q ≡ true → number_in g b s q ≡ from_bool (nonzero (w q)))
-      → TakesBehind g set dest e (joined_behind is_or set offset a b e) s (λ q. from_bool (either_or_both is_or (nonzero (v q)) (nonzero (w q))))
+      → TakesBehind g set dest e (joined_behind is_or set offset bits a b e) s (λ q. from_bool (either_or_both is_or (nonzero (v q)) (nonzero (w q))))
   unfolding step_of
   joined_takes v w file own_a own_b within here one_bit other_bit = record {
     takes = record {
@@ -134,17 +134,17 @@ module _ (g : Setting) (places : PlacesFields g) (fields : HoldsTheFields g) (al
       run = refl;
       writes = λ p. refl;
       value = λ p below active.
-          ap (λ (n : ℕ). outcome (operator_of (operation_of is_or)).0 1 (operator_of (operation_of is_or)).1 n (number_in g b s1 p) % 2 % 2 ^ 32) (still a p own_a ∙ one_bit p below active)
-          ∙ ap (λ (n : ℕ). outcome (operator_of (operation_of is_or)).0 1 (operator_of (operation_of is_or)).1 (from_bool (nonzero (v p))) n % 2 % 2 ^ 32) (still b p own_b ∙ other_bit p below active)
-          ∙ ap (λ (n : ℕ). n % 2 ^ 32) (joined_bits is_or (nonzero (v p)) (nonzero (w p)) 1) ∙ few (either_or_both is_or (nonzero (v p)) (nonzero (w p)));
+          ap (λ (n : ℕ). outcome (operator_of (operation_of is_or)).0 1 (operator_of (operation_of is_or)).1 n (number_in g b s1 p) % 2 % 2 ^ bits) (still a p own_a ∙ one_bit p below active)
+          ∙ ap (λ (n : ℕ). outcome (operator_of (operation_of is_or)).0 1 (operator_of (operation_of is_or)).1 (from_bool (nonzero (v p))) n % 2 % 2 ^ bits) (still b p own_b ∙ other_bit p below active)
+          ∙ ap (λ (n : ℕ). n % 2 ^ bits) (joined_bits is_or (nonzero (v p)) (nonzero (w p)) 1) ∙ few (either_or_both is_or (nonzero (v p)) (nonzero (w p)));
       small = λ p below active. from_bool_below (either_or_both is_or (nonzero (v p)) (nonzero (w p)));
     };
-    more = (2, joined_more g is_or set offset a b e);
+    more = (2, joined_more g is_or set offset bits a b e);
     place = s.at + 1 + 1;
-    go = subst (λ (m : BitMemory). Reaches g s (record s { at = s.at + 1 + 1; memory = m })) (two_writes (place g dest) on (λ q. is_active (shapes g) s1.memory set q) number s.memory (omega arith) still_active)
-        (onto g s s1 (wrote g joins s1) (one_writes g s s1 (begins_here g (clear set offset) e s (earlier g (cleared_behind set offset e) (joined_behind is_or set offset a b e) 1 (and_one g (join is_or set offset a b) (cleared_behind set offset e)) within) refl here ∙ clear_goes) (λ f q there. field_apart clears s.memory f q (apart f there)))
-        (one_writes g s1 (wrote g joins s1) (begins_here g (join is_or set offset a b) (cleared_behind set offset e) s1 within refl at_join ∙ join_goes) (λ f q there. field_apart joins s1.memory f q (lowest_apart f (apart f there)))));
-    at = at_next g (join is_or set offset a b) (cleared_behind set offset e) s1 (s1.at + 1) at_join refl;
+    go = subst (λ (m : BitMemory). Reaches g s (record s { at = s.at + 1 + 1; memory = m })) (two_writes (place g dest) on (λ q. is_active (shapes g) s1.memory set q) number s.memory some still_active)
+        (onto g s s1 (wrote g joins s1) (one_writes g s s1 (begins_here g (clear set offset bits) e s (earlier g (cleared_behind set offset bits e) (joined_behind is_or set offset bits a b e) 1 (and_one g (join is_or set offset bits a b) (cleared_behind set offset bits e)) within) refl here ∙ clear_goes) (λ f q there. field_apart clears s.memory f q (apart f there)))
+        (one_writes g s1 (wrote g joins s1) (begins_here g (join is_or set offset bits a b) (cleared_behind set offset bits e) s1 within refl at_join ∙ join_goes) (λ f q there. field_apart joins s1.memory f q (lowest_apart f (apart f there)))));
+    at = at_next g (join is_or set offset bits a b) (cleared_behind set offset bits e) s1 (s1.at + 1) at_join refl;
   }
     where
       both : Write
@@ -164,39 +164,39 @@ module _ (g : Setting) (places : PlacesFields g) (fields : HoldsTheFields g) (al
       still_active : (q : ℕ) → is_active (shapes g) s1.memory set q ≡ on q
       still_active q = active_apart (shapes g) clears s.memory set q ends.1
 
-      at_join : At g s1 (length (cleared_behind set offset e).code)
-      at_join = at_next g (clear set offset) e s (s.at + 1) here refl
+      at_join : At g s1 (length (cleared_behind set offset bits e).code)
+      at_join = at_next g (clear set offset bits) e s (s.at + 1) here refl
 
       still : (h : Field) (q : ℕ) → IsOwnField g h → number_in g h s1 q ≡ number_in g h s q
       still h q own =
           field_apart clears s.memory (place g h) q (subst (λ (f : Field). Apart f (place g h)) (sym (entry_place g places fields alive set k 0 info dest is word file refl)) (apart_back (place g h) (of_file g k 0) (places.own_file k 0 set info h is own)))
 
-      few : (x : Bool) → from_bool (nonzero (from_bool x)) % 2 ^ 32 ≡ from_bool x % 2 ^ 32
+      few : (x : Bool) → from_bool (nonzero (from_bool x)) % 2 ^ bits ≡ from_bool x % 2 ^ bits
       few true = refl
       few false = refl
 
 -- behind code that gives two such bits
-module _ (g : Setting) (places : PlacesFields g) (fields : HoldsTheFields g) (alive : Variable → Type 0) (set k offset : ℕ) (info : VarInfo) (is : IsElement g.typed k info set 0) (word : info.elem.bits ≡ 32) (is_or : Bool) (a b : Field) (d e1 e2 : Draft) (s : CodeState) (st : State) (v w : ℕ → ℕ) where
+module _ (g : Setting) (places : PlacesFields g) (fields : HoldsTheFields g) (alive : Variable → Type 0) (set k offset : ℕ) (info : VarInfo) (is : IsElement g.typed k info set 0) (bits : ℕ) (some : 0 < bits) (word : info.elem.bits ≡ bits) (is_or : Bool) (a b : Field) (d e1 e2 : Draft) (s : CodeState) (st : State) (v w : ℕ → ℕ) where
   abbrev behind : Draft
-  behind = joined_behind is_or set offset a b e2
+  behind = joined_behind is_or set offset bits a b e2
 
-  pub truths_taken : (one : GivesTruth g alive places fields d s set st v a e1) → GivesTruth g alive places fields e1 one.passes.t set st w b e2 → ((m : ℕ) → Extended d m behind → IsFileField g k 0 (word_field set offset)) → Within g behind
-      → (p : PassesTests g alive d e2 s st (Unit {0})) × TakesBehind g set (word_field set offset) e2 behind p.t (λ q. from_bool (either_or_both is_or (nonzero (v q)) (nonzero (w q))))
+  pub truths_taken : (one : GivesTruth g alive places fields d s set st v a e1) → GivesTruth g alive places fields e1 one.passes.t set st w b e2 → ((m : ℕ) → Extended d m behind → IsFileField g k 0 (field_at set offset bits)) → Within g behind
+      → (p : PassesTests g alive d e2 s st (Unit {0})) × TakesBehind g set (field_at set offset bits) e2 behind p.t (λ q. from_bool (either_or_both is_or (nonzero (v q)) (nonzero (w q))))
   unfolding step_of tests_on
   truths_taken one two file within = (
     passes,
-    joined_takes g places fields alive set k offset info is word is_or a b e2 two.passes.t v w (file (passes.grown.0 + 2) (extended d e2 behind passes.grown.0 2 passes.grown.1 (joined_more g is_or set offset a b e2))) one.own two.own within two.passes.at
+    joined_takes g places fields alive set k offset info is bits some word is_or a b e2 two.passes.t v w (file (passes.grown.0 + 2) (extended d e2 behind passes.grown.0 2 passes.grown.1 (joined_more g is_or set offset bits a b e2))) one.own two.own within two.passes.at
         (λ q below on. still q ∙ one.are q below (active q below ∙ on)) (λ q below on. two.are q below (active q below ∙ on)),
   )
     where
       cleared_one : Draft
-      cleared_one = cleared_behind set offset e2
+      cleared_one = cleared_behind set offset bits e2
 
       joins : Instr
-      joins = join is_or set offset a b
+      joins = join is_or set offset bits a b
 
       long : length cleared_one.code ≡ length e2.code + 1
-      long = code_more g (clear set offset) e2
+      long = code_more g (clear set offset bits) e2
 
       there : StandsAt g.unit (length cleared_one.code) joins
       there = stands_here g joins cleared_one within refl

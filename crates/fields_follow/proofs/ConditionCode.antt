@@ -1,5 +1,5 @@
 -- The code by which a condition leaves the test flags, or a bit in a field.
-use Rattle.std.proofs.Common.{◌≡◌, ◌∙◌, ℕ, ◌+◌, ◌<◌, ◌==◌, ◌&&◌, Bool, true, false, not, [], ◌∷◌, length, Option, Some, None, refl, sym, ap, arith, if◌then◌else◌}
+use Rattle.std.proofs.Common.{◌≡◌, ◌∙◌, ℕ, ◌+◌, ◌<◌, ◌==◌, ◌&&◌, Bool, true, false, not, [], ◌∷◌, length, Option, Some, refl, sym, ap, arith, if◌then◌else◌}
 use Rattle.std.specs.Int.{from_bool}
 use Rattle.std.specs.Prelude.{unwrap_or}
 use Rattle.cstar_base.specs.declared.elem.Elem.{Elem}
@@ -133,11 +133,11 @@ module _ (g : Setting) where
       second = operand_by g.typed (layout g) (bits_of (relation_kind left right)) (value_of g.typed (layout g) (bits_of (relation_kind left right)) right) true right
 
   -- `!` of a word is its test, stored
-  pub word_not_value : (set : ℕ) (ty : ValueType) (p : Boxed) (operand : TExpr) (d : Draft) → ty.shape ≡ Some set → is_kept operand ≡ false → kind_of operand ≡ None
+  pub word_not_value : (set : ℕ) (ty : ValueType) (p : Boxed) (operand : TExpr) (d : Draft) → ty.shape ≡ Some set → is_kept operand ≡ false → (bits_of (kind_of operand) == 1) ≡ false
       → value 1 (T.Unary' ty U.Not p operand) d ≡ then_make (zero_tested (operand_at (bits_of (kind_of operand)) operand) (with_entry set 1 W.Own d)) (stored_in set d)
-  unfolding value_of unary_by unary_bits done_as negates is_plus fresh_for an_entry then_make zero_tested bits_of put_test
-  word_not_value set ty p operand d shaped fresh none =
-      ap (λ (c : Bool). done (not c && bits_of (kind_of operand) == 1)) fresh ∙ ap (λ (k : Option Elem). done (bits_of k == 1)) none
+  unfolding value_of unary_by unary_bits done_as negates is_plus fresh_for an_entry then_make zero_tested put_test
+  word_not_value set ty p operand d shaped fresh no_bit =
+      ap (λ (c : Bool). done (not c && bits_of (kind_of operand) == 1)) fresh ∙ ap done no_bit
       ∙ ap (λ (o : Option ℕ). then_make (fresh_for o 1 d) (λ dest between. then_make (operand_at (bits_of (kind_of operand)) operand between) (λ v after. negated (layout g) U.Not dest v after))) shaped
       ∙ zero_put (layout g) (next_field set 1 d) (operand_at (bits_of (kind_of operand)) operand (with_entry set 1 W.Own d))
     where

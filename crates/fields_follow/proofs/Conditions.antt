@@ -1,5 +1,5 @@
 -- What is known of the conditions of `where`, by their form.
-use Rattle.std.proofs.Common.{◌≡◌, ◌&&◌, ◌==◌, ℕ, Bool, true, false, not, refl, ap, subst, sym}
+use Rattle.std.proofs.Common.{◌≡◌, ◌&&◌, ◌==◌, ℕ, Bool, true, false, not, refl, ap, Some, ap, ◌∙◌}
 use Rattle.std.specs.Prelude.{is_none}
 use Rattle.constant_trees.proofs.Bringing.{right_false}
 use Rattle.cstar_tree.specs.declared.typed.Instance.{Instance}
@@ -19,8 +19,7 @@ use Rattle.source_meaning.specs.Constants.{is_constant}
 use Rattle.source_meaning.proofs.ConstantLaws.{Boxed}
 use Rattle.code_follows.specs.Fragment.{ScalarsAmong}
 use Rattle.fields_follow.specs.Fragment.{IsCondition, IsWide}
-use Rattle.fields_follow.proofs.Forms.{HasItsCode, pure_constant, pure_kept}
-use Rattle.fields_follow.proofs.Reductions.{whole_type}
+use Rattle.fields_follow.proofs.Forms.{HasItsCode, pure_constant, pure_kept, pure_shape}
 
 shaped : (ty : ValueType) (set : ℕ) → IsWide set ty → is_none ty.shape ≡ false
 shaped ty set is = ap is_none is.0
@@ -28,14 +27,14 @@ shaped ty set is = ap is_none is.0
 no_constant : (ty : ValueType) (set : ℕ) (a b : Bool) → IsWide set ty → (is_none ty.shape && a && b) ≡ false
 no_constant ty set a b is = ap (λ (c : Bool). c && a && b) (shaped ty set is)
 
-pub condition_type : (set : ℕ) (e : TExpr) → IsCondition set e → IsWide set (type_of e)
+pub condition_shape : (set : ℕ) (e : TExpr) → IsCondition set e → (type_of e).shape ≡ Some set
 unfolding IsCondition
-condition_type set (T.Brackets' ty p inner) is = subst (λ (y : ValueType). IsWide set y) (sym is.0) (condition_type set inner is.1)
-condition_type set (T.Unary' ty op p operand) is = is.0
-condition_type set (T.LogicalOr' ty p left q right) is = is.0
-condition_type set (T.LogicalAnd' ty p left q right) is = is.0
-condition_type set (T.Binary' ty place op p left q right) is = is.0
-condition_type set e is = whole_type set e is
+condition_shape set (T.Brackets' ty p inner) is = ap (λ (y : ValueType). y.shape) is.0 ∙ condition_shape set inner is.1
+condition_shape set (T.Unary' ty op p operand) is = is.0.0
+condition_shape set (T.LogicalOr' ty p left q right) is = is.0.0
+condition_shape set (T.LogicalAnd' ty p left q right) is = is.0.0
+condition_shape set (T.Binary' ty place op p left q right) is = is.0.0
+condition_shape set e is = pure_shape set e is.0.0
 
 -- its value stands in a field
 pub condition_kept : (set : ℕ) (e : TExpr) → IsCondition set e → is_kept e ≡ false
@@ -45,7 +44,7 @@ condition_kept set (T.Unary' ty op p operand) is = shaped ty set is.0
 condition_kept set (T.LogicalOr' ty p left q right) is = shaped ty set is.0
 condition_kept set (T.LogicalAnd' ty p left q right) is = shaped ty set is.0
 condition_kept set (T.Binary' ty place op p left q right) is = shaped ty set is.0
-condition_kept set e is = pure_kept set e is.0
+condition_kept set e is = pure_kept set e is.0.0
 
 -- no condition is a constant
 pub condition_constant : (set : ℕ) (e : TExpr) → IsCondition set e → is_constant e ≡ false
@@ -55,7 +54,7 @@ condition_constant set (T.Unary' ty op p operand) is = no_constant ty set (ty.el
 condition_constant set (T.LogicalOr' ty p left q right) is = ap (λ (c : Bool). c && is_constant right) (no_constant ty set (ty.elem.bits == 32) (is_constant left) is.0)
 condition_constant set (T.LogicalAnd' ty p left q right) is = ap (λ (c : Bool). c && is_constant right) (no_constant ty set (ty.elem.bits == 32) (is_constant left) is.0)
 condition_constant set (T.Binary' ty place op p left q right) is = ap (λ (c : Bool). c && is_constant right) (no_constant ty set (ty.elem.bits == 32) (is_constant left) is.0)
-condition_constant set e is = pure_constant set e is.0
+condition_constant set e is = pure_constant set e is.0.0
 
 -- two are joined by one operation where the right one has the same value under every context
 pub conditions_join : (set : ℕ) (left right : TExpr) → IsCondition set left → IsCondition set right → ignores_context right ≡ true → joins left right ≡ true

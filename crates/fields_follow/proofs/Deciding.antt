@@ -1,12 +1,18 @@
 -- A truth value that is assigned: the test flags are stored in a field of one bit, which the last instruction moves to
--- the variable; or the variable is cleared, and its lowest bit written by an operation on two such fields.
-use Rattle.std.proofs.Common.{◌≡◌, ◌∙◌, ℕ, ◌+◌, ◌<◌, ◌%◌, ◌^◌, ◌==◌, ◌||◌, Bool, true, false, [], length, Option, Some, None, refl, sym, ap, subst, arith, inl, if◌then◌else◌}
+-- the variable; or the variable is cleared, and its lowest bit written by an operation on two such fields. In a variable
+-- of one bit the flags are stored at once, and it is not cleared.
+use Rattle.std.proofs.Common.{◌≡◌, ◌≢◌, ◌∙◌, ℕ, ℤ, pos, ◌+◌, ◌-◌, ◌<◌, ◌≤◌, ◌%◌, ◌^◌, ◌==◌, ◌||◌, ◌&&◌, ◌⊎◌, Bool, true, false, not, [], ◌∷◌, length, Option, Some, None, refl, sym, ap, subst, arith, inl, inr, lit<, if◌then◌else◌}
 use Rattle.std.specs.Int.{from_bool}
-use Rattle.std.specs.Prelude.{unwrap_or}
+use Rattle.std.specs.Prelude.{nat_le, nat_lt, unwrap_or}
+use Rattle.std.proofs.lemmas.Bool.{cases_eq, eqb-true}
+use Rattle.std.proofs.lemmas.Bool.Decides.{nat_tests}
+use Rattle.std.proofs.Math.Nat.{mod-eq_of_lt, pow-le-pow_right}
+use Rattle.cstar_base.specs.declared.elem.Elem.{Elem}
 use Rattle.cstar_base.specs.declared.operators.Op.{Op}
 use Rattle.cstar_base.specs.declared.operators.Place.{Place}
-use Rattle.cstar_base.specs.Numbers.{number_of, residue}
-use Rattle.cstar_base.specs.Operators.{divides}
+use Rattle.cstar_base.specs.Numbers.{converted, number_of, residue, truth_of as truth_number}
+use Rattle.cstar_base.specs.Operators.{divides, outcome}
+use Rattle.cstar_base.proofs.NumberLaws.{kind_bits, number_in_lower, number_unsigned, residue_of_pos}
 use Rattle.cstar_tree.specs.declared.typed.TExpr.{TExpr}
 use Rattle.cstar_tree.specs.declared.typed.TExpr as T
 use Rattle.cstar_tree.specs.declared.typed.UnaryOp.{UnaryOp}
@@ -19,114 +25,204 @@ use Rattle.code_lengths.specs.Ready.{IsReady}
 use Rattle.code_lengths.proofs.Drafting.{extended}
 use Rattle.lower_base.specs.declared.emit.Out.{Out}
 use Rattle.lower_base.specs.declared.emit.Out.TheVariants as O
-use Rattle.lower_base.specs.Drafts.{Draft, Fails, Made, Makes, a_field, an_entry, first_bits, step as step_of, then_make, with_instr}
-use Rattle.lower_base.specs.Kinds.{bits_of, kind_of}
+use Rattle.lower_base.specs.Drafts.{Draft, Fails, Made, Makes, a_field, a_flag, an_entry, first_bits, step as step_of, then_make, with_instr}
+use Rattle.lower_base.specs.Kinds.{binary_kind, bits_of, common_kind, converted_kind, has_all, is_bitwise, kind_of, narrow, truth_type as truth_kind}
 use Rattle.lower_base.specs.Operators.{negates, relates}
-use Rattle.lower_expr.specs.Effects.{binary_to, bits_for, computed_to, field_binary_to, fits_field, logical_to, moved, put_to}
-use Rattle.lower_expr.specs.Joined.{cleared, joined, joins}
+use Rattle.lower_expr.specs.Effects.{binary_to, bits_for, computed_to, converted_to, field_binary_to, fits_field, goes_unchanged, keeps_bits, logical_to, moved, put_to}
+use Rattle.lower_expr.specs.Joined.{cleared, joined, joins, operation_of}
 use Rattle.lower_expr.specs.Kinds.{done_as, operand_bits, operation_bits, reads_signed, relation_kind, unary_bits}
 use Rattle.lower_expr.specs.Operands.{ignores_context, is_plus, is_quiet, operand_by}
-use Rattle.lower_expr.specs.Steps.{has_truth, put_test, word_for, word_of, word_put}
+use Rattle.lower_expr.specs.Steps.{has_truth, is_kept, negated, put_test, word_for, word_of, word_put}
 use Rattle.lower_expr.specs.Values.{Code, condition_of, field_binary_of, fields_by, flag_of, joined_by, joined_of, next_of, relation_by, tested, tested_by, truth_of, value_of, zero_tested}
+use Rattle.paris_code.specs.declared.instr.Instr.{Instr}
 use Rattle.paris_code.specs.declared.instr.Instr.TheVariants as I
+use Rattle.paris_code.specs.declared.operands.Konst.TheVariants as K
 use Rattle.paris_code.specs.declared.operands.Field.{Field}
 use Rattle.paris_code.specs.Code.{CodeState, applied, begun}
 use Rattle.paris_code.specs.Elementwise.{elementwise}
 use Rattle.paris_code.specs.Meaning.{after}
-use Rattle.paris_code.specs.Memory.{is_active, processors, whole_number}
+use Rattle.paris_code.specs.Memory.{is_active, is_tested, processors, whole_number}
+use Rattle.paris_code.specs.Operators.{operator_of}
+use Rattle.paris_code.specs.Spans.{IsNamedAt, StandsAt}
+use Rattle.phase_meaning.proofs.Widths.{cut_cut}
+use Rattle.short_values.proofs.NarrowTypes.{bool_unsigned}
 use Rattle.source_meaning.specs.Expressions.{evaluated}
-use Rattle.source_meaning.specs.State.{Gives, State}
-use Rattle.source_meaning.specs.Values.{Active, Parallel, Scope, nonzero, unary_of}
+use Rattle.source_meaning.specs.State.{Gives, Outcome, State, then_do}
+use Rattle.source_meaning.specs.Values.{Parallel, Scope, Value, at, convert_to, each, nonzero, unary_of}
 use Rattle.source_meaning.proofs.ConstantLaws.{Boxed}
 use Rattle.code_follows.proofs.Following.{Extends, HasRegisters, Sim}
+use Rattle.code_follows.proofs.Numbers.{zero_converted}
 use Rattle.code_follows.proofs.Settings.{At, Setting, Within, and_one, layout}
 use Rattle.constant_trees.proofs.Words.{from_bool_below}
 use Rattle.fields_follow.specs.Fields.{IsElement}
 use Rattle.cstar_tree.specs.Typed.{type_of}
-use Rattle.fields_follow.specs.Fragment.{IsCondition, IsTruth, IsWide}
-use Rattle.fields_follow.proofs.Clearing.{joined_behind, joined_more, truths_taken, word_field}
-use Rattle.fields_follow.proofs.Conditions.{HaveTheirCode, and_codes, condition_type, conditions_join, or_codes}
-use Rattle.fields_follow.proofs.Sizes.{brackets_part}
+use Rattle.fields_follow.specs.Fragment.{IsCondition, IsTruth}
+use Rattle.fields_follow.proofs.Clearing.{field_at, joined_behind, joined_more, truths_taken}
+use Rattle.fields_follow.proofs.Conditions.{HaveTheirCode, and_codes, condition_kept, conditions_join, or_codes}
+use Rattle.fields_follow.proofs.Sizes.{brackets_part, convert_part}
 use Rattle.fields_follow.proofs.Places.{HoldsTheFields, IsFileField, PlacesFields, stands_here}
 use Rattle.fields_follow.proofs.Testing.{both_flagged, condition_means, condition_tested}
-use Rattle.fields_follow.proofs.Truths.{either_or_both}
+use Rattle.fields_follow.proofs.Truths.{either_or_both, joined_bits}
 use Rattle.fields_follow.proofs.ConditionCode.{Truth, flag_after, put_in, relation_put, stored_behind, zero_put}
 use Rattle.fields_follow.proofs.Forms.{HasItsCode}
 use Rattle.fields_follow.proofs.Instructions.{Puts, SameExtents, extents, number_in, place, shapes}
-use Rattle.fields_follow.proofs.Meaning.{value_in}
+use Rattle.fields_follow.proofs.Meaning.{as_shaped, value_in}
 use Rattle.fields_follow.proofs.Leaving.{PassesTests}
-use Rattle.fields_follow.proofs.Passing.{After, Behind, after_same, flags_of, made_after, names_second, then_after}
+use Rattle.fields_follow.proofs.Passing.{After, Behind, after_same, code_longer, flags_of, made_after, names_second, names_third, then_after}
+use Rattle.fields_follow.proofs.PassingTests.{tests_on}
 use Rattle.fields_follow.proofs.Writing.{TakesBehind, entry_and_below, instr_takes}
-use Rattle.fields_follow.proofs.TestFlags.{is_truth, truth_is}
+use Rattle.fields_follow.proofs.TestFlags.{LeavesTests, is_truth, truth_is}
 
 -- ---- what is known of a truth value
 
-truth_condition : (set : ℕ) (e : TExpr) → IsTruth set e → IsCondition set e
-unfolding IsTruth IsCondition
-truth_condition set (T.Brackets' ty p inner) is = (is.0, truth_condition set inner is.1)
-truth_condition set (T.Unary' ty op p operand) is = (is.0, inl (is.1, is.2))
-truth_condition set (T.LogicalOr' ty p left q right) is = is
-truth_condition set (T.LogicalAnd' ty p left q right) is = is
-truth_condition set (T.Binary' ty place op p left q right) is = is.1
-truth_condition set _ is = absurd is
+-- a truth value is the same number of every type
+one_number : (from : Elem) → number_of from.bits from.signed 1 ≡ pos 1
+one_number from = by from.signed refl
+  where
+    some : 0 < from.bits
+    some = (kind_bits from.bits from.signed from.kind).0
 
-pub truth_type : (set : ℕ) (e : TExpr) → IsTruth set e → IsWide set (type_of e)
-truth_type set e is = condition_type set e (truth_condition set e is)
+    by : (signed : Bool) → from.signed ≡ signed → number_of from.bits signed 1 ≡ pos 1
+    by false plain = number_unsigned from.bits 1
+    by true with_sign =
+        let several : from.bits ≡ 1 → ⊥ = λ one. (let wrong = sym (bool_unsigned from.bits from.signed from.kind one) ∙ with_sign in cc) in
+        let more : 1 ≤ from.bits - 1 = by_cases (cases_eq from.bits 1) several in
+        number_in_lower from.bits 1 (let least : 2 ^ 1 ≤ 2 ^ (from.bits - 1) = pow-le-pow_right (lit< tt) more in omega (arith, least))
+      where
+        by_cases : (from.bits ≡ 1) ⊎ (from.bits ≢ 1) → (from.bits ≡ 1 → ⊥) → 1 ≤ from.bits - 1
+        by_cases (inl one) no_one = absurd (no_one one)
+        by_cases (inr other) no_one = grind (arith, nat_tests, some, other)
+
+bit_converted : (to from : Elem) (b : Bool) → converted to from (from_bool b) ≡ from_bool b
+unfolding converted truth_number
+bit_converted to from false = zero_converted to from
+bit_converted to from true =
+    ap (λ (z : ℤ). if to.bits == 1 then truth_number z else residue to.bits z) (one_number from) ∙ by (to.bits == 1)
+  where
+    by : (b : Bool) → (if b then truth_number (pos 1) else residue to.bits (pos 1)) ≡ 1
+    by true = refl
+    by false = residue_of_pos to.bits 1 ∙ mod-eq_of_lt (let some = (kind_bits to.bits to.signed to.kind).0 in let least : 2 ^ 1 ≤ 2 ^ to.bits = pow-le-pow_right (lit< tt) some in omega (arith, least))
+
+-- a conversion of one is known to be one
+converted_flag : (elem : Elem) (k : Option Elem) → (bits_of k == 1) ≡ true → (bits_of (converted_kind elem k) == 1) ≡ true
+unfolding bits_of converted_kind has_all
+converted_flag elem None h = cc
+converted_flag elem (Some kind) h = ap (λ (b : Bool). bits_of (if b then Some kind else narrow elem) == 1) all ∙ h
+  where
+    one : kind.bits ≡ 1
+    one = eqb-true kind.bits 1 h
+
+    plain : kind.signed ≡ false
+    plain = bool_unsigned kind.bits kind.signed kind.kind one
+
+    some : 0 < elem.bits
+    some = (kind_bits elem.bits elem.signed elem.kind).0
+
+    by : (b : Bool) → elem.signed ≡ b → (if b then nat_lt kind.bits elem.bits else nat_le kind.bits elem.bits) ≡ true
+    by false e = grind (arith, nat_tests, one, some)
+    by true e =
+        let several : elem.bits ≡ 1 → ⊥ = λ bit. (let wrong = sym (bool_unsigned elem.bits elem.signed elem.kind bit) ∙ e in cc) in
+        by_cases (cases_eq elem.bits 1) several
+      where
+        by_cases : (elem.bits ≡ 1) ⊎ (elem.bits ≢ 1) → (elem.bits ≡ 1 → ⊥) → nat_lt kind.bits elem.bits ≡ true
+        by_cases (inl bit) no_bit = absurd (no_bit bit)
+        by_cases (inr other) no_bit = grind (arith, nat_tests, one, some, other)
+
+    all : has_all elem kind ≡ true
+    all = ap (λ (b : Bool). if b then elem.signed && nat_le kind.bits elem.bits else (if elem.signed then nat_lt kind.bits elem.bits else nat_le kind.bits elem.bits)) plain ∙ by elem.signed refl
 
 -- it is 0 or 1
-truth_bit : (extents : _) (st : State) (set : ℕ) (e : TExpr) (x : ℕ) → IsTruth set e → value_in extents st e x ≡ from_bool (nonzero (value_in extents st e x))
+pub truth_bit : (extents : _) (st : State) (set bits : ℕ) (e : TExpr) (x : ℕ) → IsTruth set bits e → value_in extents st e x ≡ from_bool (nonzero (value_in extents st e x))
 unfolding IsTruth value_in unary_of negates
-truth_bit extents st set (T.Brackets' ty p inner) x is = truth_bit extents st set inner x is.1
-truth_bit extents st set (T.Unary' ty op p operand) x is = by op is.1
+truth_bit extents st set bits (T.Brackets' ty p inner) x is = truth_bit extents st set bits inner x is.1
+truth_bit extents st set bits (T.Convert' ty p inner) x is =
+    let v : ℕ = value_in extents st inner x in
+    let bit = truth_bit extents st set bits inner x is.2 in
+    ap (λ (w : ℕ). converted ty.elem (type_of inner).elem w) bit ∙ bit_converted ty.elem (type_of inner).elem (nonzero v) ∙ truth_is (nonzero v)
+    ∙ ap (λ (w : ℕ). from_bool (nonzero w)) (sym (ap (λ (w : ℕ). converted ty.elem (type_of inner).elem w) bit ∙ bit_converted ty.elem (type_of inner).elem (nonzero v)))
+truth_bit extents st set bits (T.Unary' ty op p operand) x is = by op is.1
   where
     by : (op : UnaryOp) → negates op ≡ true → unary_of op (value_in extents st operand x) ≡ from_bool (nonzero (unary_of op (value_in extents st operand x)))
     by U.Not e = truth_is _
     by U.Plus e = cc
     by U.Minus e = cc
     by U.Complement e = cc
-truth_bit extents st set (T.LogicalOr' ty p left q right) x is = truth_is _
-truth_bit extents st set (T.LogicalAnd' ty p left q right) x is = truth_is _
-truth_bit extents st set (T.Binary' ty place op p left q right) x is = is_truth op 32 _ _ _ is.0
-truth_bit extents st set _ x is = absurd is
+truth_bit extents st set bits (T.LogicalOr' ty p left q right) x is = truth_is _
+truth_bit extents st set bits (T.LogicalAnd' ty p left q right) x is = truth_is _
+truth_bit extents st set bits (T.Binary' ty place op p left q right) x is = is_truth op 32 _ _ _ is.0
+truth_bit extents st set bits _ x is = absurd is
+
+-- a conversion leaves it
+truth_converted : (extents : _) (st : State) (set bits : ℕ) (to : Elem) (e : TExpr) (x : ℕ) → IsTruth set bits e → converted to (type_of e).elem (value_in extents st e x) ≡ value_in extents st e x
+truth_converted extents st set bits to e x is =
+    let bit = truth_bit extents st set bits e x is in ap (λ (w : ℕ). converted to (type_of e).elem w) bit ∙ bit_converted to (type_of e).elem (nonzero (value_in extents st e x)) ∙ sym bit
 
 -- it is no constant
-truth_word : (set : ℕ) (e : TExpr) → IsTruth set e → word_of e ≡ None
+truth_word : (set bits : ℕ) (e : TExpr) → IsTruth set bits e → word_of e ≡ None
 unfolding IsTruth word_of
-truth_word set (T.Brackets' ty p inner) is = truth_word set inner is.1
-truth_word set (T.Unary' ty op p operand) is = refl
-truth_word set (T.LogicalOr' ty p left q right) is = refl
-truth_word set (T.LogicalAnd' ty p left q right) is = refl
-truth_word set (T.Binary' ty place op p left q right) is = refl
-truth_word set _ is = absurd is
+truth_word set bits (T.Brackets' ty p inner) is = truth_word set bits inner is.1
+truth_word set bits (T.Convert' ty p inner) is = refl
+truth_word set bits (T.Unary' ty op p operand) is = refl
+truth_word set bits (T.LogicalOr' ty p left q right) is = refl
+truth_word set bits (T.LogicalAnd' ty p left q right) is = refl
+truth_word set bits (T.Binary' ty place op p left q right) is = refl
+truth_word set bits _ is = absurd is
+
+-- and it is known to be one
+truth_flag : (set bits : ℕ) (e : TExpr) → IsTruth set bits e → (bits_of (kind_of e) == 1) ≡ true
+unfolding IsTruth kind_of binary_kind bits_of converted_kind
+truth_flag set bits (T.Brackets' ty p inner) is = truth_flag set bits inner is.1
+truth_flag set bits (T.Convert' ty p inner) is = converted_flag ty.elem (kind_of inner) (truth_flag set bits inner is.2)
+truth_flag set bits (T.Unary' ty op p operand) is = ap (λ (b : Bool). bits_of (if b then Some truth_kind else None) == 1) is.1
+truth_flag set bits (T.LogicalOr' ty p left q right) is = refl
+truth_flag set bits (T.LogicalAnd' ty p left q right) is = refl
+truth_flag set bits (T.Binary' ty place op p left q right) is = ap (λ (b : Bool). bits_of (if b then Some truth_kind else if is_bitwise op then common_kind (kind_of left) (kind_of right) else None) == 1) is.0
+truth_flag set bits _ is = absurd is
 
 -- ---- what its code is
 
 -- two bits are joined in one of a word, which is cleared before
-abbrev joined_last : Bool → ℕ → ℕ → Field → Field → Draft → Made Out
-joined_last is_or set offset a b e = Makes (O.Field (word_field set offset)) (joined_behind is_or set offset a b e)
+abbrev joined_last : Bool → ℕ → ℕ → ℕ → Field → Field → Draft → Made Out
+joined_last is_or set offset bits a b e = Makes (O.Field (field_at set offset bits)) (joined_behind is_or set offset bits a b e)
+
+-- in one of a field of one bit alone
+abbrev bit_joined : Bool → ℕ → ℕ → Field → Field → Draft → Made Out
+bit_joined is_or set offset a b e = Makes (O.Field (field_at set offset 1)) (with_instr (I.Operate (operation_of is_or) (field_at set offset 1) a b) e)
 
 -- to one of a word by way of a bit
 abbrev bit_moved : Field → Field → Draft → Made Out
 bit_moved f kept e = Makes (O.Field f) (with_instr (I.Move false f kept) e)
 
-through_bit : (set offset : ℕ) (made : Made (Unit {0})) → then_make made (put_in (word_field set offset)) ≡ then_make (then_make made (stored_behind set)) (bit_moved (word_field set offset))
+through_bit : (set offset bits : ℕ) (made : Made (Unit {0})) → (bits == 1) ≡ false → then_make made (put_in (field_at set offset bits)) ≡ then_make (then_make made (stored_behind set)) (bit_moved (field_at set offset bits))
 unfolding then_make put_test an_entry
-through_bit set offset (Makes x e) = refl
-through_bit set offset Fails = refl
+through_bit set offset bits (Makes x e) several = ap (λ (b : Bool). if b then Makes (O.Field f) (with_instr (I.StoreTest f) e) else then_make (a_flag set e) (λ kept after. Makes (O.Field f) (with_instr (I.Move false f kept) (with_instr (I.StoreTest kept) after)))) several
+  where
+    f : Field
+    f = field_at set offset bits
+through_bit set offset bits Fails several = refl
+
+-- one bit takes the flags itself
+abbrev flag_stored : Field → Unit {0} → Draft → Made Out
+flag_stored f _ e = Makes (O.Field f) (with_instr (I.StoreTest f) e)
+
+at_once : (set offset : ℕ) (made : Made (Unit {0})) → then_make made (put_in (field_at set offset 1)) ≡ then_make made (flag_stored (field_at set offset 1))
+unfolding then_make put_test
+at_once set offset (Makes x e) = refl
+at_once set offset Fails = refl
 
 module _ (g : Setting) where
-  relation_code : (set offset : ℕ) (ty : ValueType) (place : Place) (op : Op) (p q : Boxed) (left right : TExpr) (d : Draft) → ty.shape ≡ Some set → relates op ≡ true → divides op ≡ false
-      → computed_to g.typed (layout g) (O.Field (word_field set offset)) (T.Binary' ty place op p left q right) d ≡ then_make (truth_of g.typed (layout g) (T.Binary' ty place op p left q right) d) (put_in (word_field set offset))
+  relation_code : (set offset bits : ℕ) (ty : ValueType) (place : Place) (op : Op) (p q : Boxed) (left right : TExpr) (d : Draft) → ty.shape ≡ Some set → relates op ≡ true → divides op ≡ false
+      → computed_to g.typed (layout g) (O.Field (field_at set offset bits)) (T.Binary' ty place op p left q right) d ≡ then_make (truth_of g.typed (layout g) (T.Binary' ty place op p left q right) d) (put_in (field_at set offset bits))
   unfolding computed_to binary_to field_binary_to field_binary_of truth_of fits_field operand_bits
-  relation_code set offset ty place op p q left right d shaped related no_check =
-      ap (λ (c : Bool). if c || operation_bits 32 op right == 32 then then_make (a_field set (operand_bits 32 op left right) d) (λ spare after. field_binary_of g.typed (layout g) 32 op place left right f spare after) else moved g.typed (layout g) (O.Field f) (T.Binary' ty place op p left q right) d) related
-      ∙ ap (λ (c : Bool). let bits : ℕ = if c then bits_of (relation_kind left right) else operation_bits 32 op right in
-      then_make (a_field set bits d) (λ spare after. fields_by op (reads_signed op left right) place f spare (operand_by g.typed (layout g) bits (value_of g.typed (layout g) bits left) (is_quiet right) left) left (operand_by g.typed (layout g) bits (value_of g.typed (layout g) bits right) true right) right after)) related
+  relation_code set offset bits ty place op p q left right d shaped related no_check =
+      ap (λ (c : Bool). if c || operation_bits bits op right == bits then then_make (a_field set (operand_bits bits op left right) d) (λ spare after. field_binary_of g.typed (layout g) bits op place left right f spare after) else moved g.typed (layout g) (O.Field f) (T.Binary' ty place op p left q right) d) related
+      ∙ ap (λ (c : Bool). let k : ℕ = if c then bits_of (relation_kind left right) else operation_bits bits op right in
+      then_make (a_field set k d) (λ spare after. fields_by op (reads_signed op left right) place f spare (operand_by g.typed (layout g) k (value_of g.typed (layout g) k left) (is_quiet right) left) left (operand_by g.typed (layout g) k (value_of g.typed (layout g) k right) true right) right after)) related
       ∙ relation_put set op place f first left second right d related no_check
       ∙ sym (ap (λ (o : Option ℕ). then_make (relation_by (unwrap_or o 0) op first left second right d) (put_in f)) shaped)
     where
       f : Field
-      f = word_field set offset
+      f = field_at set offset bits
 
       first : Code
       first = operand_by g.typed (layout g) (bits_of (relation_kind left right)) (value_of g.typed (layout g) (bits_of (relation_kind left right)) left) (is_quiet right) left
@@ -134,32 +230,54 @@ module _ (g : Setting) where
       second : Code
       second = operand_by g.typed (layout g) (bits_of (relation_kind left right)) (value_of g.typed (layout g) (bits_of (relation_kind left right)) right) true right
 
-  not_code : (set offset : ℕ) (ty : ValueType) (p : Boxed) (op : UnaryOp) (operand : TExpr) (d : Draft) → negates op ≡ true
-      → computed_to g.typed (layout g) (O.Field (word_field set offset)) (T.Unary' ty op p operand) d ≡ then_make (truth_of g.typed (layout g) (T.Unary' ty op p operand) d) (put_in (word_field set offset))
+  not_code : (set offset bits : ℕ) (ty : ValueType) (p : Boxed) (op : UnaryOp) (operand : TExpr) (d : Draft) → negates op ≡ true → (bits == 1 && bits_of (kind_of operand) == 1) ≡ false → is_kept operand ≡ false
+      → computed_to g.typed (layout g) (O.Field (field_at set offset bits)) (T.Unary' ty op p operand) d ≡ then_make (truth_of g.typed (layout g) (T.Unary' ty op p operand) d) (put_in (field_at set offset bits))
   unfolding computed_to truth_of is_plus negates unary_bits bits_for done_as zero_tested
-  not_code set offset ty p U.Not operand d e = zero_put (layout g) (word_field set offset) (next_of g.typed (layout g) (bits_of (kind_of operand)) true operand d)
-  not_code set offset ty p U.Plus operand d e = cc
-  not_code set offset ty p U.Minus operand d e = cc
-  not_code set offset ty p U.Complement operand d e = cc
+  not_code set offset bits ty p U.Not operand d e no_bit fresh =
+      ap done (ap (λ (b : Bool). bits == 1 && (not b && bits_of (kind_of operand) == 1)) fresh ∙ no_bit) ∙ zero_put (layout g) (field_at set offset bits) (next_of g.typed (layout g) (bits_of (kind_of operand)) true operand d)
+    where
+      done : Bool → Made Out
+      done b = then_make (next_of g.typed (layout g) (bits_of (kind_of operand)) true operand d) (λ v after. negated (layout g) (if b then U.Complement else U.Not) (O.Field (field_at set offset bits)) v after)
+  not_code set offset bits ty p U.Plus operand d e no_bit fresh = cc
+  not_code set offset bits ty p U.Minus operand d e no_bit fresh = cc
+  not_code set offset bits ty p U.Complement operand d e no_bit fresh = cc
 
   -- two conditions joined
-  joined_code : (is_or : Bool) (set offset : ℕ) (e left right : TExpr) (d : Draft) → joins left right ≡ true
-      → logical_to g.typed (layout g) (O.Field (word_field set offset)) e is_or left right d
-      ≡ then_make (flag_of set (condition_of g.typed (layout g) left) d) (λ a between. then_make (flag_of set (condition_of g.typed (layout g) right) between) (λ b after. joined_last is_or set offset a b after))
+  joined_code : (is_or : Bool) (set offset bits : ℕ) (e left right : TExpr) (d : Draft) → joins left right ≡ true → (bits == 1) ≡ false
+      → logical_to g.typed (layout g) (O.Field (field_at set offset bits)) e is_or left right d
+      ≡ then_make (flag_of set (condition_of g.typed (layout g) left) d) (λ a between. then_make (flag_of set (condition_of g.typed (layout g) right) between) (λ b after. joined_last is_or set offset bits a b after))
   unfolding logical_to joined_of joined_by joined cleared first_bits
-  joined_code is_or set offset e left right d join = ap (λ (c : Bool). if c then joined_of g.typed (layout g) is_or (word_field set offset) left right d else moved g.typed (layout g) (O.Field (word_field set offset)) e d) join
+  joined_code is_or set offset bits e left right d join several =
+      ap (λ (c : Bool). if c then joined_of g.typed (layout g) is_or (field_at set offset bits) left right d else moved g.typed (layout g) (O.Field (field_at set offset bits)) e d) join
+      ∙ ap (λ (c : Bool). then_make (flag_of set (condition_of g.typed (layout g) left) d) (λ a between. then_make (flag_of set (condition_of g.typed (layout g) right) between) (λ b after.
+      Makes (O.Field (field_at set offset bits)) (with_instr (I.Operate (operation_of is_or) (field_at set offset 1) a b) (if c then after else with_instr (I.MoveConstant (field_at set offset bits) (K.Imm 0)) after))))) several
+
+  joined_bit_code : (is_or : Bool) (set offset : ℕ) (e left right : TExpr) (d : Draft) → joins left right ≡ true
+      → logical_to g.typed (layout g) (O.Field (field_at set offset 1)) e is_or left right d
+      ≡ then_make (flag_of set (condition_of g.typed (layout g) left) d) (λ a between. then_make (flag_of set (condition_of g.typed (layout g) right) between) (λ b after. bit_joined is_or set offset a b after))
+  unfolding logical_to joined_of joined_by joined cleared first_bits
+  joined_bit_code is_or set offset e left right d join = ap (λ (c : Bool). if c then joined_of g.typed (layout g) is_or (field_at set offset 1) left right d else moved g.typed (layout g) (O.Field (field_at set offset 1)) e d) join
 
   -- ---- what it means, and what its code leaves
 
-  pub truth_means : (scope : Scope) → PlacesFields g → SameExtents g scope → (alive : Variable → Type 0) (n : ℕ) (active : Active) (set : ℕ) (e : TExpr) (st : State) → IsTruth set e → HasItsCode g.typed g.instance alive n e → set < length (shapes g)
-      → evaluated scope e active st ≡ Gives (Parallel (λ q. value_in (extents g set) st e q)) st
-  truth_means scope places same alive n active set e st is c exists = condition_means g scope places same alive n active set e st (truth_condition set e is) c exists
+  pub truth_means : (scope : Scope) (places : PlacesFields g) → SameExtents g scope → (alive : Variable → Type 0) (n : ℕ) (fields : HoldsTheFields g) (set bits : ℕ) (e : TExpr) (st : State) → IsTruth set bits e → HasItsCode g.typed g.instance alive n e → set < length (shapes g)
+      → evaluated scope e fields.active st ≡ Gives (Parallel (λ q. value_in (extents g set) st e q)) st
+  unfolding IsTruth IsCondition evaluated value_in then_do convert_to each at
+  truth_means scope places same alive n fields set bits (T.Brackets' ty p inner) st is c exists = truth_means scope places same alive n fields set bits inner st is.1 (brackets_part g alive n places fields ty p inner c) exists
+  truth_means scope places same alive n fields set bits (T.Convert' ty p inner) st is c exists =
+      ap (λ (o : Outcome Value). then_do o (λ v after. Gives (convert_to ty (type_of inner).elem v) after)) (truth_means scope places same alive n fields set bits inner st is.2 (convert_part g alive n places fields ty p inner c) exists)
+      ∙ ap (λ (y : ValueType). Gives (convert_to y (type_of inner).elem (Parallel (λ q. value_in (extents g set) st inner q))) st) (as_shaped ty set is.0)
+  truth_means scope places same alive n fields set bits (T.Unary' ty op p operand) st is c exists = condition_means g scope places same alive n fields.active set (T.Unary' ty op p operand) st (is.0, inl (is.1, is.2)) c exists
+  truth_means scope places same alive n fields set bits (T.LogicalOr' ty p left q right) st is c exists = condition_means g scope places same alive n fields.active set (T.LogicalOr' ty p left q right) st is c exists
+  truth_means scope places same alive n fields set bits (T.LogicalAnd' ty p left q right) st is c exists = condition_means g scope places same alive n fields.active set (T.LogicalAnd' ty p left q right) st is c exists
+  truth_means scope places same alive n fields set bits (T.Binary' ty place op p left q right) st is c exists = condition_means g scope places same alive n fields.active set (T.Binary' ty place op p left q right) st is.1 c exists
+  truth_means scope places same alive n fields set bits _ st is c exists = absurd is
 
-  -- a bit that is moved to a word
-  puts_bit : (set : ℕ) (f kept : Field) (s : CodeState) (v : ℕ → ℕ) → f.len ≡ 32 → kept.len ≡ 1 → ((q : ℕ) → q < processors (shapes g) set → is_active (shapes g) s.memory set q ≡ true → number_in g kept s q ≡ from_bool (nonzero (v q))) → ((q : ℕ) → v q ≡ from_bool (nonzero (v q)))
+  -- a bit that is moved to a field
+  puts_bit : (set : ℕ) (f kept : Field) (s : CodeState) (v : ℕ → ℕ) → kept.len ≡ 1 → ((q : ℕ) → q < processors (shapes g) set → is_active (shapes g) s.memory set q ≡ true → number_in g kept s q ≡ from_bool (nonzero (v q))) → ((q : ℕ) → v q ≡ from_bool (nonzero (v q)))
       → Puts g set (I.Move false f kept) f s v
-  unfolding begun applied after step_of whole_number number_of residue
-  puts_bit set f kept s v wide bit are truth = record {
+  unfolding begun applied after step_of whole_number
+  puts_bit set f kept s v bit are truth = record {
     plain = refl;
     simple = tt;
     others = _;
@@ -168,66 +286,167 @@ module _ (g : Setting) where
     run = refl;
     writes = λ p. refl;
     value = λ p below on.
-        ap (λ (n : ℕ). residue n (number_of kept.len false (number_in g kept s p)) % 2 ^ n) wide ∙ ap (λ (n : ℕ). residue 32 (number_of n false (number_in g kept s p)) % 2 ^ 32) bit
-        ∙ ap (λ (w : ℕ). residue 32 (number_of 1 false w) % 2 ^ 32) (are p below on) ∙ by (nonzero (v p)) ∙ ap (λ (w : ℕ). w % 2 ^ 32) (sym (truth p)) ∙ ap (λ (n : ℕ). v p % 2 ^ n) (sym wide);
+        ap (λ (n : ℕ). residue f.len (number_of n false (number_in g kept s p)) % 2 ^ f.len) bit
+        ∙ ap (λ (z : ℤ). residue f.len z % 2 ^ f.len) (number_unsigned 1 (number_in g kept s p)) ∙ ap (λ (w : ℕ). w % 2 ^ f.len) (residue_of_pos f.len (number_in g kept s p))
+        ∙ cut_cut (number_in g kept s p) f.len f.len (omega arith) ∙ ap (λ (w : ℕ). w % 2 ^ f.len) (are p below on ∙ sym (truth p));
     small = λ p below on. subst (λ (w : ℕ). w < 2 ^ 32) (sym (truth p)) (from_bool_below (nonzero (v p)));
     goes = refl;
   }
+
+  -- the test flags in a field of one bit
+  puts_flags : (set offset : ℕ) (s : CodeState) (v : ℕ → ℕ) → ((q : ℕ) → q < processors (shapes g) set → is_active (shapes g) s.memory set q ≡ true → is_tested (shapes g) s.memory set q ≡ nonzero (v q)) → ((q : ℕ) → v q ≡ from_bool (nonzero (v q)))
+      → Puts g set (I.StoreTest (field_at set offset 1)) (field_at set offset 1) s v
+  unfolding begun applied after step_of
+  puts_flags set offset s v tests truth = record {
+    plain = refl;
+    simple = tt;
+    others = _;
+    names = refl;
+    write = elementwise (shapes g) (I.StoreTest (place g (field_at set offset 1))) [] s.memory;
+    run = refl;
+    writes = λ p. refl;
+    value = λ p below on. ap (λ (b : Bool). from_bool b % 2 ^ 1) (tests p below on) ∙ ap (λ (w : ℕ). w % 2 ^ 1) (sym (truth p));
+    small = λ p below on. subst (λ (w : ℕ). w < 2 ^ 32) (sym (truth p)) (from_bool_below (nonzero (v p)));
+    goes = refl;
+  }
+
+  -- two bits joined in one
+  puts_joined : (is_or : Bool) (set offset : ℕ) (a b : Field) (s : CodeState) (v w : ℕ → ℕ) → ((q : ℕ) → q < processors (shapes g) set → is_active (shapes g) s.memory set q ≡ true → number_in g a s q ≡ from_bool (nonzero (v q)))
+      → ((q : ℕ) → q < processors (shapes g) set → is_active (shapes g) s.memory set q ≡ true → number_in g b s q ≡ from_bool (nonzero (w q)))
+      → Puts g set (I.Operate (operation_of is_or) (field_at set offset 1) a b) (field_at set offset 1) s (λ q. from_bool (either_or_both is_or (nonzero (v q)) (nonzero (w q))))
+  unfolding begun applied after step_of
+  puts_joined is_or set offset a b s v w one other = record {
+    plain = refl;
+    simple = tt;
+    others = _;
+    names = refl;
+    write = elementwise (shapes g) (I.Operate (operation_of is_or) (place g (field_at set offset 1)) (place g a) (place g b)) [] s.memory;
+    run = refl;
+    writes = λ p. refl;
+    value = λ p below on.
+        ap (λ (n : ℕ). outcome (operator_of (operation_of is_or)).0 1 (operator_of (operation_of is_or)).1 n (number_in g b s p) % 2 ^ 1) (one p below on)
+        ∙ ap (λ (n : ℕ). outcome (operator_of (operation_of is_or)).0 1 (operator_of (operation_of is_or)).1 (from_bool (nonzero (v p))) n % 2 ^ 1) (other p below on)
+        ∙ joined_bits is_or (nonzero (v p)) (nonzero (w p)) 1 ∙ bit_of (either_or_both is_or (nonzero (v p)) (nonzero (w p)));
+    small = λ p below on. from_bool_below (either_or_both is_or (nonzero (v p)) (nonzero (w p)));
+    goes = refl;
+  }
     where
-      by : (b : Bool) → residue 32 (number_of 1 false (from_bool b)) % 2 ^ 32 ≡ from_bool b % 2 ^ 32
-      by true = refl
-      by false = refl
+      bit_of : (x : Bool) → from_bool (nonzero (from_bool x)) ≡ from_bool x % 2 ^ 1
+      bit_of true = refl
+      bit_of false = refl
 
   module _ (has : HasRegisters g) (alive : Variable → Type 0) (n : ℕ) (ready : (d : Draft) → IsReady g.typed g.instance (layout g) n d) (places : PlacesFields g) (fields : HoldsTheFields g) where
     -- What is said where a truth value goes to a variable of the file, behind code of conditions, is said of its code.
-    module _ (set k offset : ℕ) (info : VarInfo) (is_element : IsElement g.typed k info set 0) (word : info.elem.bits ≡ 32) (d : Draft) (s : CodeState) (st : State) (here : At g s (length d.code)) (sim : Sim g alive st s)
-        (entry : (f : Draft) (m : ℕ) → Extended d m f → Within g f → IsFileField g k 0 (word_field set offset)) (Q : Out → Draft → Type 0) where
+    module _ (set k offset bits : ℕ) (info : VarInfo) (is_element : IsElement g.typed k info set 0) (some : 0 < bits) (word : info.elem.bits ≡ bits) (d : Draft) (s : CodeState) (st : State) (here : At g s (length d.code)) (sim : Sim g alive st s)
+        (entry : (f : Draft) (m : ℕ) → Extended d m f → Within g f → IsFileField g k 0 (field_at set offset bits)) (Q : Out → Draft → Type 0) where
       abbrev f : Field
-      f = word_field set offset
+      f = field_at set offset bits
+
+      abbrev words_of : TExpr → ℕ → ℕ
+      words_of e = λ q. value_in (extents g set) st e q
 
       abbrev Last : TExpr → Type 1
-      Last e = (e2 f2 : Draft) (used : Type 0) → Within g f2 → (p : PassesTests g alive d e2 s st used) → used → TakesBehind g set f e2 f2 p.t (λ q. value_in (extents g set) st e q) → Q (O.Field f) f2
+      Last e = (e2 f2 : Draft) (used : Type 0) → Within g f2 → (p : PassesTests g alive d e2 s st used) → used → TakesBehind g set f e2 f2 p.t (words_of e) → Q (O.Field f) f2
 
-      -- by its test, and a bit that is moved
-      by_test : (e : TExpr) → IsCondition set e → has_truth e ≡ true → HasItsCode g.typed g.instance alive n e → ((q : ℕ) → value_in (extents g set) st e q ≡ from_bool (nonzero (value_in (extents g set) st e q)))
+      -- by an instruction behind such code
+      takes_behind : (len : ℕ) → len ≡ bits → (i : Instr) (e2 : Draft) (v : ℕ → ℕ) (used : Type 0) (p : PassesTests g alive d e2 s st used) → Within g (with_instr i e2) → Puts g set i (field_at set offset len) p.t v → TakesBehind g set f e2 (with_instr i e2) p.t v
+      takes_behind len same i e2 v used p within puts =
+          let file : IsFileField g k 0 f = entry (with_instr i e2) (p.grown.0 + 1) (extended d e2 (with_instr i e2) p.grown.0 1 p.grown.1 (and_one g i e2)) within in
+          instr_takes g set i f e2 p.t v (entry_and_below g places fields alive set k 0 info f is_element word file refl) within p.at (subst (λ (m : ℕ). Puts g set i (field_at set offset m) p.t v) same puts)
+
+      -- by its test, and a bit that is moved, or the flags
+      by_test : (e : TExpr) → IsCondition set e → has_truth e ≡ true → HasItsCode g.typed g.instance alive n e → ((q : ℕ) → words_of e q ≡ from_bool (nonzero (words_of e q)))
           → computed_to g.typed (layout g) (O.Field f) e d ≡ then_make (truth_of g.typed (layout g) e d) (put_in f) → Last e → After g Q (computed_to g.typed (layout g) (O.Field f) e d)
       unfolding step_of Extends tested_by
-      by_test e is told c truth code last =
-          after_same g Q (code ∙ sym (ap (λ (b : Bool). then_make (tested_by b (truth_of g.typed (layout g) e) (next_of g.typed (layout g) (bits_of (kind_of e)) true e) d) (put_in f)) told) ∙ through_bit set offset (tested g.typed (layout g) e d))
-          (then_after g (Truth g alive places fields d s set st v) Q (then_make (tested g.typed (layout g) e d) (stored_behind set)) (bit_moved f)
-          (flag_after g alive places fields set v d s st (tested g.typed (layout g) e d) (condition_tested g has alive n ready places fields set e is c d s st here sim))
-          (λ kept e2. (1, and_one g (I.Move false f kept) e2))
-          (λ kept e2 bit. made_after g Q (O.Field f) (with_instr (I.Move false f kept) e2) (λ within.
-          last e2 (with_instr (I.Move false f kept) e2) (Behind g kept e2) within bit.passes
-          (length e2.code, (names_second g (I.Move false f kept) f kept [] (length e2.code) (stands_here g (I.Move false f kept) e2 within refl) refl, omega arith))
-          (instr_takes g set (I.Move false f kept) f e2 bit.passes.t v
-          (entry_and_below g places fields alive set k 0 info f is_element word (entry (with_instr (I.Move false f kept) e2) (bit.passes.grown.0 + 1) (extended d e2 (with_instr (I.Move false f kept) e2) bit.passes.grown.0 1 bit.passes.grown.1 (and_one g (I.Move false f kept) e2)) within) refl) within bit.passes.at (puts_bit set f kept bit.passes.t v refl bit.len (λ q below on. bit.are q below (sym (flags_of g alive places fields st bit.passes.t set q bit.passes.sim bit.exists below) ∙ on)) truth)))))
+      by_test e is told c truth code last = after_same g Q (code ∙ sym (ap (λ (b : Bool). then_make (tested_by b (truth_of g.typed (layout g) e) (next_of g.typed (layout g) (bits_of (kind_of e)) true e) d) (put_in f)) told)) (by (bits == 1) refl)
         where
-          v : ℕ → ℕ
-          v = λ q. value_in (extents g set) st e q
+          tests : Made (Unit {0})
+          tests = tested g.typed (layout g) e d
+
+          bit_put : (len : ℕ) → len ≡ bits → len ≡ 1 → After g Q (then_make tests (put_in (field_at set offset len)))
+          bit_put len same one =
+              after_same g Q (ap (λ (n : ℕ). then_make tests (put_in (field_at set offset n))) one ∙ at_once set offset tests)
+              (then_after g (λ _ x. LeavesTests g alive fields d s set st (words_of e) x) Q tests (flag_stored (field_at set offset 1)) (condition_tested g has alive n ready places fields set e is c d s st here sim) (λ x e2. (1, and_one g (I.StoreTest (field_at set offset 1)) e2))
+              (λ x e2 left. made_after g Q (O.Field (field_at set offset 1)) (with_instr (I.StoreTest (field_at set offset 1)) e2) (λ within.
+              let is_one : bits ≡ 1 = sym same ∙ one in
+              let puts : Puts g set (I.StoreTest (field_at set offset 1)) (field_at set offset 1) left.leaves.t (words_of e) =
+              puts_flags set offset left.leaves.t (words_of e)
+              (λ q below on. left.flags q below (sym (flags_of g alive places fields st left.leaves.t set q left.leaves.sim (subst (λ (m : ℕ). m < length (shapes g)) refl (places.exists k 0 set info is_element)) below) ∙ on)) truth in
+              subst (λ (m : ℕ). Q (O.Field (field_at set offset m)) (with_instr (I.StoreTest (field_at set offset 1)) e2)) is_one
+              (last e2 (with_instr (I.StoreTest (field_at set offset 1)) e2) (Unit {0}) within left.leaves tt (takes_behind 1 (sym is_one) (I.StoreTest (field_at set offset 1)) e2 (words_of e) (Unit {0}) left.leaves within puts)))))
+
+          by : (b : Bool) → (bits == 1) ≡ b → After g Q (then_make tests (put_in f))
+          by true one = bit_put bits refl (eqb-true bits 1 one)
+          by false several =
+              after_same g Q (through_bit set offset bits tests several)
+              (then_after g (Truth g alive places fields d s set st (words_of e)) Q (then_make tests (stored_behind set)) (bit_moved f) (flag_after g alive places fields set (words_of e) d s st tests (condition_tested g has alive n ready places fields set e is c d s st here sim))
+              (λ kept e2. (1, and_one g (I.Move false f kept) e2))
+              (λ kept e2 bit. made_after g Q (O.Field f) (with_instr (I.Move false f kept) e2) (λ within.
+              last e2 (with_instr (I.Move false f kept) e2) (Behind g kept e2) within bit.passes (length e2.code, (names_second g (I.Move false f kept) f kept [] (length e2.code) (stands_here g (I.Move false f kept) e2 within refl) refl, omega arith))
+              (takes_behind bits refl (I.Move false f kept) e2 (words_of e) (Behind g kept e2) bit.passes within
+              (puts_bit set f kept bit.passes.t (words_of e) bit.len (λ q below on. bit.are q below (sym (flags_of g alive places fields st bit.passes.t set q bit.passes.sim bit.exists below) ∙ on)) truth)))))
 
       -- by the operation on two bits
       by_operation : (is_or : Bool) (e left right : TExpr) → IsCondition set left → IsCondition set right → ignores_context right ≡ true → HaveTheirCode g.typed g.instance alive n left right
-          → ◌≡◌ {A = ℕ → ℕ} (λ q. from_bool (either_or_both is_or (nonzero (value_in (extents g set) st left q)) (nonzero (value_in (extents g set) st right q)))) (λ q. value_in (extents g set) st e q) → Last e → After g Q (logical_to g.typed (layout g) (O.Field f) e is_or left right d)
-      unfolding Extends
-      by_operation is_or e left right is also same codes value last =
-          after_same g Q (joined_code is_or set offset e left right d (conditions_join set left right is also same))
-          (both_flagged g has alive n ready places fields set left right is also codes d s st here sim Q (λ a b e2. joined_last is_or set offset a b e2) (λ a b e2. (2, joined_more g is_or set offset a b e2)) (λ a b e1 e2 one two. made_after g Q (O.Field f) (joined_behind is_or set offset a b e2) (λ within.
-          let (passes, takes) = truths_taken g places fields alive set k offset info is_element word is_or a b d e1 e2 s st (λ q. value_in (extents g set) st left q) (λ q. value_in (extents g set) st right q) one two (λ m longer. entry (joined_behind is_or set offset a b e2) m longer within) within in
-          last e2 (joined_behind is_or set offset a b e2) (Unit {0}) within passes tt (subst (λ (v : ℕ → ℕ). TakesBehind g set f e2 (joined_behind is_or set offset a b e2) passes.t v) value takes))))
+          → ◌≡◌ {A = ℕ → ℕ} (λ q. from_bool (either_or_both is_or (nonzero (words_of left q)) (nonzero (words_of right q)))) (words_of e) → Last e → After g Q (logical_to g.typed (layout g) (O.Field f) e is_or left right d)
+      unfolding Extends step_of tests_on
+      by_operation is_or e left right is also same codes value last = by (bits == 1) refl
+        where
+          join : joins left right ≡ true
+          join = conditions_join set left right is also same
 
-      truth_computed : (e : TExpr) → IsTruth set e → HasItsCode g.typed g.instance alive n e → Last e → After g Q (computed_to g.typed (layout g) (O.Field f) e d)
-      unfolding IsTruth IsCondition computed_to value_in has_truth
+          bit_put : (len : ℕ) → len ≡ bits → len ≡ 1 → After g Q (logical_to g.typed (layout g) (O.Field (field_at set offset len)) e is_or left right d)
+          bit_put len len_is one =
+              after_same g Q (ap (λ (m : ℕ). logical_to g.typed (layout g) (O.Field (field_at set offset m)) e is_or left right d) one ∙ joined_bit_code is_or set offset e left right d join)
+              (both_flagged g has alive n ready places fields set left right is also codes d s st here sim Q (λ a b e2. bit_joined is_or set offset a b e2) (λ a b e2. (1, and_one g (I.Operate (operation_of is_or) (field_at set offset 1) a b) e2))
+              (λ a b e1 e2 left_bit right_bit. made_after g Q (O.Field (field_at set offset 1)) (with_instr (I.Operate (operation_of is_or) (field_at set offset 1) a b) e2) (λ within.
+              let i : Instr = I.Operate (operation_of is_or) (field_at set offset 1) a b in
+              let is_one : bits ≡ 1 = sym len_is ∙ one in
+              let there : StandsAt g.unit (length e2.code) i = stands_here g i e2 within refl in
+              let named_a : IsNamedAt g.unit a.offset (length e2.code) = names_second g i _ a (b ∷ []) (length e2.code) there refl in
+              let behind_b : Behind g b e2 = (length e2.code, (names_third g i _ a b [] (length e2.code) there refl, omega arith)) in
+              let longer = code_longer e1 e2 right_bit.passes.grown.0 right_bit.passes.grown.1 in
+              let early : Behind g a e1 = (length e2.code, (named_a, longer)) in
+              let passes : PassesTests g alive d e2 s st (Unit {0}) = tests_on g alive d e1 e2 s st (Behind g a e1) (Behind g b e2) (Unit {0}) left_bit.passes right_bit.passes (λ u. early) (λ u. behind_b) in
+              let still : (q : ℕ) → number_in g a right_bit.passes.t q ≡ number_in g a left_bit.passes.t q = λ q. right_bit.passes.stays behind_b a left_bit.somewhere (length e2.code) q left_bit.older left_bit.own left_bit.ends left_bit.named left_bit.before named_a (omega arith) in
+              let on : (q : ℕ) → q < processors (shapes g) set → is_active (shapes g) right_bit.passes.t.memory set q ≡ true → fields.active set q ≡ true = λ q below active. sym (flags_of g alive places fields st right_bit.passes.t set q right_bit.passes.sim right_bit.exists below) ∙ active in
+              let puts : Puts g set i (field_at set offset 1) right_bit.passes.t (words_of e) =
+              subst (λ (v : ℕ → ℕ). Puts g set i (field_at set offset 1) right_bit.passes.t v) value
+              (puts_joined is_or set offset a b right_bit.passes.t (words_of left) (words_of right) (λ q below active. still q ∙ left_bit.are q below (on q below active)) (λ q below active. right_bit.are q below (on q below active))) in
+              subst (λ (m : ℕ). Q (O.Field (field_at set offset m)) (with_instr i e2)) is_one
+              (last e2 (with_instr i e2) (Unit {0}) within passes tt (takes_behind 1 (sym is_one) i e2 (words_of e) (Unit {0}) passes within puts)))))
+
+          by : (b : Bool) → (bits == 1) ≡ b → After g Q (logical_to g.typed (layout g) (O.Field f) e is_or left right d)
+          by true one = bit_put bits refl (eqb-true bits 1 one)
+          by false several =
+              after_same g Q (joined_code is_or set offset bits e left right d join several)
+              (both_flagged g has alive n ready places fields set left right is also codes d s st here sim Q (λ a b e2. joined_last is_or set offset bits a b e2) (λ a b e2. (2, joined_more g is_or set offset bits a b e2)) (λ a b e1 e2 one two. made_after g Q (O.Field f) (joined_behind is_or set offset bits a b e2) (λ within.
+              let (passes, takes) = truths_taken g places fields alive set k offset info is_element bits some word is_or a b d e1 e2 s st (words_of left) (words_of right) one two (λ m longer. entry (joined_behind is_or set offset bits a b e2) m longer within) within in
+              last e2 (joined_behind is_or set offset bits a b e2) (Unit {0}) within passes tt (subst (λ (v : ℕ → ℕ). TakesBehind g set f e2 (joined_behind is_or set offset bits a b e2) passes.t v) value takes))))
+
+      truth_computed : (e : TExpr) → IsTruth set bits e → HasItsCode g.typed g.instance alive n e → Last e → After g Q (computed_to g.typed (layout g) (O.Field f) e d)
+      unfolding IsTruth IsCondition computed_to value_in has_truth goes_unchanged keeps_bits
       truth_computed (T.Brackets' ty p inner) is c last = truth_computed inner is.1 (brackets_part g alive n places fields ty p inner c) last
-      truth_computed (T.Unary' ty op p operand) is c last = by_test (T.Unary' ty op p operand) (truth_condition set (T.Unary' ty op p operand) is) is.1 c (λ q. truth_bit (extents g set) st set (T.Unary' ty op p operand) q is) (not_code set offset ty p op operand d is.1) last
+      truth_computed (T.Convert' ty p inner) is c last =
+          after_same g Q (ap (λ (b : Bool). if b then computed_to g.typed (layout g) (O.Field f) inner d else converted_to g.typed (layout g) (O.Field f) (T.Convert' ty p inner) ty.elem inner d) (kept (nat_le bits ty.elem.bits) (let long = is.1 in grind (arith, nat_tests, long)) (not (ty.elem.bits == 1)) (bits_of (kind_of inner) == 1) (truth_flag set bits inner is.2)))
+          (truth_computed inner is.2 (convert_part g alive n places fields ty p inner c)
+          (λ e2 f2 used within p wanted takes. last e2 f2 used within p wanted (subst (λ (v : ℕ → ℕ). TakesBehind g set f e2 f2 p.t v) (λ j q. sym (truth_converted (extents g set) st set bits ty.elem inner q is.2) j) takes)))
+        where
+          kept : (a : Bool) → a ≡ true → (b c : Bool) → c ≡ true → (a && (b || c)) ≡ true
+          kept true e true c h = refl
+          kept true e false true h = refl
+          kept true e false false h = cc
+          kept false e b c h = cc
+      truth_computed (T.Unary' ty op p operand) is c last =
+          by_test (T.Unary' ty op p operand) (is.0, inl (is.1, is.2)) is.1 c (λ q. truth_bit (extents g set) st set bits (T.Unary' ty op p operand) q is) (not_code set offset bits ty p op operand d is.1 is.3 (condition_kept set operand is.2)) last
       truth_computed (T.LogicalOr' ty p left q right) is c last = by_operation true (T.LogicalOr' ty p left q right) left right is.1 is.2 is.3 (or_codes g.typed g.instance alive n set ty p q left right is.2 c) refl last
       truth_computed (T.LogicalAnd' ty p left q right) is c last = by_operation false (T.LogicalAnd' ty p left q right) left right is.1 is.2 is.3 (and_codes g.typed g.instance alive n set ty p q left right is.2 c) refl last
       truth_computed (T.Binary' ty place op p left q right) is c last =
-          by_test (T.Binary' ty place op p left q right) is.1 is.0 c (λ x. truth_bit (extents g set) st set (T.Binary' ty place op p left q right) x is) (relation_code set offset ty place op p q left right d is.1.0.0 is.0 is.1.1) last
+          by_test (T.Binary' ty place op p left q right) is.1 is.0 c (λ x. truth_bit (extents g set) st set bits (T.Binary' ty place op p left q right) x is) (relation_code set offset bits ty place op p q left right d is.1.0.0 is.0 is.1.1) last
       truth_computed _ is c last = absurd is
 
-      pub truth_last : (e : TExpr) → IsTruth set e → HasItsCode g.typed g.instance alive n e → Last e → After g Q (put_to g.typed (layout g) (O.Field f) e d)
+      pub truth_last : (e : TExpr) → IsTruth set bits e → HasItsCode g.typed g.instance alive n e → Last e → After g Q (put_to g.typed (layout g) (O.Field f) e d)
       unfolding put_to word_for
       truth_last e is c last =
-          after_same g Q (ap (λ (o : Option ℕ). elim o as (λ _. Made Out) [ Some word ↦ word_put (O.Field f) word d | None ↦ computed_to g.typed (layout g) (O.Field f) e d ]) (truth_word set e is))
+          after_same g Q (ap (λ (o : Option ℕ). elim o as (λ _. Made Out) [ Some word ↦ word_put (O.Field f) word d | None ↦ computed_to g.typed (layout g) (O.Field f) e d ]) (truth_word set bits e is))
           (truth_computed e is c last)

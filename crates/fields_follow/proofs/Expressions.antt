@@ -438,8 +438,8 @@ module _ (g : Setting) (has : HasRegisters g) (alive : Variable → Type 0) (n :
   pure_after bits set _ most is c = absurd is
 
   -- an operand of 32 bits has its numbers
-  pub whole_after : (set : ℕ) (e : TExpr) (quiet : Bool) → IsPure set e → IsWide set (type_of e) → HasItsCode g.typed g.instance alive n e → (d : Draft) (s : CodeState) (st : State) → At g s (length d.code) → Sim g alive st s
-      → After g (Answers 32 (length d.fields) d s set st (λ q. value_in (extents g set) st e q)) (operand 32 quiet e d)
-  whole_after set e quiet pure wide c d s st here sim =
-      answers_alike 32 (length d.fields) d s set st (λ q. word_at (extents g set) st e q) (λ q. value_in (extents g set) st e q) (operand 32 quiet e d) (alike_same g 32 set _ _ (λ q below few. sym (pure_at g alive n places fields set e st s sim pure wide c q below)))
-      (operand_after g has alive n ready places fields 32 set e quiet pure c.code.names (pure_after 32 set e (omega arith) pure c) d s st here sim)
+  pub whole_after : (bits set : ℕ) (e : TExpr) (quiet : Bool) → bits ≤ 32 → IsPure set e → IsWide set (type_of e) → HasItsCode g.typed g.instance alive n e → (d : Draft) (s : CodeState) (st : State) → At g s (length d.code) → Sim g alive st s
+      → After g (Answers bits (length d.fields) d s set st (λ q. value_in (extents g set) st e q)) (operand bits quiet e d)
+  whole_after bits set e quiet most pure wide c d s st here sim =
+      answers_alike bits (length d.fields) d s set st (λ q. word_at (extents g set) st e q) (λ q. value_in (extents g set) st e q) (operand bits quiet e d) (alike_same g bits set _ _ (λ q below few. sym (pure_at g alive n places fields set e st s sim pure wide c q below)))
+      (operand_after g has alive n ready places fields bits set e quiet pure c.code.names (pure_after bits set e most pure c) d s st here sim)

@@ -1,6 +1,6 @@
 -- A get that wraps names the extents of its shape: `dimof` in its indexes has the extent of the axis, and there is one
 -- index for each.
-use Rattle.std.proofs.Common.{◌≡◌, ◌∙◌, ℕ, suc, ◌+◌, Bool, true, false, ◌&&◌, ◌==◌, List, [], ◌∷◌, length, map, Option, Some, None, refl, sym, ap, subst, if◌then◌else◌, arith}
+use Rattle.std.proofs.Common.{◌≡◌, ◌∙◌, ℕ, suc, ◌+◌, Bool, true, false, ◌&&◌, ◌==◌, List, [], ◌∷◌, length, Option, Some, None, refl, sym, ap, subst, if◌then◌else◌, arith}
 use Rattle.std.specs.Prelude.{slice_get}
 use Rattle.std.proofs.lemmas.Bool.Decides.{nat_tests}
 use Rattle.std.proofs.lemmas.Option.{slice_get-map}
@@ -17,7 +17,7 @@ use Rattle.lower_comm.specs.declared.news.NewsStep.{NewsStep}
 use Rattle.lower_comm.specs.News.{is_extent, offset_of, step_of, wrapped_step}
 use Rattle.source_meaning.specs.Programs.{extents_of}
 use Rattle.code_follows.proofs.Standing.{some_same}
-use Rattle.fields_follow.specs.Fragment.{AreWrapping, IsIndex, IsWrapping}
+use Rattle.fields_follow.specs.Fragment.{AreWrapping, IsIndex}
 use Rattle.fields_follow.proofs.Meaning.{always_checked}
 
 -- an index names this extent, if any

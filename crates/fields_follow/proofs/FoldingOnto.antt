@@ -20,14 +20,14 @@ use Rattle.code_lengths.specs.Shaped.{IsShaped}
 use Rattle.lower_base.specs.declared.emit.Out.{Out}
 use Rattle.lower_base.specs.declared.emit.Out.TheVariants as O
 use Rattle.lower_base.specs.Drafts.{Draft, Fails, Made, Makes, a_register, from, in_field, in_register, shortened, then_make, with_instr}
-use Rattle.lower_base.specs.Kinds.{fold_bits, fold_by, folded_bits, folded_kind, kind_of}
+use Rattle.lower_base.specs.Kinds.{fold_bits, fold_by, folded_kind, kind_of}
 use Rattle.lower_base.specs.Layouts.{register_of}
 use Rattle.lower_base.specs.Operators.{assign_op_of, fold_of, is_signed, operation_of, reduce_op_of}
 use Rattle.lower_comm.specs.Messages.{assigned as assigned_in, communicated, folded_onto, part_field, part_register, with_fold, with_sign}
 use Rattle.lower_expr.specs.declared.operands.Own.{Own}
 use Rattle.lower_expr.specs.declared.spots.Spot.TheVariants as S
 use Rattle.lower_expr.specs.Effects.{assignment_effect, effect_of, folds, variable_assigned, whole_of, writes_itself}
-use Rattle.lower_expr.specs.Kinds.{assigned_bits, longer, operator_bits}
+use Rattle.lower_expr.specs.Kinds.{assigned_bits, longer, operator_bits, reduced_bits}
 use Rattle.lower_expr.specs.Lengths.{bare, is_send, is_sent}
 use Rattle.lower_expr.specs.Spots.{loaded, stored as stored_at, variable_spot}
 use Rattle.lower_expr.specs.Steps.{assigned_signed, is_kept, put_value}
@@ -50,7 +50,7 @@ use Rattle.code_follows.proofs.Operators.{wide_signed}
 use Rattle.code_follows.proofs.Settings.{At, Setting, layout}
 use Rattle.code_follows.proofs.Targets.{TargetIs, assign_code, assign_means, bare_target, variable_in}
 use Rattle.code_follows.proofs.Values.{and_register, with_reg}
-use Rattle.fields_follow.specs.Fragment.{IsFoldOnto, IsWhole, IsScalarTarget, assignment_of}
+use Rattle.fields_follow.specs.Fragment.{IsFoldOnto, IsFolded, IsScalarTarget, assignment_of}
 use Rattle.fields_follow.proofs.Forms.{HasItsCode, pure_kept}
 use Rattle.fields_follow.proofs.Instructions.{SameExtents, extents}
 use Rattle.fields_follow.proofs.Meaning.{as_shaped, value_in}
@@ -58,7 +58,7 @@ use Rattle.fields_follow.proofs.Pure.{are_grids, pure_means}
 use Rattle.fields_follow.proofs.Onto.{LeavesScalars, folds_onto, stored_in as stored_behind, stored_more}
 use Rattle.fields_follow.proofs.Passing.{After, after_same, gives_from, made_after, then_after}
 use Rattle.fields_follow.proofs.Places.{HoldsTheFields, PlacesFields}
-use Rattle.fields_follow.proofs.Reductions.{GivesPure, OperandsStand, whole_type}
+use Rattle.fields_follow.proofs.Reductions.{GivesPure, OperandsStand, folded_most, folds_so}
 use Rattle.fields_follow.proofs.Totals.{never_by_zero, operator_is}
 
 lowest_inside : (bits : ℕ) (made : Made Out) (next : Out → Draft → Made Out) → lowest bits (then_make made next) ≡ then_make made (λ v after. lowest bits (next v after))
@@ -83,7 +83,7 @@ onto_means scope active place reduction elem from set x v st shaped =
     ∙ ap (λ (b : Bool). unless (if b then Some None else None) DivZero place st (assign_to scope active (assignment_of reduction) (scalar_type elem) (record { elem = from.elem; shape = Some set }) (OfScalar x) (Parallel v) st)) (never_by_zero reduction (v 0))
 
 module _ (g : Setting) (alive : Variable → Type 0) (n : ℕ) where
-  module _ (target : TExpr) (v : TargetIs g alive n target) (ty : ValueType) (place : Place) (reduction : ReduceOp) (p q : Boxed) (value : TExpr) (set : ℕ) (is : IsWhole set value) where
+  module _ (target : TExpr) (v : TargetIs g alive n target) (ty : ValueType) (place : Place) (reduction : ReduceOp) (p q : Boxed) (value : TExpr) (set : ℕ) (is : IsFolded set (reduce_op_of reduction) value) where
     abbrev whole : TExpr
     whole = T.Assign' ty place (assignment_of reduction) p target q value
 
@@ -101,7 +101,7 @@ module _ (g : Setting) (alive : Variable → Type 0) (n : ℕ) where
     unfolding effect_of assignment_effect writes_itself folds
     as_value d =
         ap (λ (o : Option Own). written (elim o as (λ _. Option Own) [ Some own ↦ if writes_itself own (assignment_of reduction) (type_of target).elem value then Some own else None | None ↦ None ])) (v.own 1)
-        ∙ ap (λ (k : Bool). written (if not (true && not k) && (elim (assign_op_of (assignment_of reduction)) as (λ _. Bool) [ None ↦ true | Some o ↦ true ]) then Some (record { shape = None; variable = v.variable }) else None)) (pure_kept set value is.0)
+        ∙ ap (λ (k : Bool). written (if not (true && not k) && (elim (assign_op_of (assignment_of reduction)) as (λ _. Bool) [ None ↦ true | Some o ↦ true ]) then Some (record { shape = None; variable = v.variable }) else None)) (pure_kept set value is.0.0)
       where
         written : Option Own → Made Out
         written o = elim o as (λ _. Made Out) [
@@ -109,18 +109,22 @@ module _ (g : Setting) (alive : Variable → Type 0) (n : ℕ) where
           | None ↦ value_of g.typed (layout g) ty.elem.bits whole d
         ]
 
-    bits_are : (kind_of value ≡ None) → operator_bits operator None value ≡ 32
-    unfolding operator_bits folded_bits
-    bits_are none = ap (λ (k : Bool). if k then 32 else fold_bits operator value) (pure_kept set value is.0) ∙ ap (λ (k : Option Elem). folded_bits (fold_by operator value) k) none
+    -- at so many bits the value is folded
+    abbrev bits : ℕ
+    bits = reduced_bits reduction value
+
+    bits_are : operator_bits operator None value ≡ bits
+    unfolding operator_bits
+    bits_are = ap (λ (k : Bool). if k then 32 else fold_bits operator value) (pure_kept set value is.0.0)
 
     -- the code of the value, and what is behind it
-    code_is : (d : Draft) → effect_of g.typed (layout g) whole d ≡ then_make (next_of g.typed (layout g) 32 true value (with_reg d)) (λ out after. behind d out after)
+    code_is : (d : Draft) → effect_of g.typed (layout g) whole d ≡ then_make (next_of g.typed (layout g) bits true value (with_reg d)) (λ out after. behind d out after)
     unfolding assign_by assigned_bits is_send bare is_sent assigned_by updated_by spot_of variable_spot then_make a_register
     code_is d =
         as_value d ∙ assign_code g alive n target v ty place (assignment_of reduction) p q value ty.elem.bits d
         ∙ ap (λ (m : Option Op). lowest ty.elem.bits (assigned_by g.typed (layout g) whole (bits_by m) m place bare_one value None (spot_of g.typed (layout g) bare_one) (λ b. value_of g.typed (layout g) (bits_by m) value b) d)) (operator_is reduction)
-        ∙ ap (λ (b : ℕ). made b (is_kept value)) (bits_are is.1) ∙ ap (λ (k : Bool). made 32 k) (pure_kept set value is.0)
-        ∙ lowest_inside ty.elem.bits (next_of g.typed (layout g) 32 true value (with_reg d)) (λ out after. register_folded g.typed (layout g) whole bare_one d.regs (S.Register own) out after)
+        ∙ ap (λ (b : ℕ). made b (is_kept value)) bits_are ∙ ap (λ (k : Bool). made bits k) (pure_kept set value is.0.0)
+        ∙ lowest_inside ty.elem.bits (next_of g.typed (layout g) bits true value (with_reg d)) (λ out after. register_folded g.typed (layout g) whole bare_one d.regs (S.Register own) out after)
       where
         bare_one : TExpr
         bare_one = bare_target g alive n target v
@@ -141,25 +145,25 @@ module _ (g : Setting) (alive : Variable → Type 0) (n : ℕ) where
       info = variable_info known.word (plain (type_of target)) known.start
 
       abbrev stored_in : Field → Draft → Draft
-      stored_in f e = stored_behind g alive has d free v.variable info v.living (known.named, v.scalar) reduction (type_of value).elem (whole_type set value is).1 d.regs f e
+      stored_in f e = stored_behind g alive has d free v.variable info v.living (known.named, v.scalar) reduction (type_of value).elem is.1.1 d.regs f e
 
       -- behind a value in a field it is folded and stored
       field_made : (f : Field) (e : Draft) → behind d (O.Field f) e ≡ Makes (O.Scalar d.regs) (stored_in f e)
-      unfolding lowest shortened register_folded a_register then_make loaded in_register communicated assigned_in folded_onto part_field part_register from in_field out-TExpr Carrier.out with_fold with_sign folded_kind stored_at put_value
+      unfolding lowest shortened register_folded a_register then_make loaded in_register communicated assigned_in folded_onto part_field part_register from in_field out-TExpr Carrier.out with_fold with_sign stored_at put_value
       field_made f e =
-          ap (λ (m : Option Op). made m (kind_of value) (is_signed (type_of value).elem)) (operator_is reduction) ∙ ap (λ (k : Option Elem). made (Some operator) k (is_signed (type_of value).elem)) (is.1)
-          ∙ ap (λ (signed : Bool). made (Some operator) None signed) (wide_signed (type_of value).elem (whole_type set value is).1)
+          ap (λ (m : Option Op). made (elim m as (λ _. Op) [ None ↦ Op.Add | Some given ↦ given ]) (folded_kind (fold_of (elim m as (λ _. Op) [ None ↦ Op.Add | Some given ↦ given ]) (is_signed (type_of value).elem)) (kind_of value)) (is_signed (type_of value).elem)) (operator_is reduction)
+          ∙ ap (λ (k : Option Elem). made operator k (is_signed (type_of value).elem)) is.2
+          ∙ ap (λ (signed : Bool). made operator None signed) (wide_signed (type_of value).elem is.1.1)
         where
-          made : Option Op → Option Elem → Bool → Made Out
-          made m k signed =
-              let o : Op = elim m as (λ _. Op) [ None ↦ Op.Add | Some given ↦ given ] in
+          made : Op → Option Elem → Bool → Made Out
+          made o k signed =
               let between : Draft = with_instr (I.FrontMove e.regs own) (with_reg e) in
               Makes (O.Scalar d.regs) (with_instr (I.FrontMove own d.regs) (with_instr (I.FrontConvert d.regs d.regs (type_of target).elem)
-              (with_instr (I.FrontOperate (operation_of o signed) d.regs e.regs between.regs) (with_sign (folded_kind (fold_of o signed) k) between.regs (with_instr (I.Global (fold_of o signed) between.regs f) (with_reg between))))))
+              (with_instr (I.FrontOperate (operation_of o signed) d.regs e.regs between.regs) (with_sign k between.regs (with_instr (I.Global (fold_of o signed) between.regs f) (with_reg between))))))
 
       behind_grows : (out : Out) (e : Draft) → Extends g e (behind d out e)
       unfolding Extends lowest register_folded a_register then_make loaded in_register communicated assigned_in folded_onto part_field from in_field out-TExpr Carrier.out
-      behind_grows (O.Field f) e = subst (λ (m : Made Out). Extends g e m) (sym (field_made f e)) (stored_more g alive has d free v.variable info v.living (known.named, v.scalar) reduction (type_of value).elem (whole_type set value is).1 d.regs f e)
+      behind_grows (O.Field f) e = subst (λ (m : Made Out). Extends g e m) (sym (field_made f e)) (stored_more g alive has d free v.variable info v.living (known.named, v.scalar) reduction (type_of value).elem is.1.1 d.regs f e)
       behind_grows (O.Scalar r) e = tt
       behind_grows O.Nothing e = tt
 
@@ -174,12 +178,12 @@ module _ (g : Setting) (alive : Variable → Type 0) (n : ℕ) where
         leaves_it : HasItsCode g.typed g.instance alive n value → (s : CodeState) → At g s (length d.code) → Sim g alive st s → After g (λ out f. LeavesScalars g alive d s st left f) (effect_of g.typed (layout g) whole d)
         leaves_it c s here sim =
             after_same g R (code_is d)
-            (then_after g (GivesPure g alive set value (with_reg d) s st) R (next_of g.typed (layout g) 32 true value (with_reg d)) (λ out after. behind d out after) (stand set value is c (with_reg d) s st here sim) behind_grows
+            (then_after g (GivesPure g alive bits set value (with_reg d) s st) R (next_of g.typed (layout g) bits true value (with_reg d)) (λ out after. behind d out after) (stand bits set value (folded_most g alive scope places fields n stand same_extents (fold_by (reduce_op_of reduction) value) set value is.0) is.0.0 is.1 c (with_reg d) s st here sim) behind_grows
             (λ out e h. after_same g R (ap (λ (o : Out). behind d o e) h.1.0 ∙ field_made h.0 e) (made_after g R (O.Scalar d.regs) (stored_in h.0 e) (λ within.
             let gives = h.1.1 in
             let regs = gives.passes.grown.1.regs in
-            folds_onto g alive has d free v.variable info v.living (known.named, v.scalar) reduction (type_of value).elem (whole_type set value is).1 d.regs h.0 places fields set (λ x. value_in (extents g set) st value x) e s st (stored_over (scope.extents set))
-            (λ exists. ap stored_over (sym (same_extents set exists))) (omega arith) (omega (arith, regs)) (gives_from g alive 32 (length d.fields) d (with_reg d) e s set st (λ x. value_in (extents g set) st value x) h.0 (and_register d) gives) within))))
+            folds_onto g alive has d free v.variable info v.living (known.named, v.scalar) reduction (type_of value).elem is.1.1 d.regs h.0 places fields set (λ x. value_in (extents g set) st value x) bits (folds_so g alive scope places fields n stand same_extents reduction value set is c s st sim) e s st (stored_over (scope.extents set))
+            (λ exists. ap stored_over (sym (same_extents set exists))) (omega arith) (omega (arith, regs)) (gives_from g alive bits (length d.fields) d (with_reg d) e s set st (λ x. value_in (extents g set) st value x) h.0 (and_register d) gives) within))))
           where
             R : Out → Draft → Type 0
             R out f = LeavesScalars g alive d s st left f
@@ -188,8 +192,8 @@ module _ (g : Setting) (alive : Variable → Type 0) (n : ℕ) where
         unfolding then_do positions
         means_it same c =
             assign_means g alive n target v ty place (assignment_of reduction) p q value same scope fields.active st
-            ∙ ap (λ (o : Outcome Value). then_do o (λ w after. assigned scope fields.active place (assignment_of reduction) (scalar_type (type_of target).elem) (type_of value) (OfScalar v.variable) w after)) (pure_means scope fields.active g.typed g.instance n set value st is.0 (are_grids g scope places same_extents set) c.code.names)
-            ∙ onto_means scope fields.active place reduction (type_of target).elem (type_of value) set v.variable (λ x. value_in (scope.extents set) st value x) st (whole_type set value is).0
+            ∙ ap (λ (o : Outcome Value). then_do o (λ w after. assigned scope fields.active place (assignment_of reduction) (scalar_type (type_of target).elem) (type_of value) (OfScalar v.variable) w after)) (pure_means scope fields.active g.typed g.instance n set value st is.0.0 (are_grids g scope places same_extents set) c.code.names)
+            ∙ onto_means scope fields.active place reduction (type_of target).elem (type_of value) set v.variable (λ x. value_in (scope.extents set) st value x) st is.1.0
 
   module _ (has : HasRegisters g) (scope : Scope) (places : PlacesFields g) (fields : HoldsTheFields g) (stand : OperandsStand g alive n) (same_extents : SameExtents g scope) where
     -- it gives something in the source, and its code leaves the state behind it
@@ -199,13 +203,13 @@ module _ (g : Setting) (alive : Variable → Type 0) (n : ℕ) where
     pub onto_leaves : (e : TExpr) → IsFoldOnto e → HasItsCode g.typed g.instance alive n e → (d : Draft) (s : CodeState) (st : State) → g.begins ≤ d.regs → At g s (length d.code) → Sim g alive st s → OntoLeaves e d s st
     unfolding IsFoldOnto NamesVariables IsShaped IsLowerable ScalarsAmong
     onto_leaves (T.Assign' ty place op p target q value) is c d s st free here sim =
-        subst (λ (o : AssignOp). OntoLeaves (T.Assign' ty place o p target q value) d s st) (sym is.2.1) (
-          Scalar (stored_over target v ty place is.2.0 p q value is.3.0 is.3.1 has names d free scope places fields stand same_extents st (scope.extents is.3.0)),
+        subst (λ (o : AssignOp). OntoLeaves (T.Assign' ty place o p target q value) d s st) (sym is.2.1.0) (
+          Scalar (stored_over target v ty place is.2.0 p q value is.2.1.1.0 is.2.1.1.1 has names d free scope places fields stand same_extents st (scope.extents is.2.1.1.0)),
           (
-            left target v ty place is.2.0 p q value is.3.0 is.3.1 has names d free scope places fields stand same_extents st,
+            left target v ty place is.2.0 p q value is.2.1.1.0 is.2.1.1.1 has names d free scope places fields stand same_extents st,
             (
-              means_it target v ty place is.2.0 p q value is.3.0 is.3.1 has names d free scope places fields stand same_extents st is.0 value_code,
-              leaves_it target v ty place is.2.0 p q value is.3.0 is.3.1 has names d free scope places fields stand same_extents st value_code s here sim,
+              means_it target v ty place is.2.0 p q value is.2.1.1.0 is.2.1.1.1 has names d free scope places fields stand same_extents st is.0 value_code,
+              leaves_it target v ty place is.2.0 p q value is.2.1.1.0 is.2.1.1.1 has names d free scope places fields stand same_extents st value_code s here sim,
             ),
           ),
         )

@@ -27,6 +27,7 @@ pub mod Leaving
 pub mod Lengths
 pub mod Meaning
 pub mod Named
+pub mod NarrowKinds
 pub mod Narrowing
 pub mod Neighbours
 pub mod News

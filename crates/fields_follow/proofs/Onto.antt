@@ -37,7 +37,7 @@ use Rattle.fields_follow.proofs.Folds.{folding}
 use Rattle.fields_follow.proofs.Instructions.{HasNumbers, number_in, place, shapes}
 use Rattle.fields_follow.proofs.Passing.{Behind, GivesField, Passes, code_longer, flags_of, gives_numbers}
 use Rattle.fields_follow.proofs.Places.{HoldsTheFields, IsOwnField, PlacesFields, names_first, stands_here}
-use Rattle.fields_follow.proofs.Reducing.{whole, whole_is}
+use Rattle.fields_follow.proofs.Reducing.{FoldsWords, whole}
 use Rattle.fields_follow.proofs.Totals.{held_below, onto_is}
 
 -- an operator of a reduction is an operation of the machine on words
@@ -206,17 +206,17 @@ module _ (g : Setting) (alive : Variable → Type 0) where
             },
           )
 
-      module _ (places : PlacesFields g) (fields : HoldsTheFields g) (set : ℕ) (v : ℕ → ℕ) where
+      module _ (places : PlacesFields g) (fields : HoldsTheFields g) (set : ℕ) (v : ℕ → ℕ) (bits : ℕ) (folds : FoldsWords g alive reduction from.signed places fields set v bits) where
         -- what the source stores in the variable
         abbrev stores_so : State → ℕ
         stores_so st = folded_into (assignment_of reduction) info.elem from (st.scalar x) (fields.active set) v (processors (shapes g) set)
 
         -- the value's numbers are words where they are active
-        small_there : (t : CodeState) (st : State) → HasNumbers g 32 set f t v → Sim g alive st t → (p : ℕ) → p < processors (shapes g) set → fields.active set p ≡ true → v p < 2 ^ 32
+        small_there : (t : CodeState) (st : State) → HasNumbers g bits set f t v → Sim g alive st t → (p : ℕ) → p < processors (shapes g) set → fields.active set p ≡ true → v p < 2 ^ 32
         small_there t st h sim p below on = h.small p below (flags_of g alive places fields st t set p sim h.exists below ∙ on)
 
         -- The fold and the store behind the code that gives the value in a field.
-        pub folds_onto : (e : Draft) (s : CodeState) (st : State) (w : ℕ) → (set < length (shapes g) → stores_so st ≡ w) → d.regs ≤ dest → dest < e.regs → GivesField g alive 32 (length d.fields) d s set st v f e → Within g (stored_in e) → LeavesScalars d s st (with_scalar x w st) (stored_in e)
+        pub folds_onto : (e : Draft) (s : CodeState) (st : State) (w : ℕ) → (set < length (shapes g) → stores_so st ≡ w) → d.regs ≤ dest → dest < e.regs → GivesField g alive bits (length d.fields) d s set st v f e → Within g (stored_in e) → LeavesScalars d s st (with_scalar x w st) (stored_in e)
         unfolding step_of
         folds_onto e s st w is low high h within = record {
           middle = e;
@@ -227,11 +227,11 @@ module _ (g : Setting) (alive : Variable → Type 0) where
               (sym (onto_is reduction info.elem from (st.scalar x) (fields.active set) v (processors (shapes g) set) wide (λ p below on. small_there h.passes.t st there h.passes.sim p below on)) ∙ is there.exists) done.1;
         }
           where
-            there : HasNumbers g 32 set f h.passes.t v
-            there = gives_numbers g alive places fields 32 (length d.fields) d s set st v f e h
+            there : HasNumbers g bits set f h.passes.t v
+            there = gives_numbers g alive places fields bits (length d.fields) d s set st v f e h
 
             total : (global_fold (shapes g) h.passes.t.memory (folding reduction from.signed) (place g f) ≡ whole g alive reduction from.signed places fields set v) × (whole g alive reduction from.signed places fields set v < 2 ^ 32)
-            total = whole_is g alive reduction from.signed places fields set v f h.passes.t st there h.passes.sim
+            total = folds f h.passes.t st there h.passes.sim
 
             done : (last : CodeState) × WritesRegisters d h.passes.t (with_scalar x (converted info.elem from (combined st (whole g alive reduction from.signed places fields set v))) st) (length (stored_in e).code) last
             done = stores e h.passes.t st (whole g alive reduction from.signed places fields set v) low high h.passes.at h.passes.sim within total.0 total.1

@@ -1,5 +1,5 @@
 -- The code of a fold of a parallel value passes, and then puts its number in the register that is to have it.
-use Rattle.std.proofs.Common.{◌≡◌, ◌∙◌, ℕ, zero, suc, ◌+◌, ◌<◌, ◌^◌, Bool, true, not, List, [], ◌∷◌, length, slice_index, Option, None, refl, sym, ap, subst, arith}
+use Rattle.std.proofs.Common.{◌≡◌, ◌∙◌, ℕ, zero, suc, ◌+◌, ◌<◌, ◌^◌, Bool, true, not, List, [], ◌∷◌, length, slice_index, Option, None, refl, sym, ap, subst, arith, Some}
 use Rattle.std.specs.Prelude.{pos, neg_ℤ, slice_set}
 use denote.Hole.Carrier
 use Rattle.cstar_base.specs.declared.elem.Elem.{Elem}
@@ -20,7 +20,8 @@ use Rattle.code_lengths.proofs.Drafting.{and_instr, as_it_was, extended}
 use Rattle.lower_base.specs.declared.emit.Out.{Out}
 use Rattle.lower_base.specs.declared.emit.Out.TheVariants as O
 use Rattle.lower_base.specs.Drafts.{Draft, Fails, Made, Makes, Plain, from, in_field, in_register, step as step_of, then_make, with_instr}
-use Rattle.lower_base.specs.Kinds.{folded_kind, kind_of}
+use Rattle.lower_base.specs.Kinds.{fold_kind, folded_bits, folded_kind}
+use Rattle.lower_expr.specs.Kinds.{has_number}
 use Rattle.lower_base.specs.Operators.{fold_of, is_signed, reduce_op_of}
 use Rattle.lower_comm.specs.Messages.{communicated, negated_by, part_field, reduced as reduced_in, with_fold, with_sign}
 use Rattle.lower_expr.specs.Effects.{computed_to, gone_to}
@@ -43,7 +44,7 @@ use Rattle.code_follows.proofs.Settings.{At, Reaches, Setting, Within, and_one, 
 use Rattle.code_follows.proofs.Values.{Dest}
 use Rattle.code_follows.proofs.Words.{below_bits, held_wide}
 use Rattle.fields_follow.specs.Fragment.{IsWide}
-use Rattle.fields_follow.proofs.Folds.{folding, global_is}
+use Rattle.fields_follow.proofs.Folds.{folding, global_is, narrow_is}
 use Rattle.fields_follow.proofs.Instructions.{HasNumbers, has_words, place, shapes}
 use Rattle.fields_follow.proofs.Passing.{After, Behind, GivesField, Passes, after_same, flags_of, gives_numbers, made_after, then_after}
 use Rattle.fields_follow.proofs.Places.{HoldsTheFields, PlacesFields, names_first, stands_here}
@@ -163,8 +164,12 @@ module _ (g : Setting) (alive : Variable → Type 0) where
       abbrev pub number : ℕ
       number = reduced op (not signed) (fields.active set) v (processors (shapes g) set)
 
-      -- the fold of a field that has these is theirs, and a word
-      pub whole_is : (f : Field) (t : CodeState) (st : State) → HasNumbers g 32 set f t v → Sim g alive st t → (global_fold (shapes g) t.memory (folding op signed) (place g f) ≡ whole) × (whole < 2 ^ 32)
+      -- the fold of a field that has so many of their lowest bits is theirs, and a word
+      abbrev pub FoldsWords : ℕ → Type 0
+      FoldsWords bits = (f : Field) (t : CodeState) (st : State) → HasNumbers g bits set f t v → Sim g alive st t → (global_fold (shapes g) t.memory (folding op signed) (place g f) ≡ whole) × (whole < 2 ^ 32)
+
+      -- so it is of all bits
+      pub whole_is : FoldsWords 32
       whole_is f t st h sim =
           subst (λ (n : ℕ). (global_fold (shapes g) t.memory (folding op signed) (place g f) ≡ folded (combiner_of op) (not signed) (fields.active set) v n) × (folded (combiner_of op) (not signed) (fields.active set) v n < 2 ^ 32))
           (ap (λ (k : ℕ). processors (shapes g) k) h.of_set)
@@ -176,22 +181,36 @@ module _ (g : Setting) (alive : Variable → Type 0) where
           alike : (q : ℕ) → q < processors (shapes g) set → is_active (shapes g) t.memory set q ≡ fields.active set q
           alike q below = flags_of g alive places fields st t set q sim h.exists below
 
-      global_puts : (r : ℕ) (f : Field) (t : CodeState) (st : State) → HasNumbers g 32 set f t v → Sim g alive st t → begun g.image (placed_instr g (global r f)) t ≡ Goes (with_register r whole t)
+      -- and of those at which the words of a narrow type are folded
+      pub narrow_whole : (kind : Elem) → kind.bits < 32 → folded_kind (folding op signed) (Some kind) ≡ None → ((q : ℕ) → q < processors (shapes g) set → has_number kind (v q) ≡ true) → FoldsWords (folded_bits (folding op signed) (Some kind))
+      narrow_whole kind few no_sign has f t st h sim =
+          subst (λ (n : ℕ). (global_fold (shapes g) t.memory (folding op signed) (place g f) ≡ folded (combiner_of op) (not signed) (fields.active set) v n) × (folded (combiner_of op) (not signed) (fields.active set) v n < 2 ^ 32))
+          (ap (λ (k : ℕ). processors (shapes g) k) h.of_set)
+          (narrow_is (shapes g) t.memory op signed kind (place g f) (fields.active set) v few h.len no_sign (λ q below. ap (λ (k : ℕ). is_active (shapes g) t.memory k q) h.of_set ∙ alike q (inside q below)) (λ q below on. h.are q (inside q below) (alike q (inside q below) ∙ on))
+          (λ q below on. has q (inside q below)) (λ q below on. h.small q (inside q below) (alike q (inside q below) ∙ on)))
+        where
+          inside : (q : ℕ) → q < processors (shapes g) f.set → q < processors (shapes g) set
+          inside q below = subst (λ (k : ℕ). q < processors (shapes g) k) h.of_set below
+
+          alike : (q : ℕ) → q < processors (shapes g) set → is_active (shapes g) t.memory set q ≡ fields.active set q
+          alike q below = flags_of g alive places fields st t set q sim h.exists below
+
+      global_puts : (bits : ℕ) → FoldsWords bits → (r : ℕ) (f : Field) (t : CodeState) (st : State) → HasNumbers g bits set f t v → Sim g alive st t → begun g.image (placed_instr g (global r f)) t ≡ Goes (with_register r whole t)
       unfolding begun applied after
-      global_puts r f t st h sim = ap (λ (w : ℕ). Goes (with_register r w t)) (whole_is f t st h sim).0
+      global_puts bits folds r f t st h sim = ap (λ (w : ℕ). Goes (with_register r w t)) (folds f t st h sim).0
 
       -- the fold behind the code that gives the field
-      reduces : (d e : Draft) (s : CodeState) (st : State) (r w : ℕ) (f : Field) → (set < length (shapes g) → number ≡ w) → GivesField g alive 32 (length d.fields) d s set st v f e → Within g (made r f e) → GivesNumber d s st r w (made r f e)
+      reduces : (bits : ℕ) → FoldsWords bits → (d e : Draft) (s : CodeState) (st : State) (r w : ℕ) (f : Field) → (set < length (shapes g) → number ≡ w) → GivesField g alive bits (length d.fields) d s set st v f e → Within g (made r f e) → GivesNumber d s st r w (made r f e)
       unfolding step_of
-      reduces d e s st r w f is h within = record {
+      reduces bits folds d e s st r w f is h within = record {
         middle = e;
         passes = record { grown = h.passes.grown; t = h.passes.t; go = h.passes.go; at = h.passes.at; registers = h.passes.registers; sim = h.passes.sim; stays = λ used. h.passes.stays behind };
         puts = subst (λ (n : ℕ). PutsNumber e (made r f e) h.passes.t r n) (sym (reduced_is op (not signed) (fields.active set) v (processors (shapes g) set)) ∙ is has.exists)
-            (ends op (global r f) e h.passes.t r whole refl (global_puts r f h.passes.t st has h.passes.sim) (whole_is f h.passes.t st has h.passes.sim).1 h.passes.at within);
+            (ends op (global r f) e h.passes.t r whole refl (global_puts bits folds r f h.passes.t st has h.passes.sim) (folds f h.passes.t st has h.passes.sim).1 h.passes.at within);
       }
         where
-          has : HasNumbers g 32 set f h.passes.t v
-          has = gives_numbers g alive places fields 32 (length d.fields) d s set st v f e h
+          has : HasNumbers g bits set f h.passes.t v
+          has = gives_numbers g alive places fields bits (length d.fields) d s set st v f e h
 
           after_fold : Within g (with_instr (global r f) e)
           after_fold = let x = negated_more op r 0 (with_instr (global r f) e) (with_instr (global r f) e) (as_it_was (with_instr (global r f) e)) in earlier g (with_instr (global r f) e) (made r f e) x.0 x.1 within
@@ -199,7 +218,7 @@ module _ (g : Setting) (alive : Variable → Type 0) where
           behind : Behind g f e
           behind = (length e.code, (names_first g (global r f) f [] (length e.code) (stands_here g (global r f) e after_fold refl) refl, omega arith))
 
-  module _ (places : PlacesFields g) (fields : HoldsTheFields g) (ty : ValueType) (op : ReduceOp) (p : Boxed) (operand : TExpr) (set : ℕ) (wide : IsWide set (type_of operand)) (none : kind_of operand ≡ None) where
+  module _ (places : PlacesFields g) (fields : HoldsTheFields g) (ty : ValueType) (op : ReduceOp) (p : Boxed) (operand : TExpr) (set : ℕ) (wide : IsWide set (type_of operand)) (no_sign : fold_kind (reduce_op_of op) operand ≡ None) where
     abbrev signed_operand : Bool
     signed_operand = (type_of operand).elem.signed
 
@@ -207,9 +226,9 @@ module _ (g : Setting) (alive : Variable → Type 0) where
     next r v e = gone_to (O.Scalar r) (communicated g.typed (layout g) (T.Reduce' ty op p operand) O.Nothing (v ∷ []) (O.Scalar r) e)
 
     made_is : (r : ℕ) (f : Field) (e : Draft) → next r (O.Field f) e ≡ Makes (O.Scalar r) (made op signed_operand r f e)
-    unfolding gone_to then_make communicated reduced_in part_field from in_field in_register out-TExpr Carrier.out with_fold with_sign folded_kind
+    unfolding gone_to then_make communicated reduced_in part_field from in_field in_register out-TExpr Carrier.out with_fold with_sign
     made_is r f e =
-        ap (λ (k : Option Elem). Makes (O.Scalar r) (negated_by op r (with_sign (folded_kind (fold_of (reduce_op_of op) (is_signed (type_of operand).elem)) k) r (with_instr (I.Global (fold_of (reduce_op_of op) (is_signed (type_of operand).elem)) r f) e)))) none
+        ap (λ (k : Option Elem). Makes (O.Scalar r) (negated_by op r (with_sign k r (with_instr (I.Global (fold_of (reduce_op_of op) (is_signed (type_of operand).elem)) r f) e)))) no_sign
         ∙ ap (λ (b : Bool). Makes (O.Scalar r) (negated_by op r (with_instr (I.Global (fold_of (reduce_op_of op) b) r f) e))) (wide_signed (type_of operand).elem wide.1)
 
     next_grows : (r : ℕ) (v : Out) (e : Draft) → Extends g e (next r v e)
@@ -218,17 +237,17 @@ module _ (g : Setting) (alive : Variable → Type 0) where
     next_grows r (O.Scalar q) e = tt
     next_grows r O.Nothing e = tt
 
-    module _ (d : Draft) (s : CodeState) (st : State) (v : ℕ → ℕ) (r w : ℕ) (number_is : set < length (shapes g) → number op signed_operand places fields set v ≡ w) where
+    module _ (d : Draft) (s : CodeState) (st : State) (v : ℕ → ℕ) (bits : ℕ) (folds : FoldsWords op signed_operand places fields set v bits) (r w : ℕ) (number_is : set < length (shapes g) → number op signed_operand places fields set v ≡ w) where
       abbrev Given : Out → Draft → Type 0
-      Given out x = (f : Field) × ((out ≡ O.Field f) × GivesField g alive 32 (length d.fields) d s set st v f x)
+      Given out x = (f : Field) × ((out ≡ O.Field f) × GivesField g alive bits (length d.fields) d s set st v f x)
 
       abbrev Reduced : Out → Draft → Type 0
       Reduced out x = (out ≡ O.Scalar r) × GivesNumber d s st r w x
 
-      reduced_next : (out : Out) (x : Draft) (f : Field) → out ≡ O.Field f → GivesField g alive 32 (length d.fields) d s set st v f x → After g Reduced (next r out x)
+      reduced_next : (out : Out) (x : Draft) (f : Field) → out ≡ O.Field f → GivesField g alive bits (length d.fields) d s set st v f x → After g Reduced (next r out x)
       reduced_next out x f is h =
           after_same g Reduced (ap (λ (o : Out). next r o x) is ∙ made_is r f x)
-          (made_after g Reduced (O.Scalar r) (made op signed_operand r f x) (λ within. (refl, reduces op signed_operand places fields set v d x s st r w f number_is h within)))
+          (made_after g Reduced (O.Scalar r) (made op signed_operand r f x) (λ within. (refl, reduces op signed_operand places fields set v bits folds d x s st r w f number_is h within)))
 
       -- The code of a fold, where that of its operand gives a field: it passes, and its last instructions put the number
       -- of the reduction in the register that is to have it.

@@ -1,14 +1,11 @@
 -- Unary reductions of pure parallel expressions follow, where the code of these leaves their numbers in a field.
-use Rattle.std.proofs.Common.{◌≡◌, ◌∙◌, ℕ, Bool, true, false, not, length, Option, Some, None, refl, sym, ap, if◌then◌else◌, List, ◌==◌, inl, inr}
-use Rattle.std.proofs.lemmas.Bool.{eqb-true}
+use Rattle.std.proofs.Common.{◌≡◌, ◌∙◌, ℕ, Bool, true, false, not, length, Option, Some, None, refl, sym, ap, subst, if◌then◌else◌, List, ◌+◌, ◌<◌, ◌≤◌, ◌⊎◌, inl, inr, arith}
 use Rattle.cstar_base.specs.declared.elem.Elem.{Elem}
-use Rattle.cstar_base.specs.declared.operators.Op.{Op}
 use Rattle.cstar_tree.specs.declared.syntax.ReduceOp.{ReduceOp}
 use Rattle.cstar_tree.specs.declared.typed.TExpr.{TExpr}
 use Rattle.cstar_tree.specs.declared.typed.TExpr as T
 use Rattle.cstar_tree.specs.declared.typed.ValueType.{ValueType}
 use Rattle.cstar_tree.specs.declared.typed.Variable.{Variable}
-use Rattle.cstar_tree.specs.declared.typed.Variable.TheVariants as V
 use Rattle.cstar_tree.specs.Typed.{type_of}
 use Rattle.code_lengths.specs.Lowerable.{IsLowerable}
 use Rattle.code_lengths.specs.Naming.{NamesVariables}
@@ -16,13 +13,15 @@ use Rattle.code_lengths.specs.Shaped.{IsShaped}
 use Rattle.lower_base.specs.declared.emit.Out.{Out}
 use Rattle.lower_base.specs.declared.emit.Out.TheVariants as O
 use Rattle.lower_base.specs.Drafts.{Draft}
-use Rattle.lower_base.specs.Kinds.{binary_kind, common_kind, converted_kind, fold_by, folded_bits, has_all, is_bitwise, kind_of, narrow, truth_type}
-use Rattle.lower_base.specs.Operators.{reduce_op_of, relates}
+use Rattle.lower_base.specs.Kinds.{fold_by, folded_bits, folded_kind, joins_bits, kind_of}
+use Rattle.lower_base.specs.Operators.{fold_of, is_signed, reduce_op_of}
 use Rattle.lower_expr.specs.Effects.{computed_to}
-use Rattle.lower_expr.specs.Kinds.{reduced_bits}
+use Rattle.lower_expr.specs.Kinds.{has_number, reduced_bits}
 use Rattle.lower_expr.specs.Values.{next_of}
 use Rattle.paris_code.specs.declared.operands.Field.{Field}
 use Rattle.paris_code.specs.Code.{CodeState}
+use Rattle.paris_code.specs.declared.operands.Reduction.{Reduction}
+use Rattle.paris_code.specs.Operators.{combiner_of}
 use Rattle.source_meaning.specs.Expressions.{evaluated, reduction_of}
 use Rattle.source_meaning.specs.Reductions.{reduced}
 use Rattle.source_meaning.specs.State as Source
@@ -31,74 +30,20 @@ use Rattle.source_meaning.specs.Values.{Parallel, Scalar, Scope, Value, at, posi
 use Rattle.source_meaning.proofs.ConstantLaws.{Boxed}
 use Rattle.vp_sets.specs.Positions.{position_count}
 use Rattle.code_follows.proofs.Following.{Sim}
+use Rattle.code_follows.proofs.Operators.{wide_signed}
 use Rattle.code_follows.proofs.Settings.{At, Setting, layout}
-use Rattle.fields_follow.specs.Fragment.{AreWhole, IsFold, IsPure, IsWhole, IsWide}
-use Rattle.fields_follow.proofs.Forms.{HasItsCode, pure_shape}
+use Rattle.fields_follow.specs.Fragment.{HasItsKind, IsFold, IsFolded, IsNarrowed, IsPure, IsWide}
+use Rattle.fields_follow.proofs.Folds.{folding}
+use Rattle.fields_follow.proofs.Forms.{HasItsCode}
 use Rattle.fields_follow.proofs.Instructions.{SameExtents, extents}
 use Rattle.fields_follow.proofs.Meaning.{value_in}
-use Rattle.fields_follow.proofs.Passing.{After, GivesField, after_same}
+use Rattle.fields_follow.proofs.NarrowKinds.{kind_has, kind_narrow}
+use Rattle.fields_follow.proofs.Passing.{After, GivesField}
 use Rattle.fields_follow.proofs.Places.{HoldsTheFields, PlacesFields}
 use Rattle.fields_follow.proofs.Pure.{are_grids, pure_means}
-use Rattle.fields_follow.proofs.Reducing.{GivesNumber, fold_passes}
+use Rattle.fields_follow.proofs.Reducing.{FoldsWords, GivesNumber, fold_passes, narrow_whole, whole_is}
+use Rattle.fields_follow.proofs.Sizes.{pure_at}
 use Rattle.code_follows.specs.Fragment.{ScalarsAmong}
-
--- a type that is not narrow has 32 bits
-whole_bits : (elem : Elem) → narrow elem ≡ None → elem.bits ≡ 32
-unfolding narrow
-whole_bits elem none = by (elem.bits == 32) refl none
-  where
-    by : (b : Bool) → (elem.bits == 32) ≡ b → (if elem.bits == 32 then None else Some elem) ≡ None → elem.bits ≡ 32
-    by true is h = eqb-true elem.bits 32 is
-    by false is h = let some = ap (λ (b : Bool). if b then None else Some elem) (sym is) ∙ h in cc
-
--- so has a value of which no narrow type is known
-pub whole_type : (set : ℕ) (e : TExpr) → IsWhole set e → IsWide set (type_of e)
-unfolding IsPure kind_of converted_kind
-whole_type set e is = (pure_shape set e is.0, bits set e is.0 is.1)
-  where
-    convert : (elem : Elem) (k : Option Elem) → converted_kind elem k ≡ None → narrow elem ≡ None
-    convert elem None none = none
-    convert elem (Some kind) none = by (has_all elem kind) none
-      where
-        by : (b : Bool) → (if b then Some kind else narrow elem) ≡ None → narrow elem ≡ None
-        by true h = cc
-        by false h = h
-
-    bits : (set : ℕ) (e : TExpr) → IsPure set e → kind_of e ≡ None → (type_of e).elem.bits ≡ 32
-    bits set (T.Variable ty (V.File k)) is none = whole_bits ty.elem none
-    bits set (T.Brackets' ty p inner) is none = ap (λ (y : ValueType). y.elem.bits) is.0 ∙ bits set inner is.1 none
-    bits set (T.Unary' ty op p operand) is none = is.0.1
-    bits set (T.Binary' ty place op p left q right) is none = is.0.1
-    bits set (T.Convert' ty p operand) is none = whole_bits ty.elem (convert ty.elem (kind_of operand) none)
-    bits set (T.Pcoord ty axis) is none = is.1
-    bits set (T.LeftIndex' ty place p indexes (V.File k) of) is none = whole_bits ty.elem none
-    bits set _ is none = absurd is
-
-common_first : (a b : Option Elem) → a ≡ None → common_kind a b ≡ None
-unfolding common_kind
-common_first None b is = refl
-common_first (Some k) b is = cc
-
-common_second : (a b : Option Elem) → b ≡ None → common_kind a b ≡ None
-unfolding common_kind
-common_second None b is = refl
-common_second (Some k) None is = refl
-common_second (Some k) (Some n) is = cc
-
-of_bits : (b : Bool) (one other : Option Elem) → common_kind one other ≡ None → (if b then common_kind one other else None) ≡ None
-of_bits true one other none = none
-of_bits false one other none = refl
-
--- an operator on such is such a value, but for a relation
-pub whole_binary : (set : ℕ) (op : Op) (left right : TExpr) → relates op ≡ false → AreWhole set left right → binary_kind op (kind_of left) (kind_of right) ≡ None
-unfolding binary_kind
-whole_binary set op left right operates are =
-    ap (λ (b : Bool). if b then Some truth_type else if is_bitwise op then common_kind (kind_of left) (kind_of right) else None) operates
-    ∙ of_bits (is_bitwise op) (kind_of left) (kind_of right) (by are)
-  where
-    by : AreWhole set left right → common_kind (kind_of left) (kind_of right) ≡ None
-    by (inl h) = common_first (kind_of left) (kind_of right) h.0.1
-    by (inr h) = common_second (kind_of left) (kind_of right) h.1.1
 
 -- the number of a fold is a word
 pub fold_type : (e : TExpr) → IsFold e → (type_of e).elem.bits ≡ 32
@@ -111,19 +56,14 @@ module _ (g : Setting) (alive : Variable → Type 0) where
   unfolding IsShaped IsLowerable NamesVariables ScalarsAmong
   operand_code n ty op p operand c = record { code = record { shaped = c.code.shaped; lowerable = c.code.lowerable.2; names = c.code.names }; among = c.among }
 
-  -- the operand of a reduction has its 32 bits
-  operand_bits : (op : ReduceOp) (operand : TExpr) (d : Draft) → kind_of operand ≡ None → next_of g.typed (layout g) (reduced_bits op operand) true operand d ≡ next_of g.typed (layout g) 32 true operand d
-  unfolding folded_bits
-  operand_bits op operand d none = ap (λ (k : Option Elem). next_of g.typed (layout g) (folded_bits (fold_by (reduce_op_of op) operand) k) true operand d) none
+  -- so many bits of a pure parallel expression's value are given in a field
+  abbrev pub GivesPure : ℕ → ℕ → TExpr → Draft → CodeState → State → Out → Draft → Type 0
+  GivesPure bits set e d s st out x = (f : Field) × ((out ≡ O.Field f) × GivesField g alive bits (length d.fields) d s set st (λ q. value_in (extents g set) st e q) f x)
 
-  -- a pure parallel expression's code gives a field
-  abbrev pub GivesPure : ℕ → TExpr → Draft → CodeState → State → Out → Draft → Type 0
-  GivesPure set e d s st out x = (f : Field) × ((out ≡ O.Field f) × GivesField g alive 32 (length d.fields) d s set st (λ q. value_in (extents g set) st e q) f x)
-
-  -- what the code of pure parallel expressions does
+  -- what the code of pure parallel expressions of 32 bits does
   abbrev pub OperandsStand : ℕ → Type 0
-  OperandsStand n = (set : ℕ) (e : TExpr) → IsWhole set e → HasItsCode g.typed g.instance alive n e → (d : Draft) (s : CodeState) (st : State) → At g s (length d.code) → Sim g alive st s
-      → After g (GivesPure set e d s st) (next_of g.typed (layout g) 32 true e d)
+  OperandsStand n = (bits set : ℕ) (e : TExpr) → bits ≤ 32 → IsPure set e → IsWide set (type_of e) → HasItsCode g.typed g.instance alive n e → (d : Draft) (s : CodeState) (st : State) → At g s (length d.code) → Sim g alive st s
+      → After g (GivesPure bits set e d s st) (next_of g.typed (layout g) bits true e d)
 
   -- the number stands in a register, by code that passes up to its last instructions
   abbrev pub GivesRegister : ℕ → ℕ → Draft → CodeState → State → Out → Draft → Type 0
@@ -134,24 +74,66 @@ module _ (g : Setting) (alive : Variable → Type 0) where
     abbrev reduction : ReduceOp → TExpr → ℕ → State → List ℕ → ℕ
     reduction op operand set st xs = reduced op (not (type_of operand).elem.signed) (fields.active set) (λ q. value_in xs st operand q) (position_count xs)
 
-    reduction_means : (ty : ValueType) (op : ReduceOp) (p : Boxed) (operand : TExpr) (set : ℕ) (st : State) → IsWhole set operand → HasItsCode g.typed g.instance alive n operand → evaluated scope (T.Reduce' ty op p operand) fields.active st ≡ Source.Gives (Scalar (reduction op operand set st (scope.extents set))) st
+    reduction_means : (ty : ValueType) (op : ReduceOp) (p : Boxed) (operand : TExpr) (set : ℕ) (st : State) → IsPure set operand → IsWide set (type_of operand) → HasItsCode g.typed g.instance alive n operand → evaluated scope (T.Reduce' ty op p operand) fields.active st ≡ Source.Gives (Scalar (reduction op operand set st (scope.extents set))) st
     unfolding evaluated reduction_of then_do at positions
-    reduction_means ty op p operand set st is c =
-        ap (λ (o : Outcome Value). then_do o (λ v after. Source.Gives (reduction_of scope fields.active op (type_of operand) v) after)) (pure_means scope fields.active g.typed g.instance n set operand st is.0 (are_grids g scope places same_extents set) c.code.names)
-        ∙ ap (λ (o : Option ℕ). Source.Gives (elim o as (λ _. Value) [ None ↦ Parallel (λ q. value_in (scope.extents set) st operand q) | Some s ↦ Scalar (reduced op (not (type_of operand).elem.signed) (fields.active s) (λ q. value_in (scope.extents set) st operand q) (positions scope s)) ]) st) (whole_type set operand is).0
+    reduction_means ty op p operand set st is wide c =
+        ap (λ (o : Outcome Value). then_do o (λ v after. Source.Gives (reduction_of scope fields.active op (type_of operand) v) after)) (pure_means scope fields.active g.typed g.instance n set operand st is (are_grids g scope places same_extents set) c.code.names)
+        ∙ ap (λ (o : Option ℕ). Source.Gives (elim o as (λ _. Value) [ None ↦ Parallel (λ q. value_in (scope.extents set) st operand q) | Some s ↦ Scalar (reduced op (not (type_of operand).elem.signed) (fields.active s) (λ q. value_in (scope.extents set) st operand q) (positions scope s)) ]) st) wide.0
+
+    -- a fold at the bits that it takes is that of the numbers
+    pub folds_so : (op : ReduceOp) (operand : TExpr) (set : ℕ) → IsFolded set (reduce_op_of op) operand → HasItsCode g.typed g.instance alive n operand → (s : CodeState) (st : State) → Sim g alive st s
+        → FoldsWords g alive op (type_of operand).elem.signed places fields set (λ q. value_in (extents g set) st operand q) (reduced_bits op operand)
+    unfolding folded_bits
+    folds_so op operand set (kinded, wide, no_sign) c s st sim =
+        subst (λ (b : Bool). FoldsWords g alive op (type_of operand).elem.signed places fields set v (folded_bits (fold_of (reduce_op_of op) b) (kind_of operand))) (sym signs) (by (kind_of operand) refl kinded.1 (ap (λ (b : Bool). folded_kind (fold_of (reduce_op_of op) b) (kind_of operand)) (sym signs) ∙ no_sign))
+      where
+        v : ℕ → ℕ
+        v = λ q. value_in (extents g set) st operand q
+
+        signed : Bool
+        signed = (type_of operand).elem.signed
+
+        signs : is_signed (type_of operand).elem ≡ signed
+        signs = wide_signed (type_of operand).elem wide.1
+
+        by : (o : Option Elem) → kind_of operand ≡ o → (kind_of operand ≡ None) ⊎ IsNarrowed operand → folded_kind (folding op signed) (kind_of operand) ≡ None → FoldsWords g alive op signed places fields set v (folded_bits (folding op signed) (kind_of operand))
+        by None none any plain = subst (λ (o : Option Elem). FoldsWords g alive op signed places fields set v (folded_bits (folding op signed) o)) (sym none) (whole_is g alive op signed places fields set v)
+        by (Some kind) some (inl none) plain = let wrong = sym none ∙ some in cc
+        by (Some kind) some (inr narrowed) plain =
+            subst (λ (o : Option Elem). FoldsWords g alive op signed places fields set v (folded_bits (folding op signed) o)) (sym some)
+            (narrow_whole g alive op signed places fields set v kind (kind_narrow g alive n places fields set operand kinded.0 narrowed kind some) (ap (λ (o : Option Elem). folded_kind (folding op signed) o) (sym some) ∙ plain)
+            (λ q below. subst (λ (w : ℕ). has_number kind w ≡ true) (pure_at g alive n places fields set operand st s sim kinded.0 wide c q below) (kind_has g alive n places fields set operand st s sim kinded.0 narrowed c q below kind some).0))
+
+    -- it takes no more than 32
+    pub folded_most : (combiner : Reduction) (set : ℕ) (e : TExpr) → HasItsKind set e → folded_bits combiner (kind_of e) ≤ 32
+    unfolding folded_bits
+    folded_most combiner set e is = by (kind_of e) refl is.1
+      where
+        by : (o : Option Elem) → kind_of e ≡ o → (kind_of e ≡ None) ⊎ IsNarrowed e → folded_bits combiner (kind_of e) ≤ 32
+        by None none any = subst (λ (o : Option Elem). folded_bits combiner o ≤ 32) (sym none) (omega arith)
+        by (Some kind) some (inl none) = let wrong = sym none ∙ some in cc
+        by (Some kind) some (inr narrowed) = subst (λ (o : Option Elem). folded_bits combiner o ≤ 32) (sym some) (few (kind_narrow g alive n places fields set e is.0 narrowed kind some) (joins_bits combiner) (combiner_of combiner).1 kind.signed)
+          where
+            few : kind.bits < 32 → (a b c : Bool) → (if a then kind.bits else if b then (if c then 32 else kind.bits) else (if c then kind.bits else kind.bits + 1)) ≤ 32
+            few h true b c = omega (arith, h)
+            few h false true true = omega arith
+            few h false true false = omega (arith, h)
+            few h false false true = omega (arith, h)
+            few h false false false = omega (arith, h)
 
     -- A fold gives a number in the source and changes nothing; its code passes, and its last instructions put that number
     -- in the register that is to have it.
     pub folds_give : (e : TExpr) → IsFold e → HasItsCode g.typed g.instance alive n e → (d : Draft) (s : CodeState) (st : State) (r : ℕ) → At g s (length d.code) → Sim g alive st s
         → (w : ℕ) × ((evaluated scope e fields.active st ≡ Source.Gives (Scalar w) st) × After g (GivesRegister r w d s st) (computed_to g.typed (layout g) (O.Scalar r) e d))
     unfolding IsFold
-    folds_give (T.Reduce' ty op p operand) (word, (set, is)) c d s st r here sim = (
-      reduction op operand set st (scope.extents set),
-      (
-        reduction_means ty op p operand set st is (operand_code n ty op p operand c),
-        (fold_passes g alive places fields ty op p operand set (whole_type set operand is) is.1 d s st (λ q. value_in (extents g set) st operand q) r (reduction op operand set st (scope.extents set))
-            (λ exists. ap (λ (xs : List ℕ). reduction op operand set st xs) (sym (same_extents set exists)))
-            (after_same g (GivesPure set operand d s st) (operand_bits op operand d is.1) (stand set operand is (operand_code n ty op p operand c) d s st here sim))),
-      ),
-    )
+    folds_give (T.Reduce' ty op p operand) (word, (set, is)) c d s st r here sim =
+        let part = operand_code n ty op p operand c in (
+          reduction op operand set st (scope.extents set),
+          (
+            reduction_means ty op p operand set st is.0.0 is.1 part,
+            fold_passes g alive places fields ty op p operand set is.1 is.2 d s st (λ q. value_in (extents g set) st operand q) (reduced_bits op operand) (folds_so op operand set is part s st sim) r (reduction op operand set st (scope.extents set))
+                (λ exists. ap (λ (xs : List ℕ). reduction op operand set st xs) (sym (same_extents set exists)))
+                (stand (reduced_bits op operand) set operand (folded_most (fold_by (reduce_op_of op) operand) set operand is.0) is.0.0 is.1 part d s st here sim),
+          ),
+        )
     folds_give _ is c d s st r here sim = absurd is

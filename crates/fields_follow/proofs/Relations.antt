@@ -14,17 +14,17 @@ use Rattle.cstar_tree.specs.declared.typed.Variable.{Variable}
 use Rattle.cstar_tree.specs.Typed.{type_of}
 use Rattle.code_lengths.specs.Ready.{IsReady}
 use Rattle.code_lengths.proofs.Drafting.{and_instr, extended}
+use Rattle.cstar_base.proofs.NumberLaws.{kind_bits}
 use Rattle.lower_base.specs.declared.emit.Out.{Out}
 use Rattle.lower_base.specs.declared.operators.Machine.{Machine}
 use Rattle.lower_base.specs.declared.operators.Machine.TheVariants as M
-use Rattle.lower_base.specs.Drafts.{Draft, Made, a_field, an_entry, step as step_of, then_make, with_instr}
-use Rattle.lower_base.specs.Kinds.{bits_of, common_kind, kind_of}
-use Rattle.lower_base.specs.Operators.{is_signed, machine_of, relates}
+use Rattle.lower_base.specs.Drafts.{Draft, Made, an_entry, step as step_of, then_make, with_instr}
+use Rattle.lower_base.specs.Kinds.{bits_of}
+use Rattle.lower_base.specs.Operators.{is_signed, relates}
 use Rattle.lower_expr.specs.declared.steps.Right.{Right}
 use Rattle.lower_expr.specs.declared.steps.Right.TheVariants as R
-use Rattle.lower_expr.specs.Kinds.{kind_with, reads_signed, relation_kind}
+use Rattle.lower_expr.specs.Kinds.{reads_signed, relation_kind}
 use Rattle.lower_expr.specs.Operands.{is_quiet, operand_by}
-use Rattle.lower_expr.specs.Steps.{word_of}
 use Rattle.lower_expr.specs.Values.{compared, relation_by, right_by, spread_into, truth_of, value_of}
 use Rattle.paris_code.specs.declared.instr.Instr.{Instr}
 use Rattle.paris_code.specs.declared.instr.Instr.TheVariants as I
@@ -42,63 +42,36 @@ use Rattle.source_meaning.proofs.ConstantLaws.{Boxed}
 use Rattle.code_follows.proofs.Following.{Extends, HasRegisters, Sim, extends_then}
 use Rattle.code_follows.proofs.Operators.{wide_signed}
 use Rattle.code_follows.proofs.Settings.{At, Setting, Within, and_one, code_more, earlier, layout, one}
-use Rattle.fields_follow.specs.Fragment.{AreWhole, IsPromoted, IsPure, IsWide}
-use Rattle.fields_follow.proofs.Expressions.{operand_at, operand_grows, pure_after}
-use Rattle.fields_follow.proofs.Forms.{HasItsCode, pure_word}
+use Rattle.fields_follow.specs.Fragment.{HaveTheirKinds, IsRelation}
+use Rattle.fields_follow.proofs.Expressions.{constant_at, operand_at, operand_grows, pure_after}
+use Rattle.fields_follow.proofs.NarrowKinds.{narrow_compares, relation_has}
+use Rattle.fields_follow.proofs.Forms.{HasItsCode}
 use Rattle.fields_follow.proofs.Instructions.{HasNumbers, shapes, extents, place, puts_constant, word_in}
 use Rattle.fields_follow.proofs.Meaning.{AreOperands, left_of, right_of, value_in, word_at}
 use Rattle.fields_follow.proofs.Operands.{GivesRight, GivesWord, RightField, left_after, pure_left, pure_right, right_after, right_extends}
 use Rattle.fields_follow.proofs.Passing.{After, Behind, GivesField, Passes, Stands, after_same, code_longer, fields_longer, first_there, flags_of, gives_numbers, in_file_has, made_after, names_second, passes_from, passes_less, passes_on, still_numbers, then_after}
 use Rattle.fields_follow.proofs.Places.{HoldsTheFields, IsOwnField, PlacesFields, names_first, stands_here}
 use Rattle.fields_follow.proofs.Quiet.{pure_quiet}
-use Rattle.fields_follow.proofs.Reductions.{whole_type}
 use Rattle.fields_follow.proofs.Values.{and_entry, next_field, one_more, operand_of, taken, with_entry}
 use Rattle.fields_follow.proofs.Writing.{Written, own_written}
 use Rattle.fields_follow.proofs.TestFlags.{ComparesAs, LeavesTests, compares, is_truth, puts_compare, tested_last}
 use Rattle.fields_follow.proofs.Totals.{held_below}
 
--- a relation of two values of which no narrow type is known is of none
-no_relation_kind : (set : ℕ) (left right : TExpr) → AreWhole set left right → relation_kind left right ≡ None
-unfolding relation_kind kind_with common_kind
-no_relation_kind set left right (inl h) = by (word_of right) (word_of left) (kind_of left) (pure_word set left h.0.0) h.0.1
-  where
-    by : (r l : Option ℕ) (k : Option Elem) → l ≡ None → k ≡ None → (elim r as (λ _. Option Elem) [ Some word ↦ kind_with k word | None ↦ elim l as (λ _. Option Elem) [ Some word ↦ kind_with (kind_of right) word | None ↦ common_kind k (kind_of right) ] ]) ≡ None
-    by (Some r) l None e f = refl
-    by None None None e f = refl
-    by r (Some l) k e f = cc
-    by r l (Some k) e f = cc
-no_relation_kind set left right (inr h) = by (word_of right) (word_of left) (kind_of left) (kind_of right) (pure_word set right h.1.0) h.1.1
-  where
-    by : (r l : Option ℕ) (j k : Option Elem) → r ≡ None → k ≡ None → (elim r as (λ _. Option Elem) [ Some word ↦ kind_with j word | None ↦ elim l as (λ _. Option Elem) [ Some word ↦ kind_with k word | None ↦ common_kind j k ] ]) ≡ None
-    by None (Some l) j None e f = refl
-    by None None None None e f = refl
-    by None None (Some j) None e f = refl
-    by (Some r) l j k e f = cc
-    by r l j (Some k) e f = cc
+-- the two sides of a relation are operands
+pub relation_operands : (set : ℕ) (left right : TExpr) → HaveTheirKinds set left right → AreOperands set left right
+relation_operands set left right (inl (one, inl other)) = inl (one.0, inl other.0)
+relation_operands set left right (inl (one, inr other)) = inl (one.0, inr other)
+relation_operands set left right (inr (one, other)) = inr (one, other.0)
 
--- their types have 32 bits
-pub whole_left : (set : ℕ) (left right : TExpr) → AreWhole set left right → IsWide set (type_of left)
-whole_left set left right (inl h) = whole_type set left h.0
-whole_left set left right (inr h) = h.0.1
-
-pub whole_right : (set : ℕ) (left right : TExpr) → AreWhole set left right → IsWide set (type_of right)
-whole_right set left right (inl (pure, inl h)) = whole_type set right h
-whole_right set left right (inl (pure, inr h)) = h.1
-whole_right set left right (inr h) = whole_type set right h.1
-
--- and they are operands
-pub whole_operands : (set : ℕ) (left right : TExpr) → AreWhole set left right → AreOperands set left right
-whole_operands set left right (inl (pure, inl h)) = inl (pure.0, inl h.0)
-whole_operands set left right (inl (pure, inr h)) = inl (pure.0, inr h.0)
-whole_operands set left right (inr h) = inr (h.0.0, h.1.0)
-
--- so they are read as the type of the left one says
-read_as : (set : ℕ) (op : Op) (left right : TExpr) → AreWhole set left right → relates op ≡ true → reads_signed op left right ≡ (type_of left).elem.signed
+-- how it reads them, at so many bits
+read_as : (op : Op) (left right : TExpr) → relates op ≡ true → reads_signed op left right ≡ (elim (relation_kind left right) as (λ _. Bool) [ None ↦ is_signed (type_of left).elem | Some kind ↦ kind.signed ])
 unfolding reads_signed
-read_as set op left right are related =
-    ap (λ (c : Bool). if c then elim (relation_kind left right) as (λ _. Bool) [ None ↦ is_signed (type_of left).elem | Some kind ↦ kind.signed ] else is_signed (type_of left).elem) related
-    ∙ ap (λ (k : Option Elem). elim k as (λ _. Bool) [ None ↦ is_signed (type_of left).elem | Some kind ↦ kind.signed ]) (no_relation_kind set left right are)
-    ∙ wide_signed (type_of left).elem (whole_left set left right are).1
+read_as op left right related = ap (λ (c : Bool). if c then elim (relation_kind left right) as (λ _. Bool) [ None ↦ is_signed (type_of left).elem | Some kind ↦ kind.signed ] else is_signed (type_of left).elem) related
+
+relation_most : (o : Option Elem) → bits_of o ≤ 32
+unfolding bits_of
+relation_most None = omega arith
+relation_most (Some kind) = (kind_bits kind.bits kind.signed kind.kind).1
 
 module _ (g : Setting) (has : HasRegisters g) (alive : Variable → Type 0) (n : ℕ) (ready : (d : Draft) → IsReady g.typed g.instance (layout g) n d) (places : PlacesFields g) (fields : HoldsTheFields g) where
   abbrev operand : ℕ → Bool → TExpr → Draft → Made Out
@@ -248,15 +221,18 @@ module _ (g : Setting) (has : HasRegisters g) (alive : Variable → Type 0) (n :
   compared_extends relation a (R.Field b) spare e = (1, and_one g (I.Compare relation a b) e)
   compared_extends relation a (R.Word k) spare e = (2, and_instr (I.Compare relation a spare) e (with_instr (I.MoveConstant spare k) e) 1 (and_one g (I.MoveConstant spare k) e))
 
-  module _ (set : ℕ) (op : Op) (left right : TExpr) (related : relates op ≡ true) (no_check : divides op ≡ false) (c_left : HasItsCode g.typed g.instance alive n left) (c_right : HasItsCode g.typed g.instance alive n right) (d : Draft) (s : CodeState) (st : State) (here : At g s (length d.code)) (sim : Sim g alive st s) where
-    abbrev signed : Bool
-    signed = (type_of left).elem.signed
-
+  module _ (set : ℕ) (op : Op) (left right : TExpr) (is : IsRelation set op left right) (no_check : divides op ≡ false) (c_left : HasItsCode g.typed g.instance alive n left) (c_right : HasItsCode g.typed g.instance alive n right) (d : Draft) (s : CodeState) (st : State) (here : At g s (length d.code)) (sim : Sim g alive st s) where
     abbrev bits : ℕ
-    bits = 32
+    bits = bits_of (relation_kind left right)
 
-    abbrev c : ComparesAs op signed
-    c = compares op signed related
+    most : bits ≤ 32
+    most = relation_most (relation_kind left right)
+
+    abbrev c : ComparesAs op (reads_signed op left right)
+    c = compares op (reads_signed op left right) is.0
+
+    are : HaveTheirKinds set left right
+    are = is.1
 
     abbrev v : ℕ → ℕ
     v = λ q. word_at (extents g set) st left q
@@ -265,7 +241,7 @@ module _ (g : Setting) (has : HasRegisters g) (alive : Variable → Type 0) (n :
     w = λ q. word_at (extents g set) st right q
 
     abbrev u : ℕ → ℕ
-    u = λ q. outcome op 32 (not signed) (value_in (extents g set) st left q) (value_in (extents g set) st right q)
+    u = λ q. outcome op 32 (not (type_of left).elem.signed) (value_in (extents g set) st left q) (value_in (extents g set) st right q)
 
     abbrev d1 : Draft
     d1 = with_entry set bits W.Own d
@@ -285,51 +261,71 @@ module _ (g : Setting) (has : HasRegisters g) (alive : Variable → Type 0) (n :
         extends_then g e (right_by (operand bits true right) op right e) (λ b after. compared (M.Compare c.relation) a b spare after)
         (right_extends g (operand bits true right) op right (λ x. operand_grows g has alive n ready places fields bits right c_right true x) e) (λ b after. compared_extends c.relation a b spare after)
 
-    pub relation_code : (ty : ValueType) (place : Place) (p q : Boxed) → ty.shape ≡ Some set → AreWhole set left right
+    pub relation_code : (ty : ValueType) (place : Place) (p q : Boxed) → ty.shape ≡ Some set
         → truth_of g.typed (layout g) (T.Binary' ty place op p left q right) d ≡ then_make (spread_into (operand bits (is_quiet right) left) left spare d1) (λ a e. next a e)
-    unfolding truth_of relation_by then_make an_entry bits_of
-    relation_code ty place p q shaped are =
+    unfolding truth_of relation_by then_make an_entry
+    relation_code ty place p q shaped =
         ap (λ (o : Option ℕ). relation_by (unwrap_or o 0) op (operand_by g.typed (layout g) (bits_of (relation_kind left right)) (value_of g.typed (layout g) (bits_of (relation_kind left right)) left) (is_quiet right) left) left (operand_by g.typed (layout g) (bits_of (relation_kind left right)) (value_of g.typed (layout g) (bits_of (relation_kind left right)) right) true right) right d) shaped
-        ∙ ap (λ (k : Option Elem). then_make (a_field set (bits_of k) d) (λ spare begun. then_make (spread_into (operand_by g.typed (layout g) (bits_of k) (value_of g.typed (layout g) (bits_of k) left) (is_quiet right) left) left spare begun) (λ a between. then_make (right_by (operand_by g.typed (layout g) (bits_of k) (value_of g.typed (layout g) (bits_of k) right) true right) op right between) (λ b after. compared (machine_of op (reads_signed op left right)) a b spare after)))) (no_relation_kind set left right are)
-        ∙ ap (λ (m : Machine). then_make (spread_into (operand bits (is_quiet right) left) left spare d1) (λ a between. then_make (right_by (operand bits true right) op right between) (λ b after. compared m a b spare after))) (ap (λ (b : Bool). machine_of op b) (read_as set op left right are related) ∙ c.is)
+        ∙ ap (λ (m : Machine). then_make (spread_into (operand bits (is_quiet right) left) left spare d1) (λ a e. then_make (right_by (operand bits true right) op right e) (λ b after. compared m a b spare after))) c.is
 
     -- the words compare as the numbers do
-    words_compare : AreWhole set left right → Compares bits set c.relation v w u
-    words_compare are q below =
-        let operands = whole_operands set left right are in
-        let is_left : v q ≡ value_in (extents g set) st left q = operand_at g has alive n ready places fields set left st s sim (left_of set left right operands) (whole_left set left right are) c_left q below in
-        let is_right : w q ≡ value_in (extents g set) st right q = operand_at g has alive n ready places fields set right st s sim (right_of set left right operands) (whole_right set left right are) c_right q below in
-        ap (λ (m : ℕ). outcome (comparison_of c.relation).0 32 (comparison_of c.relation).1 m (w q % 2 ^ 32)) (mod-eq_of_lt (held_below (type_of left).elem (value_in (extents g set) st left q)) ∙ is_left)
-        ∙ ap (λ (m : ℕ). outcome (comparison_of c.relation).0 32 (comparison_of c.relation).1 (value_in (extents g set) st left q) m) (mod-eq_of_lt (held_below (type_of right).elem (value_in (extents g set) st right q)) ∙ is_right)
-        ∙ c.same (value_in (extents g set) st left q) (value_in (extents g set) st right q) ∙ is_truth op 32 (not signed) (value_in (extents g set) st left q) (value_in (extents g set) st right q) related
+    words_compare : Compares bits set c.relation v w u
+    unfolding bits_of
+    words_compare q below =
+        c.same bits (v q % 2 ^ bits) (w q % 2 ^ bits) ∙ ap (λ (b : Bool). outcome op bits (not b) (v q % 2 ^ bits) (w q % 2 ^ bits)) (read_as op left right is.0)
+        ∙ by (relation_kind left right) refl
+        ∙ ap (λ (m : ℕ). outcome op 32 unsigned m (w q)) (operand_at g has alive n ready places fields set left st s sim (left_of set left right operands) is.2 c_left q below)
+        ∙ ap (λ (m : ℕ). outcome op 32 unsigned (value_in (extents g set) st left q) m) (operand_at g has alive n ready places fields set right st s sim (right_of set left right operands) is.3 c_right q below)
+        ∙ is_truth op 32 unsigned (value_in (extents g set) st left q) (value_in (extents g set) st right q) is.0
+      where
+        operands : AreOperands set left right
+        operands = relation_operands set left right are
+
+        unsigned : Bool
+        unsigned = not (type_of left).elem.signed
+
+        at_kind : Option Elem → ℕ
+        at_kind o = outcome op (bits_of o) (not (elim o as (λ _. Bool) [ None ↦ is_signed (type_of left).elem | Some kind ↦ kind.signed ])) (v q % 2 ^ bits_of o) (w q % 2 ^ bits_of o)
+
+        signs : (kind : Elem) → relation_kind left right ≡ Some kind → kind.signed ≡ true → unsigned ≡ false
+        signs kind same signed =
+            ap not (subst (λ (o : Option Elem). elim o as (λ _. Type 0) [ None ↦ Unit {0} | Some kind ↦ kind.signed ≡ true → (type_of left).elem.signed ≡ true ]) same is.4 signed)
+
+        by : (o : Option Elem) → relation_kind left right ≡ o → at_kind (relation_kind left right) ≡ outcome op 32 unsigned (v q) (w q)
+        by None none =
+            ap at_kind none
+            ∙ ap (λ (b : Bool). outcome op 32 (not b) (v q % 2 ^ 32) (w q % 2 ^ 32)) (wide_signed (type_of left).elem is.2.1)
+            ∙ ap (λ (m : ℕ). outcome op 32 unsigned m (w q % 2 ^ 32)) (mod-eq_of_lt (held_below (type_of left).elem (value_in (extents g set) st left q)))
+            ∙ ap (λ (m : ℕ). outcome op 32 unsigned (v q) m) (mod-eq_of_lt (held_below (type_of right).elem (value_in (extents g set) st right q)))
+        by (Some kind) some =
+            let words = relation_has g alive n places fields set left right st s sim are is.2.1 is.3.1 c_left c_right (λ word is_word x. constant_at g has alive n ready places fields set left st (left_of set left right operands) c_left x word is_word)
+            (λ word is_word x. constant_at g has alive n ready places fields set right st (right_of set left right operands) c_right x word is_word) q below kind some in
+            ap at_kind some ∙ narrow_compares op kind unsigned (v q) (w q) is.0 (signs kind some) words.0 words.1
 
     -- the code of a relation
-    pub relation_after : AreWhole set left right → After g Q (then_make (spread_into (operand bits (is_quiet right) left) left spare d1) (λ a e. next a e))
+    chosen : AreOperands set left right → After g Q (then_make (spread_into (operand bits (is_quiet right) left) left spare d1) (λ a e. next a e))
     unfolding compared
-    relation_after (inl (whole, any)) =
-        let pure : IsPure set left = whole.0 in
-        let compares_so = words_compare (inl (whole, any)) in
-        let any_operand = right_of set left right (whole_operands set left right (inl (whole, any))) in
+    chosen (inl (pure, any_operand)) =
         then_after g (GivesField g alive bits (length d1.fields) d1 s set st v) Q (spread_into (operand bits (is_quiet right) left) left spare d1) (λ a e. next a e)
-        (pure_left g has alive n ready places fields bits set left (is_quiet right) pure c_left (pure_after g has alive n ready places fields bits set left (omega arith) pure c_left) spare d1 s st here sim) next_extends
+        (pure_left g has alive n ready places fields bits set left (is_quiet right) pure c_left (pure_after g has alive n ready places fields bits set left most pure c_left) spare d1 s st here sim) next_extends
         (λ a e1 one. then_after g (GivesRight g has alive n ready places fields bits (length e1.fields) e1 one.passes.t set st w) Q (right_by (operand bits true right) op right e1) (λ b after. compared (M.Compare c.relation) a b spare after)
-        (right_after g has alive n ready places fields bits set op right no_check any_operand c_right (λ p. pure_after g has alive n ready places fields bits set right (omega arith) p c_right) e1 one.passes.t st one.passes.at one.passes.sim) (λ b after. compared_extends c.relation a b spare after)
-        (λ b e2 two. by compares_so a e1 one b e2 two))
+        (right_after g has alive n ready places fields bits set op right no_check any_operand c_right (λ p. pure_after g has alive n ready places fields bits set right most p c_right) e1 one.passes.t st one.passes.at one.passes.sim) (λ b after. compared_extends c.relation a b spare after)
+        (λ b e2 two. by a e1 one b e2 two))
       where
-        by : Compares bits set c.relation v w u → (a : Field) (e1 : Draft) (one : GivesField g alive bits (length d1.fields) d1 s set st v a e1) (b : Right) (e2 : Draft) → GivesRight g has alive n ready places fields bits (length e1.fields) e1 one.passes.t set st w b e2 → After g Q (compared (M.Compare c.relation) a b spare e2)
-        by same a e1 one b e2 (inl (f, (is, gives))) =
-            after_same g Q (ap (λ (x : Right). compared (M.Compare c.relation) a x spare e2) is)
-            (made_after g Q tt (with_instr (I.Compare c.relation a f) e2) (λ within. field_compared bits set c.relation (length d1.fields) a f v w u d e1 e2 s st same (let more = one_more set bits W.Own d in omega (arith, more)) (fields_longer d1 e1 one.passes.grown.0 one.passes.grown.1) one gives within))
-        by same a e1 one b e2 (inr (k, (is, gives))) =
-            after_same g Q (ap (λ (x : Right). compared (M.Compare c.relation) a x spare e2) is)
-            (made_after g Q tt (with_instr (I.Compare c.relation a spare) (with_instr (I.MoveConstant spare k) e2)) (λ within. word_compared bits set c.relation a k v w u d e1 e2 s st same one gives within))
-    relation_after (inr (scalar, whole)) =
-        let pure : IsPure set right = whole.0 in
-        let promoted : IsPromoted set left = scalar.0 in
-        let same = words_compare (inr (scalar, whole)) in
+        by : (a : Field) (e1 : Draft) (one : GivesField g alive bits (length d1.fields) d1 s set st v a e1) (b : Right) (e2 : Draft) → GivesRight g has alive n ready places fields bits (length e1.fields) e1 one.passes.t set st w b e2 → After g Q (compared (M.Compare c.relation) a b spare e2)
+        by a e1 one b e2 (inl (f, (same, gives))) =
+            after_same g Q (ap (λ (x : Right). compared (M.Compare c.relation) a x spare e2) same)
+            (made_after g Q tt (with_instr (I.Compare c.relation a f) e2) (λ within. field_compared bits set c.relation (length d1.fields) a f v w u d e1 e2 s st words_compare (let more = one_more set bits W.Own d in omega (arith, more)) (fields_longer d1 e1 one.passes.grown.0 one.passes.grown.1) one gives within))
+        by a e1 one b e2 (inr (k, (same, gives))) =
+            after_same g Q (ap (λ (x : Right). compared (M.Compare c.relation) a x spare e2) same)
+            (made_after g Q tt (with_instr (I.Compare c.relation a spare) (with_instr (I.MoveConstant spare k) e2)) (λ within. word_compared bits set c.relation a k v w u d e1 e2 s st words_compare one gives within))
+    chosen (inr (promoted, pure)) =
         then_after g (GivesField g alive bits (length d.fields) d1 s set st v) Q (spread_into (operand bits (is_quiet right) left) left spare d1) (λ a e. next a e)
-        (left_after g has alive n ready places fields bits set left (is_quiet right) (λ p. pure_quiet set right pure) (inr promoted) c_left (λ p. pure_after g has alive n ready places fields bits set left (omega arith) p c_left) d s st here sim (λ x. operand_grows g has alive n ready places fields bits left c_left (is_quiet right) x)) next_extends
+        (left_after g has alive n ready places fields bits set left (is_quiet right) (λ p. pure_quiet set right pure) (inr promoted) c_left (λ p. pure_after g has alive n ready places fields bits set left most p c_left) d s st here sim (λ x. operand_grows g has alive n ready places fields bits left c_left (is_quiet right) x)) next_extends
         (λ a e1 one. then_after g (RightField g has alive n ready places fields bits e1 one.passes.t set st w) Q (right_by (operand bits true right) op right e1) (λ b after. compared (M.Compare c.relation) a b spare after)
-        (pure_right g has alive n ready places fields bits set op right pure c_right (pure_after g has alive n ready places fields bits set right (omega arith) pure c_right) e1 one.passes.t st one.passes.at one.passes.sim) (λ b after. compared_extends c.relation a b spare after)
-        (λ b e2 (f, (is, gives)). after_same g Q (ap (λ (x : Right). compared (M.Compare c.relation) a x spare e2) is)
-        (made_after g Q tt (with_instr (I.Compare c.relation a f) e2) (λ within. field_compared bits set c.relation (length d.fields) a f v w u d e1 e2 s st same (omega arith) (let first = one_more set bits W.Own d in let more = fields_longer d1 e1 one.passes.grown.0 one.passes.grown.1 in omega (arith, first, more)) one gives within))))
+        (pure_right g has alive n ready places fields bits set op right pure c_right (pure_after g has alive n ready places fields bits set right most pure c_right) e1 one.passes.t st one.passes.at one.passes.sim) (λ b after. compared_extends c.relation a b spare after)
+        (λ b e2 (f, (same, gives)). after_same g Q (ap (λ (x : Right). compared (M.Compare c.relation) a x spare e2) same)
+        (made_after g Q tt (with_instr (I.Compare c.relation a f) e2) (λ within. field_compared bits set c.relation (length d.fields) a f v w u d e1 e2 s st words_compare (omega arith) (let first = one_more set bits W.Own d in let more = fields_longer d1 e1 one.passes.grown.0 one.passes.grown.1 in omega (arith, first, more)) one gives within))))
+
+    pub relation_after : After g Q (then_make (spread_into (operand bits (is_quiet right) left) left spare d1) (λ a e. next a e))
+    relation_after = chosen (relation_operands set left right are)

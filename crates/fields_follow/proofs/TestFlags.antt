@@ -38,20 +38,20 @@ use Rattle.fields_follow.proofs.Places.{HoldsTheFields, PlacesFields, of_file}
 pub record ComparesAs (op : Op) (signed : Bool) : Type 0 where
   pub relation : Compare
   pub is : machine_of op signed ≡ M.Compare relation
-  pub same : (a b : ℕ) → outcome (comparison_of relation).0 32 (comparison_of relation).1 a b ≡ outcome op 32 (not signed) a b
+  pub same : (bits a b : ℕ) → outcome (comparison_of relation).0 bits (comparison_of relation).1 a b ≡ outcome op bits (not signed) a b
 
 pub compares : (op : Op) (signed : Bool) → relates op ≡ true → ComparesAs op signed
 unfolding machine_of relates outcome
-compares P.Eq signed e = record { relation = C.UEq; is = refl; same = λ a b. refl }
-compares P.Ne signed e = record { relation = C.UNe; is = refl; same = λ a b. refl }
-compares P.Lt true e = record { relation = C.SLt; is = refl; same = λ a b. refl }
-compares P.Lt false e = record { relation = C.ULt; is = refl; same = λ a b. refl }
-compares P.Le true e = record { relation = C.SLe; is = refl; same = λ a b. refl }
-compares P.Le false e = record { relation = C.ULe; is = refl; same = λ a b. refl }
-compares P.Gt true e = record { relation = C.SGt; is = refl; same = λ a b. refl }
-compares P.Gt false e = record { relation = C.UGt; is = refl; same = λ a b. refl }
-compares P.Ge true e = record { relation = C.SGe; is = refl; same = λ a b. refl }
-compares P.Ge false e = record { relation = C.UGe; is = refl; same = λ a b. refl }
+compares P.Eq signed e = record { relation = C.UEq; is = refl; same = λ bits a b. refl }
+compares P.Ne signed e = record { relation = C.UNe; is = refl; same = λ bits a b. refl }
+compares P.Lt true e = record { relation = C.SLt; is = refl; same = λ bits a b. refl }
+compares P.Lt false e = record { relation = C.ULt; is = refl; same = λ bits a b. refl }
+compares P.Le true e = record { relation = C.SLe; is = refl; same = λ bits a b. refl }
+compares P.Le false e = record { relation = C.ULe; is = refl; same = λ bits a b. refl }
+compares P.Gt true e = record { relation = C.SGt; is = refl; same = λ bits a b. refl }
+compares P.Gt false e = record { relation = C.UGt; is = refl; same = λ bits a b. refl }
+compares P.Ge true e = record { relation = C.SGe; is = refl; same = λ bits a b. refl }
+compares P.Ge false e = record { relation = C.UGe; is = refl; same = λ bits a b. refl }
 compares _ signed e = cc
 
 pub truth_is : (b : Bool) → from_bool b ≡ from_bool (nonzero (from_bool b))

@@ -47,9 +47,9 @@ use Rattle.code_follows.proofs.Following.{Extends, HasRegisters, Sim, extends_th
 use Rattle.code_follows.proofs.Values.{extends_grown}
 use Rattle.code_follows.proofs.Settings.{At, Setting, and_one, layout}
 use Rattle.fields_follow.specs.Fields.{IsElement, file_number}
-use Rattle.fields_follow.specs.Fragment.{AreWhole, IsCondition, IsPure, IsWhole, IsWide}
+use Rattle.fields_follow.specs.Fragment.{HasItsKind, IsCondition, IsNarrowed, IsPure, IsRelation, IsWide}
 use Rattle.fields_follow.proofs.ConditionCode.{Bit, Told, Truth, bit_not_value, bit_taken, flag_after, flag_extends, joined_in, joined_made, joined_value, nonzero_after, operand_at, relation_value, stored_after, turned_after, word_not_value, zero_after}
-use Rattle.fields_follow.proofs.Conditions.{HaveTheirCode, and_codes, condition_constant, condition_kept, condition_type, conditions_join, or_codes}
+use Rattle.fields_follow.proofs.Conditions.{HaveTheirCode, and_codes, condition_constant, condition_kept, condition_shape, conditions_join, or_codes}
 use Rattle.fields_follow.proofs.Expressions.{pure_after}
 use Rattle.fields_follow.proofs.Forms.{HasItsCode, element_is, field_is, not_held}
 use Rattle.fields_follow.proofs.Instructions.{SameExtents, extents, place, shapes}
@@ -58,35 +58,38 @@ use Rattle.fields_follow.proofs.Meaning.{binary_means, divides_nothing, either, 
 use Rattle.fields_follow.proofs.Passing.{After, after_same, after_weaker, made_after, passes_all, passes_from, small_there, then_after}
 use Rattle.fields_follow.proofs.Places.{HoldsTheFields, PlacesFields}
 use Rattle.fields_follow.proofs.Pure.{AreGrids, are_grids, pure_means}
-use Rattle.fields_follow.proofs.Reductions.{whole_binary, whole_type}
-use Rattle.fields_follow.proofs.Sizes.{binary_parts, brackets_part, pure_at, unary_part}
-use Rattle.fields_follow.proofs.Totals.{held_below}
+use Rattle.fields_follow.proofs.NarrowKinds.{kind_most, zero_told}
+use Rattle.fields_follow.proofs.Sizes.{binary_parts, brackets_part, unary_part}
 use Rattle.fields_follow.proofs.Values.{Gives, and_entry, next_field, operand_after, operand_of, taken, variable_has, with_entry}
 use Rattle.fields_follow.proofs.TestFlags.{LeavesTests, numbers_tell, puts_nonzero, tested_last}
 use Rattle.fields_follow.proofs.Truths.{either_or_both, field_told, truth_told}
-use Rattle.fields_follow.proofs.Relations.{relation_after, relation_code, whole_left, whole_operands, whole_right}
+use Rattle.fields_follow.proofs.Relations.{relation_after, relation_code, relation_operands}
 
 value_means : (scope : Scope) (active : Active) (t : Typed) (i : Instance) (n set : ℕ) (e : TExpr) (st : State) → IsCondition set e → AreGrids scope t set → NamesVariables t i n e
     → evaluated scope e active st ≡ Source.Gives (Parallel (λ q. value_in (scope.extents set) st e q)) st
 unfolding IsCondition NamesVariables evaluated value_in then_do and_then or_then at
 value_means scope active t i n set (T.Brackets' ty p inner) st is grids names = value_means scope active t i n set inner st is.1 grids names
 value_means scope active t i n set (T.Unary' ty op p operand) st is grids names =
-    unary_means scope active set ty op p operand (λ q. value_in (scope.extents set) st operand q) st is.0.0
-    (either (λ (h : (negates op ≡ true) × IsCondition set operand). value_means scope active t i n set operand st h.1 grids names) (λ (h : (negates op ≡ false) × IsWhole set operand). pure_means scope active t i n set operand st h.1.0 grids names) is.1)
+    either
+    (λ (h : (negates op ≡ true) × IsCondition set operand). unary_means scope active set ty op p operand (λ q. value_in (scope.extents set) st operand q) st is.0.0 (value_means scope active t i n set operand st h.1 grids names))
+    (λ (h : (negates op ≡ false) × IsPure set (T.Unary' ty op p operand)). pure_means scope active t i n set (T.Unary' ty op p operand) st h.1 grids names) is.1
 value_means scope active t i n set (T.LogicalOr' ty p left q right) st is grids names =
     ap (λ (o : Outcome Value). then_do o (λ x after. or_then ty.shape (type_of left).shape x (λ a after. evaluated scope right a after) active after)) (value_means scope active t i n set left st is.1 grids names.0)
-    ∙ ap (λ (o : Option ℕ). or_then ty.shape o (Parallel (λ q. value_in (scope.extents set) st left q)) (λ a after. evaluated scope right a after) active st) (condition_type set left is.1).0
+    ∙ ap (λ (o : Option ℕ). or_then ty.shape o (Parallel (λ q. value_in (scope.extents set) st left q)) (λ a after. evaluated scope right a after) active st) (condition_shape set left is.1)
     ∙ ap (λ (o : Outcome Value). then_do o (λ w after. Source.Gives (Parallel (λ q. from_bool (nonzero (value_in (scope.extents set) st left q) || nonzero (at w q)))) after))
     (value_means scope (where_zero set (Parallel (λ q. value_in (scope.extents set) st left q)) active) t i n set right st is.2 grids names.1)
 value_means scope active t i n set (T.LogicalAnd' ty p left q right) st is grids names =
     ap (λ (o : Outcome Value). then_do o (λ x after. and_then ty.shape (type_of left).shape x (λ a after. evaluated scope right a after) active after)) (value_means scope active t i n set left st is.1 grids names.0)
-    ∙ ap (λ (o : Option ℕ). and_then ty.shape o (Parallel (λ q. value_in (scope.extents set) st left q)) (λ a after. evaluated scope right a after) active st) (condition_type set left is.1).0
+    ∙ ap (λ (o : Option ℕ). and_then ty.shape o (Parallel (λ q. value_in (scope.extents set) st left q)) (λ a after. evaluated scope right a after) active st) (condition_shape set left is.1)
     ∙ ap (λ (o : Outcome Value). then_do o (λ w after. Source.Gives (Parallel (λ q. from_bool (nonzero (value_in (scope.extents set) st left q) && nonzero (at w q)))) after))
     (value_means scope (where_nonzero set (Parallel (λ q. value_in (scope.extents set) st left q)) active) t i n set right st is.2 grids names.1)
 value_means scope active t i n set (T.Binary' ty place op p left q right) st is grids names =
-    binary_means scope active set ty place op p q left right (λ x. value_in (scope.extents set) st left x) (λ x. value_in (scope.extents set) st right x) st is.0.0 (divides_nothing op (λ x. value_in (scope.extents set) st right x) is.1)
-    (either (λ h. pure_means scope active t i n set left st h grids names.0) (λ h. promoted_means scope active set left st h) (left_of set left right (whole_operands set left right is.2))) (either (λ h. pure_means scope active t i n set right st h grids names.1) (λ h. promoted_means scope active set right st h) (right_of set left right (whole_operands set left right is.2)))
-value_means scope active t i n set e st is grids names = pure_means scope active t i n set e st is.0 grids names
+    either
+    (λ (h : IsRelation set op left right). binary_means scope active set ty place op p q left right (λ x. value_in (scope.extents set) st left x) (λ x. value_in (scope.extents set) st right x) st is.0.0 (divides_nothing op (λ x. value_in (scope.extents set) st right x) is.1)
+    (either (λ pure. pure_means scope active t i n set left st pure grids names.0) (λ promoted. promoted_means scope active set left st promoted) (left_of set left right (relation_operands set left right h.1)))
+    (either (λ pure. pure_means scope active t i n set right st pure grids names.1) (λ promoted. promoted_means scope active set right st promoted) (right_of set left right (relation_operands set left right h.1))))
+    (λ (h : (relates op ≡ false) × IsPure set (T.Binary' ty place op p left q right) × (kind_of (T.Binary' ty place op p left q right) ≡ None)). pure_means scope active t i n set (T.Binary' ty place op p left q right) st h.1 grids names) is.2
+value_means scope active t i n set e st is grids names = pure_means scope active t i n set e st is.0.0 grids names
 
 pub condition_means : (g : Setting) (scope : Scope) → PlacesFields g → SameExtents g scope → (alive : Variable → Type 0) (n : ℕ) (active : Active) (set : ℕ) (e : TExpr) (st : State) → IsCondition set e → HasItsCode g.typed g.instance alive n e → set < length (shapes g)
     → evaluated scope e active st ≡ Source.Gives (Parallel (λ q. value_in (extents g set) st e q)) st
@@ -116,24 +119,22 @@ module _ (g : Setting) (has : HasRegisters g) (alive : Variable → Type 0) (n :
     pub own : own_of 1 e ≡ None
     pub value : Everywhere (λ d s st. After g (Bit g alive places fields d s set st (numbers_of set e st)) (value_of g.typed (layout g) 1 e d))
 
+  -- or it is a value of more than one bit
+  abbrev HasWord : ℕ → TExpr → Type 0
+  HasWord set e = HasItsKind set e × ((bits_of (kind_of e) == 1) ≡ false)
+
   -- the code of a condition leaves the test flags, and that of its value a word or a bit
   abbrev IsKnown : ℕ → TExpr → Type 0
-  IsKnown set e = IsTested set e × (IsWhole set e ⊎ HasBit set e)
+  IsKnown set e = IsTested set e × (HasWord set e ⊎ HasBit set e)
 
   -- ---- words
 
-  pure_told : (set : ℕ) (e : TExpr) → IsWhole set e → HasItsCode g.typed g.instance alive n e → Everywhere (λ d s st. After g (Told g alive places fields d s set st (numbers_of set e st)) (operand 32 true e d))
-  pure_told set e whole c d s st here sim =
-      after_weaker g (Gives g has alive n ready places fields 32 (length d.fields) d s set st (λ q. word_at (extents g set) st e q)) (Told g alive places fields d s set st (numbers_of set e st)) (operand 32 true e d)
-      (λ x e1 (a, (is, gives)). (
-        a,
-        (
-          is,
-          field_told g alive places fields 32 d s set st (λ q. word_at (extents g set) st e q) (numbers_of set e st) a e1 (λ q below.
-              ap (λ (m : ℕ). m == 0) (mod-eq_of_lt (held_below (type_of e).elem (value_in (extents g set) st e q)) ∙ pure_at g alive n places fields set e st s sim whole.0 (whole_type set e whole) c q below)) gives,
-        ),
-      ))
-      (operand_after g has alive n ready places fields 32 set e true whole.0 c.code.names (pure_after g has alive n ready places fields 32 set e (omega arith) whole.0 c) d s st here sim)
+  pure_told : (set : ℕ) (e : TExpr) → HasItsKind set e → HasItsCode g.typed g.instance alive n e → Everywhere (λ d s st. After g (Told g alive places fields d s set st (numbers_of set e st)) (operand (bits_of (kind_of e)) true e d))
+  pure_told set e kinded c d s st here sim =
+      let bits : ℕ = bits_of (kind_of e) in
+      after_weaker g (Gives g has alive n ready places fields bits (length d.fields) d s set st (λ q. word_at (extents g set) st e q)) (Told g alive places fields d s set st (numbers_of set e st)) (operand bits true e d)
+      (λ x e1 (a, (is, gives)). (a, (is, field_told g alive places fields bits d s set st (λ q. word_at (extents g set) st e q) (numbers_of set e st) a e1 (λ q below. zero_told g alive n places fields set e st s sim kinded c q below) gives)))
+      (operand_after g has alive n ready places fields bits set e true kinded.0 c.code.names (pure_after g has alive n ready places fields bits set e (kind_most g alive n places fields set e kinded) kinded.0 c) d s st here sim)
 
   -- a variable of the file, where it stands
   variable_tested : (set k : ℕ) (ty : ValueType) → ty.shape ≡ Some set → HasVariable g.typed g.instance n (V.File k) (plain ty) → (d : Draft) (s : CodeState) (st : State) → At g s (length d.code) → Sim g alive st s
@@ -166,13 +167,11 @@ module _ (g : Setting) (has : HasRegisters g) (alive : Variable → Type 0) (n :
       d1 = with_entry set info.elem.bits (W.File (file_number g.typed k 0)) d
 
   -- a value that the test flag does not tell without it
-  pure_tested : (set : ℕ) (e : TExpr) → IsWhole set e → has_truth e ≡ false → HasItsCode g.typed g.instance alive n e → IsTested set e
-  unfolding tested_by bits_of
-  pure_tested set e pure no_truth c d s st here sim =
-      after_same g (λ _ f. Condition set e d s st f)
-      (ap (λ (b : Bool). tested_by b (truth_of g.typed (layout g) e) (next_of g.typed (layout g) (bits_of (kind_of e)) true e) d) no_truth
-      ∙ ap (λ (k : Option Elem). nonzero_tested (next_of g.typed (layout g) (bits_of k) true e) d) pure.1)
-      (nonzero_after g alive places fields set (numbers_of set e st) (operand 32 true e) d s st (pure_told set e pure c d s st here sim))
+  pure_tested : (set : ℕ) (e : TExpr) → HasItsKind set e → has_truth e ≡ false → HasItsCode g.typed g.instance alive n e → IsTested set e
+  unfolding tested_by
+  pure_tested set e kinded no_truth c d s st here sim =
+      after_same g (λ _ f. Condition set e d s st f) (ap (λ (b : Bool). tested_by b (truth_of g.typed (layout g) e) (next_of g.typed (layout g) (bits_of (kind_of e)) true e) d) no_truth)
+      (nonzero_after g alive places fields set (numbers_of set e st) (operand (bits_of (kind_of e)) true e) d s st (pure_told set e kinded c d s st here sim))
 
   -- ---- bits
 
@@ -192,14 +191,18 @@ module _ (g : Setting) (has : HasRegisters g) (alive : Variable → Type 0) (n :
       (bit_after set e is bit d s st here sim)
 
   -- a word or a bit tells
-  operand_told : (set : ℕ) (e : TExpr) → IsCondition set e → HasItsCode g.typed g.instance alive n e → IsWhole set e ⊎ HasBit set e → Everywhere (λ d s st. After g (Told g alive places fields d s set st (numbers_of set e st)) (operand_at g (bits_of (kind_of e)) e d))
+  operand_told : (set : ℕ) (e : TExpr) → IsCondition set e → HasItsCode g.typed g.instance alive n e → HasWord set e ⊎ HasBit set e → Everywhere (λ d s st. After g (Told g alive places fields d s set st (numbers_of set e st)) (operand_at g (bits_of (kind_of e)) e d))
   unfolding bits_of
-  operand_told set e is c (inl pure) d s st here sim =
-      after_same g (Told g alive places fields d s set st (numbers_of set e st)) (ap (λ (k : Option Elem). operand_at g (bits_of k) e d) pure.1) (pure_told set e pure c d s st here sim)
+  operand_told set e is c (inl word) d s st here sim = pure_told set e word.0 c d s st here sim
   operand_told set e is c (inr bit) d s st here sim = after_same g (Told g alive places fields d s set st (numbers_of set e st)) (ap (λ (k : Option Elem). operand_at g (bits_of k) e d) bit.kind) (bit_told set e is bit d s st here sim)
 
-  pure_known : (set : ℕ) (e : TExpr) → IsWhole set e → has_truth e ≡ false → HasItsCode g.typed g.instance alive n e → IsKnown set e
-  pure_known set e pure no_truth c = (pure_tested set e pure no_truth c, inl pure)
+  pure_known : (set : ℕ) (e : TExpr) → HasWord set e → has_truth e ≡ false → HasItsCode g.typed g.instance alive n e → IsKnown set e
+  pure_known set e word no_truth c = (pure_tested set e word.0 no_truth c, inl word)
+
+  -- one of no narrow type has all 32
+  all_bits : (e : TExpr) → kind_of e ≡ None → (bits_of (kind_of e) == 1) ≡ false
+  unfolding bits_of
+  all_bits e none = ap (λ (o : Option Elem). bits_of o == 1) none
 
   -- ---- brackets, relations and `!`
 
@@ -214,22 +217,22 @@ module _ (g : Setting) (has : HasRegisters g) (alive : Variable → Type 0) (n :
           (λ v after. in_field v (λ source. Makes tt (with_instr (I.NeZero source) after)))
 
   brackets_known : (set : ℕ) (ty : ValueType) (p : Boxed) (inner : TExpr) → IsCondition set (T.Brackets' ty p inner) → ty ≡ type_of inner → IsCondition set inner → IsKnown set inner → IsKnown set (T.Brackets' ty p inner)
-  unfolding IsPure value_in value_of kind_of own_of
+  unfolding IsPure IsNarrowed value_in value_of kind_of own_of
   brackets_known set ty p inner is same part (tests, whole) = (
     λ d s st here sim. after_same g (λ _ f. Condition set (T.Brackets' ty p inner) d s st f) (brackets_code set ty p inner d is part) (tests d s st here sim),
-    either (λ (whole : IsWhole set inner). inl ((same, whole.0), whole.1)) (λ (bit : HasBit set inner). inr (record { kind = bit.kind; own = bit.own; value = bit.value })) whole,
+    either (λ (word : HasWord set inner). inl (((same, word.0.0), word.0.1), word.1)) (λ (bit : HasBit set inner). inr (record { kind = bit.kind; own = bit.own; value = bit.value })) whole,
   )
 
-  relation_known : (set : ℕ) (ty : ValueType) (place : Place) (op : Op) (p q : Boxed) (left right : TExpr) → IsWide set ty → relates op ≡ true → divides op ≡ false → AreWhole set left right → HasItsCode g.typed g.instance alive n (T.Binary' ty place op p left q right)
+  relation_known : (set : ℕ) (ty : ValueType) (place : Place) (op : Op) (p q : Boxed) (left right : TExpr) → IsWide set ty → IsRelation set op left right → divides op ≡ false → HasItsCode g.typed g.instance alive n (T.Binary' ty place op p left q right)
       → IsKnown set (T.Binary' ty place op p left q right)
   unfolding tested_by has_truth value_in kind_of binary_kind own_of
-  relation_known set ty place op p q left right wide related no_check are c = (
-    λ d s st here sim. after_same g (λ _ f. Condition set whole d s st f) (ap (λ (b : Bool). tested_by b (truth_of g.typed (layout g) whole) (next_of g.typed (layout g) (bits_of (kind_of whole)) true whole) d) related) (truth d s st here sim),
+  relation_known set ty place op p q left right wide is no_check c = (
+    λ d s st here sim. after_same g (λ _ f. Condition set whole d s st f) (ap (λ (b : Bool). tested_by b (truth_of g.typed (layout g) whole) (next_of g.typed (layout g) (bits_of (kind_of whole)) true whole) d) is.0) (truth d s st here sim),
     inr (record {
-      kind = ap (λ (b : Bool). if b then Some truth_type else if is_bitwise op then common_kind (kind_of left) (kind_of right) else None) related;
+      kind = ap (λ (b : Bool). if b then Some truth_type else if is_bitwise op then common_kind (kind_of left) (kind_of right) else None) is.0;
       own = refl;
       value = λ d s st here sim.
-          after_same g (Bit g alive places fields d s set st (numbers_of set whole st)) (relation_value g set ty place op p q left right d wide.0 related no_check)
+          after_same g (Bit g alive places fields d s set st (numbers_of set whole st)) (relation_value g set ty place op p q left right d wide.0 is.0 no_check)
           (stored_after g alive places fields set (numbers_of set whole st) d s st (truth_of g.typed (layout g) whole (with_entry set 1 W.Own d)) (truth (with_entry set 1 W.Own d) s st here sim));
     }),
   )
@@ -240,21 +243,21 @@ module _ (g : Setting) (has : HasRegisters g) (alive : Variable → Type 0) (n :
       truth : Everywhere (λ d s st. After g (λ _ f. Condition set whole d s st f) (truth_of g.typed (layout g) whole d))
       truth d s st here sim =
           let parts = binary_parts g alive n places fields ty place op p q left right c in
-          after_same g (λ _ f. Condition set whole d s st f) (relation_code g has alive n ready places fields set op left right related no_check parts.0 parts.1 d s st here sim ty place p q wide.0 are)
-          (relation_after g has alive n ready places fields set op left right related no_check parts.0 parts.1 d s st here sim are)
+          after_same g (λ _ f. Condition set whole d s st f) (relation_code g has alive n ready places fields set op left right is no_check parts.0 parts.1 d s st here sim ty place p q wide.0)
+          (relation_after g has alive n ready places fields set op left right is no_check parts.0 parts.1 d s st here sim)
 
-  not_known : (set : ℕ) (ty : ValueType) (p : Boxed) (inner : TExpr) → IsWide set ty → IsCondition set inner → HasItsCode g.typed g.instance alive n inner → IsWhole set inner ⊎ HasBit set inner → IsKnown set (T.Unary' ty U.Not p inner)
+  not_known : (set : ℕ) (ty : ValueType) (p : Boxed) (inner : TExpr) → IsWide set ty → IsCondition set inner → HasItsCode g.typed g.instance alive n inner → HasWord set inner ⊎ HasBit set inner → IsKnown set (T.Unary' ty U.Not p inner)
   unfolding tested_by has_truth truth_of value_in unary_of kind_of negates own_of
   not_known set ty p inner wide is c whole = (
     λ d s st here sim. zero_after g alive places fields set (numbers_of set inner st) (operand_at g (bits_of (kind_of inner)) inner) d s st (operand_told set inner is c whole d s st here sim),
     inr (record { kind = refl; own = refl; value = by whole }),
   )
     where
-      by : IsWhole set inner ⊎ HasBit set inner → Everywhere (λ d s st. After g (Bit g alive places fields d s set st (numbers_of set (T.Unary' ty U.Not p inner) st)) (value_of g.typed (layout g) 1 (T.Unary' ty U.Not p inner) d))
-      by (inl pure) d s st here sim =
-          after_same g (Bit g alive places fields d s set st (numbers_of set (T.Unary' ty U.Not p inner) st)) (word_not_value g set ty p inner d wide.0 (condition_kept set inner is) pure.1)
+      by : HasWord set inner ⊎ HasBit set inner → Everywhere (λ d s st. After g (Bit g alive places fields d s set st (numbers_of set (T.Unary' ty U.Not p inner) st)) (value_of g.typed (layout g) 1 (T.Unary' ty U.Not p inner) d))
+      by (inl word) d s st here sim =
+          after_same g (Bit g alive places fields d s set st (numbers_of set (T.Unary' ty U.Not p inner) st)) (word_not_value g set ty p inner d wide.0 (condition_kept set inner is) word.1)
           (stored_after g alive places fields set (numbers_of set (T.Unary' ty U.Not p inner) st) d s st (zero_tested (operand_at g (bits_of (kind_of inner)) inner) (with_entry set 1 W.Own d))
-          (zero_after g alive places fields set (numbers_of set inner st) (operand_at g (bits_of (kind_of inner)) inner) (with_entry set 1 W.Own d) s st (operand_told set inner is c (inl pure) (with_entry set 1 W.Own d) s st here sim)))
+          (zero_after g alive places fields set (numbers_of set inner st) (operand_at g (bits_of (kind_of inner)) inner) (with_entry set 1 W.Own d) s st (operand_told set inner is c (inl word) (with_entry set 1 W.Own d) s st here sim)))
       by (inr bit) d s st here sim =
           after_same g (Bit g alive places fields d s set st (numbers_of set (T.Unary' ty U.Not p inner) st)) (bit_not_value g set ty p inner d wide.0 (condition_kept set inner is) bit.kind)
           (turned_after g alive places fields set (numbers_of set inner st) d s st (operand_at g 1 inner (with_entry set 1 W.Own d)) (bit_after set inner is bit (with_entry set 1 W.Own d) s st here sim))
@@ -264,8 +267,8 @@ module _ (g : Setting) (has : HasRegisters g) (alive : Variable → Type 0) (n :
   -- an operand is put in a field of one bit
   flagged : (set : ℕ) (e : TExpr) → IsCondition set e → IsKnown set e → Everywhere (λ d s st. After g (Truth g alive places fields d s set st (numbers_of set e st)) (flag_of set (condition_of g.typed (layout g) e) d))
   unfolding flag_of flag_by condition_by bits_of
-  flagged set e is (tests, inl pure) d s st here sim =
-      after_same g (Truth g alive places fields d s set st (numbers_of set e st)) (ap (λ (k : Option Elem). flag_by (bits_of k == 1) set (operand_at g (bits_of (kind_of e)) e) (tested g.typed (layout g) e) d) pure.1)
+  flagged set e is (tests, inl word) d s st here sim =
+      after_same g (Truth g alive places fields d s set st (numbers_of set e st)) (ap (λ (b : Bool). flag_by b set (operand_at g (bits_of (kind_of e)) e) (tested g.typed (layout g) e) d) word.1)
       (flag_after g alive places fields set (numbers_of set e st) d s st (tested g.typed (layout g) e d) (tests d s st here sim))
   flagged set e is (tests, inr bit) d s st here sim =
       after_same g (Truth g alive places fields d s set st (numbers_of set e st)) (ap (λ (k : Option Elem). flag_by (bits_of k == 1) set (operand_at g (bits_of k) e) (tested g.typed (layout g) e) d) bit.kind)
@@ -317,9 +320,11 @@ module _ (g : Setting) (has : HasRegisters g) (alive : Variable → Type 0) (n :
   known set (T.Brackets' ty p inner) is c = brackets_known set ty p inner is is.0 is.1 (known set inner is.1 (brackets_part g alive n places fields ty p inner c))
   known set (T.Unary' ty op p inner) is c = by op is.1 c (λ part code. known set inner part code)
     where
-      by : (op : UnaryOp) → ((negates op ≡ true) × IsCondition set inner) ⊎ ((negates op ≡ false) × IsWhole set inner) → HasItsCode g.typed g.instance alive n (T.Unary' ty op p inner)
+      by : (op : UnaryOp) → ((negates op ≡ true) × IsCondition set inner) ⊎ ((negates op ≡ false) × IsPure set (T.Unary' ty op p inner)) → HasItsCode g.typed g.instance alive n (T.Unary' ty op p inner)
           → (IsCondition set inner → HasItsCode g.typed g.instance alive n inner → IsKnown set inner) → IsKnown set (T.Unary' ty op p inner)
-      by op (inr h) c of_inner = pure_known set (T.Unary' ty op p inner) ((is.0, h.0, h.1.0, whole_type set inner h.1), ap (λ (b : Bool). if b then Some truth_type else None) h.0) h.0 c
+      by op (inr h) c of_inner =
+          let none : kind_of (T.Unary' ty op p inner) ≡ None = ap (λ (b : Bool). if b then Some truth_type else None) h.0 in
+          pure_known set (T.Unary' ty op p inner) ((h.1, inl none), all_bits (T.Unary' ty op p inner) none) h.0 c
       by U.Not (inl h) c of_inner = let code = unary_part g alive n places fields ty U.Not p inner c in not_known set ty p inner is.0 h.1 code (of_inner h.1 code).1
       by U.Plus (inl h) c of_inner = let wrong = h.0 in cc
       by U.Minus (inl h) c of_inner = let wrong = h.0 in cc
@@ -330,13 +335,13 @@ module _ (g : Setting) (has : HasRegisters g) (alive : Variable → Type 0) (n :
   known set (T.LogicalAnd' ty p left q right) is c =
       let codes = and_codes g.typed g.instance alive n set ty p q left right is.2 c in
       bit_known set (T.LogicalAnd' ty p left q right) is refl (record { kind = refl; own = refl; value = joined_bit false set ty.shape left right is.0.0 is.1 is.2 is.3 codes (known set left is.1 codes.left_code) (known set right is.2 codes.right_code) })
-  known set (T.Binary' ty place op p left q right) is c = by (relates op) refl
+  known set (T.Binary' ty place op p left q right) is c = by is.2
     where
-      by : (b : Bool) → relates op ≡ b → IsKnown set (T.Binary' ty place op p left q right)
-      by true related = relation_known set ty place op p q left right is.0 related is.1 is.2 c
-      by false plain_one = pure_known set (T.Binary' ty place op p left q right) ((is.0, (plain_one, inl is.1), whole_operands set left right is.2, whole_left set left right is.2, whole_right set left right is.2), whole_binary set op left right plain_one is.2) plain_one c
-  known set (T.Variable ty (V.File k)) is c = ((λ d s st here sim. variable_tested set k ty is.0 c.code.names d s st here sim), inl is)
-  known set (T.Variable ty x) is c = absurd is.0
+      by : IsRelation set op left right ⊎ ((relates op ≡ false) × IsPure set (T.Binary' ty place op p left q right) × (kind_of (T.Binary' ty place op p left q right) ≡ None)) → IsKnown set (T.Binary' ty place op p left q right)
+      by (inl relation) = relation_known set ty place op p q left right is.0 relation is.1 c
+      by (inr plain_one) = pure_known set (T.Binary' ty place op p left q right) ((plain_one.1, inl plain_one.2), all_bits (T.Binary' ty place op p left q right) plain_one.2) plain_one.0 c
+  known set (T.Variable ty (V.File k)) is c = ((λ d s st here sim. variable_tested set k ty is.0.0 c.code.names d s st here sim), inl is)
+  known set (T.Variable ty x) is c = absurd is.0.0
   known set e is c = pure_known set e is refl c
 
   -- the code of a condition

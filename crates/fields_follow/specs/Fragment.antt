@@ -3,9 +3,9 @@
 -- coordinates, promoted scalars, and quotients and remainders by constants other than 0, which change nothing and never
 -- fail; they are assigned to such variables, as truth values of them are, and folded into numbers and onto scalar
 -- variables, and they are the conditions of `where`. Folds are of the active positions.
--- Under `where` and `everywhere` stand the statements of scalar programs with these, but for calls, `return` and jumps
--- that lead out of them.
-use Rattle.std.specs.Prelude.{ℕ, ◌≡◌, ◌<◌, ◌+◌, ◌^◌, ◌⊎◌, ◌==◌, List, [], ◌∷◌, true, false, slice_get, Some, None}
+-- Under `where` and `everywhere` stand the statements of scalar programs with these, also calls, `return` and jumps that
+-- lead out of them.
+use Rattle.std.specs.Prelude.{ℕ, ◌≡◌, ◌<◌, ◌≤◌, ◌&&◌, ◌+◌, ◌^◌, ◌⊎◌, ◌==◌, true, false, Some, None}
 use Rattle.cstar_base.specs.declared.elem.Elem.{Elem}
 use Rattle.cstar_base.specs.declared.operators.Op.{Op}
 use Rattle.cstar_base.specs.Operators.{divides}
@@ -20,14 +20,13 @@ use Rattle.cstar_tree.specs.declared.typed.ValueType.{ValueType}
 use Rattle.cstar_tree.specs.declared.typed.VarInfo.{VarInfo}
 use Rattle.cstar_tree.specs.declared.typed.Variable.TheVariants as V
 use Rattle.cstar_tree.specs.Typed.{type_of}
-use Rattle.lower_base.specs.Operators.{assign_op_of, negates, relates}
-use Rattle.lower_base.specs.Kinds.{kind_of}
+use Rattle.lower_base.specs.Operators.{assign_op_of, negates, reduce_op_of, relates}
+use Rattle.lower_base.specs.Kinds.{bits_of, fold_kind, kind_of}
 use Rattle.lower_comm.specs.declared.news.NewsStep.{NewsStep}
 use Rattle.lower_comm.specs.News.{step_of}
-use Rattle.lower_expr.specs.Kinds.{operation_bits}
+use Rattle.lower_expr.specs.Kinds.{operation_bits, relation_kind}
 use Rattle.lower_expr.specs.Operands.{ignores_context}
 use Rattle.source_meaning.specs.Constants.{constant_of}
-use Rattle.source_meaning.specs.Programs.{extents_of}
 use Rattle.code_follows.specs.Fragment.{Beside, IsProgramBeside, IsScalarType, IsWord}
 
 -- a type of 32 bits of a shape
@@ -110,13 +109,29 @@ IsPure set _ = ⊥
 abbrev pub IsOperand : ℕ → TExpr → Type 0
 IsOperand set e = IsPure set e ⊎ IsPromoted set e
 
--- one of which no type of fewer than 32 bits is known
-abbrev pub IsWhole : ℕ → TExpr → Type 0
-IsWhole set e = IsPure set e × (kind_of e ≡ None)
+-- a value whose narrow type is that of a variable or of a conversion
+unfoldable pub IsNarrowed : TExpr → Type 0
+IsNarrowed (T.Variable ty x) = Unit {0}
+IsNarrowed (T.LeftIndex' ty place p indexes x of) = Unit {0}
+IsNarrowed (T.Brackets' ty p inner) = IsNarrowed inner
+IsNarrowed (T.Convert' ty p operand) = (kind_of operand ≡ None) ⊎ IsNarrowed operand
+IsNarrowed _ = ⊥
 
--- of two operands one may be promoted
-abbrev pub AreWhole : ℕ → TExpr → TExpr → Type 0
-AreWhole set left right = (IsWhole set left × (IsWhole set right ⊎ (IsPromoted set right × IsWide set (type_of right)))) ⊎ ((IsPromoted set left × IsWide set (type_of left)) × IsWhole set right)
+-- one of which no type of fewer than 32 bits is known, or one of such a type
+abbrev pub HasItsKind : ℕ → TExpr → Type 0
+HasItsKind set e = IsPure set e × ((kind_of e ≡ None) ⊎ IsNarrowed e)
+
+-- of the two sides of a relation one may be a promoted scalar of 32 bits
+abbrev pub HaveTheirKinds : ℕ → TExpr → TExpr → Type 0
+HaveTheirKinds set left right = (HasItsKind set left × (HasItsKind set right ⊎ IsPromoted set right)) ⊎ (IsPromoted set left × HasItsKind set right)
+
+-- a relation in a narrow type with a sign is one of numbers with a sign
+abbrev pub ReadsSigns : TExpr → TExpr → Type 0
+ReadsSigns left right = elim (relation_kind left right) [ None ↦ Unit {0} | Some kind ↦ kind.signed ≡ true → (type_of left).elem.signed ≡ true ]
+
+-- a relation of two operands
+abbrev pub IsRelation : ℕ → Op → TExpr → TExpr → Type 0
+IsRelation set op left right = (relates op ≡ true) × HaveTheirKinds set left right × IsWide set (type_of left) × IsWide set (type_of right) × ReadsSigns left right
 
 -- what is assigned to: a variable of the file
 unfoldable pub IsTarget : ℕ → TExpr → Type 0
@@ -134,38 +149,44 @@ HasOperation op elem value = elim (assign_op_of op) [
 
 -- A condition of `where`: a relation of two operands, a value that is not zero and is no quotient itself, `!` of a
 -- condition, or two joined by `&&` or `||`. The right one of these ignores the context: it has no get and no quotient,
--- not even one of constants. Of the values no narrow type is known.
+-- not even one of constants. A value of one bit is a condition only if it is such a truth value.
 unfoldable pub IsCondition : ℕ → TExpr → Type 0
 IsCondition set (T.Brackets' ty p inner) = (ty ≡ type_of inner) × IsCondition set inner
-IsCondition set (T.Unary' ty op p operand) = IsWide set ty × (((negates op ≡ true) × IsCondition set operand) ⊎ ((negates op ≡ false) × IsWhole set operand))
+IsCondition set (T.Unary' ty op p operand) = IsWide set ty × (((negates op ≡ true) × IsCondition set operand) ⊎ ((negates op ≡ false) × IsPure set (T.Unary' ty op p operand)))
 IsCondition set (T.LogicalOr' ty p left q right) = IsWide set ty × IsCondition set left × IsCondition set right × (ignores_context right ≡ true)
 IsCondition set (T.LogicalAnd' ty p left q right) = IsWide set ty × IsCondition set left × IsCondition set right × (ignores_context right ≡ true)
 IsCondition set (T.Binary' ty place op p left q right) =
-    IsWide set ty × (divides op ≡ false) × AreWhole set left right
-IsCondition set e = IsWhole set e
+    IsWide set ty × (divides op ≡ false) × (IsRelation set op left right ⊎ ((relates op ≡ false) × IsPure set (T.Binary' ty place op p left q right) × (kind_of (T.Binary' ty place op p left q right) ≡ None)))
+IsCondition set e = HasItsKind set e × ((bits_of (kind_of e) == 1) ≡ false)
 
--- A truth value: a relation, `!` of a condition, or two conditions joined.
-unfoldable pub IsTruth : ℕ → TExpr → Type 0
-IsTruth set (T.Brackets' ty p inner) = (ty ≡ type_of inner) × IsTruth set inner
-IsTruth set (T.Unary' ty op p operand) = IsWide set ty × (negates op ≡ true) × IsCondition set operand
-IsTruth set (T.LogicalOr' ty p left q right) = IsCondition set (T.LogicalOr' ty p left q right)
-IsTruth set (T.LogicalAnd' ty p left q right) = IsCondition set (T.LogicalAnd' ty p left q right)
-IsTruth set (T.Binary' ty place op p left q right) = (relates op ≡ true) × IsCondition set (T.Binary' ty place op p left q right)
-IsTruth set _ = ⊥
+-- A truth value that goes to so many bits: a relation, `!` of a condition, two conditions joined, or one of these
+-- converted. In one bit there is no `!` of a value of one bit.
+unfoldable pub IsTruth : ℕ → ℕ → TExpr → Type 0
+IsTruth set bits (T.Brackets' ty p inner) = (ty ≡ type_of inner) × IsTruth set bits inner
+IsTruth set bits (T.Convert' ty p operand) = (ty.shape ≡ Some set) × (bits ≤ ty.elem.bits) × IsTruth set bits operand
+IsTruth set bits (T.Unary' ty op p operand) = IsWide set ty × (negates op ≡ true) × IsCondition set operand × ((bits == 1 && bits_of (kind_of operand) == 1) ≡ false)
+IsTruth set bits (T.LogicalOr' ty p left q right) = IsCondition set (T.LogicalOr' ty p left q right)
+IsTruth set bits (T.LogicalAnd' ty p left q right) = IsCondition set (T.LogicalAnd' ty p left q right)
+IsTruth set bits (T.Binary' ty place op p left q right) = (relates op ≡ true) × IsCondition set (T.Binary' ty place op p left q right)
+IsTruth set bits _ = ⊥
 
 -- what is assigned is an operand or, without an operator, such a truth value
-abbrev pub IsOperandOrTruth : ℕ → AssignOp → TExpr → Type 0
-IsOperandOrTruth set op e = IsOperand set e ⊎ ((assign_op_of op ≡ None) × IsTruth set e)
+abbrev pub IsOperandOrTruth : ℕ → ℕ → AssignOp → TExpr → Type 0
+IsOperandOrTruth set bits op e = IsOperand set e ⊎ ((assign_op_of op ≡ None) × IsTruth set bits e)
 
 -- an assignment to a parallel variable, or a step of one
 unfoldable pub IsUpdate : TExpr → Type 0
-IsUpdate (T.Assign' ty place op p target q value) = (set : ℕ) × ((ty ≡ type_of target) × IsTarget set target × HasOperation op ty.elem value × IsOperandOrTruth set op value)
+IsUpdate (T.Assign' ty place op p target q value) = (set : ℕ) × ((ty ≡ type_of target) × IsTarget set target × HasOperation op ty.elem value × IsOperandOrTruth set ty.elem.bits op value)
 IsUpdate (T.Step' ty op order p target) = (set : ℕ) × ((ty ≡ type_of target) × IsTarget set target × ((ty.elem.bits == 1) ≡ false))
 IsUpdate _ = ⊥
 
+-- a value of 32 bits that is folded by an operator: no sign of a narrow type is put back, as it is where bits are joined
+abbrev pub IsFolded : ℕ → Op → TExpr → Type 0
+IsFolded set op e = HasItsKind set e × IsWide set (type_of e) × (fold_kind op e ≡ None)
+
 -- the numbers of a value at the active positions are folded into one
 unfoldable pub IsFold : TExpr → Type 0
-IsFold (T.Reduce' ty op p operand) = IsWord ty × ((set : ℕ) × IsWhole set operand)
+IsFold (T.Reduce' ty op p operand) = IsWord ty × ((set : ℕ) × IsFolded set (reduce_op_of op) operand)
 IsFold _ = ⊥
 
 -- the assignment with the operator of a reduction
@@ -186,7 +207,7 @@ IsScalarTarget _ = ⊥
 
 -- the numbers of a value at the active positions are folded onto a scalar variable
 unfoldable pub IsFoldOnto : TExpr → Type 0
-IsFoldOnto (T.Assign' ty place op p target q value) = (ty ≡ type_of target) × IsScalarTarget target × ((reduction : ReduceOp) × (op ≡ assignment_of reduction)) × ((set : ℕ) × IsWhole set value)
+IsFoldOnto (T.Assign' ty place op p target q value) = (ty ≡ type_of target) × IsScalarTarget target × ((reduction : ReduceOp) × ((op ≡ assignment_of reduction) × ((set : ℕ) × IsFolded set (reduce_op_of reduction) value)))
 IsFoldOnto _ = ⊥
 
 -- a parallel expression whose value is not used

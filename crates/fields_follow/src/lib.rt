@@ -16,8 +16,9 @@ ghost use Rattle.fields_follow.specs.Laws.{ParallelCodeMeansSource};
 /// are of such variables, of gets from neighbours that wrap around, `[(. + 1) %% dimof(S, 0)]x`, of own coordinates, of
 /// constants and of scalar variables, converted to other types than `bool`, with the operators
 /// `+ - * & | ^ ~ << >> <? >?`, and `/ % %%` by constants other than 0. Truth values of relations, `!`, `&&` and `||`
-/// are assigned to variables of 32 bits, too. Of what is folded, tested or compared no type of fewer than 32 bits is
-/// known.
+/// are assigned, too, to variables of all types, but no `!` of a truth value to one of `bool`. What is tested, compared
+/// or folded are values of any types, but for bitwise operations on two narrow ones; `bool` alone is not tested, and
+/// values of narrow types with a sign are not folded by `&`, `|` and `^`.
 pub fn parallel_code_means_source()
     ensures { ParallelCodeMeansSource }
 {}

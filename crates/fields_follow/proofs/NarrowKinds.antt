@@ -1,0 +1,258 @@
+-- The narrow type that is known of a parallel value has its words.
+use Rattle.std.proofs.Common.{◌≡◌, ◌∙◌, ℕ, ◌<◌, ◌≤◌, ◌^◌, ◌%◌, ◌==◌, Bool, true, false, not, Option, Some, None, refl, sym, ap, subst, arith, ◌⊎◌, inl, inr, if◌then◌else◌}
+use Rattle.std.proofs.lemmas.Bool.{eqb-true}
+use Rattle.std.proofs.lemmas.Bool.Decides.{nat_tests}
+use Rattle.std.proofs.lemmas.Nat.{mod_below, pow_pos}
+use Rattle.std.proofs.Math.Nat.{mod-eq_of_lt}
+use Rattle.cstar_base.specs.declared.elem.Elem.{Elem}
+use Rattle.cstar_base.specs.declared.operators.Op.{Op}
+use Rattle.cstar_base.specs.Numbers.{converted}
+use Rattle.cstar_base.specs.Operators.{outcome}
+use Rattle.cstar_base.proofs.NumberLaws.{kind_bits}
+use Rattle.cstar_tree.specs.declared.typed.TExpr.{TExpr}
+use Rattle.cstar_tree.specs.declared.typed.TExpr as T
+use Rattle.cstar_tree.specs.declared.typed.ValueType.{ValueType}
+use Rattle.cstar_tree.specs.declared.typed.Variable.{Variable}
+use Rattle.cstar_tree.specs.declared.typed.Variable.TheVariants as V
+use Rattle.cstar_tree.specs.Typed.{type_of}
+use Rattle.constant_trees.proofs.Words.{converted_below}
+use Rattle.lower_base.specs.Kinds.{bits_of, common_kind, converted_kind, has_all, kind_of, narrow}
+use Rattle.lower_base.specs.Operators.{relates}
+use Rattle.lower_expr.specs.Kinds.{has_number, kind_with, relation_kind}
+use Rattle.lower_expr.specs.Steps.{register_word, word_of}
+use Rattle.paris_code.specs.Code.{CodeState}
+use Rattle.paris_code.specs.Memory.{processors}
+use Rattle.short_values.proofs.Comparisons.{comparison}
+use Rattle.short_values.proofs.NarrowTypes.{is_word, wider_has, zero_test}
+use Rattle.source_meaning.specs.Constants.{then_value}
+use Rattle.source_meaning.specs.Reductions.{int_type}
+use Rattle.source_meaning.specs.State.{State}
+use Rattle.code_follows.proofs.Following.{Sim, held}
+use Rattle.code_follows.proofs.Numbers.{held_zero, word_converted}
+use Rattle.code_follows.proofs.Settings.{Setting}
+use Rattle.code_follows.proofs.Standing.{some_same}
+use Rattle.fields_follow.specs.Fragment.{HasItsKind, HaveTheirKinds, IsConstant, IsNarrowed, IsPromoted, IsPure, IsScalarName}
+use Rattle.fields_follow.proofs.Forms.{HasItsCode, pure_word}
+use Rattle.fields_follow.proofs.Instructions.{extents, shapes}
+use Rattle.fields_follow.proofs.Lengths.{held_has}
+use Rattle.fields_follow.proofs.Meaning.{value_in, word_at}
+use Rattle.fields_follow.proofs.Places.{HoldsTheFields, PlacesFields}
+use Rattle.fields_follow.proofs.Sizes.{brackets_part, convert_part, value_small}
+use Rattle.fields_follow.proofs.Totals.{held_below}
+
+-- a narrow type is the type itself, which has fewer than 32 bits
+narrow_is : (elem kind : Elem) → narrow elem ≡ Some kind → (elem ≡ kind) × (elem.bits < 32)
+unfolding narrow
+narrow_is elem kind is = by (elem.bits == 32) refl is
+  where
+    by : (b : Bool) → (elem.bits == 32) ≡ b → (if elem.bits == 32 then None else Some elem) ≡ Some kind → (elem ≡ kind) × (elem.bits < 32)
+    by true e h = let none = ap (λ (b : Bool). if b then None else Some elem) (sym e) ∙ h in cc
+    by false e h = (
+      some_same elem kind (ap (λ (b : Bool). if b then None else Some elem) (sym e) ∙ h),
+      (let most = (kind_bits elem.bits elem.signed elem.kind).1 in let other : elem.bits ≡ 32 → ⊥ = λ same. (let equal = ap (λ (n : ℕ). n == 32) same in cc) in grind (arith, nat_tests, most, e)),
+    )
+
+-- a type has a word, and fewer bits than one
+abbrev pub HasWord : Elem → ℕ → Type 0
+HasWord kind word = (has_number kind word ≡ true) × (kind.bits < 32)
+
+narrow_has : (elem kind : Elem) (x : ℕ) → x < 2 ^ elem.bits → narrow elem ≡ Some kind → HasWord kind (held elem x)
+narrow_has elem kind x few is = let h = narrow_is elem kind is in subst (λ (k : Elem). HasWord k (held elem x)) h.0 (held_has elem x few, h.1)
+
+-- a type that has all numbers of another one is converted to without a change of the word
+converted_has : (elem from kind : Elem) (x : ℕ) → x < 2 ^ from.bits → has_all elem kind ≡ true → has_number kind (held from x) ≡ true → held elem (converted elem from x) ≡ held from x
+unfolding has_number
+converted_has elem from kind x few all has =
+    ap (held elem) (sym (word_converted elem from x few)) ∙ eqb-true (converted int_type elem (converted elem int_type (held from x))) (held from x) (wider_has elem kind (held from x) all has)
+
+module _ (g : Setting) (alive : Variable → Type 0) (n : ℕ) (places : PlacesFields g) (fields : HoldsTheFields g) where
+  pub kind_has : (set : ℕ) (e : TExpr) (st : State) (s : CodeState) → Sim g alive st s → IsPure set e → IsNarrowed e → HasItsCode g.typed g.instance alive n e → (q : ℕ) → q < processors (shapes g) set → (kind : Elem) → kind_of e ≡ Some kind → HasWord kind (word_at (extents g set) st e q)
+  unfolding IsPure IsNarrowed kind_of value_in converted_kind
+  kind_has set (T.Variable ty (V.File k)) st s sim is so c q below kind is_kind = narrow_has ty.elem kind _ (value_small g alive n places fields set (T.Variable ty (V.File k)) st s sim is c q below) is_kind
+  kind_has set (T.LeftIndex' ty place p indexes (V.File k) of) st s sim is so c q below kind is_kind =
+      narrow_has ty.elem kind _ (value_small g alive n places fields set (T.LeftIndex' ty place p indexes (V.File k) of) st s sim is c q below) is_kind
+  kind_has set (T.Brackets' ty p inner) st s sim is so c q below kind is_kind =
+      subst (λ (y : ValueType). HasWord kind (held y.elem (value_in (extents g set) st inner q))) (sym is.0) (kind_has set inner st s sim is.1 so (brackets_part g alive n places fields ty p inner c) q below kind is_kind)
+  kind_has set (T.Convert' ty p operand) st s sim is so c q below kind is_kind =
+      by (kind_of operand) refl so is_kind (λ narrowed k is_k. kind_has set operand st s sim is.2 narrowed part q below k is_k)
+    where
+      part : HasItsCode g.typed g.instance alive n operand
+      part = convert_part g alive n places fields ty p operand c
+
+      x : ℕ
+      x = value_in (extents g set) st operand q
+
+      cut : narrow ty.elem ≡ Some kind → HasWord kind (held ty.elem (converted ty.elem (type_of operand).elem x))
+      cut h = narrow_has ty.elem kind _ (converted_below ty.elem (type_of operand).elem x) h
+
+      by : (o : Option Elem) → kind_of operand ≡ o → (kind_of operand ≡ None) ⊎ IsNarrowed operand → converted_kind ty.elem (kind_of operand) ≡ Some kind → (IsNarrowed operand → (k : Elem) → kind_of operand ≡ Some k → HasWord k (held (type_of operand).elem x))
+          → HasWord kind (held ty.elem (converted ty.elem (type_of operand).elem x))
+      by None none any h before = cut (ap (λ (o : Option Elem). converted_kind ty.elem o) (sym none) ∙ h)
+      by (Some k) some (inl none) h before = let wrong = sym none ∙ some in cc
+      by (Some k) some (inr narrowed) h before = all (has_all ty.elem k) refl (ap (λ (o : Option Elem). converted_kind ty.elem o) (sym some) ∙ h)
+        where
+          has : HasWord k (held (type_of operand).elem x)
+          has = before narrowed k some
+
+          all : (b : Bool) → has_all ty.elem k ≡ b → (if has_all ty.elem k then Some k else narrow ty.elem) ≡ Some kind → HasWord kind (held ty.elem (converted ty.elem (type_of operand).elem x))
+          all true it_has h =
+              let same : k ≡ kind = some_same k kind (ap (λ (b : Bool). if b then Some k else narrow ty.elem) (sym it_has) ∙ h) in
+              let small : x < 2 ^ (type_of operand).elem.bits = value_small g alive n places fields set operand st s sim is.2 part q below in
+              subst (λ (w : ℕ). HasWord kind w) (sym (converted_has ty.elem (type_of operand).elem k x small it_has has.0)) (subst (λ (e : Elem). HasWord e (held (type_of operand).elem x)) same has)
+          all false other h = cut (ap (λ (b : Bool). if b then Some k else narrow ty.elem) (sym other) ∙ h)
+  kind_has set (T.Variable ty x) st s sim is so c q below kind is_kind = absurd is
+  kind_has set (T.LeftIndex' ty place p indexes x of) st s sim is so c q below kind is_kind = absurd is
+  kind_has set _ st s sim is so c q below kind is_kind = absurd so
+
+  pub kind_narrow : (set : ℕ) (e : TExpr) → IsPure set e → IsNarrowed e → (kind : Elem) → kind_of e ≡ Some kind → kind.bits < 32
+  unfolding IsPure IsNarrowed kind_of converted_kind
+  kind_narrow set (T.Variable ty x) is so kind is_kind = let h = narrow_is ty.elem kind is_kind in subst (λ (k : Elem). k.bits < 32) h.0 h.1
+  kind_narrow set (T.LeftIndex' ty place p indexes x of) is so kind is_kind = let h = narrow_is ty.elem kind is_kind in subst (λ (k : Elem). k.bits < 32) h.0 h.1
+  kind_narrow set (T.Brackets' ty p inner) is so kind is_kind = kind_narrow set inner is.1 so kind is_kind
+  kind_narrow set (T.Convert' ty p operand) is so kind is_kind = by (kind_of operand) refl so is_kind (λ narrowed k is_k. kind_narrow set operand is.2 narrowed k is_k)
+    where
+      cut : narrow ty.elem ≡ Some kind → kind.bits < 32
+      cut h = let is_elem = narrow_is ty.elem kind h in subst (λ (k : Elem). k.bits < 32) is_elem.0 is_elem.1
+
+      by : (o : Option Elem) → kind_of operand ≡ o → (kind_of operand ≡ None) ⊎ IsNarrowed operand → converted_kind ty.elem (kind_of operand) ≡ Some kind → (IsNarrowed operand → (k : Elem) → kind_of operand ≡ Some k → k.bits < 32) → kind.bits < 32
+      by None none any h before = cut (ap (λ (o : Option Elem). converted_kind ty.elem o) (sym none) ∙ h)
+      by (Some k) some (inl none) h before = let wrong = sym none ∙ some in cc
+      by (Some k) some (inr narrowed) h before = all (has_all ty.elem k) refl (ap (λ (o : Option Elem). converted_kind ty.elem o) (sym some) ∙ h)
+        where
+          all : (b : Bool) → has_all ty.elem k ≡ b → (if has_all ty.elem k then Some k else narrow ty.elem) ≡ Some kind → kind.bits < 32
+          all true it_has h = subst (λ (e : Elem). e.bits < 32) (some_same k kind (ap (λ (b : Bool). if b then Some k else narrow ty.elem) (sym it_has) ∙ h)) (before narrowed k some)
+          all false other h = cut (ap (λ (b : Bool). if b then Some k else narrow ty.elem) (sym other) ∙ h)
+  kind_narrow set _ is so kind is_kind = absurd so
+
+  -- so it is 0 where its lowest bits of that type are
+  pub kind_most : (set : ℕ) (e : TExpr) → HasItsKind set e → bits_of (kind_of e) ≤ 32
+  unfolding bits_of
+  kind_most set e is = by (kind_of e)
+    where
+      by : (o : Option Elem) → (elim o as (λ _. ℕ) [ None ↦ 32 | Some kind ↦ kind.bits ]) ≤ 32
+      by None = omega arith
+      by (Some kind) = (kind_bits kind.bits kind.signed kind.kind).1
+
+  pub zero_told : (set : ℕ) (e : TExpr) (st : State) (s : CodeState) → Sim g alive st s → HasItsKind set e → HasItsCode g.typed g.instance alive n e → (q : ℕ) → q < processors (shapes g) set
+      → (word_at (extents g set) st e q % 2 ^ bits_of (kind_of e) == 0) ≡ (value_in (extents g set) st e q == 0)
+  unfolding bits_of
+  zero_told set e st s sim is c q below = by (kind_of e) refl is.1 ∙ held_zero (type_of e).elem (value_in (extents g set) st e q) (value_small g alive n places fields set e st s sim is.0 c q below)
+    where
+      w : ℕ
+      w = word_at (extents g set) st e q
+
+      by : (o : Option Elem) → kind_of e ≡ o → (kind_of e ≡ None) ⊎ IsNarrowed e → (w % 2 ^ bits_of (kind_of e) == 0) ≡ (w == 0)
+      by None none any = ap (λ (o : Option Elem). w % 2 ^ bits_of o == 0) none ∙ ap (λ (m : ℕ). m == 0) (mod-eq_of_lt (held_below (type_of e).elem (value_in (extents g set) st e q)))
+      by (Some kind) some (inl none) = let wrong = sym none ∙ some in cc
+      by (Some kind) some (inr narrowed) = ap (λ (o : Option Elem). w % 2 ^ bits_of o == 0) some ∙ zero_test kind (w % 2 ^ kind.bits) w (kind_has set e st s sim is.0 narrowed c q below kind some).0 refl
+
+  -- ---- the two sides of a relation
+
+  -- a scalar variable of 32 bits is of no narrow type
+  name_kind : (e : TExpr) → IsScalarName e → (type_of e).elem.bits ≡ 32 → kind_of e ≡ None
+  unfolding IsScalarName kind_of converted_kind narrow
+  name_kind (T.Variable ty x) is wide = ap (λ (b : ℕ). if b == 32 then None else Some ty.elem) wide
+  name_kind (T.Brackets' ty p inner) is wide = name_kind inner is.1 (ap (λ (y : ValueType). y.elem.bits) (sym is.0) ∙ wide)
+  name_kind (T.Convert' ty p operand) is wide = ap (λ (o : Option Elem). converted_kind ty.elem o) (name_kind operand is.2 is.1.1) ∙ ap (λ (b : ℕ). if b == 32 then None else Some ty.elem) wide
+  name_kind _ is wide = absurd is
+
+  promoted_kind : (set : ℕ) (e : TExpr) → IsPromoted set e → (type_of e).elem.bits ≡ 32 → word_of e ≡ None → kind_of e ≡ None
+  unfolding IsPromoted kind_of word_of register_word
+  promoted_kind set (T.Promote' ty p operand) is wide none = by is.2.1
+    where
+      by : IsConstant operand ⊎ IsScalarName operand → kind_of operand ≡ None
+      by (inl constant) = let some = sym (ap (λ (o : Option ℕ). then_value o (λ v. Some (converted int_type (type_of operand).elem v))) constant.1) ∙ none in cc
+      by (inr name) = name_kind operand name (ap (λ (e : Elem). e.bits) (sym is.1) ∙ wide)
+  promoted_kind set (T.Brackets' ty p inner) is wide none = promoted_kind set inner is.1 (ap (λ (y : ValueType). y.elem.bits) (sym is.0) ∙ wide) none
+  promoted_kind set _ is wide none = absurd is
+
+  -- a side that has no word of its own
+  side_has : (set : ℕ) (e : TExpr) (st : State) (s : CodeState) → Sim g alive st s → HasItsKind set e ⊎ IsPromoted set e → (type_of e).elem.bits ≡ 32 → HasItsCode g.typed g.instance alive n e → word_of e ≡ None → (q : ℕ) → q < processors (shapes g) set → (kind : Elem) → kind_of e ≡ Some kind
+      → HasWord kind (word_at (extents g set) st e q)
+  side_has set e st s sim (inl (pure, inl none)) wide c no_word q below kind is = let wrong = sym none ∙ is in cc
+  side_has set e st s sim (inl (pure, inr narrowed)) wide c no_word q below kind is = kind_has set e st s sim pure narrowed c q below kind is
+  side_has set e st s sim (inr promoted) wide c no_word q below kind is = let wrong = sym (promoted_kind set e promoted wide no_word) ∙ is in cc
+
+  kind_given : (o : Option Elem) (word : ℕ) (kind : Elem) → kind_with o word ≡ Some kind → (o ≡ Some kind) × (has_number kind word ≡ true)
+  unfolding kind_with
+  kind_given None word kind is = cc
+  kind_given (Some k) word kind is = by (has_number k word) refl is
+    where
+      by : (b : Bool) → has_number k word ≡ b → (if has_number k word then Some k else None) ≡ Some kind → (Some k ≡ Some kind) × (has_number kind word ≡ true)
+      by true it_has h = let same : Some k ≡ Some kind = ap (λ (b : Bool). if b then Some k else None) (sym it_has) ∙ h in (same, subst (λ (e : Elem). has_number e word ≡ true) (some_same k kind same) it_has)
+      by false other h = let wrong = ap (λ (b : Bool). if b then Some k else None) (sym other) ∙ h in cc
+
+  common_has : (a b : Option Elem) (kind : Elem) (v w : ℕ) → common_kind a b ≡ Some kind → ((k : Elem) → a ≡ Some k → HasWord k v) → ((k : Elem) → b ≡ Some k → HasWord k w) → HasWord kind v × HasWord kind w
+  unfolding common_kind
+  common_has None b kind v w is one other = cc
+  common_has (Some a) None kind v w is one other = cc
+  common_has (Some a) (Some b) kind v w is one other = by (has_all a b) (has_all b a) refl refl is
+    where
+      by : (x y : Bool) → has_all a b ≡ x → has_all b a ≡ y → (if has_all a b then Some a else if has_all b a then Some b else None) ≡ Some kind → HasWord kind v × HasWord kind w
+      by true y first second h =
+          subst (λ (k : Elem). HasWord k v × HasWord k w) (some_same a kind (ap (λ (t : Bool). if t then Some a else if has_all b a then Some b else None) (sym first) ∙ h))
+          (one a refl, (wider_has a b w first (other b refl).0, (one a refl).1))
+      by false true first second h =
+          subst (λ (k : Elem). HasWord k v × HasWord k w) (some_same b kind (ap (λ (t : Bool). if t then Some b else None) (sym second) ∙ ap (λ (t : Bool). if t then Some a else if has_all b a then Some b else None) (sym first) ∙ h))
+          ((wider_has b a v second (one a refl).0, (other b refl).1), other b refl)
+      by false false first second h = let wrong = ap (λ (t : Bool). if t then Some b else None) (sym second) ∙ ap (λ (t : Bool). if t then Some a else if has_all b a then Some b else None) (sym first) ∙ h in cc
+
+  left_side : (set : ℕ) (left right : TExpr) → HaveTheirKinds set left right → HasItsKind set left ⊎ IsPromoted set left
+  left_side set left right (inl h) = inl h.0
+  left_side set left right (inr h) = inr h.0
+
+  right_side : (set : ℕ) (left right : TExpr) → HaveTheirKinds set left right → HasItsKind set right ⊎ IsPromoted set right
+  right_side set left right (inl h) = h.1
+  right_side set left right (inr h) = inl h.1
+
+  kinded_word : (set : ℕ) (e : TExpr) (word : ℕ) → HasItsKind set e → word_of e ≡ Some word → ⊥
+  kinded_word set e word is some = let wrong = sym (pure_word set e is.0) ∙ some in cc
+
+  -- both sides have words of the narrow type of the relation
+  pub relation_has : (set : ℕ) (left right : TExpr) (st : State) (s : CodeState) → Sim g alive st s → HaveTheirKinds set left right → (type_of left).elem.bits ≡ 32 → (type_of right).elem.bits ≡ 32 → HasItsCode g.typed g.instance alive n left → HasItsCode g.typed g.instance alive n right
+      → ((word : ℕ) → word_of left ≡ Some word → (q : ℕ) → word_at (extents g set) st left q ≡ word) → ((word : ℕ) → word_of right ≡ Some word → (q : ℕ) → word_at (extents g set) st right q ≡ word) → (q : ℕ) → q < processors (shapes g) set → (kind : Elem)
+      → relation_kind left right ≡ Some kind → HasWord kind (word_at (extents g set) st left q) × HasWord kind (word_at (extents g set) st right q)
+  unfolding relation_kind
+  relation_has set left right st s sim are wide_left wide_right c_left c_right left_word right_word q below kind is = by (word_of right) (word_of left) refl refl
+    where
+      v : ℕ
+      v = word_at (extents g set) st left q
+
+      w : ℕ
+      w = word_at (extents g set) st right q
+
+      known : Option ℕ → Option ℕ → Option Elem
+      known r l = elim r as (λ _. Option Elem) [ Some word ↦ kind_with (kind_of left) word | None ↦ elim l as (λ _. Option Elem) [ Some word ↦ kind_with (kind_of right) word | None ↦ common_kind (kind_of left) (kind_of right) ] ]
+
+      at : (r l : Option ℕ) → word_of right ≡ r → word_of left ≡ l → known r l ≡ Some kind
+      at r l is_r is_l = ap (known r) (sym is_l) ∙ ap (λ (o : Option ℕ). known o (word_of left)) (sym is_r) ∙ is
+
+      with_right : (word : ℕ) → word_of right ≡ Some word → kind_with (kind_of left) word ≡ Some kind → HaveTheirKinds set left right → HasWord kind v × HasWord kind w
+      with_right word some given (inl (one, inl other)) = absurd (kinded_word set right word other some)
+      with_right word some given (inr (one, other)) = absurd (kinded_word set right word other some)
+      with_right word some given (inl (one, inr other)) =
+          let k = kind_given (kind_of left) word kind given in
+          let has = side_has set left st s sim (inl one) wide_left c_left (pure_word set left one.0) q below kind k.0 in
+          (has, (subst (λ (x : ℕ). has_number kind x ≡ true) (sym (right_word word some q)) k.1, has.1))
+
+      with_left : (word : ℕ) → word_of left ≡ Some word → kind_with (kind_of right) word ≡ Some kind → HaveTheirKinds set left right → HasWord kind v × HasWord kind w
+      with_left word some given (inl (one, any)) = absurd (kinded_word set left word one some)
+      with_left word some given (inr (one, other)) =
+          let k = kind_given (kind_of right) word kind given in
+          let has = side_has set right st s sim (inl other) wide_right c_right (pure_word set right other.0) q below kind k.0 in
+          ((subst (λ (x : ℕ). has_number kind x ≡ true) (sym (left_word word some q)) k.1, has.1), has)
+
+      by : (r l : Option ℕ) → word_of right ≡ r → word_of left ≡ l → HasWord kind v × HasWord kind w
+      by (Some word) l is_r is_l = with_right word is_r (at (Some word) l is_r is_l) are
+      by None (Some word) is_r is_l = with_left word is_l (at None (Some word) is_r is_l) are
+      by None None is_r is_l =
+          common_has (kind_of left) (kind_of right) kind v w (at None None is_r is_l) (λ k is_k. side_has set left st s sim (left_side set left right are) wide_left c_left is_l q below k is_k)
+          (λ k is_k. side_has set right st s sim (right_side set left right are) wide_right c_right is_r q below k is_k)
+
+-- numbers of a narrow type compare as the words do
+pub narrow_compares : (op : Op) (kind : Elem) (unsigned : Bool) (v w : ℕ) → relates op ≡ true → (kind.signed ≡ true → unsigned ≡ false) → HasWord kind v → HasWord kind w
+    → outcome op kind.bits (not kind.signed) (v % 2 ^ kind.bits) (w % 2 ^ kind.bits) ≡ outcome op 32 unsigned v w
+narrow_compares op kind unsigned v w related signs one other =
+    comparison op kind unsigned (v % 2 ^ kind.bits) (w % 2 ^ kind.bits) related one.1 signs (mod_below v (2 ^ kind.bits) (pow_pos kind.bits)) (mod_below w (2 ^ kind.bits) (pow_pos kind.bits))
+    ∙ ap (λ (m : ℕ). outcome op 32 unsigned m (converted int_type kind (w % 2 ^ kind.bits))) (is_word kind (v % 2 ^ kind.bits) v one.0 refl)
+    ∙ ap (λ (m : ℕ). outcome op 32 unsigned v m) (is_word kind (w % 2 ^ kind.bits) w other.0 refl)
