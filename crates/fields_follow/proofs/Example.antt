@@ -30,7 +30,7 @@ use Rattle.lower_base.specs.Operators.{fold_of, is_signed, reduce_op_of}
 use Rattle.lower_expr.specs.Kinds.{is_modular, kind_with, operation_bits, relation_kind}
 use Rattle.lower_expr.specs.Steps.{register_word, word_of}
 use Rattle.fields_follow.specs.Example.{ExampleIsParallel, example, main}
-use Rattle.fields_follow.specs.Fragment.{IsCondition, IsFold, IsPromoted, IsPure, IsTarget, IsUpdate, KnowsExtents, fields_beside}
+use Rattle.fields_follow.specs.Fragment.{IsInnerCondition, IsFold, IsPromoted, IsPure, IsTarget, IsUpdate, KnowsExtents, fields_beside}
 
 -- the calls of what has a list in a row
 abbrev PrintsInRow : T.TExpr → Type 0
@@ -54,7 +54,7 @@ block_in_row locals p row =
     (ap calls_within (sym (rolls-Block locals _)) ∙ fold-roll-TStmt (List ℕ) statement_call_step _ ∙ ap (λ (ss : List S.TStmt). concat (map calls_in (concat (map (λ (l : LocalVar). optional l.initial) locals.items))) ++ concat (map calls_within ss)) (sym (S.items_hidden-the_row-TStmt-0 _)))
 
 main_is : (heap : Global) → IsScalarFunction (may_of (fields_beside (example heap)) (example heap) (main heap)) (main heap)
-unfolding folded_kind fold_of reduce_op_of is_signed kind_of narrow relation_kind word_of register_word kind_with operation_bits is_modular IsBody IsInStatement IsInElse IsClosedElse IsCondition else_variables IsEffect IsGiven IsIn IsVariable AreIn AreInitials AreInStatements AreClosed IsClosed OfFileOrParam ScalarsAmong IsFold IsPromoted IsPure IsTarget IsUpdate KnowsExtents assign_op_of constant_of relates divides is_constant residue value_of row_variables
+unfolding folded_kind fold_of reduce_op_of is_signed kind_of narrow relation_kind word_of register_word kind_with operation_bits is_modular IsBody IsInStatement IsInElse IsClosedElse IsInnerCondition else_variables IsEffect IsGiven IsIn IsVariable AreIn AreInitials AreInStatements AreClosed IsClosed OfFileOrParam ScalarsAmong IsFold IsPromoted IsPure IsTarget IsUpdate KnowsExtents assign_op_of constant_of relates divides is_constant residue value_of row_variables
 main_is heap =
     let no_variables : variables_of (main heap).body ≡ [] = simp (of_block, of_with, of_where, of_expression) in
     record {
@@ -74,7 +74,7 @@ main_is heap =
                   inr ((inl (0, (refl, refl, ((refl, inl refl), refl, refl, refl), inl (inr (refl, refl, (refl, inl (1, refl, omega arith)))))), tt), ((λ is. inl (inl tt)), tt)),
                   (
                     (
-                      (((refl, refl), refl, inl (refl, inl ((refl, inl refl), inr (refl, refl, (refl, inl (2, refl, omega arith)))), (refl, refl), (refl, refl), tt)), (tt, tt)),
+                      (inl ((refl, refl), refl, inl (refl, inl ((refl, inl refl), inr (refl, refl, (refl, inl (2, refl, omega arith)))), (refl, refl), (refl, refl), tt)), (tt, tt)),
                       ((λ is. inl (inl tt)), tt),
                       inr ((inl (0, (refl, refl, ((refl, inl refl), refl, refl, refl), inl (inr (refl, refl, (refl, inl (10, refl, omega arith)))))), tt), ((λ is. inl (inl tt)), tt)),
                       tt,
