@@ -17,8 +17,9 @@ ghost use Rattle.fields_follow.specs.Laws.{ParallelCodeMeansSource};
 /// constants and of scalar variables, converted to other types than `bool`, with the operators
 /// `+ - * & | ^ ~ << >> <? >?`, and `/ % %%` by constants other than 0. Truth values of relations, `!`, `&&` and `||`
 /// are assigned, too, to variables of all types, but no `!` of a truth value to one of `bool`. What is tested, compared
-/// or folded are values of any types, but for bitwise operations on two narrow ones; `bool` alone is not tested, and
-/// values of narrow types with a sign are not folded by `&`, `|` and `^`.
+/// or folded are values of any types, but for bitwise operations on two narrow ones; `bool` alone is a condition of
+/// `where` but no operand of `!`, `&&` and `||`, and values of narrow types with a sign are not folded by `&`, `|` and
+/// `^`.
 pub fn parallel_code_means_source()
     ensures { ParallelCodeMeansSource }
 {}
