@@ -56,12 +56,12 @@ use Rattle.code_follows.proofs.Settings.{At, Setting, Within, and_one, layout}
 use Rattle.constant_trees.proofs.Words.{from_bool_below}
 use Rattle.fields_follow.specs.Fields.{IsElement}
 use Rattle.cstar_tree.specs.Typed.{type_of}
-use Rattle.fields_follow.specs.Fragment.{IsCondition, IsTruth}
+use Rattle.fields_follow.specs.Fragment.{IsInnerCondition, IsTruth}
 use Rattle.fields_follow.proofs.Clearing.{field_at, joined_behind, joined_more, truths_taken}
 use Rattle.fields_follow.proofs.Conditions.{HaveTheirCode, and_codes, condition_kept, conditions_join, or_codes}
 use Rattle.fields_follow.proofs.Sizes.{brackets_part, convert_part}
 use Rattle.fields_follow.proofs.Places.{HoldsTheFields, IsFileField, PlacesFields, stands_here}
-use Rattle.fields_follow.proofs.Testing.{both_flagged, condition_means, condition_tested}
+use Rattle.fields_follow.proofs.Testing.{both_flagged, inner_means, inner_tested}
 use Rattle.fields_follow.proofs.Truths.{either_or_both, joined_bits}
 use Rattle.fields_follow.proofs.ConditionCode.{Truth, flag_after, put_in, relation_put, stored_behind, zero_put}
 use Rattle.fields_follow.proofs.Forms.{HasItsCode}
@@ -262,15 +262,15 @@ module _ (g : Setting) where
 
   pub truth_means : (scope : Scope) (places : PlacesFields g) → SameExtents g scope → (alive : Variable → Type 0) (n : ℕ) (fields : HoldsTheFields g) (set bits : ℕ) (e : TExpr) (st : State) → IsTruth set bits e → HasItsCode g.typed g.instance alive n e → set < length (shapes g)
       → evaluated scope e fields.active st ≡ Gives (Parallel (λ q. value_in (extents g set) st e q)) st
-  unfolding IsTruth IsCondition evaluated value_in then_do convert_to each at
+  unfolding IsTruth IsInnerCondition evaluated value_in then_do convert_to each at
   truth_means scope places same alive n fields set bits (T.Brackets' ty p inner) st is c exists = truth_means scope places same alive n fields set bits inner st is.1 (brackets_part g alive n places fields ty p inner c) exists
   truth_means scope places same alive n fields set bits (T.Convert' ty p inner) st is c exists =
       ap (λ (o : Outcome Value). then_do o (λ v after. Gives (convert_to ty (type_of inner).elem v) after)) (truth_means scope places same alive n fields set bits inner st is.2 (convert_part g alive n places fields ty p inner c) exists)
       ∙ ap (λ (y : ValueType). Gives (convert_to y (type_of inner).elem (Parallel (λ q. value_in (extents g set) st inner q))) st) (as_shaped ty set is.0)
-  truth_means scope places same alive n fields set bits (T.Unary' ty op p operand) st is c exists = condition_means g scope places same alive n fields.active set (T.Unary' ty op p operand) st (is.0, inl (is.1, is.2)) c exists
-  truth_means scope places same alive n fields set bits (T.LogicalOr' ty p left q right) st is c exists = condition_means g scope places same alive n fields.active set (T.LogicalOr' ty p left q right) st is c exists
-  truth_means scope places same alive n fields set bits (T.LogicalAnd' ty p left q right) st is c exists = condition_means g scope places same alive n fields.active set (T.LogicalAnd' ty p left q right) st is c exists
-  truth_means scope places same alive n fields set bits (T.Binary' ty place op p left q right) st is c exists = condition_means g scope places same alive n fields.active set (T.Binary' ty place op p left q right) st is.1 c exists
+  truth_means scope places same alive n fields set bits (T.Unary' ty op p operand) st is c exists = inner_means g scope places same alive n fields.active set (T.Unary' ty op p operand) st (is.0, inl (is.1, is.2)) c exists
+  truth_means scope places same alive n fields set bits (T.LogicalOr' ty p left q right) st is c exists = inner_means g scope places same alive n fields.active set (T.LogicalOr' ty p left q right) st is c exists
+  truth_means scope places same alive n fields set bits (T.LogicalAnd' ty p left q right) st is c exists = inner_means g scope places same alive n fields.active set (T.LogicalAnd' ty p left q right) st is c exists
+  truth_means scope places same alive n fields set bits (T.Binary' ty place op p left q right) st is c exists = inner_means g scope places same alive n fields.active set (T.Binary' ty place op p left q right) st is.1 c exists
   truth_means scope places same alive n fields set bits _ st is c exists = absurd is
 
   -- a bit that is moved to a field
@@ -355,7 +355,7 @@ module _ (g : Setting) where
           instr_takes g set i f e2 p.t v (entry_and_below g places fields alive set k 0 info f is_element word file refl) within p.at (subst (λ (m : ℕ). Puts g set i (field_at set offset m) p.t v) same puts)
 
       -- by its test, and a bit that is moved, or the flags
-      by_test : (e : TExpr) → IsCondition set e → has_truth e ≡ true → HasItsCode g.typed g.instance alive n e → ((q : ℕ) → words_of e q ≡ from_bool (nonzero (words_of e q)))
+      by_test : (e : TExpr) → IsInnerCondition set e → has_truth e ≡ true → HasItsCode g.typed g.instance alive n e → ((q : ℕ) → words_of e q ≡ from_bool (nonzero (words_of e q)))
           → computed_to g.typed (layout g) (O.Field f) e d ≡ then_make (truth_of g.typed (layout g) e d) (put_in f) → Last e → After g Q (computed_to g.typed (layout g) (O.Field f) e d)
       unfolding step_of Extends tested_by
       by_test e is told c truth code last = after_same g Q (code ∙ sym (ap (λ (b : Bool). then_make (tested_by b (truth_of g.typed (layout g) e) (next_of g.typed (layout g) (bits_of (kind_of e)) true e) d) (put_in f)) told)) (by (bits == 1) refl)
@@ -366,7 +366,7 @@ module _ (g : Setting) where
           bit_put : (len : ℕ) → len ≡ bits → len ≡ 1 → After g Q (then_make tests (put_in (field_at set offset len)))
           bit_put len same one =
               after_same g Q (ap (λ (n : ℕ). then_make tests (put_in (field_at set offset n))) one ∙ at_once set offset tests)
-              (then_after g (λ _ x. LeavesTests g alive fields d s set st (words_of e) x) Q tests (flag_stored (field_at set offset 1)) (condition_tested g has alive n ready places fields set e is c d s st here sim) (λ x e2. (1, and_one g (I.StoreTest (field_at set offset 1)) e2))
+              (then_after g (λ _ x. LeavesTests g alive fields d s set st (words_of e) x) Q tests (flag_stored (field_at set offset 1)) (inner_tested g has alive n ready places fields set e is c d s st here sim) (λ x e2. (1, and_one g (I.StoreTest (field_at set offset 1)) e2))
               (λ x e2 left. made_after g Q (O.Field (field_at set offset 1)) (with_instr (I.StoreTest (field_at set offset 1)) e2) (λ within.
               let is_one : bits ≡ 1 = sym same ∙ one in
               let puts : Puts g set (I.StoreTest (field_at set offset 1)) (field_at set offset 1) left.leaves.t (words_of e) =
@@ -379,7 +379,7 @@ module _ (g : Setting) where
           by true one = bit_put bits refl (eqb-true bits 1 one)
           by false several =
               after_same g Q (through_bit set offset bits tests several)
-              (then_after g (Truth g alive places fields d s set st (words_of e)) Q (then_make tests (stored_behind set)) (bit_moved f) (flag_after g alive places fields set (words_of e) d s st tests (condition_tested g has alive n ready places fields set e is c d s st here sim))
+              (then_after g (Truth g alive places fields d s set st (words_of e)) Q (then_make tests (stored_behind set)) (bit_moved f) (flag_after g alive places fields set (words_of e) d s st tests (inner_tested g has alive n ready places fields set e is c d s st here sim))
               (λ kept e2. (1, and_one g (I.Move false f kept) e2))
               (λ kept e2 bit. made_after g Q (O.Field f) (with_instr (I.Move false f kept) e2) (λ within.
               last e2 (with_instr (I.Move false f kept) e2) (Behind g kept e2) within bit.passes (length e2.code, (names_second g (I.Move false f kept) f kept [] (length e2.code) (stands_here g (I.Move false f kept) e2 within refl) refl, omega arith))
@@ -387,7 +387,7 @@ module _ (g : Setting) where
               (puts_bit set f kept bit.passes.t (words_of e) bit.len (λ q below on. bit.are q below (sym (flags_of g alive places fields st bit.passes.t set q bit.passes.sim bit.exists below) ∙ on)) truth)))))
 
       -- by the operation on two bits
-      by_operation : (is_or : Bool) (e left right : TExpr) → IsCondition set left → IsCondition set right → ignores_context right ≡ true → HaveTheirCode g.typed g.instance alive n left right
+      by_operation : (is_or : Bool) (e left right : TExpr) → IsInnerCondition set left → IsInnerCondition set right → ignores_context right ≡ true → HaveTheirCode g.typed g.instance alive n left right
           → ◌≡◌ {A = ℕ → ℕ} (λ q. from_bool (either_or_both is_or (nonzero (words_of left q)) (nonzero (words_of right q)))) (words_of e) → Last e → After g Q (logical_to g.typed (layout g) (O.Field f) e is_or left right d)
       unfolding Extends step_of tests_on
       by_operation is_or e left right is also same codes value last = by (bits == 1) refl
@@ -425,7 +425,7 @@ module _ (g : Setting) where
               last e2 (joined_behind is_or set offset bits a b e2) (Unit {0}) within passes tt (subst (λ (v : ℕ → ℕ). TakesBehind g set f e2 (joined_behind is_or set offset bits a b e2) passes.t v) value takes))))
 
       truth_computed : (e : TExpr) → IsTruth set bits e → HasItsCode g.typed g.instance alive n e → Last e → After g Q (computed_to g.typed (layout g) (O.Field f) e d)
-      unfolding IsTruth IsCondition computed_to value_in has_truth goes_unchanged keeps_bits
+      unfolding IsTruth IsInnerCondition computed_to value_in has_truth goes_unchanged keeps_bits
       truth_computed (T.Brackets' ty p inner) is c last = truth_computed inner is.1 (brackets_part g alive n places fields ty p inner c) last
       truth_computed (T.Convert' ty p inner) is c last =
           after_same g Q (ap (λ (b : Bool). if b then computed_to g.typed (layout g) (O.Field f) inner d else converted_to g.typed (layout g) (O.Field f) (T.Convert' ty p inner) ty.elem inner d) (kept (nat_le bits ty.elem.bits) (let long = is.1 in grind (arith, nat_tests, long)) (not (ty.elem.bits == 1)) (bits_of (kind_of inner) == 1) (truth_flag set bits inner is.2)))

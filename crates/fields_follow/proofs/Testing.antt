@@ -36,6 +36,7 @@ use Rattle.paris_code.specs.declared.operands.Field.{Field}
 use Rattle.paris_code.specs.declared.program.Owner.TheVariants as W
 use Rattle.paris_code.specs.Code.{CodeState}
 use Rattle.paris_code.specs.Memory.{processors}
+use Rattle.source_meaning.specs.Constants.{is_constant}
 use Rattle.source_meaning.specs.Expressions.{evaluated}
 use Rattle.source_meaning.specs.Narrowing.{and_then, or_then, where_nonzero, where_zero}
 use Rattle.source_meaning.specs.State as Source
@@ -47,11 +48,11 @@ use Rattle.code_follows.proofs.Following.{Extends, HasRegisters, Sim, extends_th
 use Rattle.code_follows.proofs.Values.{extends_grown}
 use Rattle.code_follows.proofs.Settings.{At, Setting, and_one, layout}
 use Rattle.fields_follow.specs.Fields.{IsElement, file_number}
-use Rattle.fields_follow.specs.Fragment.{HasItsKind, IsCondition, IsNarrowed, IsPure, IsRelation, IsWide}
+use Rattle.fields_follow.specs.Fragment.{HasItsKind, IsCondition, IsInnerCondition, IsNarrowed, IsPure, IsRelation, IsWide}
 use Rattle.fields_follow.proofs.ConditionCode.{Bit, Told, Truth, bit_not_value, bit_taken, flag_after, flag_extends, joined_in, joined_made, joined_value, nonzero_after, operand_at, relation_value, stored_after, turned_after, word_not_value, zero_after}
 use Rattle.fields_follow.proofs.Conditions.{HaveTheirCode, and_codes, condition_constant, condition_kept, condition_shape, conditions_join, or_codes}
 use Rattle.fields_follow.proofs.Expressions.{pure_after}
-use Rattle.fields_follow.proofs.Forms.{HasItsCode, element_is, field_is, not_held}
+use Rattle.fields_follow.proofs.Forms.{HasItsCode, element_is, field_is, not_held, pure_constant}
 use Rattle.fields_follow.proofs.Instructions.{SameExtents, extents, place, shapes}
 use Rattle.fields_follow.proofs.Lengths.{held_first}
 use Rattle.fields_follow.proofs.Meaning.{binary_means, divides_nothing, either, left_of, promoted_means, right_of, unary_means, value_in, word_at}
@@ -65,13 +66,13 @@ use Rattle.fields_follow.proofs.TestFlags.{LeavesTests, numbers_tell, puts_nonze
 use Rattle.fields_follow.proofs.Truths.{either_or_both, field_told, truth_told}
 use Rattle.fields_follow.proofs.Relations.{relation_after, relation_code, relation_operands}
 
-value_means : (scope : Scope) (active : Active) (t : Typed) (i : Instance) (n set : ℕ) (e : TExpr) (st : State) → IsCondition set e → AreGrids scope t set → NamesVariables t i n e
+value_means : (scope : Scope) (active : Active) (t : Typed) (i : Instance) (n set : ℕ) (e : TExpr) (st : State) → IsInnerCondition set e → AreGrids scope t set → NamesVariables t i n e
     → evaluated scope e active st ≡ Source.Gives (Parallel (λ q. value_in (scope.extents set) st e q)) st
-unfolding IsCondition NamesVariables evaluated value_in then_do and_then or_then at
+unfolding IsInnerCondition NamesVariables evaluated value_in then_do and_then or_then at
 value_means scope active t i n set (T.Brackets' ty p inner) st is grids names = value_means scope active t i n set inner st is.1 grids names
 value_means scope active t i n set (T.Unary' ty op p operand) st is grids names =
     either
-    (λ (h : (negates op ≡ true) × IsCondition set operand). unary_means scope active set ty op p operand (λ q. value_in (scope.extents set) st operand q) st is.0.0 (value_means scope active t i n set operand st h.1 grids names))
+    (λ (h : (negates op ≡ true) × IsInnerCondition set operand). unary_means scope active set ty op p operand (λ q. value_in (scope.extents set) st operand q) st is.0.0 (value_means scope active t i n set operand st h.1 grids names))
     (λ (h : (negates op ≡ false) × IsPure set (T.Unary' ty op p operand)). pure_means scope active t i n set (T.Unary' ty op p operand) st h.1 grids names) is.1
 value_means scope active t i n set (T.LogicalOr' ty p left q right) st is grids names =
     ap (λ (o : Outcome Value). then_do o (λ x after. or_then ty.shape (type_of left).shape x (λ a after. evaluated scope right a after) active after)) (value_means scope active t i n set left st is.1 grids names.0)
@@ -91,10 +92,16 @@ value_means scope active t i n set (T.Binary' ty place op p left q right) st is 
     (λ (h : (relates op ≡ false) × IsPure set (T.Binary' ty place op p left q right) × (kind_of (T.Binary' ty place op p left q right) ≡ None)). pure_means scope active t i n set (T.Binary' ty place op p left q right) st h.1 grids names) is.2
 value_means scope active t i n set e st is grids names = pure_means scope active t i n set e st is.0.0 grids names
 
+pub inner_means : (g : Setting) (scope : Scope) → PlacesFields g → SameExtents g scope → (alive : Variable → Type 0) (n : ℕ) (active : Active) (set : ℕ) (e : TExpr) (st : State) → IsInnerCondition set e → HasItsCode g.typed g.instance alive n e → set < length (shapes g)
+    → evaluated scope e active st ≡ Source.Gives (Parallel (λ q. value_in (extents g set) st e q)) st
+inner_means g scope places same alive n active set e st is c exists =
+    value_means scope active g.typed g.instance n set e st is (are_grids g scope places same set) c.code.names ∙ ap (λ (xs : List ℕ). Source.Gives (Parallel (λ q. value_in xs st e q)) st) (same set exists)
+
 pub condition_means : (g : Setting) (scope : Scope) → PlacesFields g → SameExtents g scope → (alive : Variable → Type 0) (n : ℕ) (active : Active) (set : ℕ) (e : TExpr) (st : State) → IsCondition set e → HasItsCode g.typed g.instance alive n e → set < length (shapes g)
     → evaluated scope e active st ≡ Source.Gives (Parallel (λ q. value_in (extents g set) st e q)) st
-condition_means g scope places same alive n active set e st is c exists =
-    value_means scope active g.typed g.instance n set e st is (are_grids g scope places same set) c.code.names ∙ ap (λ (xs : List ℕ). Source.Gives (Parallel (λ q. value_in xs st e q)) st) (same set exists)
+condition_means g scope places same alive n active set e st (inl inner) c exists = inner_means g scope places same alive n active set e st inner c exists
+condition_means g scope places same alive n active set e st (inr kinded) c exists =
+    pure_means scope active g.typed g.instance n set e st kinded.0 (are_grids g scope places same set) c.code.names ∙ ap (λ (xs : List ℕ). Source.Gives (Parallel (λ q. value_in xs st e q)) st) (same set exists)
 
 module _ (g : Setting) (has : HasRegisters g) (alive : Variable → Type 0) (n : ℕ) (ready : (d : Draft) → IsReady g.typed g.instance (layout g) n d) (places : PlacesFields g) (fields : HoldsTheFields g) where
   abbrev operand : ℕ → Bool → TExpr → Draft → Made Out
@@ -176,7 +183,7 @@ module _ (g : Setting) (has : HasRegisters g) (alive : Variable → Type 0) (n :
   -- ---- bits
 
   -- no condition is a constant, so its value is nowhere yet
-  bit_after : (set : ℕ) (e : TExpr) → IsCondition set e → HasBit set e → Everywhere (λ d s st. After g (Bit g alive places fields d s set st (numbers_of set e st)) (operand_at g 1 e d))
+  bit_after : (set : ℕ) (e : TExpr) → IsInnerCondition set e → HasBit set e → Everywhere (λ d s st. After g (Bit g alive places fields d s set st (numbers_of set e st)) (operand_at g 1 e d))
   unfolding operand_by in_place
   bit_after set e is bit d s st here sim =
       after_same g (Bit g alive places fields d s set st (numbers_of set e st))
@@ -184,14 +191,14 @@ module _ (g : Setting) (has : HasRegisters g) (alive : Variable → Type 0) (n :
       ∙ ap (λ (o : Option Own). elim o as (λ _. Made Out) [ Some own ↦ standing g.typed (layout g) 1 own d | None ↦ value_of g.typed (layout g) 1 e d ]) bit.own)
       (bit.value d s st here sim)
 
-  bit_told : (set : ℕ) (e : TExpr) → IsCondition set e → HasBit set e → Everywhere (λ d s st. After g (Told g alive places fields d s set st (numbers_of set e st)) (operand_at g 1 e d))
+  bit_told : (set : ℕ) (e : TExpr) → IsInnerCondition set e → HasBit set e → Everywhere (λ d s st. After g (Told g alive places fields d s set st (numbers_of set e st)) (operand_at g 1 e d))
   bit_told set e is bit d s st here sim =
       after_weaker g (Bit g alive places fields d s set st (numbers_of set e st)) (Told g alive places fields d s set st (numbers_of set e st)) (operand_at g 1 e d)
       (λ x e1 (a, (same, gives)). (a, (same, truth_told g alive places fields d s set st (numbers_of set e st) a e1 gives)))
       (bit_after set e is bit d s st here sim)
 
   -- a word or a bit tells
-  operand_told : (set : ℕ) (e : TExpr) → IsCondition set e → HasItsCode g.typed g.instance alive n e → HasWord set e ⊎ HasBit set e → Everywhere (λ d s st. After g (Told g alive places fields d s set st (numbers_of set e st)) (operand_at g (bits_of (kind_of e)) e d))
+  operand_told : (set : ℕ) (e : TExpr) → IsInnerCondition set e → HasItsCode g.typed g.instance alive n e → HasWord set e ⊎ HasBit set e → Everywhere (λ d s st. After g (Told g alive places fields d s set st (numbers_of set e st)) (operand_at g (bits_of (kind_of e)) e d))
   unfolding bits_of
   operand_told set e is c (inl word) d s st here sim = pure_told set e word.0 c d s st here sim
   operand_told set e is c (inr bit) d s st here sim = after_same g (Told g alive places fields d s set st (numbers_of set e st)) (ap (λ (k : Option Elem). operand_at g (bits_of k) e d) bit.kind) (bit_told set e is bit d s st here sim)
@@ -206,9 +213,9 @@ module _ (g : Setting) (has : HasRegisters g) (alive : Variable → Type 0) (n :
 
   -- ---- brackets, relations and `!`
 
-  brackets_code : (set : ℕ) (ty : ValueType) (p : Boxed) (inner : TExpr) (d : Draft) → IsCondition set (T.Brackets' ty p inner) → IsCondition set inner → tested g.typed (layout g) (T.Brackets' ty p inner) d ≡ tested g.typed (layout g) inner d
+  brackets_code : (ty : ValueType) (p : Boxed) (inner : TExpr) (d : Draft) → is_constant (T.Brackets' ty p inner) ≡ false → is_constant inner ≡ false → tested g.typed (layout g) (T.Brackets' ty p inner) d ≡ tested g.typed (layout g) inner d
   unfolding tested_by has_truth truth_of value_of kind_of own_of operand_by in_place nonzero_tested
-  brackets_code set ty p inner d is part = ap made (not_held (layout g) (T.Brackets' ty p inner) (condition_constant set (T.Brackets' ty p inner) is)) ∙ sym (ap made (not_held (layout g) inner (condition_constant set inner part)))
+  brackets_code ty p inner d none other = ap made (not_held (layout g) (T.Brackets' ty p inner) none) ∙ sym (ap made (not_held (layout g) inner other))
     where
       made : Option ℕ → Made (Unit {0})
       made o =
@@ -216,10 +223,10 @@ module _ (g : Setting) (has : HasRegisters g) (alive : Variable → Type 0) (n :
           else then_make (elim o as (λ _. Made Out) [ Some r ↦ Makes (O.Scalar r) d | None ↦ elim (own_of (bits_of (kind_of inner)) inner) as (λ _. Made Out) [ Some own ↦ standing g.typed (layout g) (bits_of (kind_of inner)) own d | None ↦ value_of g.typed (layout g) (bits_of (kind_of inner)) inner d ] ])
           (λ v after. in_field v (λ source. Makes tt (with_instr (I.NeZero source) after)))
 
-  brackets_known : (set : ℕ) (ty : ValueType) (p : Boxed) (inner : TExpr) → IsCondition set (T.Brackets' ty p inner) → ty ≡ type_of inner → IsCondition set inner → IsKnown set inner → IsKnown set (T.Brackets' ty p inner)
+  brackets_known : (set : ℕ) (ty : ValueType) (p : Boxed) (inner : TExpr) → IsInnerCondition set (T.Brackets' ty p inner) → ty ≡ type_of inner → IsInnerCondition set inner → IsKnown set inner → IsKnown set (T.Brackets' ty p inner)
   unfolding IsPure IsNarrowed value_in value_of kind_of own_of
   brackets_known set ty p inner is same part (tests, whole) = (
-    λ d s st here sim. after_same g (λ _ f. Condition set (T.Brackets' ty p inner) d s st f) (brackets_code set ty p inner d is part) (tests d s st here sim),
+    λ d s st here sim. after_same g (λ _ f. Condition set (T.Brackets' ty p inner) d s st f) (brackets_code ty p inner d (condition_constant set (T.Brackets' ty p inner) is) (condition_constant set inner part)) (tests d s st here sim),
     either (λ (word : HasWord set inner). inl (((same, word.0.0), word.0.1), word.1)) (λ (bit : HasBit set inner). inr (record { kind = bit.kind; own = bit.own; value = bit.value })) whole,
   )
 
@@ -246,7 +253,7 @@ module _ (g : Setting) (has : HasRegisters g) (alive : Variable → Type 0) (n :
           after_same g (λ _ f. Condition set whole d s st f) (relation_code g has alive n ready places fields set op left right is no_check parts.0 parts.1 d s st here sim ty place p q wide.0)
           (relation_after g has alive n ready places fields set op left right is no_check parts.0 parts.1 d s st here sim)
 
-  not_known : (set : ℕ) (ty : ValueType) (p : Boxed) (inner : TExpr) → IsWide set ty → IsCondition set inner → HasItsCode g.typed g.instance alive n inner → HasWord set inner ⊎ HasBit set inner → IsKnown set (T.Unary' ty U.Not p inner)
+  not_known : (set : ℕ) (ty : ValueType) (p : Boxed) (inner : TExpr) → IsWide set ty → IsInnerCondition set inner → HasItsCode g.typed g.instance alive n inner → HasWord set inner ⊎ HasBit set inner → IsKnown set (T.Unary' ty U.Not p inner)
   unfolding tested_by has_truth truth_of value_in unary_of kind_of negates own_of
   not_known set ty p inner wide is c whole = (
     λ d s st here sim. zero_after g alive places fields set (numbers_of set inner st) (operand_at g (bits_of (kind_of inner)) inner) d s st (operand_told set inner is c whole d s st here sim),
@@ -265,7 +272,7 @@ module _ (g : Setting) (has : HasRegisters g) (alive : Variable → Type 0) (n :
   -- ---- `&&` and `||`
 
   -- an operand is put in a field of one bit
-  flagged : (set : ℕ) (e : TExpr) → IsCondition set e → IsKnown set e → Everywhere (λ d s st. After g (Truth g alive places fields d s set st (numbers_of set e st)) (flag_of set (condition_of g.typed (layout g) e) d))
+  flagged : (set : ℕ) (e : TExpr) → IsInnerCondition set e → IsKnown set e → Everywhere (λ d s st. After g (Truth g alive places fields d s set st (numbers_of set e st)) (flag_of set (condition_of g.typed (layout g) e) d))
   unfolding flag_of flag_by condition_by bits_of
   flagged set e is (tests, inl word) d s st here sim =
       after_same g (Truth g alive places fields d s set st (numbers_of set e st)) (ap (λ (b : Bool). flag_by b set (operand_at g (bits_of (kind_of e)) e) (tested g.typed (layout g) e) d) word.1)
@@ -281,7 +288,7 @@ module _ (g : Setting) (has : HasRegisters g) (alive : Variable → Type 0) (n :
       (extends_grown g has alive _ d _ _ ((expressions g.typed g.instance (layout g)).test n e d c.code field (ready d)))
 
   -- what comes behind two of them
-  flags_after : (set : ℕ) (left right : TExpr) → IsCondition set left → IsCondition set right → HaveTheirCode g.typed g.instance alive n left right → IsKnown set left → IsKnown set right → (d : Draft) (s : CodeState) (st : State) → At g s (length d.code) → Sim g alive st s
+  flags_after : (set : ℕ) (left right : TExpr) → IsInnerCondition set left → IsInnerCondition set right → HaveTheirCode g.typed g.instance alive n left right → IsKnown set left → IsKnown set right → (d : Draft) (s : CodeState) (st : State) → At g s (length d.code) → Sim g alive st s
       → (Q : Out → Draft → Type 0) (last : Field → Field → Draft → Made Out) → ((f h : Field) (e : Draft) → Extends g e (last f h e))
       → ((f h : Field) (e1 e2 : Draft) (one : Truth g alive places fields d s set st (numbers_of set left st) f e1) → Truth g alive places fields e1 one.passes.t set st (numbers_of set right st) h e2 → After g Q (last f h e2))
       → After g Q (then_make (flag_of set (condition_of g.typed (layout g) left) d) (λ f between. then_make (flag_of set (condition_of g.typed (layout g) right) between) (λ h after. last f h after)))
@@ -293,7 +300,7 @@ module _ (g : Setting) (has : HasRegisters g) (alive : Variable → Type 0) (n :
       second : Draft → Made Field
       second e = flag_of set (condition_of g.typed (layout g) right) e
 
-  joined_bit : (is_or : Bool) (set : ℕ) (shape : Option ℕ) (left right : TExpr) → shape ≡ Some set → IsCondition set left → IsCondition set right → ignores_context right ≡ true → HaveTheirCode g.typed g.instance alive n left right → IsKnown set left → IsKnown set right
+  joined_bit : (is_or : Bool) (set : ℕ) (shape : Option ℕ) (left right : TExpr) → shape ≡ Some set → IsInnerCondition set left → IsInnerCondition set right → ignores_context right ≡ true → HaveTheirCode g.typed g.instance alive n left right → IsKnown set left → IsKnown set right
       → Everywhere (λ d s st. After g (Bit g alive places fields d s set st (λ q. from_bool (either_or_both is_or (nonzero (value_in (extents g set) st left q)) (nonzero (value_in (extents g set) st right q))))) (logical_by is_or shape 1 (condition_of g.typed (layout g) left) (condition_of g.typed (layout g) right) d))
   unfolding condition_by Extends
   joined_bit is_or set shape left right shaped is also same codes one two d s st here sim =
@@ -302,7 +309,7 @@ module _ (g : Setting) (has : HasRegisters g) (alive : Variable → Type 0) (n :
       (λ f h e. (1, and_one g (I.Operate (operation_of is_or) (next_field set 1 d) f h) e)) (λ f h e1 e2 a b. joined_made g alive places fields is_or set (numbers_of set left st) (numbers_of set right st) d s st f h e1 e2 a b))
 
   -- a bit that is no test flag is tested
-  bit_known : (set : ℕ) (e : TExpr) → IsCondition set e → has_truth e ≡ false → HasBit set e → IsKnown set e
+  bit_known : (set : ℕ) (e : TExpr) → IsInnerCondition set e → has_truth e ≡ false → HasBit set e → IsKnown set e
   unfolding tested_by bits_of
   bit_known set e is no_truth bit = (
     λ d s st here sim.
@@ -315,13 +322,13 @@ module _ (g : Setting) (has : HasRegisters g) (alive : Variable → Type 0) (n :
 
   -- ---- all conditions
 
-  known : (set : ℕ) (e : TExpr) → IsCondition set e → HasItsCode g.typed g.instance alive n e → IsKnown set e
-  unfolding IsCondition IsPure has_truth NamesVariables value_in value_of kind_of own_of negates tested_by
+  known : (set : ℕ) (e : TExpr) → IsInnerCondition set e → HasItsCode g.typed g.instance alive n e → IsKnown set e
+  unfolding IsInnerCondition IsPure has_truth NamesVariables value_in value_of kind_of own_of negates tested_by
   known set (T.Brackets' ty p inner) is c = brackets_known set ty p inner is is.0 is.1 (known set inner is.1 (brackets_part g alive n places fields ty p inner c))
   known set (T.Unary' ty op p inner) is c = by op is.1 c (λ part code. known set inner part code)
     where
-      by : (op : UnaryOp) → ((negates op ≡ true) × IsCondition set inner) ⊎ ((negates op ≡ false) × IsPure set (T.Unary' ty op p inner)) → HasItsCode g.typed g.instance alive n (T.Unary' ty op p inner)
-          → (IsCondition set inner → HasItsCode g.typed g.instance alive n inner → IsKnown set inner) → IsKnown set (T.Unary' ty op p inner)
+      by : (op : UnaryOp) → ((negates op ≡ true) × IsInnerCondition set inner) ⊎ ((negates op ≡ false) × IsPure set (T.Unary' ty op p inner)) → HasItsCode g.typed g.instance alive n (T.Unary' ty op p inner)
+          → (IsInnerCondition set inner → HasItsCode g.typed g.instance alive n inner → IsKnown set inner) → IsKnown set (T.Unary' ty op p inner)
       by op (inr h) c of_inner =
           let none : kind_of (T.Unary' ty op p inner) ≡ None = ap (λ (b : Bool). if b then Some truth_type else None) h.0 in
           pure_known set (T.Unary' ty op p inner) ((h.1, inl none), all_bits (T.Unary' ty op p inner) none) h.0 c
@@ -344,13 +351,31 @@ module _ (g : Setting) (has : HasRegisters g) (alive : Variable → Type 0) (n :
   known set (T.Variable ty x) is c = absurd is.0.0
   known set e is c = pure_known set e is refl c
 
+  pub inner_tested : (set : ℕ) (e : TExpr) → IsInnerCondition set e → HasItsCode g.typed g.instance alive n e → IsTested set e
+  inner_tested set e is c = (known set e is c).0
+
+  -- any value is tested at its own bits
+  kinded_tested : (set : ℕ) (e : TExpr) → HasItsKind set e → HasItsCode g.typed g.instance alive n e → IsTested set e
+  unfolding IsPure IsNarrowed has_truth NamesVariables value_in kind_of negates tested_by
+  kinded_tested set (T.Variable ty (V.File k)) is c = λ d s st here sim. variable_tested set k ty is.0 c.code.names d s st here sim
+  kinded_tested set (T.Brackets' ty p inner) is c = λ d s st here sim.
+      after_same g (λ _ f. Condition set (T.Brackets' ty p inner) d s st f) (brackets_code ty p inner d (pure_constant set (T.Brackets' ty p inner) is.0) (pure_constant set inner is.0.1))
+      (kinded_tested set inner (is.0.1, is.1) (brackets_part g alive n places fields ty p inner c) d s st here sim)
+  kinded_tested set (T.Unary' ty op p operand) is c = pure_tested set (T.Unary' ty op p operand) is is.0.1 c
+  kinded_tested set (T.Binary' ty place op p left q right) is c = pure_tested set (T.Binary' ty place op p left q right) is is.0.1.0 c
+  kinded_tested set (T.Convert' ty p operand) is c = pure_tested set (T.Convert' ty p operand) is refl c
+  kinded_tested set (T.Pcoord ty axis) is c = pure_tested set (T.Pcoord ty axis) is refl c
+  kinded_tested set (T.LeftIndex' ty place p indexes (V.File k) of) is c = pure_tested set (T.LeftIndex' ty place p indexes (V.File k) of) is refl c
+  kinded_tested set _ is c = absurd is.0
+
   -- the code of a condition
   pub condition_tested : (set : ℕ) (e : TExpr) → IsCondition set e → HasItsCode g.typed g.instance alive n e → (d : Draft) (s : CodeState) (st : State) → At g s (length d.code) → Sim g alive st s
       → After g (λ _ f. LeavesTests g alive fields d s set st (λ q. value_in (extents g set) st e q) f) (tested g.typed (layout g) e d)
-  condition_tested set e is c = (known set e is c).0
+  condition_tested set e (inl inner) c = inner_tested set e inner c
+  condition_tested set e (inr kinded) c = kinded_tested set e kinded c
 
   -- what comes behind two that are put in fields of one bit
-  pub both_flagged : (set : ℕ) (left right : TExpr) → IsCondition set left → IsCondition set right → HaveTheirCode g.typed g.instance alive n left right → (d : Draft) (s : CodeState) (st : State) → At g s (length d.code) → Sim g alive st s
+  pub both_flagged : (set : ℕ) (left right : TExpr) → IsInnerCondition set left → IsInnerCondition set right → HaveTheirCode g.typed g.instance alive n left right → (d : Draft) (s : CodeState) (st : State) → At g s (length d.code) → Sim g alive st s
       → (Q : Out → Draft → Type 0) (last : Field → Field → Draft → Made Out) → ((f h : Field) (e : Draft) → Extends g e (last f h e))
       → ((f h : Field) (e1 e2 : Draft) (one : Truth g alive places fields d s set st (λ q. value_in (extents g set) st left q) f e1) → Truth g alive places fields e1 one.passes.t set st (λ q. value_in (extents g set) st right q) h e2 → After g Q (last f h e2))
       → After g Q (then_make (flag_of set (condition_of g.typed (layout g) left) d) (λ f between. then_make (flag_of set (condition_of g.typed (layout g) right) between) (λ h after. last f h after)))

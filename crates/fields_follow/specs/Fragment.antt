@@ -147,27 +147,31 @@ HasOperation op elem value = elim (assign_op_of op) [
   | Some o ↦ IsOperation o value × ((type_of value).elem.bits ≡ 32) × ((elem.bits == 1) ≡ false) × (operation_bits elem.bits o value ≡ elem.bits)
 ]
 
--- A condition of `where`: a relation of two operands, a value that is not zero and is no quotient itself, `!` of a
--- condition, or two joined by `&&` or `||`. The right one of these ignores the context: it has no get and no quotient,
--- not even one of constants. A value of one bit is a condition only if it is such a truth value.
-unfoldable pub IsCondition : ℕ → TExpr → Type 0
-IsCondition set (T.Brackets' ty p inner) = (ty ≡ type_of inner) × IsCondition set inner
-IsCondition set (T.Unary' ty op p operand) = IsWide set ty × (((negates op ≡ true) × IsCondition set operand) ⊎ ((negates op ≡ false) × IsPure set (T.Unary' ty op p operand)))
-IsCondition set (T.LogicalOr' ty p left q right) = IsWide set ty × IsCondition set left × IsCondition set right × (ignores_context right ≡ true)
-IsCondition set (T.LogicalAnd' ty p left q right) = IsWide set ty × IsCondition set left × IsCondition set right × (ignores_context right ≡ true)
-IsCondition set (T.Binary' ty place op p left q right) =
+-- A condition that may be part of others: a relation of two operands, a value that is not zero and is no quotient
+-- itself, `!` of a condition, or two joined by `&&` or `||`. The right one of these ignores the context: it has no get
+-- and no quotient, not even one of constants. A value of one bit is such a condition only if it is a truth value.
+unfoldable pub IsInnerCondition : ℕ → TExpr → Type 0
+IsInnerCondition set (T.Brackets' ty p inner) = (ty ≡ type_of inner) × IsInnerCondition set inner
+IsInnerCondition set (T.Unary' ty op p operand) = IsWide set ty × (((negates op ≡ true) × IsInnerCondition set operand) ⊎ ((negates op ≡ false) × IsPure set (T.Unary' ty op p operand)))
+IsInnerCondition set (T.LogicalOr' ty p left q right) = IsWide set ty × IsInnerCondition set left × IsInnerCondition set right × (ignores_context right ≡ true)
+IsInnerCondition set (T.LogicalAnd' ty p left q right) = IsWide set ty × IsInnerCondition set left × IsInnerCondition set right × (ignores_context right ≡ true)
+IsInnerCondition set (T.Binary' ty place op p left q right) =
     IsWide set ty × (divides op ≡ false) × (IsRelation set op left right ⊎ ((relates op ≡ false) × IsPure set (T.Binary' ty place op p left q right) × (kind_of (T.Binary' ty place op p left q right) ≡ None)))
-IsCondition set e = HasItsKind set e × ((bits_of (kind_of e) == 1) ≡ false)
+IsInnerCondition set e = HasItsKind set e × ((bits_of (kind_of e) == 1) ≡ false)
+
+-- a condition of `where`: such a one, or any value
+abbrev pub IsCondition : ℕ → TExpr → Type 0
+IsCondition set e = IsInnerCondition set e ⊎ HasItsKind set e
 
 -- A truth value that goes to so many bits: a relation, `!` of a condition, two conditions joined, or one of these
 -- converted. In one bit there is no `!` of a value of one bit.
 unfoldable pub IsTruth : ℕ → ℕ → TExpr → Type 0
 IsTruth set bits (T.Brackets' ty p inner) = (ty ≡ type_of inner) × IsTruth set bits inner
 IsTruth set bits (T.Convert' ty p operand) = (ty.shape ≡ Some set) × (bits ≤ ty.elem.bits) × IsTruth set bits operand
-IsTruth set bits (T.Unary' ty op p operand) = IsWide set ty × (negates op ≡ true) × IsCondition set operand × ((bits == 1 && bits_of (kind_of operand) == 1) ≡ false)
-IsTruth set bits (T.LogicalOr' ty p left q right) = IsCondition set (T.LogicalOr' ty p left q right)
-IsTruth set bits (T.LogicalAnd' ty p left q right) = IsCondition set (T.LogicalAnd' ty p left q right)
-IsTruth set bits (T.Binary' ty place op p left q right) = (relates op ≡ true) × IsCondition set (T.Binary' ty place op p left q right)
+IsTruth set bits (T.Unary' ty op p operand) = IsWide set ty × (negates op ≡ true) × IsInnerCondition set operand × ((bits == 1 && bits_of (kind_of operand) == 1) ≡ false)
+IsTruth set bits (T.LogicalOr' ty p left q right) = IsInnerCondition set (T.LogicalOr' ty p left q right)
+IsTruth set bits (T.LogicalAnd' ty p left q right) = IsInnerCondition set (T.LogicalAnd' ty p left q right)
+IsTruth set bits (T.Binary' ty place op p left q right) = (relates op ≡ true) × IsInnerCondition set (T.Binary' ty place op p left q right)
 IsTruth set bits _ = ⊥
 
 -- what is assigned is an operand or, without an operator, such a truth value
