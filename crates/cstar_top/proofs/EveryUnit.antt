@@ -11,6 +11,6 @@ use Rattle.cstar_top.specs.Accepted.{IsProgramOf}
 pub every_unit : (text : List ℕ) (typed : Typed) → IsProgramOf text typed → HasEveryUnit typed
 unfolding IsMade
 every_unit text typed is words number regs instance found =
-    let code = file_code is.tree typed (spelled is.tokens is.tree is.spelled) is.new is.types number instance found in
+    let code = file_code is.tree typed (spelled is.tokens is.tree is.spelled) is.new.variables is.new.shapes is.types number instance found in
     let own = units typed words number (number == 0) regs instance found code.0 code.1 in
     subst (λ made. IsMade made) (sym own.made) tt
