@@ -354,6 +354,15 @@ module _ (g : Setting) (has : HasRegisters g) (alive : Variable → Type 0) (n :
   pub inner_tested : (set : ℕ) (e : TExpr) → IsInnerCondition set e → HasItsCode g.typed g.instance alive n e → IsTested set e
   inner_tested set e is c = (known set e is c).0
 
+  -- one of one bit gives it to the next instruction
+  pub inner_bit : (set : ℕ) (e : TExpr) → IsInnerCondition set e → (bits_of (kind_of e) == 1) ≡ true → HasItsCode g.typed g.instance alive n e → (d : Draft) (s : CodeState) (st : State) → At g s (length d.code) → Sim g alive st s
+      → After g (Bit g alive places fields d s set st (λ q. value_in (extents g set) st e q)) (next_of g.typed (layout g) 1 true e d)
+  inner_bit set e is one c d s st here sim = by (known set e is c).1
+    where
+      by : HasWord set e ⊎ HasBit set e → After g (Bit g alive places fields d s set st (numbers_of set e st)) (operand_at g 1 e d)
+      by (inl word) = let wrong = sym one ∙ word.1 in cc
+      by (inr bit) = bit_after set e is bit d s st here sim
+
   -- any value is tested at its own bits
   kinded_tested : (set : ℕ) (e : TExpr) → HasItsKind set e → HasItsCode g.typed g.instance alive n e → IsTested set e
   unfolding IsPure IsNarrowed has_truth NamesVariables value_in kind_of negates tested_by

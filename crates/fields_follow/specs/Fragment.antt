@@ -5,7 +5,7 @@
 -- variables, and they are the conditions of `where`. Folds are of the active positions.
 -- Under `where` and `everywhere` stand the statements of scalar programs with these, also calls, `return` and jumps that
 -- lead out of them.
-use Rattle.std.specs.Prelude.{ℕ, ◌≡◌, ◌<◌, ◌≤◌, ◌&&◌, ◌+◌, ◌^◌, ◌⊎◌, ◌==◌, true, false, Some, None}
+use Rattle.std.specs.Prelude.{ℕ, ◌≡◌, ◌<◌, ◌≤◌, ◌+◌, ◌^◌, ◌⊎◌, ◌==◌, true, false, Some, None}
 use Rattle.cstar_base.specs.declared.elem.Elem.{Elem}
 use Rattle.cstar_base.specs.declared.operators.Op.{Op}
 use Rattle.cstar_base.specs.Operators.{divides}
@@ -164,11 +164,11 @@ abbrev pub IsCondition : ℕ → TExpr → Type 0
 IsCondition set e = IsInnerCondition set e ⊎ HasItsKind set e
 
 -- A truth value that goes to so many bits: a relation, `!` of a condition, two conditions joined, or one of these
--- converted. In one bit there is no `!` of a value of one bit.
+-- converted.
 unfoldable pub IsTruth : ℕ → ℕ → TExpr → Type 0
 IsTruth set bits (T.Brackets' ty p inner) = (ty ≡ type_of inner) × IsTruth set bits inner
 IsTruth set bits (T.Convert' ty p operand) = (ty.shape ≡ Some set) × (bits ≤ ty.elem.bits) × IsTruth set bits operand
-IsTruth set bits (T.Unary' ty op p operand) = IsWide set ty × (negates op ≡ true) × IsInnerCondition set operand × ((bits == 1 && bits_of (kind_of operand) == 1) ≡ false)
+IsTruth set bits (T.Unary' ty op p operand) = IsWide set ty × (negates op ≡ true) × IsInnerCondition set operand
 IsTruth set bits (T.LogicalOr' ty p left q right) = IsInnerCondition set (T.LogicalOr' ty p left q right)
 IsTruth set bits (T.LogicalAnd' ty p left q right) = IsInnerCondition set (T.LogicalAnd' ty p left q right)
 IsTruth set bits (T.Binary' ty place op p left q right) = (relates op ≡ true) × IsInnerCondition set (T.Binary' ty place op p left q right)
