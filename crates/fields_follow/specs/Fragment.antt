@@ -20,8 +20,8 @@ use Rattle.cstar_tree.specs.declared.typed.ValueType.{ValueType}
 use Rattle.cstar_tree.specs.declared.typed.VarInfo.{VarInfo}
 use Rattle.cstar_tree.specs.declared.typed.Variable.TheVariants as V
 use Rattle.cstar_tree.specs.Typed.{type_of}
-use Rattle.lower_base.specs.Operators.{assign_op_of, negates, reduce_op_of, relates}
-use Rattle.lower_base.specs.Kinds.{bits_of, fold_kind, kind_of}
+use Rattle.lower_base.specs.Operators.{assign_op_of, negates, relates}
+use Rattle.lower_base.specs.Kinds.{bits_of, kind_of}
 use Rattle.lower_comm.specs.declared.news.NewsStep.{NewsStep}
 use Rattle.lower_comm.specs.News.{step_of}
 use Rattle.lower_expr.specs.Kinds.{operation_bits, relation_kind}
@@ -184,13 +184,13 @@ IsUpdate (T.Assign' ty place op p target q value) = (set : ℕ) × ((ty ≡ type
 IsUpdate (T.Step' ty op order p target) = (set : ℕ) × ((ty ≡ type_of target) × IsTarget set target × ((ty.elem.bits == 1) ≡ false))
 IsUpdate _ = ⊥
 
--- a value of 32 bits that is folded by an operator: no sign of a narrow type is put back, as it is where bits are joined
-abbrev pub IsFolded : ℕ → Op → TExpr → Type 0
-IsFolded set op e = HasItsKind set e × IsWide set (type_of e) × (fold_kind op e ≡ None)
+-- a value of 32 bits that is folded
+abbrev pub IsFolded : ℕ → TExpr → Type 0
+IsFolded set e = HasItsKind set e × IsWide set (type_of e)
 
 -- the numbers of a value at the active positions are folded into one
 unfoldable pub IsFold : TExpr → Type 0
-IsFold (T.Reduce' ty op p operand) = IsWord ty × ((set : ℕ) × IsFolded set (reduce_op_of op) operand)
+IsFold (T.Reduce' ty op p operand) = IsWord ty × ((set : ℕ) × IsFolded set operand)
 IsFold _ = ⊥
 
 -- the assignment with the operator of a reduction
@@ -211,7 +211,7 @@ IsScalarTarget _ = ⊥
 
 -- the numbers of a value at the active positions are folded onto a scalar variable
 unfoldable pub IsFoldOnto : TExpr → Type 0
-IsFoldOnto (T.Assign' ty place op p target q value) = (ty ≡ type_of target) × IsScalarTarget target × ((reduction : ReduceOp) × ((op ≡ assignment_of reduction) × ((set : ℕ) × IsFolded set (reduce_op_of reduction) value)))
+IsFoldOnto (T.Assign' ty place op p target q value) = (ty ≡ type_of target) × IsScalarTarget target × ((reduction : ReduceOp) × ((op ≡ assignment_of reduction) × ((set : ℕ) × IsFolded set value)))
 IsFoldOnto _ = ⊥
 
 -- a parallel expression whose value is not used
