@@ -21,7 +21,7 @@ use Rattle.cstar_tree.specs.declared.typed.VarInfo.{VarInfo}
 use Rattle.cstar_tree.specs.declared.typed.Variable.TheVariants as V
 use Rattle.cstar_tree.specs.Typed.{type_of}
 use Rattle.lower_base.specs.Operators.{assign_op_of, negates, relates}
-use Rattle.lower_base.specs.Kinds.{bits_of, kind_of}
+use Rattle.lower_base.specs.Kinds.{bits_of, is_bitwise, kind_of}
 use Rattle.lower_comm.specs.declared.news.NewsStep.{NewsStep}
 use Rattle.lower_comm.specs.News.{step_of}
 use Rattle.lower_expr.specs.Kinds.{operation_bits, relation_kind}
@@ -109,12 +109,13 @@ IsPure set _ = ⊥
 abbrev pub IsOperand : ℕ → TExpr → Type 0
 IsOperand set e = IsPure set e ⊎ IsPromoted set e
 
--- a value whose narrow type is that of a variable or of a conversion
+-- a value whose narrow type is that of a variable or of a conversion, or of two such values that are joined bit by bit
 unfoldable pub IsNarrowed : TExpr → Type 0
 IsNarrowed (T.Variable ty x) = Unit {0}
 IsNarrowed (T.LeftIndex' ty place p indexes x of) = Unit {0}
 IsNarrowed (T.Brackets' ty p inner) = IsNarrowed inner
 IsNarrowed (T.Convert' ty p operand) = (kind_of operand ≡ None) ⊎ IsNarrowed operand
+IsNarrowed (T.Binary' ty place op p left q right) = (is_bitwise op ≡ true) × IsNarrowed left × IsNarrowed right
 IsNarrowed _ = ⊥
 
 -- one of which no type of fewer than 32 bits is known, or one of such a type
@@ -156,7 +157,7 @@ IsInnerCondition set (T.Unary' ty op p operand) = IsWide set ty × (((negates op
 IsInnerCondition set (T.LogicalOr' ty p left q right) = IsWide set ty × IsInnerCondition set left × IsInnerCondition set right × (ignores_context right ≡ true)
 IsInnerCondition set (T.LogicalAnd' ty p left q right) = IsWide set ty × IsInnerCondition set left × IsInnerCondition set right × (ignores_context right ≡ true)
 IsInnerCondition set (T.Binary' ty place op p left q right) =
-    IsWide set ty × (divides op ≡ false) × (IsRelation set op left right ⊎ ((relates op ≡ false) × IsPure set (T.Binary' ty place op p left q right) × (kind_of (T.Binary' ty place op p left q right) ≡ None)))
+    IsWide set ty × (divides op ≡ false) × (IsRelation set op left right ⊎ ((relates op ≡ false) × HasItsKind set (T.Binary' ty place op p left q right) × ((bits_of (kind_of (T.Binary' ty place op p left q right)) == 1) ≡ false)))
 IsInnerCondition set e = HasItsKind set e × ((bits_of (kind_of e) == 1) ≡ false)
 
 -- a condition of `where`: such a one, or any value
