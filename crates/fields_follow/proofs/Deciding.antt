@@ -1,6 +1,6 @@
 -- A truth value that is assigned: the test flags are stored in a field of one bit, which the last instruction moves to
 -- the variable; or the variable is cleared, and its lowest bit written by an operation on two such fields. In a variable
--- of one bit the flags are stored at once, and it is not cleared.
+-- of one bit the flags are stored at once, and it is not cleared; and `!` of a value of one bit is its complement there.
 use Rattle.std.proofs.Common.{◌≡◌, ◌≢◌, ◌∙◌, ℕ, ℤ, pos, ◌+◌, ◌-◌, ◌<◌, ◌≤◌, ◌%◌, ◌^◌, ◌==◌, ◌||◌, ◌&&◌, ◌⊎◌, Bool, true, false, not, [], ◌∷◌, length, Option, Some, None, refl, sym, ap, subst, arith, inl, inr, lit<, if◌then◌else◌}
 use Rattle.std.specs.Int.{from_bool}
 use Rattle.std.specs.Prelude.{nat_le, nat_lt, unwrap_or}
@@ -25,14 +25,14 @@ use Rattle.code_lengths.specs.Ready.{IsReady}
 use Rattle.code_lengths.proofs.Drafting.{extended}
 use Rattle.lower_base.specs.declared.emit.Out.{Out}
 use Rattle.lower_base.specs.declared.emit.Out.TheVariants as O
-use Rattle.lower_base.specs.Drafts.{Draft, Fails, Made, Makes, a_field, a_flag, an_entry, first_bits, step as step_of, then_make, with_instr}
+use Rattle.lower_base.specs.Drafts.{Draft, Fails, Made, Makes, a_field, a_flag, an_entry, first_bits, in_field, step as step_of, then_make, with_instr}
 use Rattle.lower_base.specs.Kinds.{binary_kind, bits_of, common_kind, converted_kind, has_all, is_bitwise, kind_of, narrow, truth_type as truth_kind}
 use Rattle.lower_base.specs.Operators.{negates, relates}
 use Rattle.lower_expr.specs.Effects.{binary_to, bits_for, computed_to, converted_to, field_binary_to, fits_field, goes_unchanged, keeps_bits, logical_to, moved, put_to}
 use Rattle.lower_expr.specs.Joined.{cleared, joined, joins, operation_of}
 use Rattle.lower_expr.specs.Kinds.{done_as, operand_bits, operation_bits, reads_signed, relation_kind, unary_bits}
 use Rattle.lower_expr.specs.Operands.{ignores_context, is_plus, is_quiet, operand_by}
-use Rattle.lower_expr.specs.Steps.{has_truth, is_kept, negated, put_test, word_for, word_of, word_put}
+use Rattle.lower_expr.specs.Steps.{field_negated, has_truth, is_kept, negated, put_test, word_for, word_of, word_put}
 use Rattle.lower_expr.specs.Values.{Code, condition_of, field_binary_of, fields_by, flag_of, joined_by, joined_of, next_of, relation_by, tested, tested_by, truth_of, value_of, zero_tested}
 use Rattle.paris_code.specs.declared.instr.Instr.{Instr}
 use Rattle.paris_code.specs.declared.instr.Instr.TheVariants as I
@@ -59,11 +59,11 @@ use Rattle.cstar_tree.specs.Typed.{type_of}
 use Rattle.fields_follow.specs.Fragment.{IsInnerCondition, IsTruth}
 use Rattle.fields_follow.proofs.Clearing.{field_at, joined_behind, joined_more, truths_taken}
 use Rattle.fields_follow.proofs.Conditions.{HaveTheirCode, and_codes, condition_kept, conditions_join, or_codes}
-use Rattle.fields_follow.proofs.Sizes.{brackets_part, convert_part}
+use Rattle.fields_follow.proofs.Sizes.{brackets_part, convert_part, unary_part}
 use Rattle.fields_follow.proofs.Places.{HoldsTheFields, IsFileField, PlacesFields, stands_here}
-use Rattle.fields_follow.proofs.Testing.{both_flagged, inner_means, inner_tested}
+use Rattle.fields_follow.proofs.Testing.{both_flagged, inner_bit, inner_means, inner_tested}
 use Rattle.fields_follow.proofs.Truths.{either_or_both, joined_bits}
-use Rattle.fields_follow.proofs.ConditionCode.{Truth, flag_after, put_in, relation_put, stored_behind, zero_put}
+use Rattle.fields_follow.proofs.ConditionCode.{Bit, Truth, flag_after, put_in, relation_put, stored_behind, zero_put}
 use Rattle.fields_follow.proofs.Forms.{HasItsCode}
 use Rattle.fields_follow.proofs.Instructions.{Puts, SameExtents, extents, number_in, place, shapes}
 use Rattle.fields_follow.proofs.Meaning.{as_shaped, value_in}
@@ -210,6 +210,10 @@ unfolding then_make put_test
 at_once set offset (Makes x e) = refl
 at_once set offset Fails = refl
 
+-- one bit takes the complement of another
+abbrev bit_turned : ℕ → ℕ → Out → Draft → Made Out
+bit_turned set offset v e = in_field v (λ source. Makes (O.Field (field_at set offset 1)) (with_instr (I.Lognot (field_at set offset 1) source) e))
+
 module _ (g : Setting) where
   relation_code : (set offset bits : ℕ) (ty : ValueType) (place : Place) (op : Op) (p q : Boxed) (left right : TExpr) (d : Draft) → ty.shape ≡ Some set → relates op ≡ true → divides op ≡ false
       → computed_to g.typed (layout g) (O.Field (field_at set offset bits)) (T.Binary' ty place op p left q right) d ≡ then_make (truth_of g.typed (layout g) (T.Binary' ty place op p left q right) d) (put_in (field_at set offset bits))
@@ -241,6 +245,19 @@ module _ (g : Setting) where
   not_code set offset bits ty p U.Plus operand d e no_bit fresh = cc
   not_code set offset bits ty p U.Minus operand d e no_bit fresh = cc
   not_code set offset bits ty p U.Complement operand d e no_bit fresh = cc
+
+  bit_not_code : (set offset : ℕ) (ty : ValueType) (p : Boxed) (op : UnaryOp) (operand : TExpr) (d : Draft) → negates op ≡ true → (bits_of (kind_of operand) == 1) ≡ true → is_kept operand ≡ false
+      → computed_to g.typed (layout g) (O.Field (field_at set offset 1)) (T.Unary' ty op p operand) d ≡ then_make (next_of g.typed (layout g) 1 true operand d) (bit_turned set offset)
+  unfolding computed_to is_plus negates unary_bits bits_for done_as negated field_negated
+  bit_not_code set offset ty p U.Not operand d e bit fresh =
+      ap (λ (b : Bool). done (not b && bits_of (kind_of operand) == 1) (bits_of (kind_of operand))) fresh ∙ ap (λ (b : Bool). done b (bits_of (kind_of operand))) bit
+      ∙ ap (λ (m : ℕ). done true m) (eqb-true (bits_of (kind_of operand)) 1 bit)
+    where
+      done : Bool → ℕ → Made Out
+      done b m = then_make (next_of g.typed (layout g) m true operand d) (λ v after. negated (layout g) (if b then U.Complement else U.Not) (O.Field (field_at set offset 1)) v after)
+  bit_not_code set offset ty p U.Plus operand d e bit fresh = cc
+  bit_not_code set offset ty p U.Minus operand d e bit fresh = cc
+  bit_not_code set offset ty p U.Complement operand d e bit fresh = cc
 
   -- two conditions joined
   joined_code : (is_or : Bool) (set offset bits : ℕ) (e left right : TExpr) (d : Draft) → joins left right ≡ true → (bits == 1) ≡ false
@@ -309,6 +326,27 @@ module _ (g : Setting) where
     small = λ p below on. subst (λ (w : ℕ). w < 2 ^ 32) (sym (truth p)) (from_bool_below (nonzero (v p)));
     goes = refl;
   }
+
+  -- the complement of a bit
+  puts_turned : (set offset : ℕ) (a : Field) (s : CodeState) (v : ℕ → ℕ) → ((q : ℕ) → q < processors (shapes g) set → is_active (shapes g) s.memory set q ≡ true → number_in g a s q ≡ from_bool (nonzero (v q)))
+      → Puts g set (I.Lognot (field_at set offset 1) a) (field_at set offset 1) s (λ q. from_bool (v q == 0))
+  unfolding begun applied after step_of
+  puts_turned set offset a s v are = record {
+    plain = refl;
+    simple = tt;
+    others = _;
+    names = refl;
+    write = elementwise (shapes g) (I.Lognot (place g (field_at set offset 1)) (place g a)) [] s.memory;
+    run = refl;
+    writes = λ p. refl;
+    value = λ p below on. ap (λ (m : ℕ). (2 ^ 1 - 1 - m) % 2 ^ 1) (are p below on) ∙ turned (v p == 0);
+    small = λ p below on. from_bool_below (v p == 0);
+    goes = refl;
+  }
+    where
+      turned : (x : Bool) → (2 ^ 1 - 1 - from_bool (not x)) % 2 ^ 1 ≡ from_bool x % 2 ^ 1
+      turned true = refl
+      turned false = refl
 
   -- two bits joined in one
   puts_joined : (is_or : Bool) (set offset : ℕ) (a b : Field) (s : CodeState) (v w : ℕ → ℕ) → ((q : ℕ) → q < processors (shapes g) set → is_active (shapes g) s.memory set q ≡ true → number_in g a s q ≡ from_bool (nonzero (v q)))
@@ -386,6 +424,27 @@ module _ (g : Setting) where
               (takes_behind bits refl (I.Move false f kept) e2 (words_of e) (Behind g kept e2) bit.passes within
               (puts_bit set f kept bit.passes.t (words_of e) bit.len (λ q below on. bit.are q below (sym (flags_of g alive places fields st bit.passes.t set q bit.passes.sim bit.exists below) ∙ on)) truth)))))
 
+      -- by the complement of a bit
+      by_complement : (e operand : TExpr) → IsInnerCondition set operand → (bits_of (kind_of operand) == 1) ≡ true → HasItsCode g.typed g.instance alive n operand → ◌≡◌ {A = ℕ → ℕ} (λ q. from_bool (words_of operand q == 0)) (words_of e)
+          → computed_to g.typed (layout g) (O.Field (field_at set offset 1)) e d ≡ then_make (next_of g.typed (layout g) 1 true operand d) (bit_turned set offset) → bits ≡ 1 → Last e → After g Q (computed_to g.typed (layout g) (O.Field f) e d)
+      unfolding Extends step_of in_field
+      by_complement e operand is one c value code is_one last =
+          after_same g Q (ap (λ (m : ℕ). computed_to g.typed (layout g) (O.Field (field_at set offset m)) e d) is_one ∙ code)
+          (then_after g (Bit g alive places fields d s set st (words_of operand)) Q (next_of g.typed (layout g) 1 true operand d) (bit_turned set offset) (inner_bit g has alive n ready places fields set operand is one c d s st here sim) grows
+          (λ x e2 (a, (same, bit)). after_same g Q (ap (λ (o : Out). bit_turned set offset o e2) same)
+          (made_after g Q (O.Field (field_at set offset 1)) (with_instr (I.Lognot (field_at set offset 1) a) e2) (λ within.
+          let i : Instr = I.Lognot (field_at set offset 1) a in
+          let puts : Puts g set i (field_at set offset 1) bit.passes.t (words_of e) =
+          subst (λ (v : ℕ → ℕ). Puts g set i (field_at set offset 1) bit.passes.t v) value
+          (puts_turned set offset a bit.passes.t (words_of operand) (λ q below on. bit.are q below (sym (flags_of g alive places fields st bit.passes.t set q bit.passes.sim bit.exists below) ∙ on))) in
+          subst (λ (m : ℕ). Q (O.Field (field_at set offset m)) (with_instr i e2)) is_one
+          (last e2 (with_instr i e2) (Behind g a e2) within bit.passes (length e2.code, (names_second g i _ a [] (length e2.code) (stands_here g i e2 within refl) refl, omega arith)) (takes_behind 1 (sym is_one) i e2 (words_of e) (Behind g a e2) bit.passes within puts))))))
+        where
+          grows : (x : Out) (e2 : Draft) → Extends g e2 (bit_turned set offset x e2)
+          grows (O.Field a) e2 = (1, and_one g (I.Lognot (field_at set offset 1) a) e2)
+          grows (O.Scalar r) e2 = tt
+          grows O.Nothing e2 = tt
+
       -- by the operation on two bits
       by_operation : (is_or : Bool) (e left right : TExpr) → IsInnerCondition set left → IsInnerCondition set right → ignores_context right ≡ true → HaveTheirCode g.typed g.instance alive n left right
           → ◌≡◌ {A = ℕ → ℕ} (λ q. from_bool (either_or_both is_or (nonzero (words_of left q)) (nonzero (words_of right q)))) (words_of e) → Last e → After g Q (logical_to g.typed (layout g) (O.Field f) e is_or left right d)
@@ -425,7 +484,7 @@ module _ (g : Setting) where
               last e2 (joined_behind is_or set offset bits a b e2) (Unit {0}) within passes tt (subst (λ (v : ℕ → ℕ). TakesBehind g set f e2 (joined_behind is_or set offset bits a b e2) passes.t v) value takes))))
 
       truth_computed : (e : TExpr) → IsTruth set bits e → HasItsCode g.typed g.instance alive n e → Last e → After g Q (computed_to g.typed (layout g) (O.Field f) e d)
-      unfolding IsTruth IsInnerCondition computed_to value_in has_truth goes_unchanged keeps_bits
+      unfolding IsTruth IsInnerCondition computed_to value_in has_truth goes_unchanged keeps_bits negates unary_of
       truth_computed (T.Brackets' ty p inner) is c last = truth_computed inner is.1 (brackets_part g alive n places fields ty p inner c) last
       truth_computed (T.Convert' ty p inner) is c last =
           after_same g Q (ap (λ (b : Bool). if b then computed_to g.typed (layout g) (O.Field f) inner d else converted_to g.typed (layout g) (O.Field f) (T.Convert' ty p inner) ty.elem inner d) (kept (nat_le bits ty.elem.bits) (let long = is.1 in grind (arith, nat_tests, long)) (not (ty.elem.bits == 1)) (bits_of (kind_of inner) == 1) (truth_flag set bits inner is.2)))
@@ -437,8 +496,25 @@ module _ (g : Setting) where
           kept true e false true h = refl
           kept true e false false h = cc
           kept false e b c h = cc
-      truth_computed (T.Unary' ty op p operand) is c last =
-          by_test (T.Unary' ty op p operand) (is.0, inl (is.1, is.2)) is.1 c (λ q. truth_bit (extents g set) st set bits (T.Unary' ty op p operand) q is) (not_code set offset bits ty p op operand d is.1 is.3 (condition_kept set operand is.2)) last
+      truth_computed (T.Unary' ty op p operand) is c last = by (bits == 1) (bits_of (kind_of operand) == 1) refl refl
+        where
+          whole : TExpr
+          whole = T.Unary' ty op p operand
+
+          tests : (bits == 1 && bits_of (kind_of operand) == 1) ≡ false → After g Q (computed_to g.typed (layout g) (O.Field f) whole d)
+          tests no_bit = by_test whole (is.0, inl (is.1, is.2)) is.1 c (λ q. truth_bit (extents g set) st set bits whole q is) (not_code set offset bits ty p op operand d is.1 no_bit (condition_kept set operand is.2)) last
+
+          value : (o : UnaryOp) → negates o ≡ true → ◌≡◌ {A = ℕ → ℕ} (λ q. from_bool (words_of operand q == 0)) (λ q. unary_of o (words_of operand q))
+          value U.Not e = refl
+          value U.Plus e = cc
+          value U.Minus e = cc
+          value U.Complement e = cc
+
+          by : (a b : Bool) → (bits == 1) ≡ a → (bits_of (kind_of operand) == 1) ≡ b → After g Q (computed_to g.typed (layout g) (O.Field f) whole d)
+          by true true one bit =
+              by_complement whole operand is.2 bit (unary_part g alive n places fields ty op p operand c) (value op is.1) (bit_not_code set offset ty p op operand d is.1 bit (condition_kept set operand is.2)) (eqb-true bits 1 one) last
+          by true false one bit = tests (ap (λ (b : Bool). bits == 1 && b) bit ∙ ap (λ (b : Bool). b && false) one)
+          by false b one bit = tests (ap (λ (a : Bool). a && bits_of (kind_of operand) == 1) one)
       truth_computed (T.LogicalOr' ty p left q right) is c last = by_operation true (T.LogicalOr' ty p left q right) left right is.1 is.2 is.3 (or_codes g.typed g.instance alive n set ty p q left right is.2 c) refl last
       truth_computed (T.LogicalAnd' ty p left q right) is c last = by_operation false (T.LogicalAnd' ty p left q right) left right is.1 is.2 is.3 (and_codes g.typed g.instance alive n set ty p q left right is.2 c) refl last
       truth_computed (T.Binary' ty place op p left q right) is c last =

@@ -131,7 +131,7 @@ main_is heap =
                       ((lift heap, (refl, omega arith, called, tt, tt)), tt),
                       inr (inl (0, (refl, refl, refl, inl (inr (refl, refl, (refl, inl (0, refl, omega arith)))))), ((λ is. inl (inl tt)), tt)),
                     ),
-                    (inl (refl, refl, (refl, inl (inl tt)), ((refl, refl), ((refl, refl), (0, ((refl, inl refl), (refl, refl), refl))), (λ is. inl (inl tt))), inl refl), tt),
+                    (inl (refl, refl, (refl, inl (inl tt)), ((refl, refl), ((refl, refl), (0, ((refl, inl refl), (refl, refl)))), (λ is. inl (inl tt))), inl refl), tt),
                   ),
                 ),
               ),

@@ -51,6 +51,7 @@ use Rattle.code_follows.proofs.Settings.{At, Setting, layout}
 use Rattle.code_follows.proofs.Targets.{TargetIs, assign_code, assign_means, bare_target, variable_in}
 use Rattle.code_follows.proofs.Values.{and_register, with_reg}
 use Rattle.fields_follow.specs.Fragment.{IsFoldOnto, IsFolded, IsScalarTarget, assignment_of}
+use Rattle.fields_follow.proofs.Folds.{folding}
 use Rattle.fields_follow.proofs.Forms.{HasItsCode, pure_kept}
 use Rattle.fields_follow.proofs.Instructions.{SameExtents, extents}
 use Rattle.fields_follow.proofs.Meaning.{as_shaped, value_in}
@@ -83,7 +84,7 @@ onto_means scope active place reduction elem from set x v st shaped =
     ∙ ap (λ (b : Bool). unless (if b then Some None else None) DivZero place st (assign_to scope active (assignment_of reduction) (scalar_type elem) (record { elem = from.elem; shape = Some set }) (OfScalar x) (Parallel v) st)) (never_by_zero reduction (v 0))
 
 module _ (g : Setting) (alive : Variable → Type 0) (n : ℕ) where
-  module _ (target : TExpr) (v : TargetIs g alive n target) (ty : ValueType) (place : Place) (reduction : ReduceOp) (p q : Boxed) (value : TExpr) (set : ℕ) (is : IsFolded set (reduce_op_of reduction) value) where
+  module _ (target : TExpr) (v : TargetIs g alive n target) (ty : ValueType) (place : Place) (reduction : ReduceOp) (p q : Boxed) (value : TExpr) (set : ℕ) (is : IsFolded set value) where
     abbrev whole : TExpr
     whole = T.Assign' ty place (assignment_of reduction) p target q value
 
@@ -144,26 +145,29 @@ module _ (g : Setting) (alive : Variable → Type 0) (n : ℕ) where
       abbrev info : VarInfo
       info = variable_info known.word (plain (type_of target)) known.start
 
+      -- the type whose sign is put back
+      abbrev sign : Option Elem
+      sign = folded_kind (folding reduction (type_of value).elem.signed) (kind_of value)
+
       abbrev stored_in : Field → Draft → Draft
-      stored_in f e = stored_behind g alive has d free v.variable info v.living (known.named, v.scalar) reduction (type_of value).elem is.1.1 d.regs f e
+      stored_in f e = stored_behind g alive has d free v.variable info v.living (known.named, v.scalar) reduction (type_of value).elem is.1.1 d.regs f sign e
 
       -- behind a value in a field it is folded and stored
       field_made : (f : Field) (e : Draft) → behind d (O.Field f) e ≡ Makes (O.Scalar d.regs) (stored_in f e)
-      unfolding lowest shortened register_folded a_register then_make loaded in_register communicated assigned_in folded_onto part_field part_register from in_field out-TExpr Carrier.out with_fold with_sign stored_at put_value
+      unfolding lowest shortened register_folded a_register then_make loaded in_register communicated assigned_in folded_onto part_field part_register from in_field out-TExpr Carrier.out with_fold stored_at put_value
       field_made f e =
-          ap (λ (m : Option Op). made (elim m as (λ _. Op) [ None ↦ Op.Add | Some given ↦ given ]) (folded_kind (fold_of (elim m as (λ _. Op) [ None ↦ Op.Add | Some given ↦ given ]) (is_signed (type_of value).elem)) (kind_of value)) (is_signed (type_of value).elem)) (operator_is reduction)
-          ∙ ap (λ (k : Option Elem). made operator k (is_signed (type_of value).elem)) is.2
-          ∙ ap (λ (signed : Bool). made operator None signed) (wide_signed (type_of value).elem is.1.1)
+          ap (λ (m : Option Op). made (elim m as (λ _. Op) [ None ↦ Op.Add | Some given ↦ given ]) (is_signed (type_of value).elem)) (operator_is reduction)
+          ∙ ap (λ (signed : Bool). made operator signed) (wide_signed (type_of value).elem is.1.1)
         where
-          made : Op → Option Elem → Bool → Made Out
-          made o k signed =
+          made : Op → Bool → Made Out
+          made o signed =
               let between : Draft = with_instr (I.FrontMove e.regs own) (with_reg e) in
               Makes (O.Scalar d.regs) (with_instr (I.FrontMove own d.regs) (with_instr (I.FrontConvert d.regs d.regs (type_of target).elem)
-              (with_instr (I.FrontOperate (operation_of o signed) d.regs e.regs between.regs) (with_sign k between.regs (with_instr (I.Global (fold_of o signed) between.regs f) (with_reg between))))))
+              (with_instr (I.FrontOperate (operation_of o signed) d.regs e.regs between.regs) (with_sign (folded_kind (fold_of o signed) (kind_of value)) between.regs (with_instr (I.Global (fold_of o signed) between.regs f) (with_reg between))))))
 
       behind_grows : (out : Out) (e : Draft) → Extends g e (behind d out e)
       unfolding Extends lowest register_folded a_register then_make loaded in_register communicated assigned_in folded_onto part_field from in_field out-TExpr Carrier.out
-      behind_grows (O.Field f) e = subst (λ (m : Made Out). Extends g e m) (sym (field_made f e)) (stored_more g alive has d free v.variable info v.living (known.named, v.scalar) reduction (type_of value).elem is.1.1 d.regs f e)
+      behind_grows (O.Field f) e = subst (λ (m : Made Out). Extends g e m) (sym (field_made f e)) (stored_more g alive has d free v.variable info v.living (known.named, v.scalar) reduction (type_of value).elem is.1.1 d.regs f sign e)
       behind_grows (O.Scalar r) e = tt
       behind_grows O.Nothing e = tt
 
@@ -182,7 +186,7 @@ module _ (g : Setting) (alive : Variable → Type 0) (n : ℕ) where
             (λ out e h. after_same g R (ap (λ (o : Out). behind d o e) h.1.0 ∙ field_made h.0 e) (made_after g R (O.Scalar d.regs) (stored_in h.0 e) (λ within.
             let gives = h.1.1 in
             let regs = gives.passes.grown.1.regs in
-            folds_onto g alive has d free v.variable info v.living (known.named, v.scalar) reduction (type_of value).elem is.1.1 d.regs h.0 places fields set (λ x. value_in (extents g set) st value x) bits (folds_so g alive scope places fields n stand same_extents reduction value set is c s st sim) e s st (stored_over (scope.extents set))
+            folds_onto g alive has d free v.variable info v.living (known.named, v.scalar) reduction (type_of value).elem is.1.1 d.regs h.0 sign places fields set (λ x. value_in (extents g set) st value x) bits (folds_so g alive scope places fields n stand same_extents reduction value set is c s st sim) e s st (stored_over (scope.extents set))
             (λ exists. ap stored_over (sym (same_extents set exists))) (omega arith) (omega (arith, regs)) (gives_from g alive bits (length d.fields) d (with_reg d) e s set st (λ x. value_in (extents g set) st value x) h.0 (and_register d) gives) within))))
           where
             R : Out → Draft → Type 0

@@ -1,5 +1,5 @@
 -- The machine's fold of a field of 32 bits is the source's fold of its numbers at the active positions.
-use Rattle.std.proofs.Common.{◌≡◌, ◌∙◌, ℕ, zero, suc, ◌<◌, ◌^◌, Bool, true, false, not, List, refl, sym, ap, arith, ◌%◌, Option, Some, None}
+use Rattle.std.proofs.Common.{◌≡◌, ◌∙◌, ℕ, zero, suc, ◌<◌, ◌^◌, Bool, true, false, not, List, refl, sym, ap, arith, ◌%◌, Some}
 use Rattle.std.specs.Prelude.{if◌then◌else◌}
 use Rattle.cstar_base.specs.declared.operators.Combiner.{Combiner}
 use Rattle.cstar_base.specs.declared.operators.Combiner.TheVariants as C
@@ -105,16 +105,15 @@ global_is shapes m op signed f active h wide alike are small =
     (λ p below on. word_same (folding op signed) m f p (h p) wide (are p below on) (small p below on)) small
     (λ i j low high. once_same op signed i j) (λ i j low high. fold_once_below (Source.combiner_of op) (not signed) i j low high)
 
--- The same of a field that has the lowest bits of words of a narrow type, as many as these are folded at, where no sign is
--- put back.
-pub narrow_is : (shapes : List SetShape) (m : BitMemory) (op : ReduceOp) (signed : Bool) (kind : Elem) (f : Field) (active : ℕ → Bool) (h : ℕ → ℕ) → kind.bits < 32 → f.len ≡ folded_bits (folding op signed) (Some kind) → folded_kind (folding op signed) (Some kind) ≡ None
+-- The same of a field that has the lowest bits of words of a narrow type, as many as these are folded at, with the sign
+-- that is put back.
+pub narrow_is : (shapes : List SetShape) (m : BitMemory) (op : ReduceOp) (signed : Bool) (kind : Elem) (f : Field) (active : ℕ → Bool) (h : ℕ → ℕ) → kind.bits < 32 → f.len ≡ folded_bits (folding op signed) (Some kind)
     → ((p : ℕ) → p < processors shapes f.set → is_active shapes m f.set p ≡ active p) → ((p : ℕ) → p < processors shapes f.set → active p ≡ true → field_number m f p ≡ h p % 2 ^ folded_bits (folding op signed) (Some kind))
     → ((p : ℕ) → p < processors shapes f.set → active p ≡ true → has_number kind (h p) ≡ true) → ((p : ℕ) → p < processors shapes f.set → active p ≡ true → h p < 2 ^ 32)
-    → (global_fold shapes m (folding op signed) f ≡ folded (Source.combiner_of op) (not signed) active h (processors shapes f.set)) × (folded (Source.combiner_of op) (not signed) active h (processors shapes f.set) < 2 ^ 32)
-unfolding global_fold folded folded_word whole_number put_back
-narrow_is shapes m op signed kind f active h few long no_sign alike are has small = (
-  ap (λ (n : ℕ). field_fold c n passes (λ p. field_number m f p) count) long
-      ∙ ap (λ (o : Option Elem). put_back o (field_fold c (folded_bits c (Some kind)) passes (λ p. field_number m f p) count)) (sym no_sign)
+    → (put_back (folded_kind (folding op signed) (Some kind)) (global_fold shapes m (folding op signed) f) ≡ folded (Source.combiner_of op) (not signed) active h (processors shapes f.set)) × (folded (Source.combiner_of op) (not signed) active h (processors shapes f.set) < 2 ^ 32)
+unfolding global_fold folded folded_word whole_number
+narrow_is shapes m op signed kind f active h few long alike are has small = (
+  ap (λ (n : ℕ). put_back (folded_kind c (Some kind)) (field_fold c n passes (λ p. field_number m f p) count)) long
       ∙ short_folds c kind passes (λ p. field_number m f p) h count few (λ p below on. has p below (sym (alike p below) ∙ on)) (λ p below on. are p below (sym (alike p below) ∙ on))
       ∙ words.0,
   words.1,

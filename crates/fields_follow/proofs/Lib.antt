@@ -20,6 +20,7 @@ pub mod Forms
 pub mod Gets
 pub mod Hops
 pub mod Instructions
+pub mod JoinedBits
 pub mod Joining
 pub mod Knowing
 pub mod Leading

@@ -16,7 +16,7 @@ use Rattle.cstar_tree.specs.declared.typed.Variable.{Variable}
 use Rattle.cstar_tree.specs.declared.typed.Variable.TheVariants as V
 use Rattle.cstar_tree.specs.Typed.{type_of}
 use Rattle.constant_trees.proofs.Words.{converted_below}
-use Rattle.lower_base.specs.Kinds.{bits_of, common_kind, converted_kind, has_all, kind_of, narrow}
+use Rattle.lower_base.specs.Kinds.{binary_kind, bits_of, common_kind, converted_kind, has_all, is_bitwise, kind_of, narrow, truth_type}
 use Rattle.lower_base.specs.Operators.{relates}
 use Rattle.lower_expr.specs.Kinds.{has_number, kind_with, relation_kind}
 use Rattle.lower_expr.specs.Steps.{register_word, word_of}
@@ -34,10 +34,11 @@ use Rattle.code_follows.proofs.Standing.{some_same}
 use Rattle.fields_follow.specs.Fragment.{HasItsKind, HaveTheirKinds, IsConstant, IsNarrowed, IsPromoted, IsPure, IsScalarName}
 use Rattle.fields_follow.proofs.Forms.{HasItsCode, pure_word}
 use Rattle.fields_follow.proofs.Instructions.{extents, shapes}
+use Rattle.fields_follow.proofs.JoinedBits.{bitwise_has}
 use Rattle.fields_follow.proofs.Lengths.{held_has}
 use Rattle.fields_follow.proofs.Meaning.{value_in, word_at}
 use Rattle.fields_follow.proofs.Places.{HoldsTheFields, PlacesFields}
-use Rattle.fields_follow.proofs.Sizes.{brackets_part, convert_part, value_small}
+use Rattle.fields_follow.proofs.Sizes.{binary_parts, brackets_part, convert_part, pure_at, value_small}
 use Rattle.fields_follow.proofs.Totals.{held_below}
 
 -- a narrow type is the type itself, which has fewer than 32 bits
@@ -65,9 +66,54 @@ unfolding has_number
 converted_has elem from kind x few all has =
     ap (held elem) (sym (word_converted elem from x few)) ∙ eqb-true (converted int_type elem (converted elem int_type (held from x))) (held from x) (wider_has elem kind (held from x) all has)
 
+common_has : (a b : Option Elem) (kind : Elem) (v w : ℕ) → common_kind a b ≡ Some kind → ((k : Elem) → a ≡ Some k → HasWord k v) → ((k : Elem) → b ≡ Some k → HasWord k w) → HasWord kind v × HasWord kind w
+unfolding common_kind
+common_has None b kind v w is one other = cc
+common_has (Some a) None kind v w is one other = cc
+common_has (Some a) (Some b) kind v w is one other = by (has_all a b) (has_all b a) refl refl is
+  where
+    by : (x y : Bool) → has_all a b ≡ x → has_all b a ≡ y → (if has_all a b then Some a else if has_all b a then Some b else None) ≡ Some kind → HasWord kind v × HasWord kind w
+    by true y first second h =
+        subst (λ (k : Elem). HasWord k v × HasWord k w) (some_same a kind (ap (λ (t : Bool). if t then Some a else if has_all b a then Some b else None) (sym first) ∙ h))
+        (one a refl, (wider_has a b w first (other b refl).0, (one a refl).1))
+    by false true first second h =
+        subst (λ (k : Elem). HasWord k v × HasWord k w) (some_same b kind (ap (λ (t : Bool). if t then Some b else None) (sym second) ∙ ap (λ (t : Bool). if t then Some a else if has_all b a then Some b else None) (sym first) ∙ h))
+        ((wider_has b a v second (one a refl).0, (other b refl).1), other b refl)
+    by false false first second h = let wrong = ap (λ (t : Bool). if t then Some b else None) (sym second) ∙ ap (λ (t : Bool). if t then Some a else if has_all b a then Some b else None) (sym first) ∙ h in cc
+
+-- the common type of two
+common_is : (Q : Elem → Type 0) (a b : Option Elem) (kind : Elem) → common_kind a b ≡ Some kind → ((k : Elem) → a ≡ Some k → Q k) → ((k : Elem) → b ≡ Some k → Q k) → Q kind
+unfolding common_kind
+common_is Q None b kind is one other = cc
+common_is Q (Some a) None kind is one other = cc
+common_is Q (Some a) (Some b) kind is one other = by (has_all a b) (has_all b a) refl refl
+  where
+    by : (x y : Bool) → has_all a b ≡ x → has_all b a ≡ y → Q kind
+    by true y first second = subst Q (some_same a kind (ap (λ (t : Bool). if t then Some a else if has_all b a then Some b else None) (sym first) ∙ is)) (one a refl)
+    by false true first second = subst Q (some_same b kind (ap (λ (t : Bool). if t then Some b else None) (sym second) ∙ ap (λ (t : Bool). if t then Some a else if has_all b a then Some b else None) (sym first) ∙ is)) (other b refl)
+    by false false first second = let wrong = ap (λ (t : Bool). if t then Some b else None) (sym second) ∙ ap (λ (t : Bool). if t then Some a else if has_all b a then Some b else None) (sym first) ∙ is in cc
+
+-- and that of two values that are joined
+joined_kind : (op : Op) (a b : Option Elem) (kind : Elem) → relates op ≡ false → is_bitwise op ≡ true → binary_kind op a b ≡ Some kind → common_kind a b ≡ Some kind
+unfolding binary_kind
+joined_kind op a b kind plain bitwise is =
+    sym (ap (λ (t : Bool). if t then Some truth_type else if is_bitwise op then common_kind a b else None) plain ∙ ap (λ (t : Bool). if t then common_kind a b else None) bitwise) ∙ is
+
+-- neither of them is promoted
+not_promoted : (set : ℕ) (e : TExpr) → IsPromoted set e → IsNarrowed e → ⊥
+unfolding IsPromoted IsNarrowed
+not_promoted set (T.Promote' ty p operand) is so = so
+not_promoted set (T.Brackets' ty p inner) is so = not_promoted set inner is.1 so
+not_promoted set _ is so = is
+
+both_pure : (set : ℕ) (left right : TExpr) → (IsPure set left × (IsPure set right ⊎ IsPromoted set right)) ⊎ (IsPromoted set left × IsPure set right) → IsNarrowed left → IsNarrowed right → IsPure set left × IsPure set right
+both_pure set left right (inl (one, inl other)) so also = (one, other)
+both_pure set left right (inl (one, inr promoted)) so also = absurd (not_promoted set right promoted also)
+both_pure set left right (inr (promoted, other)) so also = absurd (not_promoted set left promoted so)
+
 module _ (g : Setting) (alive : Variable → Type 0) (n : ℕ) (places : PlacesFields g) (fields : HoldsTheFields g) where
   pub kind_has : (set : ℕ) (e : TExpr) (st : State) (s : CodeState) → Sim g alive st s → IsPure set e → IsNarrowed e → HasItsCode g.typed g.instance alive n e → (q : ℕ) → q < processors (shapes g) set → (kind : Elem) → kind_of e ≡ Some kind → HasWord kind (word_at (extents g set) st e q)
-  unfolding IsPure IsNarrowed kind_of value_in converted_kind
+  unfolding IsPure IsNarrowed kind_of value_in converted_kind binary_kind
   kind_has set (T.Variable ty (V.File k)) st s sim is so c q below kind is_kind = narrow_has ty.elem kind _ (value_small g alive n places fields set (T.Variable ty (V.File k)) st s sim is c q below) is_kind
   kind_has set (T.LeftIndex' ty place p indexes (V.File k) of) st s sim is so c q below kind is_kind =
       narrow_has ty.elem kind _ (value_small g alive n places fields set (T.LeftIndex' ty place p indexes (V.File k) of) st s sim is c q below) is_kind
@@ -100,12 +146,36 @@ module _ (g : Setting) (alive : Variable → Type 0) (n : ℕ) (places : PlacesF
               let small : x < 2 ^ (type_of operand).elem.bits = value_small g alive n places fields set operand st s sim is.2 part q below in
               subst (λ (w : ℕ). HasWord kind w) (sym (converted_has ty.elem (type_of operand).elem k x small it_has has.0)) (subst (λ (e : Elem). HasWord e (held (type_of operand).elem x)) same has)
           all false other h = cut (ap (λ (b : Bool). if b then Some k else narrow ty.elem) (sym other) ∙ h)
+  kind_has set (T.Binary' ty place op p left r right) st s sim is so c q below kind is_kind =
+      by (λ k is_k. kind_has set left st s sim pure.0 so.1 parts.0 q below k is_k) (λ k is_k. kind_has set right st s sim pure.1 so.2 parts.1 q below k is_k)
+    where
+      v : ℕ
+      v = value_in (extents g set) st left q
+
+      w : ℕ
+      w = value_in (extents g set) st right q
+
+      pure : IsPure set left × IsPure set right
+      pure = both_pure set left right is.2 so.1 so.2
+
+      parts : HasItsCode g.typed g.instance alive n left × HasItsCode g.typed g.instance alive n right
+      parts = binary_parts g alive n places fields ty place op p r left right c
+
+      by : ((k : Elem) → kind_of left ≡ Some k → HasWord k (word_at (extents g set) st left q)) → ((k : Elem) → kind_of right ≡ Some k → HasWord k (word_at (extents g set) st right q))
+          → HasWord kind (held ty.elem (outcome op 32 (not (type_of left).elem.signed) v w))
+      by one other =
+          let both : HasWord kind v × HasWord kind w =
+          common_has (kind_of left) (kind_of right) kind v w (joined_kind op (kind_of left) (kind_of right) kind is.1.0 so.0 is_kind)
+          (λ k is_k. subst (λ (x : ℕ). HasWord k x) (pure_at g alive n places fields set left st s sim pure.0 is.3 parts.0 q below) (one k is_k))
+          (λ k is_k. subst (λ (x : ℕ). HasWord k x) (pure_at g alive n places fields set right st s sim pure.1 is.4 parts.1 q below) (other k is_k)) in
+          subst (λ (x : ℕ). HasWord kind x) (sym (pure_at g alive n places fields set (T.Binary' ty place op p left r right) st s sim is is.0 c q below))
+          (bitwise_has op kind (not (type_of left).elem.signed) v w so.0 both.0.1 both.0.0 both.1.0, both.0.1)
   kind_has set (T.Variable ty x) st s sim is so c q below kind is_kind = absurd is
   kind_has set (T.LeftIndex' ty place p indexes x of) st s sim is so c q below kind is_kind = absurd is
   kind_has set _ st s sim is so c q below kind is_kind = absurd so
 
   pub kind_narrow : (set : ℕ) (e : TExpr) → IsPure set e → IsNarrowed e → (kind : Elem) → kind_of e ≡ Some kind → kind.bits < 32
-  unfolding IsPure IsNarrowed kind_of converted_kind
+  unfolding IsPure IsNarrowed kind_of converted_kind binary_kind
   kind_narrow set (T.Variable ty x) is so kind is_kind = let h = narrow_is ty.elem kind is_kind in subst (λ (k : Elem). k.bits < 32) h.0 h.1
   kind_narrow set (T.LeftIndex' ty place p indexes x of) is so kind is_kind = let h = narrow_is ty.elem kind is_kind in subst (λ (k : Elem). k.bits < 32) h.0 h.1
   kind_narrow set (T.Brackets' ty p inner) is so kind is_kind = kind_narrow set inner is.1 so kind is_kind
@@ -122,6 +192,10 @@ module _ (g : Setting) (alive : Variable → Type 0) (n : ℕ) (places : PlacesF
           all : (b : Bool) → has_all ty.elem k ≡ b → (if has_all ty.elem k then Some k else narrow ty.elem) ≡ Some kind → kind.bits < 32
           all true it_has h = subst (λ (e : Elem). e.bits < 32) (some_same k kind (ap (λ (b : Bool). if b then Some k else narrow ty.elem) (sym it_has) ∙ h)) (before narrowed k some)
           all false other h = cut (ap (λ (b : Bool). if b then Some k else narrow ty.elem) (sym other) ∙ h)
+  kind_narrow set (T.Binary' ty place op p left r right) is so kind is_kind =
+      let pure = both_pure set left right is.2 so.1 so.2 in
+      common_is (λ (k : Elem). k.bits < 32) (kind_of left) (kind_of right) kind (joined_kind op (kind_of left) (kind_of right) kind is.1.0 so.0 is_kind) (λ k is_k. kind_narrow set left pure.0 so.1 k is_k)
+      (λ k is_k. kind_narrow set right pure.1 so.2 k is_k)
   kind_narrow set _ is so kind is_kind = absurd so
 
   -- so it is 0 where its lowest bits of that type are
@@ -181,21 +255,6 @@ module _ (g : Setting) (alive : Variable → Type 0) (n : ℕ) (places : PlacesF
       by : (b : Bool) → has_number k word ≡ b → (if has_number k word then Some k else None) ≡ Some kind → (Some k ≡ Some kind) × (has_number kind word ≡ true)
       by true it_has h = let same : Some k ≡ Some kind = ap (λ (b : Bool). if b then Some k else None) (sym it_has) ∙ h in (same, subst (λ (e : Elem). has_number e word ≡ true) (some_same k kind same) it_has)
       by false other h = let wrong = ap (λ (b : Bool). if b then Some k else None) (sym other) ∙ h in cc
-
-  common_has : (a b : Option Elem) (kind : Elem) (v w : ℕ) → common_kind a b ≡ Some kind → ((k : Elem) → a ≡ Some k → HasWord k v) → ((k : Elem) → b ≡ Some k → HasWord k w) → HasWord kind v × HasWord kind w
-  unfolding common_kind
-  common_has None b kind v w is one other = cc
-  common_has (Some a) None kind v w is one other = cc
-  common_has (Some a) (Some b) kind v w is one other = by (has_all a b) (has_all b a) refl refl is
-    where
-      by : (x y : Bool) → has_all a b ≡ x → has_all b a ≡ y → (if has_all a b then Some a else if has_all b a then Some b else None) ≡ Some kind → HasWord kind v × HasWord kind w
-      by true y first second h =
-          subst (λ (k : Elem). HasWord k v × HasWord k w) (some_same a kind (ap (λ (t : Bool). if t then Some a else if has_all b a then Some b else None) (sym first) ∙ h))
-          (one a refl, (wider_has a b w first (other b refl).0, (one a refl).1))
-      by false true first second h =
-          subst (λ (k : Elem). HasWord k v × HasWord k w) (some_same b kind (ap (λ (t : Bool). if t then Some b else None) (sym second) ∙ ap (λ (t : Bool). if t then Some a else if has_all b a then Some b else None) (sym first) ∙ h))
-          ((wider_has b a v second (one a refl).0, (other b refl).1), other b refl)
-      by false false first second h = let wrong = ap (λ (t : Bool). if t then Some b else None) (sym second) ∙ ap (λ (t : Bool). if t then Some a else if has_all b a then Some b else None) (sym first) ∙ h in cc
 
   left_side : (set : ℕ) (left right : TExpr) → HaveTheirKinds set left right → HasItsKind set left ⊎ IsPromoted set left
   left_side set left right (inl h) = inl h.0

@@ -1,5 +1,5 @@
 -- Behind the code of a parallel value, what folds it onto a scalar variable writes registers alone.
-use Rattle.std.proofs.Common.{◌≡◌, ◌∙◌, ℕ, ◌+◌, ◌<◌, ◌≤◌, ◌^◌, Bool, false, not, true, [], length, slice_index, refl, sym, ap, subst, arith}
+use Rattle.std.proofs.Common.{◌≡◌, ◌∙◌, ℕ, ◌+◌, ◌<◌, ◌≤◌, ◌^◌, Bool, false, not, true, [], Option, Some, None, length, slice_index, refl, sym, ap, subst, arith}
 use Rattle.std.proofs.lemmas.List.{get_or-set_other}
 use Rattle.cstar_base.specs.declared.elem.Elem.{Elem}
 use Rattle.cstar_base.specs.Numbers.{converted}
@@ -22,6 +22,8 @@ use Rattle.paris_code.specs.Meaning.{after}
 use Rattle.paris_code.specs.Memory.{BitMemory, field_number, processors}
 use Rattle.paris_code.specs.Scalar.{operated, rounded}
 use Rattle.paris_code.specs.Spans.{IsNamedAt}
+use Rattle.lower_comm.specs.Messages.{with_sign}
+use Rattle.short_values.specs.Short.{put_back}
 use Rattle.source_meaning.specs.Reductions.{folded_into}
 use Rattle.source_meaning.specs.State.{State, with_scalar}
 use Rattle.constant_trees.proofs.Words.{converted_below}
@@ -37,7 +39,7 @@ use Rattle.fields_follow.proofs.Folds.{folding}
 use Rattle.fields_follow.proofs.Instructions.{HasNumbers, number_in, place, shapes}
 use Rattle.fields_follow.proofs.Passing.{Behind, GivesField, Passes, code_longer, flags_of, gives_numbers}
 use Rattle.fields_follow.proofs.Places.{HoldsTheFields, IsOwnField, PlacesFields, names_first, stands_here}
-use Rattle.fields_follow.proofs.Reducing.{FoldsWords, whole}
+use Rattle.fields_follow.proofs.Reducing.{FoldsWords, sign_more, whole}
 use Rattle.fields_follow.proofs.Totals.{held_below, onto_is}
 
 -- an operator of a reduction is an operation of the machine on words
@@ -109,7 +111,17 @@ module _ (g : Setting) (alive : Variable → Type 0) where
           register_is g t r w (omega (arith, high, regs, within.regs, writes.sim.registers)),
         )
 
-    module _ (x : Variable) (info : VarInfo) (living : alive x) (scalar : IsScalar g x info) (reduction : ReduceOp) (from : Elem) (wide : from.bits ≡ 32) (dest : ℕ) (f : Field) where
+    -- the sign that is put back in such a register leaves another one
+    sign_put : (k : Option Elem) (e : Draft) (s t : CodeState) (st : State) (r w total q old : ℕ) → d.regs ≤ r → r < e.regs → WritesRegisters d s st (length e.code) t → slice_index t.registers r ≡ w → put_back k w ≡ total → (q ≡ r → ⊥) → slice_index t.registers q ≡ old → Within g (with_sign k r e)
+        → (last : CodeState) × WritesRegisters d s st (length (with_sign k r e).code) last × (slice_index last.registers q ≡ old) × (slice_index last.registers r ≡ total) × (e.regs ≤ (with_sign k r e).regs)
+    unfolding with_sign put_back begun step_of
+    sign_put None e s t st r w total q old low high writes is whole other still within = (t, writes, still, is ∙ whole, omega arith)
+    sign_put (Some kind) e s t st r w total q old low high writes is whole other still within =
+        let done = puts_word e s t st (I.FrontConvert r r kind) r (rounded kind w) low high writes within refl (ap (λ (n : ℕ). Goes (with_register r (rounded kind n) t)) is) in
+        let regs = regs_more g (I.FrontConvert r r kind) e in
+        (with_register r (rounded kind w) t, done.0, get_or-set_other t.registers r q (rounded kind w) 0 other ∙ still, done.1 ∙ whole, omega (arith, regs))
+
+    module _ (x : Variable) (info : VarInfo) (living : alive x) (scalar : IsScalar g x info) (reduction : ReduceOp) (from : Elem) (wide : from.bits ≡ 32) (dest : ℕ) (f : Field) (k : Option Elem) where
       abbrev own : ℕ
       own = register_of (layout g) x
 
@@ -122,8 +134,11 @@ module _ (g : Setting) (alive : Variable → Type 0) where
       abbrev fold : Draft → Instr
       fold e = I.Global (folding reduction from.signed) (loaded e).regs f
 
+      abbrev fold_alone : Draft → Draft
+      fold_alone e = with_instr (fold e) (with_reg (loaded e))
+
       abbrev folded_in : Draft → Draft
-      folded_in e = with_instr (fold e) (with_reg (loaded e))
+      folded_in e = with_sign k (loaded e).regs (fold_alone e)
 
       abbrev operate : Draft → Instr
       operate e = I.FrontOperate (operation_of (reduce_op_of reduction) from.signed) dest e.regs (loaded e).regs
@@ -137,12 +152,15 @@ module _ (g : Setting) (alive : Variable → Type 0) where
       abbrev converted_in : Draft → Draft
       converted_in e = with_instr convert (operated_in e)
 
-      -- what stands behind the value: the variable's old value and the fold, the operator on both, the conversion, the store
+      -- what stands behind the value: the variable's old value, the fold and its sign, the operator, the conversion, the store
       abbrev pub stored_in : Draft → Draft
       stored_in e = with_instr (I.FrontMove own dest) (converted_in e)
 
       loaded_more : (e : Draft) → (k : ℕ) × Extended e k (with_reg (loaded e))
       loaded_more e = (0 + 1 + 0, extended e (loaded e) (with_reg (loaded e)) (0 + 1) 0 (and_instr (load e) e (with_reg e) 0 (and_register e)) (and_register (loaded e)))
+
+      sign_behind : (e : Draft) → (m : ℕ) × Extended (fold_alone e) m (folded_in e)
+      sign_behind e = sign_more k (loaded e).regs 0 (fold_alone e) (fold_alone e) (as_it_was (fold_alone e))
 
       folded_more : (e : Draft) → (k : ℕ) × Extended (folded_in e) k (stored_in e)
       folded_more e = (1 + 1 + 1, and_instr (I.FrontMove own dest) (folded_in e) (converted_in e) (1 + 1) (and_instr convert (folded_in e) (operated_in e) 1 (and_one g (operate e) (folded_in e))))
@@ -151,42 +169,57 @@ module _ (g : Setting) (alive : Variable → Type 0) where
       stored_more e =
           let before = loaded_more e in
           let behind = folded_more e in
-          (before.0 + 1 + behind.0, extended e (folded_in e) (stored_in e) (before.0 + 1) behind.0 (and_instr (fold e) e (with_reg (loaded e)) before.0 before.1) behind.1)
+          let sign = sign_more k (loaded e).regs (before.0 + 1) e (fold_alone e) (and_instr (fold e) e (with_reg (loaded e)) before.0 before.1) in
+          (sign.0 + behind.0, extended e (folded_in e) (stored_in e) sign.0 behind.0 sign.1 behind.1)
 
       -- what the variable has then, by its old value and the fold
       abbrev combined : State → ℕ → ℕ
       combined st total = outcome (reduce_op_of reduction) 32 (not from.signed) (held info.elem (st.scalar x)) total
 
-      stores : (e : Draft) (t : CodeState) (st : State) (total : ℕ) → d.regs ≤ dest → dest < e.regs → At g t (length e.code) → Sim g alive st t → Within g (stored_in e) → global_fold (shapes g) t.memory (folding reduction from.signed) (place g f) ≡ total → total < 2 ^ 32
-          → (last : CodeState) × WritesRegisters d t (with_scalar x (converted info.elem from (combined st total)) st) (length (stored_in e).code) last
+      -- the old value and the fold with its sign stand in registers
+      begins : (e : Draft) (t : CodeState) (st : State) (total : ℕ) → d.regs ≤ e.regs → At g t (length e.code) → Sim g alive st t → Within g (folded_in e) → put_back k (global_fold (shapes g) t.memory (folding reduction from.signed) (place g f)) ≡ total
+          → (last : CodeState) × WritesRegisters d t st (length (folded_in e).code) last × (slice_index last.registers e.regs ≡ held info.elem (st.scalar x)) × (slice_index last.registers (loaded e).regs ≡ total) × ((loaded e).regs < (folded_in e).regs)
       unfolding begun step_of applied after
-      stores e t st total low high here sim within is few =
+      begins e t st total low here sim within is =
+          let old : ℕ = held info.elem (st.scalar x) in
+          let raw : ℕ = global_fold (shapes g) t.memory (folding reduction from.signed) (place g f) in
+          let loaded_regs = regs_more g (load e) (with_reg e) in
+          let folded_regs = regs_more g (fold e) (with_reg (loaded e)) in
+          let behind_fold = sign_behind e in
+          let within_fold : Within g (fold_alone e) = earlier g (fold_alone e) (folded_in e) behind_fold.0 behind_fold.1 within in
+          let within_load : Within g (loaded e) = earlier g (loaded e) (fold_alone e) (0 + 1) (and_instr (fold e) (loaded e) (with_reg (loaded e)) 0 (and_register (loaded e))) within_fold in
+          let t1 : CodeState = with_register e.regs old t in
+          let t2 : CodeState = with_register (loaded e).regs raw t1 in
+          let at_first : WritesRegisters d t st (length e.code) t = record { go = stay g t; at = here; sim = sim; keeps = keeps_all g d t; memory = refl } in
+          let one_done = puts_word (with_reg e) t t st (load e) e.regs old low (omega arith) at_first within_load refl (ap (λ (w : ℕ). Goes (with_register e.regs w t)) (sim.scalars x info living scalar)) in
+          let two_done = puts_word (with_reg (loaded e)) t t1 st (fold e) (loaded e).regs raw (omega (arith, low, loaded_regs)) (omega arith) one_done.0 within_fold refl refl in
+          let sign =
+          sign_put k (fold_alone e) t t2 st (loaded e).regs raw total e.regs old (omega (arith, low, loaded_regs)) (omega (arith, folded_regs)) two_done.0 two_done.1 is (λ same. omega (arith, same, loaded_regs))
+          (get_or-set_other t1.registers (loaded e).regs e.regs raw 0 (λ same. omega (arith, same, loaded_regs)) ∙ one_done.1) within in
+          (sign.0, sign.1, sign.2, sign.3, let longer = sign.4 in omega (arith, folded_regs, longer))
+
+      -- the operator on both, the conversion and the store behind them
+      ends : (e : Draft) (t t2 : CodeState) (st : State) (total : ℕ) → d.regs ≤ dest → dest < e.regs → WritesRegisters d t st (length (folded_in e).code) t2 → slice_index t2.registers e.regs ≡ held info.elem (st.scalar x) → slice_index t2.registers (loaded e).regs ≡ total → (loaded e).regs < (folded_in e).regs
+          → Within g (stored_in e) → total < 2 ^ 32 → (last : CodeState) × WritesRegisters d t (with_scalar x (converted info.elem from (combined st total)) st) (length (stored_in e).code) last
+      unfolding begun step_of applied after
+      ends e t t2 st total low high folded is_old is_total folded_regs within few =
           let old : ℕ = held info.elem (st.scalar x) in
           let old_few : old < 2 ^ 32 = held_below info.elem (st.scalar x) in
           let new : ℕ = combined st total in
           let number : ℕ = converted info.elem from new in
           let loaded_regs = regs_more g (load e) (with_reg e) in
-          let folded_regs = regs_more g (fold e) (with_reg (loaded e)) in
           let operated_regs = regs_more g (operate e) (folded_in e) in
           let converted_regs = regs_more g convert (operated_in e) in
           let stored_regs = regs_more g (I.FrontMove own dest) (converted_in e) in
           let within4 : Within g (converted_in e) = earlier g (converted_in e) (stored_in e) 1 (and_one g (I.FrontMove own dest) (converted_in e)) within in
           let within3 : Within g (operated_in e) = earlier g (operated_in e) (converted_in e) 1 (and_one g convert (operated_in e)) within4 in
-          let within2 : Within g (folded_in e) = earlier g (folded_in e) (operated_in e) 1 (and_one g (operate e) (folded_in e)) within3 in
-          let within1 : Within g (loaded e) = earlier g (loaded e) (folded_in e) (0 + 1) (and_instr (fold e) (loaded e) (with_reg (loaded e)) 0 (and_register (loaded e))) within2 in
-          let t1 : CodeState = with_register e.regs old t in
-          let t2 : CodeState = with_register (loaded e).regs total t1 in
           let t3 : CodeState = with_register dest new t2 in
           let t4 : CodeState = with_register dest (held info.elem number) t3 in
           let t5 : CodeState = with_register own (held info.elem number) t4 in
-          let at_first : WritesRegisters d t st (length e.code) t = record { go = stay g t; at = here; sim = sim; keeps = keeps_all g d t; memory = refl } in
-          let one_done = puts_word (with_reg e) t t st (load e) e.regs old (omega (arith, low, high)) (omega arith) at_first within1 refl (ap (λ (w : ℕ). Goes (with_register e.regs w t)) (sim.scalars x info living scalar)) in
-          let two_done = puts_word (with_reg (loaded e)) t t1 st (fold e) (loaded e).regs total (omega (arith, low, high, loaded_regs)) (omega arith) one_done.0 within2 refl (ap (λ (w : ℕ). Goes (with_register (loaded e).regs w t1)) is) in
-          let is_old : slice_index t2.registers e.regs ≡ old = get_or-set_other t1.registers (loaded e).regs e.regs total 0 (λ same. omega (arith, same, loaded_regs)) ∙ one_done.1 in
           let three_done =
-          puts_word (folded_in e) t t2 st (operate e) dest new low (omega (arith, high, loaded_regs, folded_regs)) two_done.0 within3 refl
+          puts_word (folded_in e) t t2 st (operate e) dest new low (omega (arith, high, loaded_regs, folded_regs)) folded within3 refl
           (ap (λ (w : ℕ). Goes (with_register dest (operated (operation_of (reduce_op_of reduction) from.signed) w (slice_index t2.registers (loaded e).regs)) t2)) is_old
-          ∙ ap (λ (w : ℕ). Goes (with_register dest (operated (operation_of (reduce_op_of reduction) from.signed) old w) t2)) two_done.1
+          ∙ ap (λ (w : ℕ). Goes (with_register dest (operated (operation_of (reduce_op_of reduction) from.signed) old w) t2)) is_total
           ∙ ap (λ (w : ℕ). Goes (with_register dest w t2)) (operates reduction from.signed old total old_few few)) in
           let new_few : new < 2 ^ 32 = outcome_below reduction from.signed old total old_few few in
           let four_done =
@@ -206,7 +239,14 @@ module _ (g : Setting) (alive : Variable → Type 0) where
             },
           )
 
-      module _ (places : PlacesFields g) (fields : HoldsTheFields g) (set : ℕ) (v : ℕ → ℕ) (bits : ℕ) (folds : FoldsWords g alive reduction from.signed places fields set v bits) where
+      stores : (e : Draft) (t : CodeState) (st : State) (total : ℕ) → d.regs ≤ dest → dest < e.regs → At g t (length e.code) → Sim g alive st t → Within g (stored_in e) → put_back k (global_fold (shapes g) t.memory (folding reduction from.signed) (place g f)) ≡ total → total < 2 ^ 32
+          → (last : CodeState) × WritesRegisters d t (with_scalar x (converted info.elem from (combined st total)) st) (length (stored_in e).code) last
+      stores e t st total low high here sim within is few =
+          let behind = folded_more e in
+          let h = begins e t st total (omega (arith, low, high)) here sim (earlier g (folded_in e) (stored_in e) behind.0 behind.1 within) is in
+          ends e t h.0 st total low high h.1 h.2 h.3 h.4 within few
+
+      module _ (places : PlacesFields g) (fields : HoldsTheFields g) (set : ℕ) (v : ℕ → ℕ) (bits : ℕ) (folds : FoldsWords g alive reduction from.signed places fields set v bits k) where
         -- what the source stores in the variable
         abbrev stores_so : State → ℕ
         stores_so st = folded_into (assignment_of reduction) info.elem from (st.scalar x) (fields.active set) v (processors (shapes g) set)
@@ -230,14 +270,17 @@ module _ (g : Setting) (alive : Variable → Type 0) where
             there : HasNumbers g bits set f h.passes.t v
             there = gives_numbers g alive places fields bits (length d.fields) d s set st v f e h
 
-            total : (global_fold (shapes g) h.passes.t.memory (folding reduction from.signed) (place g f) ≡ whole g alive reduction from.signed places fields set v) × (whole g alive reduction from.signed places fields set v < 2 ^ 32)
+            total : (put_back k (global_fold (shapes g) h.passes.t.memory (folding reduction from.signed) (place g f)) ≡ whole g alive reduction from.signed places fields set v) × (whole g alive reduction from.signed places fields set v < 2 ^ 32)
             total = folds f h.passes.t st there h.passes.sim
 
             done : (last : CodeState) × WritesRegisters d h.passes.t (with_scalar x (converted info.elem from (combined st (whole g alive reduction from.signed places fields set v))) st) (length (stored_in e).code) last
             done = stores e h.passes.t st (whole g alive reduction from.signed places fields set v) low high h.passes.at h.passes.sim within total.0 total.1
 
-            within_fold : Within g (folded_in e)
-            within_fold = let x = folded_more e in earlier g (folded_in e) (stored_in e) x.0 x.1 within
+            within_fold : Within g (fold_alone e)
+            within_fold =
+                let x = folded_more e in
+                let sign = sign_behind e in
+                earlier g (fold_alone e) (folded_in e) sign.0 sign.1 (earlier g (folded_in e) (stored_in e) x.0 x.1 within)
 
             behind : Behind g f e
             behind = (

@@ -20,9 +20,9 @@ use Rattle.code_lengths.proofs.Drafting.{and_instr, as_it_was, extended}
 use Rattle.lower_base.specs.declared.emit.Out.{Out}
 use Rattle.lower_base.specs.declared.emit.Out.TheVariants as O
 use Rattle.lower_base.specs.Drafts.{Draft, Fails, Made, Makes, Plain, from, in_field, in_register, step as step_of, then_make, with_instr}
-use Rattle.lower_base.specs.Kinds.{fold_kind, folded_bits, folded_kind}
+use Rattle.lower_base.specs.Kinds.{folded_bits, folded_kind, kind_of}
 use Rattle.lower_expr.specs.Kinds.{has_number}
-use Rattle.lower_base.specs.Operators.{fold_of, is_signed, reduce_op_of}
+use Rattle.lower_base.specs.Operators.{fold_of, reduce_op_of}
 use Rattle.lower_comm.specs.Messages.{communicated, negated_by, part_field, reduced as reduced_in, with_fold, with_sign}
 use Rattle.lower_expr.specs.Effects.{computed_to, gone_to}
 use Rattle.lower_expr.specs.Kinds.{reduced_bits}
@@ -34,6 +34,8 @@ use Rattle.paris_code.specs.Code.{CodeState, Goes, applied, begun, with_register
 use Rattle.paris_code.specs.Fetching.{global_fold}
 use Rattle.paris_code.specs.Meaning.{after}
 use Rattle.paris_code.specs.Memory.{is_active, processors}
+use Rattle.paris_code.specs.Scalar.{rounded}
+use Rattle.short_values.specs.Short.{put_back}
 use Rattle.source_meaning.specs.Reductions.{combiner_of, folded, reduced}
 use Rattle.source_meaning.specs.State.{State}
 use Rattle.source_meaning.specs.Values.{Scalar, Value, unary_of}
@@ -81,6 +83,11 @@ unfolding negated_by
 negated_more F.Sub r n d e x = (n + 1, and_instr (I.FrontNegate r r) d e n x)
 negated_more _ r n d e x = (n, x)
 
+pub sign_more : (k : Option Elem) (r n : ℕ) (d e : Draft) → Extended d n e → (m : ℕ) × Extended d m (with_sign k r e)
+unfolding with_sign
+sign_more None r n d e x = (n, x)
+sign_more (Some kind) r n d e x = (n + 1, and_instr (I.FrontConvert r r kind) d e n x)
+
 gone_inside : (dest : Out) (made : Made Out) (next : Out → Draft → Made Out) → gone_to dest (then_make made next) ≡ then_make made (λ v after. gone_to dest (next v after))
 unfolding gone_to then_make
 gone_inside dest (Makes v e) next = refl
@@ -116,11 +123,11 @@ module _ (g : Setting) (alive : Variable → Type 0) where
     abbrev global : ℕ → Field → Instr
     global r f = I.Global (folding op signed) r f
 
-    abbrev made : ℕ → Field → Draft → Draft
-    made r f e = negated_by op r (with_instr (global r f) e)
+    abbrev made : Option Elem → ℕ → Field → Draft → Draft
+    made k r f e = negated_by op r (with_sign k r (with_instr (global r f) e))
 
-    made_grows : (r : ℕ) (f : Field) (e : Draft) → (n : ℕ) × Extended e n (made r f e)
-    made_grows r f e = negated_more op r 1 e (with_instr (global r f) e) (and_one g (global r f) e)
+    made_more : (k : Option Elem) (r : ℕ) (f : Field) (n : ℕ) (d e : Draft) → Extended d n (with_instr (global r f) e) → (m : ℕ) × Extended d m (made k r f e)
+    made_more k r f n d e x = let sign = sign_more k r n d (with_instr (global r f) e) x in negated_more op r sign.0 d (with_sign k r (with_instr (global r f) e)) sign.1
 
     negate_puts : (r a : ℕ) (t : CodeState) → a < 2 ^ 32 → begun g.image (placed_instr g (I.FrontNegate r r)) (with_register r a t) ≡ Goes (put_at r (difference_of 32 (not signed) 0 a) (t.at + 1 + 1) t)
     unfolding begun
@@ -155,6 +162,39 @@ module _ (g : Setting) (alive : Variable → Type 0) where
       few = few;
     }
 
+    sign_puts : (kind : Elem) (r a : ℕ) (t : CodeState) → begun g.image (placed_instr g (I.FrontConvert r r kind)) (with_register r a t) ≡ Goes (with_register r (rounded kind a) (with_register r a t))
+    unfolding begun
+    sign_puts kind r a t = ap (λ (registers : List ℕ). Goes (record t { at = t.at + 1 + 1; registers = registers })) (read_back (λ (w : ℕ). rounded kind w) t.registers r a)
+
+    -- the sign that is put back stands between
+    signed_ends : (k : Option Elem) (o : ReduceOp) (i : Instr) (e : Draft) (t : CodeState) (r a : ℕ) → step_of i ≡ Plain i → begun g.image (placed_instr g i) t ≡ Goes (with_register r a t) → put_back k a < 2 ^ 32 → At g t (length e.code) → Within g (negated_by o r (with_sign k r (with_instr i e)))
+        → PutsNumber e (negated_by o r (with_sign k r (with_instr i e))) t r (ended o (not signed) (put_back k a))
+    unfolding with_sign put_back step_of
+    signed_ends None o i e t r a plain puts few here within = ends o i e t r a plain puts few here within
+    signed_ends (Some kind) o i e t r a plain puts few here within = record {
+      more = (1 + rest.more.0, extended e between (negated_by o r (with_instr convert between)) 1 rest.more.0 (and_one g i e) rest.more.1);
+      place = rest.place;
+      go = onto g t middle (put_at r (ended o (not signed) (rounded kind a)) rest.place t) (one g t middle (begins_here g i e t early plain here ∙ puts) refl)
+          (subst (λ (registers : List ℕ). Reaches g middle (record t { at = rest.place; registers = registers })) (set_again t.registers r a (ended o (not signed) (rounded kind a))) rest.go);
+      at = rest.at;
+      few = rest.few;
+    }
+      where
+        between : Draft
+        between = with_instr i e
+
+        convert : Instr
+        convert = I.FrontConvert r r kind
+
+        middle : CodeState
+        middle = with_register r a t
+
+        early : Within g between
+        early = let x = negated_more o r 1 between (with_instr convert between) (and_one g convert between) in earlier g between (negated_by o r (with_instr convert between)) x.0 x.1 within
+
+        rest : PutsNumber between (negated_by o r (with_instr convert between)) middle r (ended o (not signed) (rounded kind a))
+        rest = ends o convert between middle r (rounded kind a) refl (sign_puts kind r a t) few (at_next g i e t (t.at + 1) here refl) within
+
     module _ (places : PlacesFields g) (fields : HoldsTheFields g) (set : ℕ) (v : ℕ → ℕ) where
       -- the fold of these numbers by itself
       abbrev pub whole : ℕ
@@ -164,12 +204,13 @@ module _ (g : Setting) (alive : Variable → Type 0) where
       abbrev pub number : ℕ
       number = reduced op (not signed) (fields.active set) v (processors (shapes g) set)
 
-      -- the fold of a field that has so many of their lowest bits is theirs, and a word
-      abbrev pub FoldsWords : ℕ → Type 0
-      FoldsWords bits = (f : Field) (t : CodeState) (st : State) → HasNumbers g bits set f t v → Sim g alive st t → (global_fold (shapes g) t.memory (folding op signed) (place g f) ≡ whole) × (whole < 2 ^ 32)
+      -- the fold of a field that has so many of their lowest bits, with the sign of a type put back, is theirs, and a word
+      abbrev pub FoldsWords : ℕ → Option Elem → Type 0
+      FoldsWords bits k = (f : Field) (t : CodeState) (st : State) → HasNumbers g bits set f t v → Sim g alive st t → (put_back k (global_fold (shapes g) t.memory (folding op signed) (place g f)) ≡ whole) × (whole < 2 ^ 32)
 
       -- so it is of all bits
-      pub whole_is : FoldsWords 32
+      pub whole_is : FoldsWords 32 None
+      unfolding put_back
       whole_is f t st h sim =
           subst (λ (n : ℕ). (global_fold (shapes g) t.memory (folding op signed) (place g f) ≡ folded (combiner_of op) (not signed) (fields.active set) v n) × (folded (combiner_of op) (not signed) (fields.active set) v n < 2 ^ 32))
           (ap (λ (k : ℕ). processors (shapes g) k) h.of_set)
@@ -182,11 +223,11 @@ module _ (g : Setting) (alive : Variable → Type 0) where
           alike q below = flags_of g alive places fields st t set q sim h.exists below
 
       -- and of those at which the words of a narrow type are folded
-      pub narrow_whole : (kind : Elem) → kind.bits < 32 → folded_kind (folding op signed) (Some kind) ≡ None → ((q : ℕ) → q < processors (shapes g) set → has_number kind (v q) ≡ true) → FoldsWords (folded_bits (folding op signed) (Some kind))
-      narrow_whole kind few no_sign has f t st h sim =
-          subst (λ (n : ℕ). (global_fold (shapes g) t.memory (folding op signed) (place g f) ≡ folded (combiner_of op) (not signed) (fields.active set) v n) × (folded (combiner_of op) (not signed) (fields.active set) v n < 2 ^ 32))
+      pub narrow_whole : (kind : Elem) → kind.bits < 32 → ((q : ℕ) → q < processors (shapes g) set → has_number kind (v q) ≡ true) → FoldsWords (folded_bits (folding op signed) (Some kind)) (folded_kind (folding op signed) (Some kind))
+      narrow_whole kind few has f t st h sim =
+          subst (λ (n : ℕ). (put_back (folded_kind (folding op signed) (Some kind)) (global_fold (shapes g) t.memory (folding op signed) (place g f)) ≡ folded (combiner_of op) (not signed) (fields.active set) v n) × (folded (combiner_of op) (not signed) (fields.active set) v n < 2 ^ 32))
           (ap (λ (k : ℕ). processors (shapes g) k) h.of_set)
-          (narrow_is (shapes g) t.memory op signed kind (place g f) (fields.active set) v few h.len no_sign (λ q below. ap (λ (k : ℕ). is_active (shapes g) t.memory k q) h.of_set ∙ alike q (inside q below)) (λ q below on. h.are q (inside q below) (alike q (inside q below) ∙ on))
+          (narrow_is (shapes g) t.memory op signed kind (place g f) (fields.active set) v few h.len (λ q below. ap (λ (k : ℕ). is_active (shapes g) t.memory k q) h.of_set ∙ alike q (inside q below)) (λ q below on. h.are q (inside q below) (alike q (inside q below) ∙ on))
           (λ q below on. has q (inside q below)) (λ q below on. h.small q (inside q below) (alike q (inside q below) ∙ on)))
         where
           inside : (q : ℕ) → q < processors (shapes g) f.set → q < processors (shapes g) set
@@ -195,49 +236,57 @@ module _ (g : Setting) (alive : Variable → Type 0) where
           alike : (q : ℕ) → q < processors (shapes g) set → is_active (shapes g) t.memory set q ≡ fields.active set q
           alike q below = flags_of g alive places fields st t set q sim h.exists below
 
-      global_puts : (bits : ℕ) → FoldsWords bits → (r : ℕ) (f : Field) (t : CodeState) (st : State) → HasNumbers g bits set f t v → Sim g alive st t → begun g.image (placed_instr g (global r f)) t ≡ Goes (with_register r whole t)
+      abbrev fold_of_field : Field → CodeState → ℕ
+      fold_of_field f t = global_fold (shapes g) t.memory (folding op signed) (place g f)
+
+      global_puts : (r : ℕ) (f : Field) (t : CodeState) → begun g.image (placed_instr g (global r f)) t ≡ Goes (with_register r (fold_of_field f t) t)
       unfolding begun applied after
-      global_puts bits folds r f t st h sim = ap (λ (w : ℕ). Goes (with_register r w t)) (folds f t st h sim).0
+      global_puts r f t = refl
 
       -- the fold behind the code that gives the field
-      reduces : (bits : ℕ) → FoldsWords bits → (d e : Draft) (s : CodeState) (st : State) (r w : ℕ) (f : Field) → (set < length (shapes g) → number ≡ w) → GivesField g alive bits (length d.fields) d s set st v f e → Within g (made r f e) → GivesNumber d s st r w (made r f e)
+      reduces : (bits : ℕ) (k : Option Elem) → FoldsWords bits k → (d e : Draft) (s : CodeState) (st : State) (r w : ℕ) (f : Field) → (set < length (shapes g) → number ≡ w) → GivesField g alive bits (length d.fields) d s set st v f e → Within g (made k r f e) → GivesNumber d s st r w (made k r f e)
       unfolding step_of
-      reduces bits folds d e s st r w f is h within = record {
+      reduces bits k folds d e s st r w f is h within = record {
         middle = e;
         passes = record { grown = h.passes.grown; t = h.passes.t; go = h.passes.go; at = h.passes.at; registers = h.passes.registers; sim = h.passes.sim; stays = λ used. h.passes.stays behind };
-        puts = subst (λ (n : ℕ). PutsNumber e (made r f e) h.passes.t r n) (sym (reduced_is op (not signed) (fields.active set) v (processors (shapes g) set)) ∙ is has.exists)
-            (ends op (global r f) e h.passes.t r whole refl (global_puts bits folds r f h.passes.t st has h.passes.sim) (folds f h.passes.t st has h.passes.sim).1 h.passes.at within);
+        puts = subst (λ (n : ℕ). PutsNumber e (made k r f e) h.passes.t r n) (ap (λ (n : ℕ). ended op (not signed) n) total.0 ∙ sym (reduced_is op (not signed) (fields.active set) v (processors (shapes g) set)) ∙ is has.exists)
+            (signed_ends k op (global r f) e h.passes.t r (fold_of_field f h.passes.t) refl (global_puts r f h.passes.t) (subst (λ (n : ℕ). n < 2 ^ 32) (sym total.0) total.1) h.passes.at within);
       }
         where
           has : HasNumbers g bits set f h.passes.t v
           has = gives_numbers g alive places fields bits (length d.fields) d s set st v f e h
 
+          total : (put_back k (fold_of_field f h.passes.t) ≡ whole) × (whole < 2 ^ 32)
+          total = folds f h.passes.t st has h.passes.sim
+
           after_fold : Within g (with_instr (global r f) e)
-          after_fold = let x = negated_more op r 0 (with_instr (global r f) e) (with_instr (global r f) e) (as_it_was (with_instr (global r f) e)) in earlier g (with_instr (global r f) e) (made r f e) x.0 x.1 within
+          after_fold = let x = made_more k r f 0 (with_instr (global r f) e) e (as_it_was (with_instr (global r f) e)) in earlier g (with_instr (global r f) e) (made k r f e) x.0 x.1 within
 
           behind : Behind g f e
           behind = (length e.code, (names_first g (global r f) f [] (length e.code) (stands_here g (global r f) e after_fold refl) refl, omega arith))
 
-  module _ (places : PlacesFields g) (fields : HoldsTheFields g) (ty : ValueType) (op : ReduceOp) (p : Boxed) (operand : TExpr) (set : ℕ) (wide : IsWide set (type_of operand)) (no_sign : fold_kind (reduce_op_of op) operand ≡ None) where
+  module _ (places : PlacesFields g) (fields : HoldsTheFields g) (ty : ValueType) (op : ReduceOp) (p : Boxed) (operand : TExpr) (set : ℕ) (wide : IsWide set (type_of operand)) where
     abbrev signed_operand : Bool
     signed_operand = (type_of operand).elem.signed
+
+    -- the type whose sign is put back
+    abbrev sign : Option Elem
+    sign = folded_kind (folding op signed_operand) (kind_of operand)
 
     abbrev next : ℕ → Out → Draft → Made Out
     next r v e = gone_to (O.Scalar r) (communicated g.typed (layout g) (T.Reduce' ty op p operand) O.Nothing (v ∷ []) (O.Scalar r) e)
 
-    made_is : (r : ℕ) (f : Field) (e : Draft) → next r (O.Field f) e ≡ Makes (O.Scalar r) (made op signed_operand r f e)
-    unfolding gone_to then_make communicated reduced_in part_field from in_field in_register out-TExpr Carrier.out with_fold with_sign
-    made_is r f e =
-        ap (λ (k : Option Elem). Makes (O.Scalar r) (negated_by op r (with_sign k r (with_instr (I.Global (fold_of (reduce_op_of op) (is_signed (type_of operand).elem)) r f) e)))) no_sign
-        ∙ ap (λ (b : Bool). Makes (O.Scalar r) (negated_by op r (with_instr (I.Global (fold_of (reduce_op_of op) b) r f) e))) (wide_signed (type_of operand).elem wide.1)
+    made_is : (r : ℕ) (f : Field) (e : Draft) → next r (O.Field f) e ≡ Makes (O.Scalar r) (made op signed_operand sign r f e)
+    unfolding gone_to then_make communicated reduced_in part_field from in_field in_register out-TExpr Carrier.out with_fold
+    made_is r f e = ap (λ (b : Bool). Makes (O.Scalar r) (negated_by op r (with_sign (folded_kind (fold_of (reduce_op_of op) b) (kind_of operand)) r (with_instr (I.Global (fold_of (reduce_op_of op) b) r f) e)))) (wide_signed (type_of operand).elem wide.1)
 
     next_grows : (r : ℕ) (v : Out) (e : Draft) → Extends g e (next r v e)
     unfolding Extends gone_to then_make communicated reduced_in part_field from in_field out-TExpr Carrier.out
-    next_grows r (O.Field f) e = subst (λ (m : Made Out). Extends g e m) (sym (made_is r f e)) (made_grows op signed_operand r f e)
+    next_grows r (O.Field f) e = subst (λ (m : Made Out). Extends g e m) (sym (made_is r f e)) (made_more op signed_operand sign r f 1 e e (and_one g (I.Global (folding op signed_operand) r f) e))
     next_grows r (O.Scalar q) e = tt
     next_grows r O.Nothing e = tt
 
-    module _ (d : Draft) (s : CodeState) (st : State) (v : ℕ → ℕ) (bits : ℕ) (folds : FoldsWords op signed_operand places fields set v bits) (r w : ℕ) (number_is : set < length (shapes g) → number op signed_operand places fields set v ≡ w) where
+    module _ (d : Draft) (s : CodeState) (st : State) (v : ℕ → ℕ) (bits : ℕ) (folds : FoldsWords op signed_operand places fields set v bits sign) (r w : ℕ) (number_is : set < length (shapes g) → number op signed_operand places fields set v ≡ w) where
       abbrev Given : Out → Draft → Type 0
       Given out x = (f : Field) × ((out ≡ O.Field f) × GivesField g alive bits (length d.fields) d s set st v f x)
 
@@ -247,7 +296,7 @@ module _ (g : Setting) (alive : Variable → Type 0) where
       reduced_next : (out : Out) (x : Draft) (f : Field) → out ≡ O.Field f → GivesField g alive bits (length d.fields) d s set st v f x → After g Reduced (next r out x)
       reduced_next out x f is h =
           after_same g Reduced (ap (λ (o : Out). next r o x) is ∙ made_is r f x)
-          (made_after g Reduced (O.Scalar r) (made op signed_operand r f x) (λ within. (refl, reduces op signed_operand places fields set v bits folds d x s st r w f number_is h within)))
+          (made_after g Reduced (O.Scalar r) (made op signed_operand sign r f x) (λ within. (refl, reduces op signed_operand places fields set v bits sign folds d x s st r w f number_is h within)))
 
       -- The code of a fold, where that of its operand gives a field: it passes, and its last instructions put the number
       -- of the reduction in the register that is to have it.

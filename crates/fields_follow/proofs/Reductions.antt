@@ -81,11 +81,11 @@ module _ (g : Setting) (alive : Variable → Type 0) where
         ∙ ap (λ (o : Option ℕ). Source.Gives (elim o as (λ _. Value) [ None ↦ Parallel (λ q. value_in (scope.extents set) st operand q) | Some s ↦ Scalar (reduced op (not (type_of operand).elem.signed) (fields.active s) (λ q. value_in (scope.extents set) st operand q) (positions scope s)) ]) st) wide.0
 
     -- a fold at the bits that it takes is that of the numbers
-    pub folds_so : (op : ReduceOp) (operand : TExpr) (set : ℕ) → IsFolded set (reduce_op_of op) operand → HasItsCode g.typed g.instance alive n operand → (s : CodeState) (st : State) → Sim g alive st s
-        → FoldsWords g alive op (type_of operand).elem.signed places fields set (λ q. value_in (extents g set) st operand q) (reduced_bits op operand)
-    unfolding folded_bits
-    folds_so op operand set (kinded, wide, no_sign) c s st sim =
-        subst (λ (b : Bool). FoldsWords g alive op (type_of operand).elem.signed places fields set v (folded_bits (fold_of (reduce_op_of op) b) (kind_of operand))) (sym signs) (by (kind_of operand) refl kinded.1 (ap (λ (b : Bool). folded_kind (fold_of (reduce_op_of op) b) (kind_of operand)) (sym signs) ∙ no_sign))
+    pub folds_so : (op : ReduceOp) (operand : TExpr) (set : ℕ) → IsFolded set operand → HasItsCode g.typed g.instance alive n operand → (s : CodeState) (st : State) → Sim g alive st s
+        → FoldsWords g alive op (type_of operand).elem.signed places fields set (λ q. value_in (extents g set) st operand q) (reduced_bits op operand) (folded_kind (folding op (type_of operand).elem.signed) (kind_of operand))
+    unfolding folded_bits folded_kind
+    folds_so op operand set (kinded, wide) c s st sim =
+        subst (λ (b : Bool). FoldsWords g alive op (type_of operand).elem.signed places fields set v (folded_bits (fold_of (reduce_op_of op) b) (kind_of operand)) (folded_kind (folding op signed) (kind_of operand))) (sym signs) (by (kind_of operand) refl kinded.1)
       where
         v : ℕ → ℕ
         v = λ q. value_in (extents g set) st operand q
@@ -96,12 +96,15 @@ module _ (g : Setting) (alive : Variable → Type 0) where
         signs : is_signed (type_of operand).elem ≡ signed
         signs = wide_signed (type_of operand).elem wide.1
 
-        by : (o : Option Elem) → kind_of operand ≡ o → (kind_of operand ≡ None) ⊎ IsNarrowed operand → folded_kind (folding op signed) (kind_of operand) ≡ None → FoldsWords g alive op signed places fields set v (folded_bits (folding op signed) (kind_of operand))
-        by None none any plain = subst (λ (o : Option Elem). FoldsWords g alive op signed places fields set v (folded_bits (folding op signed) o)) (sym none) (whole_is g alive op signed places fields set v)
-        by (Some kind) some (inl none) plain = let wrong = sym none ∙ some in cc
-        by (Some kind) some (inr narrowed) plain =
-            subst (λ (o : Option Elem). FoldsWords g alive op signed places fields set v (folded_bits (folding op signed) o)) (sym some)
-            (narrow_whole g alive op signed places fields set v kind (kind_narrow g alive n places fields set operand kinded.0 narrowed kind some) (ap (λ (o : Option Elem). folded_kind (folding op signed) o) (sym some) ∙ plain)
+        Folds : Option Elem → Type 0
+        Folds o = FoldsWords g alive op signed places fields set v (folded_bits (folding op signed) o) (folded_kind (folding op signed) o)
+
+        by : (o : Option Elem) → kind_of operand ≡ o → (kind_of operand ≡ None) ⊎ IsNarrowed operand → Folds (kind_of operand)
+        by None none any = subst Folds (sym none) (whole_is g alive op signed places fields set v)
+        by (Some kind) some (inl none) = let wrong = sym none ∙ some in cc
+        by (Some kind) some (inr narrowed) =
+            subst Folds (sym some)
+            (narrow_whole g alive op signed places fields set v kind (kind_narrow g alive n places fields set operand kinded.0 narrowed kind some)
             (λ q below. subst (λ (w : ℕ). has_number kind w ≡ true) (pure_at g alive n places fields set operand st s sim kinded.0 wide c q below) (kind_has g alive n places fields set operand st s sim kinded.0 narrowed c q below kind some).0))
 
     -- it takes no more than 32
@@ -131,7 +134,7 @@ module _ (g : Setting) (alive : Variable → Type 0) where
           reduction op operand set st (scope.extents set),
           (
             reduction_means ty op p operand set st is.0.0 is.1 part,
-            fold_passes g alive places fields ty op p operand set is.1 is.2 d s st (λ q. value_in (extents g set) st operand q) (reduced_bits op operand) (folds_so op operand set is part s st sim) r (reduction op operand set st (scope.extents set))
+            fold_passes g alive places fields ty op p operand set is.1 d s st (λ q. value_in (extents g set) st operand q) (reduced_bits op operand) (folds_so op operand set is part s st sim) r (reduction op operand set st (scope.extents set))
                 (λ exists. ap (λ (xs : List ℕ). reduction op operand set st xs) (sym (same_extents set exists)))
                 (stand (reduced_bits op operand) set operand (folded_most (fold_by (reduce_op_of op) operand) set operand is.0) is.0.0 is.1 part d s st here sim),
           ),

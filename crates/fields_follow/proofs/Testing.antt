@@ -89,7 +89,7 @@ value_means scope active t i n set (T.Binary' ty place op p left q right) st is 
     (λ (h : IsRelation set op left right). binary_means scope active set ty place op p q left right (λ x. value_in (scope.extents set) st left x) (λ x. value_in (scope.extents set) st right x) st is.0.0 (divides_nothing op (λ x. value_in (scope.extents set) st right x) is.1)
     (either (λ pure. pure_means scope active t i n set left st pure grids names.0) (λ promoted. promoted_means scope active set left st promoted) (left_of set left right (relation_operands set left right h.1)))
     (either (λ pure. pure_means scope active t i n set right st pure grids names.1) (λ promoted. promoted_means scope active set right st promoted) (right_of set left right (relation_operands set left right h.1))))
-    (λ (h : (relates op ≡ false) × IsPure set (T.Binary' ty place op p left q right) × (kind_of (T.Binary' ty place op p left q right) ≡ None)). pure_means scope active t i n set (T.Binary' ty place op p left q right) st h.1 grids names) is.2
+    (λ (h : (relates op ≡ false) × HasItsKind set (T.Binary' ty place op p left q right) × ((bits_of (kind_of (T.Binary' ty place op p left q right)) == 1) ≡ false)). pure_means scope active t i n set (T.Binary' ty place op p left q right) st h.1.0 grids names) is.2
 value_means scope active t i n set e st is grids names = pure_means scope active t i n set e st is.0.0 grids names
 
 pub inner_means : (g : Setting) (scope : Scope) → PlacesFields g → SameExtents g scope → (alive : Variable → Type 0) (n : ℕ) (active : Active) (set : ℕ) (e : TExpr) (st : State) → IsInnerCondition set e → HasItsCode g.typed g.instance alive n e → set < length (shapes g)
@@ -344,15 +344,24 @@ module _ (g : Setting) (has : HasRegisters g) (alive : Variable → Type 0) (n :
       bit_known set (T.LogicalAnd' ty p left q right) is refl (record { kind = refl; own = refl; value = joined_bit false set ty.shape left right is.0.0 is.1 is.2 is.3 codes (known set left is.1 codes.left_code) (known set right is.2 codes.right_code) })
   known set (T.Binary' ty place op p left q right) is c = by is.2
     where
-      by : IsRelation set op left right ⊎ ((relates op ≡ false) × IsPure set (T.Binary' ty place op p left q right) × (kind_of (T.Binary' ty place op p left q right) ≡ None)) → IsKnown set (T.Binary' ty place op p left q right)
+      by : IsRelation set op left right ⊎ ((relates op ≡ false) × HasItsKind set (T.Binary' ty place op p left q right) × ((bits_of (kind_of (T.Binary' ty place op p left q right)) == 1) ≡ false)) → IsKnown set (T.Binary' ty place op p left q right)
       by (inl relation) = relation_known set ty place op p q left right is.0 relation is.1 c
-      by (inr plain_one) = pure_known set (T.Binary' ty place op p left q right) ((plain_one.1, inl plain_one.2), all_bits (T.Binary' ty place op p left q right) plain_one.2) plain_one.0 c
+      by (inr plain_one) = pure_known set (T.Binary' ty place op p left q right) (plain_one.1, plain_one.2) plain_one.0 c
   known set (T.Variable ty (V.File k)) is c = ((λ d s st here sim. variable_tested set k ty is.0.0 c.code.names d s st here sim), inl is)
   known set (T.Variable ty x) is c = absurd is.0.0
   known set e is c = pure_known set e is refl c
 
   pub inner_tested : (set : ℕ) (e : TExpr) → IsInnerCondition set e → HasItsCode g.typed g.instance alive n e → IsTested set e
   inner_tested set e is c = (known set e is c).0
+
+  -- one of one bit gives it to the next instruction
+  pub inner_bit : (set : ℕ) (e : TExpr) → IsInnerCondition set e → (bits_of (kind_of e) == 1) ≡ true → HasItsCode g.typed g.instance alive n e → (d : Draft) (s : CodeState) (st : State) → At g s (length d.code) → Sim g alive st s
+      → After g (Bit g alive places fields d s set st (λ q. value_in (extents g set) st e q)) (next_of g.typed (layout g) 1 true e d)
+  inner_bit set e is one c d s st here sim = by (known set e is c).1
+    where
+      by : HasWord set e ⊎ HasBit set e → After g (Bit g alive places fields d s set st (numbers_of set e st)) (operand_at g 1 e d)
+      by (inl word) = let wrong = sym one ∙ word.1 in cc
+      by (inr bit) = bit_after set e is bit d s st here sim
 
   -- any value is tested at its own bits
   kinded_tested : (set : ℕ) (e : TExpr) → HasItsKind set e → HasItsCode g.typed g.instance alive n e → IsTested set e

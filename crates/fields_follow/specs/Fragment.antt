@@ -5,7 +5,7 @@
 -- variables, and they are the conditions of `where`. Folds are of the active positions.
 -- Under `where` and `everywhere` stand the statements of scalar programs with these, also calls, `return` and jumps that
 -- lead out of them.
-use Rattle.std.specs.Prelude.{ℕ, ◌≡◌, ◌<◌, ◌≤◌, ◌&&◌, ◌+◌, ◌^◌, ◌⊎◌, ◌==◌, true, false, Some, None}
+use Rattle.std.specs.Prelude.{ℕ, ◌≡◌, ◌<◌, ◌≤◌, ◌+◌, ◌^◌, ◌⊎◌, ◌==◌, true, false, Some, None}
 use Rattle.cstar_base.specs.declared.elem.Elem.{Elem}
 use Rattle.cstar_base.specs.declared.operators.Op.{Op}
 use Rattle.cstar_base.specs.Operators.{divides}
@@ -20,8 +20,8 @@ use Rattle.cstar_tree.specs.declared.typed.ValueType.{ValueType}
 use Rattle.cstar_tree.specs.declared.typed.VarInfo.{VarInfo}
 use Rattle.cstar_tree.specs.declared.typed.Variable.TheVariants as V
 use Rattle.cstar_tree.specs.Typed.{type_of}
-use Rattle.lower_base.specs.Operators.{assign_op_of, negates, reduce_op_of, relates}
-use Rattle.lower_base.specs.Kinds.{bits_of, fold_kind, kind_of}
+use Rattle.lower_base.specs.Operators.{assign_op_of, negates, relates}
+use Rattle.lower_base.specs.Kinds.{bits_of, is_bitwise, kind_of}
 use Rattle.lower_comm.specs.declared.news.NewsStep.{NewsStep}
 use Rattle.lower_comm.specs.News.{step_of}
 use Rattle.lower_expr.specs.Kinds.{operation_bits, relation_kind}
@@ -109,12 +109,13 @@ IsPure set _ = ⊥
 abbrev pub IsOperand : ℕ → TExpr → Type 0
 IsOperand set e = IsPure set e ⊎ IsPromoted set e
 
--- a value whose narrow type is that of a variable or of a conversion
+-- a value whose narrow type is that of a variable or of a conversion, or of two such values that are joined bit by bit
 unfoldable pub IsNarrowed : TExpr → Type 0
 IsNarrowed (T.Variable ty x) = Unit {0}
 IsNarrowed (T.LeftIndex' ty place p indexes x of) = Unit {0}
 IsNarrowed (T.Brackets' ty p inner) = IsNarrowed inner
 IsNarrowed (T.Convert' ty p operand) = (kind_of operand ≡ None) ⊎ IsNarrowed operand
+IsNarrowed (T.Binary' ty place op p left q right) = (is_bitwise op ≡ true) × IsNarrowed left × IsNarrowed right
 IsNarrowed _ = ⊥
 
 -- one of which no type of fewer than 32 bits is known, or one of such a type
@@ -156,7 +157,7 @@ IsInnerCondition set (T.Unary' ty op p operand) = IsWide set ty × (((negates op
 IsInnerCondition set (T.LogicalOr' ty p left q right) = IsWide set ty × IsInnerCondition set left × IsInnerCondition set right × (ignores_context right ≡ true)
 IsInnerCondition set (T.LogicalAnd' ty p left q right) = IsWide set ty × IsInnerCondition set left × IsInnerCondition set right × (ignores_context right ≡ true)
 IsInnerCondition set (T.Binary' ty place op p left q right) =
-    IsWide set ty × (divides op ≡ false) × (IsRelation set op left right ⊎ ((relates op ≡ false) × IsPure set (T.Binary' ty place op p left q right) × (kind_of (T.Binary' ty place op p left q right) ≡ None)))
+    IsWide set ty × (divides op ≡ false) × (IsRelation set op left right ⊎ ((relates op ≡ false) × HasItsKind set (T.Binary' ty place op p left q right) × ((bits_of (kind_of (T.Binary' ty place op p left q right)) == 1) ≡ false)))
 IsInnerCondition set e = HasItsKind set e × ((bits_of (kind_of e) == 1) ≡ false)
 
 -- a condition of `where`: such a one, or any value
@@ -164,11 +165,11 @@ abbrev pub IsCondition : ℕ → TExpr → Type 0
 IsCondition set e = IsInnerCondition set e ⊎ HasItsKind set e
 
 -- A truth value that goes to so many bits: a relation, `!` of a condition, two conditions joined, or one of these
--- converted. In one bit there is no `!` of a value of one bit.
+-- converted.
 unfoldable pub IsTruth : ℕ → ℕ → TExpr → Type 0
 IsTruth set bits (T.Brackets' ty p inner) = (ty ≡ type_of inner) × IsTruth set bits inner
 IsTruth set bits (T.Convert' ty p operand) = (ty.shape ≡ Some set) × (bits ≤ ty.elem.bits) × IsTruth set bits operand
-IsTruth set bits (T.Unary' ty op p operand) = IsWide set ty × (negates op ≡ true) × IsInnerCondition set operand × ((bits == 1 && bits_of (kind_of operand) == 1) ≡ false)
+IsTruth set bits (T.Unary' ty op p operand) = IsWide set ty × (negates op ≡ true) × IsInnerCondition set operand
 IsTruth set bits (T.LogicalOr' ty p left q right) = IsInnerCondition set (T.LogicalOr' ty p left q right)
 IsTruth set bits (T.LogicalAnd' ty p left q right) = IsInnerCondition set (T.LogicalAnd' ty p left q right)
 IsTruth set bits (T.Binary' ty place op p left q right) = (relates op ≡ true) × IsInnerCondition set (T.Binary' ty place op p left q right)
@@ -184,13 +185,13 @@ IsUpdate (T.Assign' ty place op p target q value) = (set : ℕ) × ((ty ≡ type
 IsUpdate (T.Step' ty op order p target) = (set : ℕ) × ((ty ≡ type_of target) × IsTarget set target × ((ty.elem.bits == 1) ≡ false))
 IsUpdate _ = ⊥
 
--- a value of 32 bits that is folded by an operator: no sign of a narrow type is put back, as it is where bits are joined
-abbrev pub IsFolded : ℕ → Op → TExpr → Type 0
-IsFolded set op e = HasItsKind set e × IsWide set (type_of e) × (fold_kind op e ≡ None)
+-- a value of 32 bits that is folded
+abbrev pub IsFolded : ℕ → TExpr → Type 0
+IsFolded set e = HasItsKind set e × IsWide set (type_of e)
 
 -- the numbers of a value at the active positions are folded into one
 unfoldable pub IsFold : TExpr → Type 0
-IsFold (T.Reduce' ty op p operand) = IsWord ty × ((set : ℕ) × IsFolded set (reduce_op_of op) operand)
+IsFold (T.Reduce' ty op p operand) = IsWord ty × ((set : ℕ) × IsFolded set operand)
 IsFold _ = ⊥
 
 -- the assignment with the operator of a reduction
@@ -211,7 +212,7 @@ IsScalarTarget _ = ⊥
 
 -- the numbers of a value at the active positions are folded onto a scalar variable
 unfoldable pub IsFoldOnto : TExpr → Type 0
-IsFoldOnto (T.Assign' ty place op p target q value) = (ty ≡ type_of target) × IsScalarTarget target × ((reduction : ReduceOp) × ((op ≡ assignment_of reduction) × ((set : ℕ) × IsFolded set (reduce_op_of reduction) value)))
+IsFoldOnto (T.Assign' ty place op p target q value) = (ty ≡ type_of target) × IsScalarTarget target × ((reduction : ReduceOp) × ((op ≡ assignment_of reduction) × ((set : ℕ) × IsFolded set value)))
 IsFoldOnto _ = ⊥
 
 -- a parallel expression whose value is not used
