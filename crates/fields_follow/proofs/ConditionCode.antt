@@ -1,8 +1,7 @@
 -- The code by which a condition leaves the test flags, or a bit in a field.
-use Rattle.std.proofs.Common.{◌≡◌, ◌∙◌, ℕ, ◌+◌, ◌<◌, ◌==◌, ◌&&◌, Bool, true, false, not, [], ◌∷◌, length, Option, Some, refl, sym, ap, arith, if◌then◌else◌}
+use Rattle.std.proofs.Common.{eqb-true, ◌≡◌, ◌∙◌, ℕ, ◌+◌, ◌<◌, ◌==◌, ◌&&◌, Bool, true, false, not, [], ◌∷◌, length, Option, Some, refl, sym, ap, arith, if◌then◌else◌}
 use Rattle.std.specs.Int.{from_bool}
 use Rattle.std.specs.Prelude.{unwrap_or}
-use Rattle.cstar_base.specs.declared.elem.Elem.{Elem}
 use Rattle.cstar_base.specs.declared.operators.Op.{Op}
 use Rattle.cstar_base.specs.declared.operators.Place.{Place}
 use Rattle.cstar_base.specs.Operators.{divides}
@@ -16,7 +15,7 @@ use Rattle.lower_base.specs.declared.emit.Out.{Out}
 use Rattle.lower_base.specs.declared.emit.Out.TheVariants as O
 use Rattle.lower_base.specs.declared.operators.Machine.{Machine}
 use Rattle.lower_base.specs.Drafts.{Draft, Fails, Made, Makes, Plain, a_field, a_flag, an_entry, first_bits, fresh_for, in_field, shortened, step as step_of, then_make, with_instr}
-use Rattle.lower_base.specs.Kinds.{bits_of, kind_of, truth_type}
+use Rattle.lower_base.specs.Kinds.{bits_of, kind_of}
 use Rattle.lower_base.specs.Layouts.{Layout}
 use Rattle.lower_base.specs.Operators.{machine_of, negates, relates}
 use Rattle.lower_expr.specs.declared.steps.Right.{Right}
@@ -38,12 +37,12 @@ use Rattle.source_meaning.proofs.ConstantLaws.{Boxed}
 use Rattle.code_follows.proofs.Following.{Extends, extends_then}
 use Rattle.code_follows.proofs.Settings.{Setting, Within, and_one, layout}
 use Rattle.fields_follow.proofs.Leaving.{PassesTests}
-use Rattle.fields_follow.proofs.Passing.{After, Behind, after_same, fields_longer, made_after, then_after}
+use Rattle.fields_follow.proofs.Passing.{after_weaker, After, Behind, after_same, fields_longer, made_after, then_after}
 use Rattle.fields_follow.proofs.PassingTests.{tests_and_entry, tests_behind_entry, tests_on}
 use Rattle.fields_follow.proofs.Places.{HoldsTheFields, IsOwnField, PlacesFields, names_first, stands_here}
 use Rattle.fields_follow.proofs.Values.{and_entry, next_field, one_more, taken, with_entry}
 use Rattle.fields_follow.proofs.TestFlags.{LeavesTests, PutsTest, Tells, compares, puts_nonzero, puts_zero, tested_behind}
-use Rattle.fields_follow.proofs.Truths.{GivesTold, GivesTruth, either_or_both, truth_joined, truth_stored, truth_turned}
+use Rattle.fields_follow.proofs.Truths.{GivesBit, GivesTold, GivesTruth, either_or_both, truth_bit, truth_joined, truth_stored, truth_turned}
 
 -- ---- what the code is
 
@@ -148,12 +147,13 @@ module _ (g : Setting) where
   abbrev turned_in : ℕ → Draft → Out → Draft → Made Out
   turned_in set d v e = in_field v (λ source. Makes (O.Field (next_field set 1 d)) (with_instr (I.Lognot (next_field set 1 d) source) e))
 
-  pub bit_not_value : (set : ℕ) (ty : ValueType) (p : Boxed) (operand : TExpr) (d : Draft) → ty.shape ≡ Some set → is_kept operand ≡ false → kind_of operand ≡ Some truth_type
+  pub bit_not_value : (set : ℕ) (ty : ValueType) (p : Boxed) (operand : TExpr) (d : Draft) → ty.shape ≡ Some set → is_kept operand ≡ false → (bits_of (kind_of operand) == 1) ≡ true
       → value 1 (T.Unary' ty U.Not p operand) d ≡ then_make (operand_at 1 operand (with_entry set 1 W.Own d)) (turned_in set d)
-  unfolding value_of unary_by unary_bits done_as negates is_plus fresh_for an_entry then_make negated field_negated bits_of
+  unfolding value_of unary_by unary_bits done_as negates is_plus fresh_for an_entry then_make negated field_negated
   bit_not_value set ty p operand d shaped fresh truth =
       ap (λ (c : Bool). unary_by (layout g) ty 1 (if not c && bits_of (kind_of operand) == 1 then U.Complement else U.Not) (value 1 operand) (operand_at (bits_of (kind_of operand)) operand) d) fresh
-      ∙ ap (λ (k : Option Elem). unary_by (layout g) ty 1 (if bits_of k == 1 then U.Complement else U.Not) (value 1 operand) (operand_at (bits_of k) operand) d) truth
+      ∙ ap (λ (b : Bool). unary_by (layout g) ty 1 (if b then U.Complement else U.Not) (value 1 operand) (operand_at (bits_of (kind_of operand)) operand) d) truth
+      ∙ ap (λ (m : ℕ). unary_by (layout g) ty 1 U.Complement (value 1 operand) (operand_at m operand) d) (eqb-true (bits_of (kind_of operand)) 1 truth)
       ∙ ap (λ (o : Option ℕ). then_make (fresh_for o 1 d) (λ dest between. then_make (operand_at 1 operand between) (λ v after. negated (layout g) U.Complement dest v after))) shaped
 
   -- two conditions are joined by one operation
@@ -196,6 +196,13 @@ module _ (g : Setting) (alive : Variable → Type 0) (places : PlacesFields g) (
 
   abbrev pub Bit : Draft → CodeState → ℕ → State → (ℕ → ℕ) → Out → Draft → Type 0
   Bit d s set st v out e = (f : Field) × ((out ≡ O.Field f) × Truth d s set st v f e)
+
+  -- a bit in any field
+  abbrev pub AnyBit : Draft → CodeState → ℕ → State → (ℕ → ℕ) → Out → Draft → Type 0
+  AnyBit d s set st v out e = (f : Field) × ((out ≡ O.Field f) × GivesBit g alive places fields d s set st v f e)
+
+  pub any_bit : (d : Draft) (s : CodeState) (set : ℕ) (st : State) (v : ℕ → ℕ) (made : Made Out) → After g (Bit d s set st v) made → After g (AnyBit d s set st v) made
+  any_bit d s set st v made h = after_weaker g (Bit d s set st v) (AnyBit d s set st v) made (λ x e (f, (is, gives)). (f, (is, truth_bit g alive places fields d s set st v f e gives))) h
 
   abbrev put : (Field → Instr) → Out → Draft → Made (Unit {0})
   put test x e = in_field x (λ source. Makes tt (with_instr (test source) e))
@@ -265,10 +272,10 @@ module _ (g : Setting) (alive : Variable → Type 0) (places : PlacesFields g) (
       (λ x e (a, (is, one)). after_same g (Truth d s set st v) (ap (λ (o : Out). as_bit o e) is) (made_after g (Truth d s set st v) a e (λ within. one)))
 
   -- a bit's complement
-  pub turned_after : (set : ℕ) (v : ℕ → ℕ) (d : Draft) (s : CodeState) (st : State) (made : Made Out) → After g (Bit (with_entry set 1 W.Own d) s set st v) made → After g (Bit d s set st (λ q. from_bool (v q == 0))) (then_make made (turned_in g set d))
+  pub turned_after : (set : ℕ) (v : ℕ → ℕ) (d : Draft) (s : CodeState) (st : State) (made : Made Out) → After g (AnyBit (with_entry set 1 W.Own d) s set st v) made → After g (Bit d s set st (λ q. from_bool (v q == 0))) (then_make made (turned_in g set d))
   unfolding Extends in_field
   turned_after set v d s st made bit =
-      then_after g (Bit (with_entry set 1 W.Own d) s set st v) (Bit d s set st (λ q. from_bool (v q == 0))) made (turned_in g set d) bit next_extends (λ x e (a, (is, one)).
+      then_after g (AnyBit (with_entry set 1 W.Own d) s set st v) (Bit d s set st (λ q. from_bool (v q == 0))) made (turned_in g set d) bit next_extends (λ x e (a, (is, one)).
       after_same g (Bit d s set st (λ q. from_bool (v q == 0))) (ap (λ (o : Out). turned_in g set d o e) is)
       (made_after g (Bit d s set st (λ q. from_bool (v q == 0))) (O.Field (next_field set 1 d)) (with_instr (I.Lognot (next_field set 1 d) a) e) (λ within. (
         next_field set 1 d,

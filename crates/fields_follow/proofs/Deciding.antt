@@ -56,14 +56,14 @@ use Rattle.code_follows.proofs.Settings.{At, Setting, Within, and_one, layout}
 use Rattle.constant_trees.proofs.Words.{from_bool_below}
 use Rattle.fields_follow.specs.Fields.{IsElement}
 use Rattle.cstar_tree.specs.Typed.{type_of}
-use Rattle.fields_follow.specs.Fragment.{IsInnerCondition, IsTruth}
+use Rattle.fields_follow.specs.Fragment.{IsCondition, IsInnerCondition, IsTruth}
 use Rattle.fields_follow.proofs.Clearing.{field_at, joined_behind, joined_more, truths_taken}
-use Rattle.fields_follow.proofs.Conditions.{HaveTheirCode, and_codes, condition_kept, conditions_join, or_codes}
+use Rattle.fields_follow.proofs.Conditions.{HaveTheirCode, and_codes, conditions_join, or_codes}
 use Rattle.fields_follow.proofs.Sizes.{brackets_part, convert_part, unary_part}
 use Rattle.fields_follow.proofs.Places.{HoldsTheFields, IsFileField, PlacesFields, stands_here}
-use Rattle.fields_follow.proofs.Testing.{both_flagged, inner_bit, inner_means, inner_tested}
+use Rattle.fields_follow.proofs.Testing.{both_flagged, inner_bit, inner_means, inner_tested, operand_kept}
 use Rattle.fields_follow.proofs.Truths.{either_or_both, joined_bits}
-use Rattle.fields_follow.proofs.ConditionCode.{Bit, Truth, flag_after, put_in, relation_put, stored_behind, zero_put}
+use Rattle.fields_follow.proofs.ConditionCode.{AnyBit, Truth, flag_after, put_in, relation_put, stored_behind, zero_put}
 use Rattle.fields_follow.proofs.Forms.{HasItsCode}
 use Rattle.fields_follow.proofs.Instructions.{Puts, SameExtents, extents, number_in, place, shapes}
 use Rattle.fields_follow.proofs.Meaning.{as_shaped, value_in}
@@ -425,12 +425,12 @@ module _ (g : Setting) where
               (puts_bit set f kept bit.passes.t (words_of e) bit.len (λ q below on. bit.are q below (sym (flags_of g alive places fields st bit.passes.t set q bit.passes.sim bit.exists below) ∙ on)) truth)))))
 
       -- by the complement of a bit
-      by_complement : (e operand : TExpr) → IsInnerCondition set operand → (bits_of (kind_of operand) == 1) ≡ true → HasItsCode g.typed g.instance alive n operand → ◌≡◌ {A = ℕ → ℕ} (λ q. from_bool (words_of operand q == 0)) (words_of e)
+      by_complement : (e operand : TExpr) → IsCondition set operand → (bits_of (kind_of operand) == 1) ≡ true → HasItsCode g.typed g.instance alive n operand → ◌≡◌ {A = ℕ → ℕ} (λ q. from_bool (words_of operand q == 0)) (words_of e)
           → computed_to g.typed (layout g) (O.Field (field_at set offset 1)) e d ≡ then_make (next_of g.typed (layout g) 1 true operand d) (bit_turned set offset) → bits ≡ 1 → Last e → After g Q (computed_to g.typed (layout g) (O.Field f) e d)
       unfolding Extends step_of in_field
       by_complement e operand is one c value code is_one last =
           after_same g Q (ap (λ (m : ℕ). computed_to g.typed (layout g) (O.Field (field_at set offset m)) e d) is_one ∙ code)
-          (then_after g (Bit g alive places fields d s set st (words_of operand)) Q (next_of g.typed (layout g) 1 true operand d) (bit_turned set offset) (inner_bit g has alive n ready places fields set operand is one c d s st here sim) grows
+          (then_after g (AnyBit g alive places fields d s set st (words_of operand)) Q (next_of g.typed (layout g) 1 true operand d) (bit_turned set offset) (inner_bit g has alive n ready places fields set operand is one c d s st here sim) grows
           (λ x e2 (a, (same, bit)). after_same g Q (ap (λ (o : Out). bit_turned set offset o e2) same)
           (made_after g Q (O.Field (field_at set offset 1)) (with_instr (I.Lognot (field_at set offset 1) a) e2) (λ within.
           let i : Instr = I.Lognot (field_at set offset 1) a in
@@ -502,7 +502,7 @@ module _ (g : Setting) where
           whole = T.Unary' ty op p operand
 
           tests : (bits == 1 && bits_of (kind_of operand) == 1) ≡ false → After g Q (computed_to g.typed (layout g) (O.Field f) whole d)
-          tests no_bit = by_test whole (is.0, inl (is.1, is.2)) is.1 c (λ q. truth_bit (extents g set) st set bits whole q is) (not_code set offset bits ty p op operand d is.1 no_bit (condition_kept set operand is.2)) last
+          tests no_bit = by_test whole (is.0, inl (is.1, is.2)) is.1 c (λ q. truth_bit (extents g set) st set bits whole q is) (not_code set offset bits ty p op operand d is.1 no_bit (operand_kept g has alive n ready places fields set operand is.2)) last
 
           value : (o : UnaryOp) → negates o ≡ true → ◌≡◌ {A = ℕ → ℕ} (λ q. from_bool (words_of operand q == 0)) (λ q. unary_of o (words_of operand q))
           value U.Not e = refl
@@ -512,7 +512,7 @@ module _ (g : Setting) where
 
           by : (a b : Bool) → (bits == 1) ≡ a → (bits_of (kind_of operand) == 1) ≡ b → After g Q (computed_to g.typed (layout g) (O.Field f) whole d)
           by true true one bit =
-              by_complement whole operand is.2 bit (unary_part g alive n places fields ty op p operand c) (value op is.1) (bit_not_code set offset ty p op operand d is.1 bit (condition_kept set operand is.2)) (eqb-true bits 1 one) last
+              by_complement whole operand is.2 bit (unary_part g alive n places fields ty op p operand c) (value op is.1) (bit_not_code set offset ty p op operand d is.1 bit (operand_kept g has alive n ready places fields set operand is.2)) (eqb-true bits 1 one) last
           by true false one bit = tests (ap (λ (b : Bool). bits == 1 && b) bit ∙ ap (λ (b : Bool). b && false) one)
           by false b one bit = tests (ap (λ (a : Bool). a && bits_of (kind_of operand) == 1) one)
       truth_computed (T.LogicalOr' ty p left q right) is c last = by_operation true (T.LogicalOr' ty p left q right) left right is.1 is.2 is.3 (or_codes g.typed g.instance alive n set ty p q left right is.2 c) refl last

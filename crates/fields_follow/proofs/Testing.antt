@@ -1,5 +1,5 @@
 -- The code of a condition leaves the test flags.
-use Rattle.std.proofs.Common.{◌≡◌, ◌∙◌, ℕ, ◌<◌, ◌^◌, ◌==◌, ◌&&◌, ◌||◌, ◌⊎◌, inl, inr, Bool, true, false, List, length, Option, Some, None, refl, sym, ap, arith, if◌then◌else◌}
+use Rattle.std.proofs.Common.{◌%◌, ◌≡◌, ◌∙◌, ℕ, ◌<◌, ◌^◌, ◌==◌, ◌&&◌, ◌||◌, ◌⊎◌, inl, inr, Bool, true, false, List, length, Option, Some, None, refl, sym, ap, arith, if◌then◌else◌}
 use Rattle.std.specs.Int.{from_bool}
 use Rattle.cstar_base.specs.declared.elem.Elem.{Elem}
 use Rattle.cstar_base.specs.declared.operators.Op.{Op}
@@ -29,7 +29,7 @@ use Rattle.lower_base.specs.Operators.{negates, relates}
 use Rattle.lower_expr.specs.declared.operands.Own.{Own}
 use Rattle.lower_expr.specs.Joined.{flag_by, is_flag, operation_of}
 use Rattle.lower_expr.specs.Operands.{ignores_context, in_place, operand_by, own_of, standing}
-use Rattle.lower_expr.specs.Steps.{has_truth}
+use Rattle.lower_expr.specs.Steps.{has_truth, is_kept}
 use Rattle.lower_expr.specs.Values.{condition_by, condition_of, flag_of, logical_by, next_of, nonzero_tested, tested, tested_by, truth_of, value_of, zero_tested}
 use Rattle.paris_code.specs.declared.instr.Instr.TheVariants as I
 use Rattle.paris_code.specs.declared.operands.Field.{Field}
@@ -44,15 +44,16 @@ use Rattle.source_meaning.specs.State.{Outcome, State, then_do}
 use Rattle.source_meaning.specs.Values.{Active, Parallel, Scope, Value, at, nonzero, unary_of}
 use Rattle.source_meaning.proofs.ConstantLaws.{Boxed}
 use Rattle.std.proofs.Math.Nat.{mod-eq_of_lt}
+use Rattle.std.proofs.lemmas.Bool.{eqb-true}
 use Rattle.code_follows.proofs.Following.{Extends, HasRegisters, Sim, extends_then, held}
 use Rattle.code_follows.proofs.Values.{extends_grown}
 use Rattle.code_follows.proofs.Settings.{At, Setting, and_one, layout}
 use Rattle.fields_follow.specs.Fields.{IsElement, file_number}
 use Rattle.fields_follow.specs.Fragment.{HasItsKind, IsCondition, IsInnerCondition, IsNarrowed, IsPure, IsRelation, IsWide}
-use Rattle.fields_follow.proofs.ConditionCode.{Bit, Told, Truth, bit_not_value, bit_taken, flag_after, flag_extends, joined_in, joined_made, joined_value, nonzero_after, operand_at, relation_value, stored_after, turned_after, word_not_value, zero_after}
+use Rattle.fields_follow.proofs.ConditionCode.{AnyBit, Bit, Told, any_bit, Truth, bit_not_value, bit_taken, flag_after, flag_extends, joined_in, joined_made, joined_value, nonzero_after, operand_at, relation_value, stored_after, turned_after, word_not_value, zero_after}
 use Rattle.fields_follow.proofs.Conditions.{HaveTheirCode, and_codes, condition_constant, condition_kept, condition_shape, conditions_join, or_codes}
 use Rattle.fields_follow.proofs.Expressions.{pure_after}
-use Rattle.fields_follow.proofs.Forms.{HasItsCode, element_is, field_is, not_held, pure_constant}
+use Rattle.fields_follow.proofs.Forms.{HasItsCode, element_is, field_is, not_held, pure_constant, pure_kept}
 use Rattle.fields_follow.proofs.Instructions.{SameExtents, extents, place, shapes}
 use Rattle.fields_follow.proofs.Lengths.{held_first}
 use Rattle.fields_follow.proofs.Meaning.{binary_means, divides_nothing, either, left_of, promoted_means, right_of, unary_means, value_in, word_at}
@@ -63,7 +64,7 @@ use Rattle.fields_follow.proofs.NarrowKinds.{kind_most, zero_told}
 use Rattle.fields_follow.proofs.Sizes.{binary_parts, brackets_part, unary_part}
 use Rattle.fields_follow.proofs.Values.{Gives, and_entry, next_field, operand_after, operand_of, taken, variable_has, with_entry}
 use Rattle.fields_follow.proofs.TestFlags.{LeavesTests, numbers_tell, puts_nonzero, tested_last}
-use Rattle.fields_follow.proofs.Truths.{either_or_both, field_told, truth_told}
+use Rattle.fields_follow.proofs.Truths.{either_or_both, field_bit, field_told, truth_told}
 use Rattle.fields_follow.proofs.Relations.{relation_after, relation_code, relation_operands}
 
 value_means : (scope : Scope) (active : Active) (t : Typed) (i : Instance) (n set : ℕ) (e : TExpr) (st : State) → IsInnerCondition set e → AreGrids scope t set → NamesVariables t i n e
@@ -72,7 +73,9 @@ unfolding IsInnerCondition NamesVariables evaluated value_in then_do and_then or
 value_means scope active t i n set (T.Brackets' ty p inner) st is grids names = value_means scope active t i n set inner st is.1 grids names
 value_means scope active t i n set (T.Unary' ty op p operand) st is grids names =
     either
-    (λ (h : (negates op ≡ true) × IsInnerCondition set operand). unary_means scope active set ty op p operand (λ q. value_in (scope.extents set) st operand q) st is.0.0 (value_means scope active t i n set operand st h.1 grids names))
+    (λ (h : (negates op ≡ true) × (IsInnerCondition set operand ⊎ HasItsKind set operand)).
+    unary_means scope active set ty op p operand (λ q. value_in (scope.extents set) st operand q) st is.0.0
+    (either (λ inner. value_means scope active t i n set operand st inner grids names) (λ kinded. pure_means scope active t i n set operand st kinded.0 grids names) h.1))
     (λ (h : (negates op ≡ false) × IsPure set (T.Unary' ty op p operand)). pure_means scope active t i n set (T.Unary' ty op p operand) st h.1 grids names) is.1
 value_means scope active t i n set (T.LogicalOr' ty p left q right) st is grids names =
     ap (λ (o : Outcome Value). then_do o (λ x after. or_then ty.shape (type_of left).shape x (λ a after. evaluated scope right a after) active after)) (value_means scope active t i n set left st is.1 grids names.0)
@@ -253,21 +256,51 @@ module _ (g : Setting) (has : HasRegisters g) (alive : Variable → Type 0) (n :
           after_same g (λ _ f. Condition set whole d s st f) (relation_code g has alive n ready places fields set op left right is no_check parts.0 parts.1 d s st here sim ty place p q wide.0)
           (relation_after g has alive n ready places fields set op left right is no_check parts.0 parts.1 d s st here sim)
 
-  not_known : (set : ℕ) (ty : ValueType) (p : Boxed) (inner : TExpr) → IsWide set ty → IsInnerCondition set inner → HasItsCode g.typed g.instance alive n inner → HasWord set inner ⊎ HasBit set inner → IsKnown set (T.Unary' ty U.Not p inner)
+  -- an operand of `!` is told, and one of one bit gives it
+  abbrev IsTold : ℕ → TExpr → Type 0
+  IsTold set e = Everywhere (λ d s st. After g (Told g alive places fields d s set st (numbers_of set e st)) (operand_at g (bits_of (kind_of e)) e d))
+
+  abbrev GivesIt : ℕ → TExpr → Type 0
+  GivesIt set e = Everywhere (λ d s st. After g (AnyBit g alive places fields d s set st (numbers_of set e st)) (operand_at g 1 e d))
+
+  record IsNegated (set : ℕ) (e : TExpr) : Type 0 where
+    pub fresh : is_kept e ≡ false
+    pub told : IsTold set e
+    pub bit : (bits_of (kind_of e) == 1) ≡ true → GivesIt set e
+
+  known_negated : (set : ℕ) (e : TExpr) → IsInnerCondition set e → HasItsCode g.typed g.instance alive n e → HasWord set e ⊎ HasBit set e → IsNegated set e
+  known_negated set e is c whole = record { fresh = condition_kept set e is; told = λ d s st here sim. operand_told set e is c whole d s st here sim; bit = by whole }
+    where
+      by : HasWord set e ⊎ HasBit set e → (bits_of (kind_of e) == 1) ≡ true → GivesIt set e
+      by (inl word) one = let wrong = sym one ∙ word.1 in cc
+      by (inr bit) one = λ d s st here sim. any_bit g alive places fields d s set st (numbers_of set e st) (operand_at g 1 e d) (bit_after set e is bit d s st here sim)
+
+  kinded_negated : (set : ℕ) (e : TExpr) → HasItsKind set e → HasItsCode g.typed g.instance alive n e → IsNegated set e
+  kinded_negated set e kinded c = record {
+    fresh = pure_kept set e kinded.0;
+    told = λ d s st here sim. pure_told set e kinded c d s st here sim;
+    bit = λ one d s st here sim.
+        after_weaker g (Gives g has alive n ready places fields 1 (length d.fields) d s set st (λ q. word_at (extents g set) st e q)) (AnyBit g alive places fields d s set st (numbers_of set e st)) (operand 1 true e d)
+        (λ x e1 (a, (is, gives)). (a, (is, field_bit g alive places fields d s set st (λ q. word_at (extents g set) st e q) (numbers_of set e st) a e1
+        (λ q below. ap (λ (m : ℕ). word_at (extents g set) st e q % 2 ^ m == 0) (sym (eqb-true (bits_of (kind_of e)) 1 one)) ∙ zero_told g alive n places fields set e st s sim kinded c q below) gives)))
+        (operand_after g has alive n ready places fields 1 set e true kinded.0 c.code.names (pure_after g has alive n ready places fields 1 set e (omega arith) kinded.0 c) d s st here sim);
+  }
+
+  not_known : (set : ℕ) (ty : ValueType) (p : Boxed) (inner : TExpr) → IsWide set ty → IsNegated set inner → IsKnown set (T.Unary' ty U.Not p inner)
   unfolding tested_by has_truth truth_of value_in unary_of kind_of negates own_of
-  not_known set ty p inner wide is c whole = (
-    λ d s st here sim. zero_after g alive places fields set (numbers_of set inner st) (operand_at g (bits_of (kind_of inner)) inner) d s st (operand_told set inner is c whole d s st here sim),
-    inr (record { kind = refl; own = refl; value = by whole }),
+  not_known set ty p inner wide is = (
+    λ d s st here sim. zero_after g alive places fields set (numbers_of set inner st) (operand_at g (bits_of (kind_of inner)) inner) d s st (is.told d s st here sim),
+    inr (record { kind = refl; own = refl; value = by (bits_of (kind_of inner) == 1) refl }),
   )
     where
-      by : HasWord set inner ⊎ HasBit set inner → Everywhere (λ d s st. After g (Bit g alive places fields d s set st (numbers_of set (T.Unary' ty U.Not p inner) st)) (value_of g.typed (layout g) 1 (T.Unary' ty U.Not p inner) d))
-      by (inl word) d s st here sim =
-          after_same g (Bit g alive places fields d s set st (numbers_of set (T.Unary' ty U.Not p inner) st)) (word_not_value g set ty p inner d wide.0 (condition_kept set inner is) word.1)
+      by : (b : Bool) → (bits_of (kind_of inner) == 1) ≡ b → Everywhere (λ d s st. After g (Bit g alive places fields d s set st (numbers_of set (T.Unary' ty U.Not p inner) st)) (value_of g.typed (layout g) 1 (T.Unary' ty U.Not p inner) d))
+      by false word d s st here sim =
+          after_same g (Bit g alive places fields d s set st (numbers_of set (T.Unary' ty U.Not p inner) st)) (word_not_value g set ty p inner d wide.0 is.fresh word)
           (stored_after g alive places fields set (numbers_of set (T.Unary' ty U.Not p inner) st) d s st (zero_tested (operand_at g (bits_of (kind_of inner)) inner) (with_entry set 1 W.Own d))
-          (zero_after g alive places fields set (numbers_of set inner st) (operand_at g (bits_of (kind_of inner)) inner) (with_entry set 1 W.Own d) s st (operand_told set inner is c (inl word) (with_entry set 1 W.Own d) s st here sim)))
-      by (inr bit) d s st here sim =
-          after_same g (Bit g alive places fields d s set st (numbers_of set (T.Unary' ty U.Not p inner) st)) (bit_not_value g set ty p inner d wide.0 (condition_kept set inner is) bit.kind)
-          (turned_after g alive places fields set (numbers_of set inner st) d s st (operand_at g 1 inner (with_entry set 1 W.Own d)) (bit_after set inner is bit (with_entry set 1 W.Own d) s st here sim))
+          (zero_after g alive places fields set (numbers_of set inner st) (operand_at g (bits_of (kind_of inner)) inner) (with_entry set 1 W.Own d) s st (is.told (with_entry set 1 W.Own d) s st here sim)))
+      by true bit d s st here sim =
+          after_same g (Bit g alive places fields d s set st (numbers_of set (T.Unary' ty U.Not p inner) st)) (bit_not_value g set ty p inner d wide.0 is.fresh bit)
+          (turned_after g alive places fields set (numbers_of set inner st) d s st (operand_at g 1 inner (with_entry set 1 W.Own d)) (is.bit bit (with_entry set 1 W.Own d) s st here sim))
 
   -- ---- `&&` and `||`
 
@@ -327,12 +360,14 @@ module _ (g : Setting) (has : HasRegisters g) (alive : Variable → Type 0) (n :
   known set (T.Brackets' ty p inner) is c = brackets_known set ty p inner is is.0 is.1 (known set inner is.1 (brackets_part g alive n places fields ty p inner c))
   known set (T.Unary' ty op p inner) is c = by op is.1 c (λ part code. known set inner part code)
     where
-      by : (op : UnaryOp) → ((negates op ≡ true) × IsInnerCondition set inner) ⊎ ((negates op ≡ false) × IsPure set (T.Unary' ty op p inner)) → HasItsCode g.typed g.instance alive n (T.Unary' ty op p inner)
+      by : (op : UnaryOp) → ((negates op ≡ true) × (IsInnerCondition set inner ⊎ HasItsKind set inner)) ⊎ ((negates op ≡ false) × IsPure set (T.Unary' ty op p inner)) → HasItsCode g.typed g.instance alive n (T.Unary' ty op p inner)
           → (IsInnerCondition set inner → HasItsCode g.typed g.instance alive n inner → IsKnown set inner) → IsKnown set (T.Unary' ty op p inner)
       by op (inr h) c of_inner =
           let none : kind_of (T.Unary' ty op p inner) ≡ None = ap (λ (b : Bool). if b then Some truth_type else None) h.0 in
           pure_known set (T.Unary' ty op p inner) ((h.1, inl none), all_bits (T.Unary' ty op p inner) none) h.0 c
-      by U.Not (inl h) c of_inner = let code = unary_part g alive n places fields ty U.Not p inner c in not_known set ty p inner is.0 h.1 code (of_inner h.1 code).1
+      by U.Not (inl h) c of_inner =
+          let code = unary_part g alive n places fields ty U.Not p inner c in
+          not_known set ty p inner is.0 (either (λ part. known_negated set inner part code (of_inner part code).1) (λ kinded. kinded_negated set inner kinded code) h.1)
       by U.Plus (inl h) c of_inner = let wrong = h.0 in cc
       by U.Minus (inl h) c of_inner = let wrong = h.0 in cc
       by U.Complement (inl h) c of_inner = let wrong = h.0 in cc
@@ -355,13 +390,14 @@ module _ (g : Setting) (has : HasRegisters g) (alive : Variable → Type 0) (n :
   inner_tested set e is c = (known set e is c).0
 
   -- one of one bit gives it to the next instruction
-  pub inner_bit : (set : ℕ) (e : TExpr) → IsInnerCondition set e → (bits_of (kind_of e) == 1) ≡ true → HasItsCode g.typed g.instance alive n e → (d : Draft) (s : CodeState) (st : State) → At g s (length d.code) → Sim g alive st s
-      → After g (Bit g alive places fields d s set st (λ q. value_in (extents g set) st e q)) (next_of g.typed (layout g) 1 true e d)
-  inner_bit set e is one c d s st here sim = by (known set e is c).1
-    where
-      by : HasWord set e ⊎ HasBit set e → After g (Bit g alive places fields d s set st (numbers_of set e st)) (operand_at g 1 e d)
-      by (inl word) = let wrong = sym one ∙ word.1 in cc
-      by (inr bit) = bit_after set e is bit d s st here sim
+  pub inner_bit : (set : ℕ) (e : TExpr) → IsCondition set e → (bits_of (kind_of e) == 1) ≡ true → HasItsCode g.typed g.instance alive n e → (d : Draft) (s : CodeState) (st : State) → At g s (length d.code) → Sim g alive st s
+      → After g (AnyBit g alive places fields d s set st (λ q. value_in (extents g set) st e q)) (next_of g.typed (layout g) 1 true e d)
+  inner_bit set e (inl inner) one c d s st here sim = (known_negated set e inner c (known set e inner c).1).bit one d s st here sim
+  inner_bit set e (inr kinded) one c d s st here sim = (kinded_negated set e kinded c).bit one d s st here sim
+
+  pub operand_kept : (set : ℕ) (e : TExpr) → IsCondition set e → is_kept e ≡ false
+  operand_kept set e (inl inner) = condition_kept set e inner
+  operand_kept set e (inr kinded) = pure_kept set e kinded.0
 
   -- any value is tested at its own bits
   kinded_tested : (set : ℕ) (e : TExpr) → HasItsKind set e → HasItsCode g.typed g.instance alive n e → IsTested set e

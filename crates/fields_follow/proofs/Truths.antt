@@ -1,6 +1,8 @@
 -- Fields of one bit tell where a condition holds.
 use Rattle.std.proofs.Common.{◌≡◌, ◌∙◌, ℕ, ◌+◌, ◌-◌, ◌%◌, ◌^◌, ◌<◌, ◌≤◌, ◌==◌, Bool, true, false, not, ◌&&◌, ◌||◌, if◌then◌else◌, List, [], ◌∷◌, length, refl, sym, ap, arith}
 use Rattle.std.specs.Int.{from_bool}
+use Rattle.std.proofs.lemmas.Bool.Decides.{nat_tests}
+use Rattle.std.proofs.lemmas.Nat.{mod_below}
 use Rattle.cstar_base.specs.Operators.{outcome}
 use Rattle.cstar_tree.specs.declared.typed.Variable.{Variable}
 use Rattle.code_lengths.proofs.Drafting.{extended}
@@ -82,6 +84,31 @@ module _ (g : Setting) (alive : Variable → Type 0) (places : PlacesFields g) (
     pub before : somewhere < length e.code
     pub are : (q : ℕ) → q < processors (shapes g) set → fields.active set q ≡ true → number_in g f passes.t q ≡ from_bool (nonzero (v q))
 
+  -- It gives a field of such bits, maybe that of a variable.
+  pub record GivesBit (d : Draft) (s : CodeState) (set : ℕ) (st : State) (v : ℕ → ℕ) (f : Field) (e : Draft) : Type 0 where
+    pub passes : PassesTests g alive d e s st (Behind g f e)
+    pub exists : set < length (shapes g)
+    pub are : (q : ℕ) → q < processors (shapes g) set → fields.active set q ≡ true → number_in g f passes.t q ≡ from_bool (nonzero (v q))
+
+  pub truth_bit : (d : Draft) (s : CodeState) (set : ℕ) (st : State) (v : ℕ → ℕ) (f : Field) (e : Draft) → GivesTruth d s set st v f e → GivesBit d s set st v f e
+  truth_bit d s set st v f e h = record { passes = h.passes; exists = h.exists; are = h.are }
+
+  -- a field of one bit of a value that is zero where its lowest bit is
+  pub field_bit : (d : Draft) (s : CodeState) (set : ℕ) (st : State) (v u : ℕ → ℕ) (f : Field) (e : Draft) → ((q : ℕ) → q < processors (shapes g) set → (v q % 2 ^ 1 == 0) ≡ (u q == 0)) → GivesField g alive 1 (length d.fields) d s set st v f e → GivesBit d s set st u f e
+  unfolding tests_passed
+  field_bit d s set st v u f e same h =
+      let numbers = gives_numbers g alive places fields 1 (length d.fields) d s set st v f e h in record {
+        passes = tests_passed g alive (length d.fields) d e s st (Behind g f e) (omega arith) h.passes;
+        exists = numbers.exists;
+        are = λ q below on.
+            numbers.are q below (flags_of g alive places fields st h.passes.t set q h.passes.sim numbers.exists below ∙ on)
+            ∙ is_bit (v q % 2 ^ 1) (mod_below (v q) (2 ^ 1) (omega arith)) (u q == 0) (same q below);
+      }
+    where
+      is_bit : (n : ℕ) → n < 2 ^ 1 → (b : Bool) → (n == 0) ≡ b → n ≡ from_bool (not b)
+      is_bit n few true e = grind (arith, nat_tests, few, e)
+      is_bit n few false e = grind (arith, nat_tests, few, e)
+
   pub truth_told : (d : Draft) (s : CodeState) (set : ℕ) (st : State) (v : ℕ → ℕ) (f : Field) (e : Draft) → GivesTruth d s set st v f e → GivesTold d s set st v f e
   truth_told d s set st v f e h = record {
     passes = h.passes;
@@ -147,7 +174,7 @@ module _ (g : Setting) (alive : Variable → Type 0) (places : PlacesFields g) (
       (λ q below on. bit_fits (is_tested (shapes g) p.t.memory f.set q) 1 refl ∙ ap (λ (n : ℕ). from_bool (is_tested (shapes g) p.t.memory n q)) of_set ∙ ap from_bool (flags q below on))
 
   -- a bit's complement, in an entry that was taken before it
-  pub truth_turned : (set : ℕ) (d e : Draft) (a f : Field) (s : CodeState) (st : State) (v : ℕ → ℕ) → GivesTruth (with_entry set 1 W.Own d) s set st v a e → length d.fields ≤ f.offset → f.offset < length e.fields → IsOwnField g f → f.set ≡ set → f.len ≡ 1 → Within g (with_instr (I.Lognot f a) e)
+  pub truth_turned : (set : ℕ) (d e : Draft) (a f : Field) (s : CodeState) (st : State) (v : ℕ → ℕ) → GivesBit (with_entry set 1 W.Own d) s set st v a e → length d.fields ≤ f.offset → f.offset < length e.fields → IsOwnField g f → f.set ≡ set → f.len ≡ 1 → Within g (with_instr (I.Lognot f a) e)
       → GivesTruth d s set st (λ q. from_bool (v q == 0)) f (with_instr (I.Lognot f a) e)
   unfolding begun applied after step_of tests_behind_entry
   truth_turned set d e a f s st v one newer older own of_set len within =

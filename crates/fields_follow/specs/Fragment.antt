@@ -149,11 +149,12 @@ HasOperation op elem value = elim (assign_op_of op) [
 ]
 
 -- A condition that may be part of others: a relation of two operands, a value that is not zero and is no quotient
--- itself, `!` of a condition, or two joined by `&&` or `||`. The right one of these ignores the context: it has no get
--- and no quotient, not even one of constants. A value of one bit is such a condition only if it is a truth value.
+-- itself, `!` of a condition or of any value, or two joined by `&&` or `||`. The right one of these ignores the context:
+-- it has no get and no quotient, not even one of constants. A value of one bit is such a condition only if it is a truth
+-- value.
 unfoldable pub IsInnerCondition : ℕ → TExpr → Type 0
 IsInnerCondition set (T.Brackets' ty p inner) = (ty ≡ type_of inner) × IsInnerCondition set inner
-IsInnerCondition set (T.Unary' ty op p operand) = IsWide set ty × (((negates op ≡ true) × IsInnerCondition set operand) ⊎ ((negates op ≡ false) × IsPure set (T.Unary' ty op p operand)))
+IsInnerCondition set (T.Unary' ty op p operand) = IsWide set ty × (((negates op ≡ true) × (IsInnerCondition set operand ⊎ HasItsKind set operand)) ⊎ ((negates op ≡ false) × IsPure set (T.Unary' ty op p operand)))
 IsInnerCondition set (T.LogicalOr' ty p left q right) = IsWide set ty × IsInnerCondition set left × IsInnerCondition set right × (ignores_context right ≡ true)
 IsInnerCondition set (T.LogicalAnd' ty p left q right) = IsWide set ty × IsInnerCondition set left × IsInnerCondition set right × (ignores_context right ≡ true)
 IsInnerCondition set (T.Binary' ty place op p left q right) =
@@ -169,7 +170,7 @@ IsCondition set e = IsInnerCondition set e ⊎ HasItsKind set e
 unfoldable pub IsTruth : ℕ → ℕ → TExpr → Type 0
 IsTruth set bits (T.Brackets' ty p inner) = (ty ≡ type_of inner) × IsTruth set bits inner
 IsTruth set bits (T.Convert' ty p operand) = (ty.shape ≡ Some set) × (bits ≤ ty.elem.bits) × IsTruth set bits operand
-IsTruth set bits (T.Unary' ty op p operand) = IsWide set ty × (negates op ≡ true) × IsInnerCondition set operand
+IsTruth set bits (T.Unary' ty op p operand) = IsWide set ty × (negates op ≡ true) × IsCondition set operand
 IsTruth set bits (T.LogicalOr' ty p left q right) = IsInnerCondition set (T.LogicalOr' ty p left q right)
 IsTruth set bits (T.LogicalAnd' ty p left q right) = IsInnerCondition set (T.LogicalAnd' ty p left q right)
 IsTruth set bits (T.Binary' ty place op p left q right) = (relates op ≡ true) × IsInnerCondition set (T.Binary' ty place op p left q right)

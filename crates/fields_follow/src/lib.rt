@@ -18,7 +18,7 @@ ghost use Rattle.fields_follow.specs.Laws.{ParallelCodeMeansSource};
 /// to another alone, with the operators `+ - * & | ^ ~ << >> <? >?`, and `/ % %%` by constants other than 0. Truth values
 /// of relations, `!`, `&&` and `||` are assigned, too, to variables of all types. What is tested, compared or folded are
 /// values of any types, but for bitwise operations on a narrow one and a constant that is converted to a narrow type;
-/// `bool` alone is a condition of `where` but no operand of `!`, `&&` and `||`.
+/// `bool` alone is a condition of `where` and an operand of `!`, but none of `&&` and `||`.
 pub fn parallel_code_means_source()
     ensures { ParallelCodeMeansSource }
 {}
