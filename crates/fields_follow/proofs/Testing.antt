@@ -281,8 +281,14 @@ module _ (g : Setting) (has : HasRegisters g) (alive : Variable → Type 0) (n :
     told = λ d s st here sim. pure_told set e kinded c d s st here sim;
     bit = λ one d s st here sim.
         after_weaker g (Gives g has alive n ready places fields 1 (length d.fields) d s set st (λ q. word_at (extents g set) st e q)) (AnyBit g alive places fields d s set st (numbers_of set e st)) (operand 1 true e d)
-        (λ x e1 (a, (is, gives)). (a, (is, field_bit g alive places fields d s set st (λ q. word_at (extents g set) st e q) (numbers_of set e st) a e1
-        (λ q below. ap (λ (m : ℕ). word_at (extents g set) st e q % 2 ^ m == 0) (sym (eqb-true (bits_of (kind_of e)) 1 one)) ∙ zero_told g alive n places fields set e st s sim kinded c q below) gives)))
+        (λ x e1 (a, (is, gives)). (
+          a,
+          (
+            is,
+            field_bit g alive places fields d s set st (λ q. word_at (extents g set) st e q) (numbers_of set e st) a e1
+                (λ q below. ap (λ (m : ℕ). word_at (extents g set) st e q % 2 ^ m == 0) (sym (eqb-true (bits_of (kind_of e)) 1 one)) ∙ zero_told g alive n places fields set e st s sim kinded c q below) gives,
+          ),
+        ))
         (operand_after g has alive n ready places fields 1 set e true kinded.0 c.code.names (pure_after g has alive n ready places fields 1 set e (omega arith) kinded.0 c) d s st here sim);
   }
 
