@@ -24,7 +24,8 @@ use Rattle.cstar_tree.specs.declared.typed.Variable.{Variable}
 use Rattle.cstar_tree.specs.Constants.{axis_of}
 use Rattle.cstar_tree.specs.Conversions.{AreFitted, IsConverted, IsSpread, common, either, int, parallel, promoted, scalar, shape_among, unsigned}
 use Rattle.cstar_tree.specs.Conversions as C
-use Rattle.cstar_tree.specs.ExpressionFaults.{parameters_of}
+use Rattle.cstar_tree.specs.ExpressionFaults.{GoesAlong, parameters_of}
+use Rattle.cstar_tree.specs.ExpressionFaults as F
 use Rattle.cstar_tree.specs.ExpressionTypes.{AreTaken, GivesOutside, IsBit, IsCallable, IsPlaceOf, IsStorable, IsVariable, Types, TypesEach, TypesIndexes, callee, cast_elem}
 use Rattle.cstar_tree.specs.ExpressionTypes as X
 use Rattle.cstar_tree.specs.Formats.{conversions, pieces_of}
@@ -353,3 +354,19 @@ judged {program = program} (X.printf {here = here} {given = given} arguments pie
   like = record { type_is = refl; target_is = refl; value_is = refl };
 }
 judged X.getchar = record { type_is = refl; target_is = refl; value_is = refl }
+
+-- ---- the same where a list is given as a vector
+
+pub judged_call : {program : Program} {here : Here} {n : Name} {t : TExpr} {b : Bool} (arguments : Vec Expr Global) → Types program here (E.Call n arguments) t b → OfCall program here n arguments.items t b
+judged_call {program} {here} {n} {t} {b} arguments h = subst (λ (es : List Expr). OfCall program here n es t b) (items_hidden-the_row-Expr-0 arguments) (judged h)
+
+pub judged_index : {program : Program} {here : Here} {p : Place} {n : Name} {t : TExpr} {b : Bool} (indexes : Vec Expr Global) → Types program here (E.LeftIndex p indexes n) t b → OfLeftIndex program here p n indexes.items t b
+judged_index {program} {here} {p} {n} {t} {b} indexes h = subst (λ (es : List Expr). OfLeftIndex program here p n es t b) (items_hidden-the_row-Expr-0 indexes) (judged h)
+
+pub judged_printf : {program : Program} {here : Here} {p : Place} {text : List ℕ} {t : TExpr} {b : Bool} (arguments : Vec Expr Global) → Types program here (E.Printf p text arguments) t b → OfPrintf program here text arguments.items t b
+judged_printf {program} {here} {text = text} {t} {b} arguments h = subst (λ (es : List Expr). OfPrintf program here text es t b) (items_hidden-the_row-Expr-0 arguments) (judged h)
+
+pub along_of : {program : Program} {here : Here} {e axis : Expr} {mode : SegmentMode} {bit : Option Name} {t : TExpr} {b : Bool} → GoesAlong e axis mode bit → Types program here e t b → IsAlong here axis mode bit
+along_of (F.pcoord axis) h = let j = judged h in j.along
+along_of (F.scan source axis) h = let j = judged h in j.along
+along_of (F.enumerate axis) h = let j = judged h in j.along

@@ -2,7 +2,7 @@
 //! Readers find the laws here by name.
 #![tactic(auto)]
 
-ghost use Rattle.unique_types.specs.Laws.{TypesAreUnique, TypesOfIndexesAreUnique, TypesOfListsAreUnique};
+ghost use Rattle.unique_types.specs.Laws.{ConstantsHaveTypes, TypedExpressionsAreNotUntold, TypedExpressionsHaveNoFault, TypedValuesHaveNoFault, TypesAreUnique, TypesOfIndexesAreUnique, TypesOfListsAreUnique};
 
 /// The typed trees that the rules give an expression at a place have one type, are one as targets, and
 /// all have a value or none has.
@@ -18,4 +18,25 @@ pub fn types_of_lists_are_unique()
 /// So it is of the indexes before a name.
 pub fn types_of_indexes_are_unique()
     ensures { TypesOfIndexesAreUnique }
+{}
+
+/// An expression that is constant by its form has a scalar type, the one of the constant, and a value.
+pub fn constants_have_types()
+    ensures { ConstantsHaveTypes }
+{}
+
+/// No fault stands in an expression that the rules give a type.
+pub fn typed_expressions_have_no_fault()
+    ensures { TypedExpressionsHaveNoFault }
+{}
+
+/// None stands in one that needs a value, where it has a type and a value.
+pub fn typed_values_have_no_fault()
+    ensures { TypedValuesHaveNoFault }
+{}
+
+/// An expression outside all functions that the rules give a type does not rest on a call of a function
+/// whose header has a fault.
+pub fn typed_expressions_are_not_untold()
+    ensures { TypedExpressionsAreNotUntold }
 {}
