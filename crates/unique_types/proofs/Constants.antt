@@ -1,14 +1,9 @@
 -- What is constant by its form has a type: that of the constant.
-use Rattle.std.proofs.Common.{◌≡◌, ℕ, ◌⊎◌, inl, inr, Bool, true, false, List, [], ◌∷◌, map, length, Option, Some, None, Box, Vec, refl, sym, ap, subst, ◌∙◌, if◌then◌else◌, arith}
+use Rattle.std.proofs.Common.{◌≡◌, ℕ, true, List, [], ◌∷◌, length, Option, Some, None, Box, Vec, refl, sym, ap, subst, ◌∙◌, if◌then◌else◌}
 use Rattle.std.specs.Option.{option_map}
 use Rattle.std.specs.List.{slice_get}
 use Rattle.std.specs.declared.alloc.Global.{Global}
-use Rattle.std.proofs.Math.Bool.{Bool-set}
-use Rattle.std.proofs.lemmas.Bool.Decides.{eqb_tells}
-use Rattle.std.proofs.lemmas.List.{length-map}
 use Rattle.std.proofs.lemmas.Option.{same_Some}
-use denote.RawPtr.{null_ptr}
-use Rattle.cstar_base.specs.Kinds.{is_kind}
 use Rattle.cstar_base.specs.declared.elem.Elem.{Elem}
 use Rattle.cstar_base.specs.declared.operators.Place.{Place}
 use Rattle.cstar_tree.specs.declared.syntax.BinaryOp.{BinaryOp}
@@ -32,46 +27,7 @@ use Rattle.cstar_tree.specs.Headers.{Program}
 use Rattle.cstar_tree.specs.Operations.{left_elem, result_elem, right_elem, sign_of}
 use Rattle.cstar_tree.specs.Scopes.{Here, extents_of, meaning, part, shape_of}
 use Rattle.cstar_tree.specs.Typed.{type_of}
-
--- ---- conversions of scalars
-
-same_elem : (a b : Elem) → a.bits ≡ b.bits → a.signed ≡ b.signed → a ≡ b
-same_elem a b p q =
-    subst (λ (n : ℕ). (k : is_kind n b.signed ≡ true) → a ≡ record { bits = n; signed = b.signed; kind = k }) p
-    (subst (λ (s : Bool). (k : is_kind a.bits s ≡ true) → a ≡ record { bits = a.bits; signed = s; kind = k }) q
-    (λ k. ap (λ (h : is_kind a.bits a.signed ≡ true). let e : Elem = record { bits = a.bits; signed = a.signed; kind = h } in e) (Bool-set _ _ a.kind k))) b.kind
-
-one_sign : (a b : Bool) → (a ≡ b) ⊎ (a ≡ b → ⊥)
-one_sign true true = inl refl
-one_sign false false = inl refl
-one_sign true false = inr (λ is. cc)
-one_sign false true = inr (λ is. cc)
-
-one_elem : (a b : Elem) → (a ≡ b) ⊎ (a ≡ b → ⊥)
-one_elem a b = elim (eqb_tells a.bits b.bits) [
-  | inl bits ↦ elim (one_sign a.signed b.signed) [
-    | inl sign ↦ inl (same_elem a b bits.1 sign)
-    | inr sign ↦ inr (λ is. sign (ap (λ (e : Elem). e.signed) is))
-  ]
-  | inr bits ↦ inr (λ is. bits.1 (ap (λ (e : Elem). e.bits) is))
-]
-
-abbrev boxed : Global → TExpr → Box TExpr Global
-boxed heap t = record { ptr = null_ptr; alloc = heap; value = t }
-
-record Converted (e : TExpr) (elem : Elem) : Type 0 where
-  pub box : Box TExpr Global
-  pub conversion : IsConverted e elem box.value
-  pub type_is : type_of box.value ≡ record { elem = elem; shape = (type_of e).shape }
-
-converted : Global → (e : TExpr) (elem : Elem) → Converted e elem
-converted heap e elem = elim (one_elem (type_of e).elem elem) [
-  | inl is ↦ record { box = boxed heap e; conversion = C.as_it_is is; type_is = ap (λ (k : Elem). let ty : ValueType = record { elem = k; shape = (type_of e).shape } in ty) is }
-  | inr other ↦ record { box = boxed heap (T.Convert (record { elem = elem; shape = (type_of e).shape }) (boxed heap e)); conversion = C.by_node (boxed heap e) refl other; type_is = refl }
-]
-
-scalar_fit : {e f : TExpr} {elem : Elem} → IsConverted e elem f → IsFitted e (scalar elem) f
-scalar_fit {f = f} h = record { converted = f; conversion = h; spread = C.none_wanted }
+use Rattle.unique_types.proofs.Bringing.{boxed, cast_elems, converted, scalar_fit}
 
 -- ---- the constants of the parts
 
@@ -234,15 +190,7 @@ cast_constant (c ∷ cs) a = refl
 
 casts_constant : (program : Program) (here : Here) (chain : Vec Cast Global) (operand : Box Expr Global) {a : Constant} → TypedConstant program (part here) operand.value a → TypedConstant program here (E.Casts chain operand) (cast_through chain.items a)
 casts_constant program here chain operand {a} x =
-    let elems : Vec Elem Global = record {
-      items = map (λ (c : Cast). c.elem) chain.items;
-      ptr = null_ptr;
-      len = length (map (λ (c : Cast). c.elem) chain.items);
-      cap = length (map (λ (c : Cast). c.elem) chain.items);
-      alloc = operand.alloc;
-      ok = (refl, omega arith);
-      small = let few = chain.small in omega (arith, length-map chain.items (λ (c : Cast). c.elem), chain.ok);
-    } in
+    let elems = cast_elems operand.alloc chain in
     record {
       tree = T.Casts (scalar (cast_elem chain.items (type_of x.tree).elem)) elems (boxed operand.alloc x.tree);
       types = X.casts chain operand elems (boxed operand.alloc x.tree) x.types (ap (λ (ty : ValueType). ty.shape) x.type_is) refl;

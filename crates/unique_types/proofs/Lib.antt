@@ -1,5 +1,12 @@
+pub mod Bringing
+pub mod Calls
+pub mod Coming
 pub mod Constants
 pub mod Faultless
+pub mod Intrinsics
 pub mod Judged
+pub mod Naming
+pub mod Operations
+pub mod Outcomes
 pub mod Parts
 pub mod Unique

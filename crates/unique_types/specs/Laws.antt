@@ -14,6 +14,7 @@ use Rattle.cstar_tree.specs.Headers.{Program}
 use Rattle.cstar_tree.specs.Scopes.{Here}
 use Rattle.cstar_tree.specs.Typed.{type_of}
 use Rattle.unique_types.specs.Alike.{IsAlike}
+use Rattle.unique_types.specs.Outcomes.{DecidesCalls, HasItsInstances, HasItsNames, Outcome}
 
 -- ---- one type
 
@@ -49,3 +50,9 @@ TypedValuesHaveNoFault =
 abbrev pub TypedExpressionsAreNotUntold : Type 0
 TypedExpressionsAreNotUntold =
     (program : Program) (here : Here) (e : Expr) (t : TExpr) (b : Bool) → Types program here e t b → IsUntold program here e → ⊥
+
+-- ---- one or the other
+
+abbrev pub ExpressionsAreTypedOrFaulty : Type 0
+ExpressionsAreTypedOrFaulty =
+    (program : Program) → DecidesCalls program → (here : Here) (e : Expr) → HasItsNames program here → HasItsInstances program here e → Outcome program here e

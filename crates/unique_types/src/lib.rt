@@ -2,7 +2,7 @@
 //! Readers find the laws here by name.
 #![tactic(auto)]
 
-ghost use Rattle.unique_types.specs.Laws.{ConstantsHaveTypes, TypedExpressionsAreNotUntold, TypedExpressionsHaveNoFault, TypedValuesHaveNoFault, TypesAreUnique, TypesOfIndexesAreUnique, TypesOfListsAreUnique};
+ghost use Rattle.unique_types.specs.Laws.{ConstantsHaveTypes, ExpressionsAreTypedOrFaulty, TypedExpressionsAreNotUntold, TypedExpressionsHaveNoFault, TypedValuesHaveNoFault, TypesAreUnique, TypesOfIndexesAreUnique, TypesOfListsAreUnique};
 
 /// The typed trees that the rules give an expression at a place have one type, are one as targets, and
 /// all have a value or none has.
@@ -39,4 +39,11 @@ pub fn typed_values_have_no_fault()
 /// whose header has a fault.
 pub fn typed_expressions_are_not_untold()
     ensures { TypedExpressionsAreNotUntold }
+{}
+
+/// Each expression has a type, or a fault stands in it, or it rests on a variable or a function whose
+/// declaration has a fault. What is named at its place is there, its calls within a function are of
+/// instances of the program, and of any two functions it is known whether the one leads to the other.
+pub fn expressions_are_typed_or_faulty()
+    ensures { ExpressionsAreTypedOrFaulty }
 {}

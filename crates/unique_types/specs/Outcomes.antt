@@ -1,0 +1,62 @@
+-- What typing an expression can come to, and what is asked of the place where it stands.
+use Rattle.std.specs.Prelude.{◌≡◌, ◌<◌, ◌^◌, ◌⊎◌, ℕ, Bool, List, length, slice_get, Some, None, Box, Vec}
+use Rattle.std.specs.declared.alloc.Global.{Global}
+use Rattle.cstar_base.specs.declared.faults.Fault.{Fault}
+use Rattle.cstar_base.specs.declared.operators.Place.{Place}
+use Rattle.cstar_tree.specs.declared.syntax.Expr.{Expr}
+use Rattle.cstar_tree.specs.declared.syntax.Expr as E
+use Rattle.cstar_tree.specs.declared.syntax.Name.{Name}
+use Rattle.cstar_tree.specs.declared.typed.TExpr.{TExpr}
+use Rattle.cstar_tree.specs.declared.typed.Variable.{Variable}
+use Rattle.cstar_tree.specs.ExpressionFaults.{FaultIn, IsPart, Uses, parameters_of, variable}
+use Rattle.cstar_tree.specs.ExpressionTypes.{Types, callee}
+use Rattle.cstar_tree.specs.Headers.{Leads, Placed, Program, returns_of, unknown}
+use Rattle.cstar_tree.specs.Scopes.{Here, VariableType, a_function, a_shape, a_variable, extents_of, meaning}
+
+-- the type of a parameter or of the result of a function has a fault
+pub data HasFaultyHeader (here : Here) (placed : Placed) (f : ℕ) : Type 0 where
+  parameter : (which : ℕ) → slice_get (parameters_of here placed f) which ≡ Some None → HasFaultyHeader here placed f
+  result : returns_of (callee here placed f) placed.function.result ≡ unknown → HasFaultyHeader here placed f
+
+-- an expression rests on a declaration that has a fault of its own
+pub data Rests (program : Program) : Here → Expr → Type 0 where
+  on_variable : {here : Here} {e : Expr} {n : Name} {v : Variable} → Uses e variable n → meaning here n.word ≡ Some (a_variable v None) → Rests program here e
+  on_function : {here : Here} {n : Name} {f : ℕ} {placed : Placed} (arguments : Vec Expr Global) → meaning here n.word ≡ Some (a_function f) → slice_get program.functions f ≡ Some placed → HasFaultyHeader here placed f → Rests program here (E.Call n arguments)
+  in_part : {here there : Here} {e x : Expr} → IsPart here e there x → Rests program there x → Rests program here e
+  in_brackets : {here : Here} {p : Place} (inner : Box Expr Global) → Rests program here inner.value → Rests program here (E.Brackets p inner)
+
+-- an expression has a type, or a fault stands in it, or it rests on a faulty declaration
+pub data Outcome (program : Program) (here : Here) (e : Expr) : Type 0 where
+  typed : {t : TExpr} {has_value : Bool} → Types program here e t has_value → Outcome program here e
+  faulty : {fault : Fault} {p : Place} → FaultIn program here e fault p → Outcome program here e
+  rests : Rests program here e → Outcome program here e
+
+-- ---- what is asked
+
+-- of any two functions it is known whether the one leads to the other
+abbrev pub DecidesCalls : Program → Type 0
+DecidesCalls program = (f g : ℕ) → Leads program.calls f g ⊎ (Leads program.calls f g → ⊥)
+
+-- a shape of this number is there
+abbrev pub IsShape : Here → ℕ → Type 0
+IsShape here shape = (extents : List ℕ) × (extents_of here shape ≡ Some extents)
+
+-- What stands under a name at a place is there: the function in the program, and each shape that is
+-- named, that a variable is of or that is the current one.
+pub record HasItsNames (program : Program) (here : Here) : Type 0 where
+  pub functions : (word : List ℕ) (f : ℕ) → meaning here word ≡ Some (a_function f) → (placed : Placed) × (slice_get program.functions f ≡ Some placed)
+  pub shapes : (word : List ℕ) (shape : ℕ) → meaning here word ≡ Some (a_shape shape) → IsShape here shape
+  pub variables : (word : List ℕ) (v : Variable) (ty : VariableType) (shape : ℕ) → meaning here word ≡ Some (a_variable v (Some ty)) → ty.value.shape ≡ Some shape → IsShape here shape
+  pub current : (shape : ℕ) → here.current ≡ Some shape → IsShape here shape
+
+-- an expression stands in another one, or is that one, each at its place
+pub data StandsIn : Here → Expr → Here → Expr → Type 0 where
+  itself : {here : Here} {e : Expr} → StandsIn here e here e
+  in_part : {here there place : Here} {e x y : Expr} → IsPart here e there x → StandsIn there x place y → StandsIn here e place y
+  in_brackets : {here place : Here} {y : Expr} {p : Place} (inner : Box Expr Global) → StandsIn here inner.value place y → StandsIn here (E.Brackets p inner) place y
+
+-- Each call in the expression within a function is one of an instance of the program, and each text of
+-- a `printf` has as many bytes as a list can have.
+pub record HasItsInstances (program : Program) (here : Here) (e : Expr) : Type 0 where
+  pub instances : (place : Here) (n : Name) (arguments : Vec Expr Global) (f around : ℕ) → StandsIn here e place (E.Call n arguments) → meaning place n.word ≡ Some (a_function f) → place.around ≡ Some around → (instance : ℕ) × (slice_get program.instances instance ≡ Some (record { function = f; current = place.current }))
+  pub texts : (place : Here) (p : Place) (text : List ℕ) (arguments : Vec Expr Global) → StandsIn here e place (E.Printf p text arguments) → length text < 2 ^ 63
