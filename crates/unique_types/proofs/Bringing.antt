@@ -62,12 +62,11 @@ vec_below heap items few = record { items = items; ptr = null_ptr; len = length 
 pub record Converted (e : TExpr) (elem : Elem) : Type 0 where
   pub box : Box TExpr Global
   pub conversion : IsConverted e elem box.value
-  pub type_is : type_of box.value ≡ record { elem = elem; shape = (type_of e).shape }
 
 pub converted : Global → (e : TExpr) (elem : Elem) → Converted e elem
 converted heap e elem = elim (one_elem (type_of e).elem elem) [
-  | inl is ↦ record { box = boxed heap e; conversion = C.as_it_is is; type_is = ap (λ (k : Elem). let ty : ValueType = record { elem = k; shape = (type_of e).shape } in ty) is }
-  | inr other ↦ record { box = boxed heap (T.Convert (record { elem = elem; shape = (type_of e).shape }) (boxed heap e)); conversion = C.by_node (boxed heap e) refl other; type_is = refl }
+  | inl is ↦ record { box = boxed heap e; conversion = C.as_it_is is }
+  | inr other ↦ record { box = boxed heap (T.Convert (record { elem = elem; shape = (type_of e).shape }) (boxed heap e)); conversion = C.by_node (boxed heap e) refl other }
 ]
 
 pub scalar_fit : {e f : TExpr} {elem : Elem} → IsConverted e elem f → IsFitted e (scalar elem) f

@@ -21,11 +21,14 @@ use Rattle.cstar_tree.specs.ExpressionTypes as X
 use Rattle.cstar_tree.specs.Headers.{Placed, Program, Returns, a_value, nothing, unknown}
 use Rattle.cstar_tree.specs.Scopes.{Here, a_function, meaning, part}
 use Rattle.cstar_tree.specs.Typed.{type_of}
-use Rattle.unique_types.specs.Outcomes.{DecidesCalls, HasItsInstances, Outcome}
+use Rattle.unique_types.specs.Outcomes.{IsOfProgram, Outcome}
 use Rattle.unique_types.specs.Outcomes as O
 use Rattle.unique_types.proofs.Bringing.{all_fitted, each_length, vec_below}
+use Rattle.unique_types.proofs.Called.{it_calls}
 use Rattle.unique_types.proofs.Coming.{AtHandOrAway, HasOutcome, at_hand_or_away, with_each, with_function}
 use Rattle.unique_types.proofs.Coming as W
+use Rattle.unique_types.proofs.Judged.{of_parts}
+use Rattle.unique_types.proofs.Leading.{decided}
 use Rattle.unique_types.proofs.Unique.{returned}
 
 -- ---- the header
@@ -54,7 +57,7 @@ known_or_other current ty = told (at_hand_or_away current ty.shape)
   where
     told : AtHandOrAway current ty.shape → IsKnownAtHand current (Some ty) ⊎ IsOther current ty
     told (W.at_hand h) = inl (X.typed h)
-    told (W.away {s = s} of away) = inr (record { shape = s; is = ap (λ (k : Option ℕ). let it : ValueType = record { elem = ty.elem; shape = k } in Some it) of; is_other = not_current away })
+    told (W.away {s = s} of away) = inr (record { shape = s; is = ap (λ (k : Option ℕ). Some (of_parts ty.elem k)) of; is_other = not_current away })
 
 record OtherAmong (current : Option ℕ) (types : List ValueType) : Type 0 where
   pub which : ℕ
@@ -98,7 +101,7 @@ taken [] [] same = inl X.none
 taken [] (t ∷ ts) same = absurd (omega (arith, same))
 taken (ty ∷ types) [] same = absurd (omega (arith, same))
 taken (ty ∷ types) (t ∷ ts) same = elim (fit_or_parallel ty t ty.shape (type_of t).shape refl refl) [
-  | inr wrong ↦ inr (record { which = zero; elem = ty.elem; tree = t; shape = wrong.0; is_scalar = ap (λ (k : Option ℕ). let it : ValueType = record { elem = ty.elem; shape = k } in Some (Some it)) wrong.1; is = refl; is_parallel = wrong.2 })
+  | inr wrong ↦ inr (record { which = zero; elem = ty.elem; tree = t; shape = wrong.0; is_scalar = ap (λ (k : Option ℕ). Some (Some (of_parts ty.elem k))) wrong.1; is = refl; is_parallel = wrong.2 })
   | inl fit ↦ elim (taken types ts (let fewer : length ts ≡ length types = omega (arith, same) in fewer)) [
     | inl rest ↦ inl (X.next fit rest)
     | inr wrong ↦ inr (record { which = suc wrong.which; elem = wrong.elem; tree = wrong.tree; shape = wrong.shape; is_scalar = wrong.is_scalar; is = wrong.is; is_parallel = wrong.is_parallel })
@@ -107,7 +110,7 @@ taken (ty ∷ types) (t ∷ ts) same = elim (fit_or_parallel ty t ty.shape (type
 
 -- ---- the call
 
-module _ (program : Program) (decides : DecidesCalls program) (n : Name) (arguments : Vec Expr Global) (here : Here) (i : HasItsInstances program here (E.Call n arguments)) {f : ℕ} {placed : Placed} (means : meaning here n.word ≡ Some (a_function f)) (is_placed : slice_get program.functions f ≡ Some placed) where
+module _ (program : Program) (n : Name) (arguments : Vec Expr Global) (here : Here) (i : IsOfProgram program here (E.Call n arguments)) {f : ℕ} {placed : Placed} (means : meaning here n.word ≡ Some (a_function f)) (is_placed : slice_get program.functions f ≡ Some placed) where
   abbrev this : Expr
   this = E.Call n arguments
 
@@ -119,10 +122,10 @@ module _ (program : Program) (decides : DecidesCalls program) (n : Name) (argume
     called None outside take callable gives =
         let few = arguments.small in
         O.typed (X.call_outside arguments (vec_below arguments.alloc ts (omega (arith, arguments.ok, each_length typed))) means is_placed outside are callable (X.known gives) typed take)
-    called (Some around) is_around take callable gives = elim (decides f around) [
+    called (Some around) is_around take callable gives = elim (decided program.calls f around) [
       | inl leads ↦ O.faulty (F.at (F.recursion arguments this_call is_around leads))
       | inr no_way ↦
-          let instance = i.instances here n arguments f around O.itself means is_around in
+          let instance = i.instances (record { function = f; current = here.current; typed = true }) around (it_calls here n arguments means) is_around in
           let fs = all_fitted arguments.alloc take in
           let as_many = fs.1 in
           let few = arguments.small in
@@ -152,12 +155,12 @@ module _ (program : Program) (decides : DecidesCalls program) (n : Name) (argume
       ]
     ]
 
-pub call : (program : Program) → DecidesCalls program → (n : Name) (arguments : Vec Expr Global) → All (HasOutcome program) arguments.items → HasOutcome program (E.Call n arguments)
-call program decides n arguments from here k i =
+pub call : (program : Program) (n : Name) (arguments : Vec Expr Global) → All (HasOutcome program) arguments.items → HasOutcome program (E.Call n arguments)
+call program n arguments from here k i =
     with_function n (F.as_function arguments) (λ f means.
     let placed = k.functions n.word f means in
     elim (all_types (parameters_of here placed.0 f)) [
       | inr none ↦ O.rests (O.on_function arguments means placed.1 (O.parameter none.0 none.1))
       | inl types ↦ with_each arguments.items from (λ which x at. F.argument arguments which at) k i (λ ts typed.
-          with_arguments program decides n arguments here i means placed.1 types.0 types.1 typed)
+          with_arguments program n arguments here i means placed.1 types.0 types.1 typed)
     ])

@@ -1,5 +1,5 @@
 -- What an expression comes to, from what its parts and its names come to.
-use Rattle.std.proofs.Common.{◌≡◌, ◌+◌, inl, inr, ℕ, zero, suc, true, false, List, [], ◌∷◌, Option, Some, None, refl, ap, subst, arith}
+use Rattle.std.proofs.Common.{◌≡◌, ◌+◌, inl, inr, ℕ, zero, suc, Bool, sym, true, false, List, [], ◌∷◌, Option, Some, None, refl, ap, subst, ◌∙◌, arith}
 use Rattle.std.specs.List.{All, slice_get}
 use Rattle.std.proofs.lemmas.Bool.Decides.{eqb_tells}
 use Rattle.std.proofs.lemmas.List.Elements.{All-head, All-tail}
@@ -18,51 +18,31 @@ use Rattle.cstar_tree.specs.ExpressionTypes as X
 use Rattle.cstar_tree.specs.Headers.{Program}
 use Rattle.cstar_tree.specs.Scopes.{Here, IsAtHand, Meaning, VariableType, a_function, a_shape, a_variable, extents_of, index_place, meaning, part, shape_meant, shape_of}
 use Rattle.cstar_tree.specs.Scopes as S
-use Rattle.unique_types.specs.Outcomes.{HasItsInstances, HasItsNames, IsShape, Outcome}
+use Rattle.unique_types.specs.Outcomes.{IsOfProgram, HasItsNames, IsShape, Outcome}
 use Rattle.unique_types.specs.Outcomes as O
+use Rattle.unique_types.proofs.Called.{around_there, elsewhere, part_calls, place_there}
 use Rattle.unique_types.proofs.Judged.{Operand}
 
 -- ---- places of parts
 
-known_in_part : {program : Program} {here : Here} → HasItsNames program here → HasItsNames program (part here)
+known_elsewhere : {program : Program} (here : Here) (dot : Option ℕ) (whole : Bool) → HasItsNames program here → HasItsNames program (elsewhere here dot whole)
 unfolding meaning extents_of
-known_in_part k = record { functions = k.functions; shapes = k.shapes; variables = k.variables; current = k.current }
-
-known_in_index : {program : Program} {here : Here} (word : List ℕ) (axis : ℕ) → HasItsNames program here → HasItsNames program (index_place here word axis)
-unfolding meaning extents_of index_place
-known_in_index word axis k = record { functions = k.functions; shapes = k.shapes; variables = k.variables; current = k.current }
+known_elsewhere here dot whole k = record { functions = k.functions; shapes = k.shapes; variables = k.variables; current = k.current }
 
 known_there : {program : Program} {here there : Here} {e x : Expr} → IsPart here e there x → HasItsNames program here → HasItsNames program there
-known_there (F.target target value) k = known_in_part k
-known_there (F.value target value) k = known_in_part k
-known_there (F.test test second third) k = known_in_part k
-known_there (F.second test second third) k = known_in_part k
-known_there (F.third test second third) k = known_in_part k
-known_there (F.left left right) k = known_in_part k
-known_there (F.right left right) k = known_in_part k
-known_there (F.of_prefix operand) k = known_in_part k
-known_there (F.of_postfix operand) k = known_in_part k
-known_there (F.of_casts chain operand) k = known_in_part k
-known_there (F.of_cast operand) k = known_in_part k
-known_there (F.right_index index) k = known_in_part k
-known_there (F.argument arguments which is) k = known_in_part k
-known_there (F.left_index {n = n} indexes which is) k = known_in_index n.word which k
-known_there (F.along g) k = known_in_part k
-known_there (F.of_dim axis) k = known_in_part k
-known_there (F.source source axis) k = known_in_part k
-known_there (F.printed arguments which is) k = known_in_part k
+known_there {program} {here} {there} is k = subst (HasItsNames program) (sym (place_there is)) (known_elsewhere here there.dot there.whole k)
 
-instances_there : {program : Program} {here there : Here} {e x : Expr} → IsPart here e there x → HasItsInstances program here e → HasItsInstances program there x
-instances_there is i = record {
-  instances = λ place n arguments f around stands. i.instances place n arguments f around (O.in_part is stands);
-  texts = λ place p text arguments stands. i.texts place p text arguments (O.in_part is stands);
+of_program_there : {program : Program} {here there : Here} {e x : Expr} → IsPart here e there x → IsOfProgram program here e → IsOfProgram program there x
+of_program_there is i = record {
+  instances = λ c around calls at_function. i.instances c around (part_calls is calls) (sym (around_there is) ∙ at_function);
+  texts = λ p text arguments stands. i.texts p text arguments (O.in_part is stands);
 }
 
 -- ---- parts
 
 -- an expression has an outcome wherever what it names and calls is there
 abbrev pub HasOutcome : Program → Expr → Type 0
-HasOutcome program e = (here : Here) → HasItsNames program here → HasItsInstances program here e → Outcome program here e
+HasOutcome program e = (here : Here) → HasItsNames program here → IsOfProgram program here e → Outcome program here e
 
 from_part : {program : Program} {here there : Here} {e x : Expr} → IsPart here e there x → (Operand program there x → Outcome program here e) → Outcome program there x → Outcome program here e
 from_part is goes_on (O.typed {t = t} {has_value = true} h) = goes_on (record { tree = t; types = h })
@@ -70,16 +50,16 @@ from_part is goes_on (O.typed {has_value = false} h) = O.faulty (F.no_value is h
 from_part is goes_on (O.faulty h) = O.faulty (F.in_part is h)
 from_part is goes_on (O.rests h) = O.rests (O.in_part is h)
 
-pub with_part : {program : Program} {here there : Here} {e x : Expr} → IsPart here e there x → HasOutcome program x → HasItsNames program here → HasItsInstances program here e → (Operand program there x → Outcome program here e) → Outcome program here e
-with_part {there = there} is outcome k i goes_on = from_part is goes_on (outcome there (known_there is k) (instances_there is i))
+pub with_part : {program : Program} {here there : Here} {e x : Expr} → IsPart here e there x → HasOutcome program x → HasItsNames program here → IsOfProgram program here e → (Operand program there x → Outcome program here e) → Outcome program here e
+with_part {there = there} is outcome k i goes_on = from_part is goes_on (outcome there (known_there is k) (of_program_there is i))
 
-pub with_each : {program : Program} {here : Here} {e : Expr} (es : List Expr) → All (HasOutcome program) es → ((which : ℕ) (x : Expr) → slice_get es which ≡ Some x → IsPart here e (part here) x) → HasItsNames program here → HasItsInstances program here e → ((ts : List TExpr) → TypesEach program (part here) es ts → Outcome program here e) → Outcome program here e
+pub with_each : {program : Program} {here : Here} {e : Expr} (es : List Expr) → All (HasOutcome program) es → ((which : ℕ) (x : Expr) → slice_get es which ≡ Some x → IsPart here e (part here) x) → HasItsNames program here → IsOfProgram program here e → ((ts : List TExpr) → TypesEach program (part here) es ts → Outcome program here e) → Outcome program here e
 with_each [] all parts k i goes_on = goes_on [] X.no_expression
 with_each {program} (x ∷ es) all parts k i goes_on =
     with_part (parts zero x refl) (All-head (HasOutcome program) x es all) k i (λ t.
     with_each es (All-tail (HasOutcome program) x es all) (λ which y is. parts (suc which) y is) k i (λ ts h. goes_on (t.tree ∷ ts) (X.next_expression t.types h)))
 
-pub with_indexes : {program : Program} {here : Here} {e : Expr} (n : Name) (axis : ℕ) (es : List Expr) → All (HasOutcome program) es → ((which : ℕ) (x : Expr) → slice_get es which ≡ Some x → IsPart here e (index_place here n.word (axis + which)) x) → HasItsNames program here → HasItsInstances program here e → ((ts : List TExpr) → TypesIndexes program here n axis es ts → Outcome program here e) → Outcome program here e
+pub with_indexes : {program : Program} {here : Here} {e : Expr} (n : Name) (axis : ℕ) (es : List Expr) → All (HasOutcome program) es → ((which : ℕ) (x : Expr) → slice_get es which ≡ Some x → IsPart here e (index_place here n.word (axis + which)) x) → HasItsNames program here → IsOfProgram program here e → ((ts : List TExpr) → TypesIndexes program here n axis es ts → Outcome program here e) → Outcome program here e
 with_indexes n axis [] all parts k i goes_on = goes_on [] X.no_index
 with_indexes {program} {here} {e} n axis (x ∷ es) all parts k i goes_on =
     let first : axis + zero ≡ axis = omega arith in

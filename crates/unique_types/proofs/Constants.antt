@@ -27,6 +27,7 @@ use Rattle.cstar_tree.specs.Headers.{Program}
 use Rattle.cstar_tree.specs.Operations.{left_elem, result_elem, right_elem, sign_of}
 use Rattle.cstar_tree.specs.Scopes.{Here, extents_of, meaning, part, shape_of}
 use Rattle.cstar_tree.specs.Typed.{type_of}
+use Rattle.unique_types.proofs.Judged.{converted_type, of_parts}
 use Rattle.unique_types.proofs.Bringing.{boxed, cast_elems, converted, scalar_fit}
 
 -- ---- the constants of the parts
@@ -129,7 +130,7 @@ module _ (program : Program) (here : Here) (p : Place) where
       record {
         tree = T.Unary (type_of c.box.value) sign c.box;
         types = X.signed operand c.box is x.types c.conversion;
-        type_is = c.type_is ∙ ap (λ (ty : ValueType). let made : ValueType = record { elem = promoted ty.elem; shape = ty.shape } in made) x.type_is;
+        type_is = converted_type c.conversion ∙ ap (λ (ty : ValueType). of_parts (promoted ty.elem) ty.shape) x.type_is;
       }
 
   prefix_constant : (op : PrefixOp) (operand : Box Expr Global) {a k : Constant} → prefixed op a ≡ Some k → TypedConstant program (part here) operand.value a → TypedConstant program here (E.Prefix p op operand) k
@@ -140,7 +141,7 @@ module _ (program : Program) (here : Here) (p : Place) where
   prefix_constant P.Not operand is x = same_constant (same_Some _ _ is) (record {
     tree = T.Unary (record { elem = int; shape = (type_of x.tree).shape }) U.Not (boxed operand.alloc x.tree);
     types = X.logical_not operand (boxed operand.alloc x.tree) x.types;
-    type_is = ap (λ (ty : ValueType). let made : ValueType = record { elem = int; shape = ty.shape } in made) x.type_is;
+    type_is = ap (λ (ty : ValueType). of_parts int ty.shape) x.type_is;
   })
   prefix_constant (P.Step op) operand is x = absurd (cc)
   prefix_constant (P.Reduce op) operand is x = absurd (cc)
@@ -150,12 +151,12 @@ module _ (program : Program) (here : Here) (p : Place) where
   binary_constant B.LogicalOr left right x y = record {
     tree = T.LogicalOr (record { elem = int; shape = (type_of y.tree).shape }) (boxed left.alloc x.tree) (boxed left.alloc y.tree);
     types = X.logical_or left right (boxed left.alloc x.tree) (boxed left.alloc y.tree) x.types y.types (subst (λ (s : Option ℕ). IsSpread y.tree s y.tree) (sym (no_shape x.type_is)) C.none_wanted);
-    type_is = ap (λ (ty : ValueType). let made : ValueType = record { elem = int; shape = ty.shape } in made) y.type_is;
+    type_is = ap (λ (ty : ValueType). of_parts int ty.shape) y.type_is;
   }
   binary_constant B.LogicalAnd left right x y = record {
     tree = T.LogicalAnd (record { elem = int; shape = (type_of y.tree).shape }) (boxed left.alloc x.tree) (boxed left.alloc y.tree);
     types = X.logical_and left right (boxed left.alloc x.tree) (boxed left.alloc y.tree) x.types y.types (subst (λ (s : Option ℕ). IsSpread y.tree s y.tree) (sym (no_shape x.type_is)) C.none_wanted);
-    type_is = ap (λ (ty : ValueType). let made : ValueType = record { elem = int; shape = ty.shape } in made) y.type_is;
+    type_is = ap (λ (ty : ValueType). of_parts int ty.shape) y.type_is;
   }
   binary_constant (B.Number op) left right {a = a} x y =
       let f = converted left.alloc x.tree (left_elem op (type_of x.tree).elem (type_of y.tree).elem) in
@@ -175,7 +176,7 @@ module _ (program : Program) (here : Here) (p : Place) where
       record {
         tree = T.Choice (scalar elem) (boxed test.alloc x.tree) f.box g.box;
         types = X.choice test second third (boxed test.alloc x.tree) f.box g.box x.types y.types z.types
-            (ap (λ (s : Option ℕ). let made : ValueType = record { elem = elem; shape = s } in made) (no_shapes y.type_is z.type_is ∙ ap (λ (ty : ValueType). either ty.shape (either (type_of y.tree).shape (type_of z.tree).shape)) (sym x.type_is)))
+            (ap (of_parts elem) (no_shapes y.type_is z.type_is ∙ ap (λ (ty : ValueType). either ty.shape (either (type_of y.tree).shape (type_of z.tree).shape)) (sym x.type_is)))
             (scalar_fit f.conversion) (scalar_fit g.conversion);
         type_is = ap (λ (ty : ValueType). scalar (common ty.elem (type_of z.tree).elem)) y.type_is ∙ ap (λ (ty : ValueType). scalar (common b.elem ty.elem)) z.type_is;
       }

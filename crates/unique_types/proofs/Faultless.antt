@@ -31,7 +31,7 @@ use Rattle.cstar_tree.specs.Typed.{type_of}
 use Rattle.unique_types.specs.Alike.{IsAlike}
 use Rattle.unique_types.proofs.Judged.{along_of, judged, judged_call, judged_index, judged_printf}
 use Rattle.unique_types.proofs.Parts.{not_untold, parameters_are, part_typed, result_is}
-use Rattle.unique_types.proofs.Unique.{one_function, one_variable, same, same_each, same_shape}
+use Rattle.unique_types.proofs.Unique.{bits_shape, one_function, one_variable, same, same_each, same_shape}
 
 -- ---- names
 
@@ -86,9 +86,6 @@ named (F.as_indexed indexes) h = let j = judged h in record { meant = _; means =
 named (F.as_bit bit) h = let j = bit_named refl bit h in record { meant = _; means = j.is_variable; is_kind = refl }
 named (F.as_function arguments) h = let j = judged h in record { meant = _; means = j.is_function; is_kind = refl }
 named {here = here} {n = n} (F.as_shape names) h = a_shape_meant here n (meaning here n.word) refl (shape_named names h).1
-
-bits_shape : {ty : VariableType} {s : ℕ} → HoldsBits ty s → ty.value.shape ≡ Some s
-bits_shape (F.holds_bits bits) = refl
 
 -- ---- shapes
 

@@ -27,24 +27,20 @@ use Rattle.unique_types.specs.Outcomes.{HasItsNames, Outcome}
 use Rattle.unique_types.specs.Outcomes as O
 use Rattle.unique_types.proofs.Bringing.{converted}
 use Rattle.unique_types.proofs.Coming.{HasOutcome, with_part, with_variable}
-use Rattle.unique_types.proofs.Judged.{IsAlong, Operand}
+use Rattle.unique_types.proofs.Judged.{IsAlong, Operand, of_parts}
+use Rattle.unique_types.proofs.Naming.{variable_of}
+use Rattle.unique_types.proofs.Unique.{bits_shape}
 
 -- ---- segment bits
 
 bits_array : {ty : VariableType} {s : ℕ} → HoldsBits ty s → ty.array ≡ None
 bits_array (F.holds_bits bits) = refl
 
-bits_shape : {ty : VariableType} {s : ℕ} → HoldsBits ty s → ty.value.shape ≡ Some s
-bits_shape (F.holds_bits bits) = refl
-
 bits_one : {ty : VariableType} {s : ℕ} → HoldsBits ty s → ty.value.elem.bits ≡ 1
 bits_one (F.holds_bits bits) = bits
 
-abbrev variable_of : Elem → Option ℕ → Option ℕ → VariableType
-variable_of elem shape array = record { value = record { elem = elem; shape = shape }; array = array }
-
 -- a variable holds bits of one shape, or of none
-holds_bits : (elem : Elem) (shape array : Option ℕ) → ((s : ℕ) × HoldsBits (variable_of elem shape array) s) ⊎ ((s : ℕ) → HoldsBits (variable_of elem shape array) s → ⊥)
+holds_bits : (elem : Elem) (shape array : Option ℕ) → ((s : ℕ) × HoldsBits (variable_of (of_parts elem shape) array) s) ⊎ ((s : ℕ) → HoldsBits (variable_of (of_parts elem shape) array) s → ⊥)
 holds_bits elem shape (Some extent) = inr (λ s h. let none = bits_array h in cc)
 holds_bits elem None None = inr (λ s h. let some = bits_shape h in cc)
 holds_bits elem (Some s) None = elim (eqb_tells elem.bits 1) [

@@ -36,6 +36,9 @@ use Rattle.cstar_tree.specs.Typed.{type_of}
 
 -- ---- what there is of each kind of expression
 
+abbrev pub of_parts : Elem → Option ℕ → ValueType
+of_parts elem shape = record { elem = elem; shape = shape }
+
 -- the type of a typed tree, what it is as a target, and whether it has a value
 pub record IsLike (t : TExpr) (b : Bool) (ty : ValueType) (target : Option Target) (has_value : Bool) : Type 0 where
   pub type_is : type_of t ≡ ty
@@ -232,8 +235,8 @@ Judged program here (E.GetChar p) t b = IsLike t b (scalar int) None true
 
 -- ---- the rules ask this
 
-converted_type : {a x : TExpr} {e : Elem} → IsConverted a e x → type_of x ≡ record { elem = e; shape = (type_of a).shape }
-converted_type {a} (C.as_it_is h) = ap (λ (e : Elem). let ty : ValueType = record { elem = e; shape = (type_of a).shape } in ty) h
+pub converted_type : {a x : TExpr} {e : Elem} → IsConverted a e x → type_of x ≡ of_parts e (type_of a).shape
+converted_type {a} (C.as_it_is h) = ap (λ (k : Elem). of_parts k (type_of a).shape) h
 converted_type (C.by_node operand is other) = refl
 
 either_none : (x : Option ℕ) → x ≡ either x None
@@ -266,12 +269,6 @@ fitted_taken : {types : List ValueType} {es fs : List TExpr} → AreFitted types
 fitted_taken C.none = X.none
 fitted_taken (C.next scalar fit rest) = X.next scalar (fitted_taken rest)
 
-abbrev of_elem : Option ℕ → Elem → ValueType
-of_elem shape elem = record { elem = elem; shape = shape }
-
-abbrev with_shape : Elem → Option ℕ → ValueType
-with_shape elem shape = record { elem = elem; shape = shape }
-
 abbrev operand_of : {program : Program} {here : Here} {e : Expr} {t : TExpr} → Types program here e t true → Operand program here e
 operand_of {t = t} h = record { tree = t; types = h }
 
@@ -296,9 +293,9 @@ judged {program = program} (X.left_index {here = here} {n = n} {v = v} {elem = e
 judged (X.brackets inner i typed) = record { tree = i.value; types = typed; like = record { type_is = refl; target_is = refl; value_is = refl } }
 judged (X.assign target value t f typed typed_value place storable fit) = record { stored = operand_of typed; given = operand_of typed_value; is_place = place; is_storable = storable; like = record { type_is = refl; target_is = refl; value_is = refl } }
 judged (X.choice test second third c x y typed_test typed_second typed_third is fit_second fit_third) = record { condition = operand_of typed_test; left = operand_of typed_second; right = operand_of typed_third; like = record { type_is = is; target_is = refl; value_is = refl } }
-judged (X.operation {op = op} {a = a} {b = b} left right x y typed_left typed_right is fit_left fit_right) = record { first = operand_of typed_left; second = operand_of typed_right; like = record { type_is = ap (with_shape (result_elem op (type_of a).elem (type_of b).elem)) is; target_is = refl; value_is = refl } }
-judged (X.logical_or left right x y typed_left typed_right spread) = record { first = operand_of typed_left; second = operand_of typed_right; like = record { type_is = ap (with_shape int) (spread_shape spread); target_is = refl; value_is = refl } }
-judged (X.logical_and left right x y typed_left typed_right spread) = record { first = operand_of typed_left; second = operand_of typed_right; like = record { type_is = ap (with_shape int) (spread_shape spread); target_is = refl; value_is = refl } }
+judged (X.operation {op = op} {a = a} {b = b} left right x y typed_left typed_right is fit_left fit_right) = record { first = operand_of typed_left; second = operand_of typed_right; like = record { type_is = ap (of_parts (result_elem op (type_of a).elem (type_of b).elem)) is; target_is = refl; value_is = refl } }
+judged (X.logical_or left right x y typed_left typed_right spread) = record { first = operand_of typed_left; second = operand_of typed_right; like = record { type_is = ap (of_parts int) (spread_shape spread); target_is = refl; value_is = refl } }
+judged (X.logical_and left right x y typed_left typed_right spread) = record { first = operand_of typed_left; second = operand_of typed_right; like = record { type_is = ap (of_parts int) (spread_shape spread); target_is = refl; value_is = refl } }
 judged (X.signed {op = op} {sign = sign} {a = a} operand x is typed conversion) = record { typed = operand_of typed; is_prefixed = sign_prefixes op sign a is; like = record { type_is = converted_type conversion ∙ sign_type op sign (type_of a) is; target_is = refl; value_is = refl } }
 judged (X.logical_not operand x typed) = record { typed = operand_of typed; is_prefixed = tt; like = record { type_is = refl; target_is = refl; value_is = refl } }
 judged (X.reduction {shape = shape} operand x typed is_parallel conversion) = record { typed = operand_of typed; is_prefixed = (shape, is_parallel); like = record { type_is = refl; target_is = refl; value_is = refl } }
@@ -338,12 +335,12 @@ judged {program = program} (X.call_outside {here = here} {f = f} {placed = place
   no_way_back = λ other is_other leads. cc;
   like = record { type_is = refl; target_is = refl; value_is = refl };
 }
-judged (X.pcoord {shape = shape} {number = number} {extents = extents} axis current known is) = record { along = record { shape = shape; extents = extents; number = number; v = None; is_current = current; has_extents = known; is_axis = is; is_bit = X.no_bit }; like = record { type_is = ap (with_shape int) (sym current); target_is = refl; value_is = refl } }
+judged (X.pcoord {shape = shape} {number = number} {extents = extents} axis current known is) = record { along = record { shape = shape; extents = extents; number = number; v = None; is_current = current; has_extents = known; is_axis = is; is_bit = X.no_bit }; like = record { type_is = ap (of_parts int) (sym current); target_is = refl; value_is = refl } }
 judged (X.positions_of {shape = shape} {extents = extents} is known) = record { shape = shape; extents = extents; is_shape = is; has_extents = known; like = record { type_is = refl; target_is = refl; value_is = refl } }
 judged (X.rank_of {shape = shape} {extents = extents} is known) = record { shape = shape; extents = extents; is_shape = is; has_extents = known; like = record { type_is = refl; target_is = refl; value_is = refl } }
 judged (X.dim_of {shape = shape} {number = number} {extents = extents} axis is known among at_axis) = record { of_shape = record { shape = shape; extents = extents; is_shape = is; has_extents = known; like = record { type_is = refl; target_is = refl; value_is = refl } }; number = number; is_axis = among }
-judged (X.scan {v = v} {a = a} {shape = shape} {of = of} {number = number} {extents = extents} source axis x current known is segments typed is_parallel conversion) = record { along = record { shape = shape; extents = extents; number = number; v = v; is_current = current; has_extents = known; is_axis = is; is_bit = segments }; typed = operand_of typed; of = of; is_parallel = is_parallel; like = record { type_is = ap (with_shape (promoted (type_of a).elem)) (sym current); target_is = refl; value_is = refl } }
-judged (X.enumerate {v = v} {shape = shape} {number = number} {extents = extents} axis current known is segments) = record { along = record { shape = shape; extents = extents; number = number; v = v; is_current = current; has_extents = known; is_axis = is; is_bit = segments }; like = record { type_is = ap (with_shape int) (sym current); target_is = refl; value_is = refl } }
+judged (X.scan {v = v} {a = a} {shape = shape} {of = of} {number = number} {extents = extents} source axis x current known is segments typed is_parallel conversion) = record { along = record { shape = shape; extents = extents; number = number; v = v; is_current = current; has_extents = known; is_axis = is; is_bit = segments }; typed = operand_of typed; of = of; is_parallel = is_parallel; like = record { type_is = ap (of_parts (promoted (type_of a).elem)) (sym current); target_is = refl; value_is = refl } }
+judged (X.enumerate {v = v} {shape = shape} {number = number} {extents = extents} axis current known is segments) = record { along = record { shape = shape; extents = extents; number = number; v = v; is_current = current; has_extents = known; is_axis = is; is_bit = segments }; like = record { type_is = ap (of_parts int) (sym current); target_is = refl; value_is = refl } }
 judged {program = program} (X.printf {here = here} {given = given} arguments pieces values typed none are as_many promote) = record {
   given = given;
   pieces = pieces.items;

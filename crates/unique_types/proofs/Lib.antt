@@ -1,10 +1,12 @@
 pub mod Bringing
+pub mod Called
 pub mod Calls
 pub mod Coming
 pub mod Constants
 pub mod Faultless
 pub mod Intrinsics
 pub mod Judged
+pub mod Leading
 pub mod Naming
 pub mod Operations
 pub mod Outcomes

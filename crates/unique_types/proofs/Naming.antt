@@ -30,19 +30,19 @@ use Rattle.unique_types.specs.Outcomes as O
 use Rattle.unique_types.proofs.Bringing.{all_promoted, all_spread, boxed, each_length, few_pieces, indexes_length, vec_below}
 use Rattle.unique_types.proofs.Coming.{AtHandOrAway, HasOutcome, at_hand_or_away, is_shape, with_each, with_indexes, with_part, with_shape, with_variable}
 use Rattle.unique_types.proofs.Coming as W
-use Rattle.unique_types.proofs.Judged.{Operand}
+use Rattle.unique_types.proofs.Judged.{Operand, of_parts}
 
 -- ---- variables
 
-abbrev variable_of : ValueType → Option ℕ → VariableType
+abbrev pub variable_of : ValueType → Option ℕ → VariableType
 variable_of value array = record { value = value; array = array }
 
 -- the variable is an array or none, and scalar or parallel
 pub with_array : {m : Option Meaning} {v : Variable} {ty : VariableType} {array : Option ℕ} → m ≡ Some (a_variable v (Some ty)) → ty.array ≡ array → m ≡ Some (a_variable v (Some (variable_of ty.value array)))
 with_array {v = v} {ty = ty} is array = is ∙ ap (λ (a : Option ℕ). Some (a_variable v (Some (variable_of ty.value a)))) array
 
-pub of_shape : {m : Option Meaning} {v : Variable} {value : ValueType} {array shape : Option ℕ} → m ≡ Some (a_variable v (Some (variable_of value array))) → value.shape ≡ shape → m ≡ Some (a_variable v (Some (variable_of (record { elem = value.elem; shape = shape }) array)))
-of_shape {v = v} {value = value} {array = array} is shape = is ∙ ap (λ (s : Option ℕ). let of : ValueType = record { elem = value.elem; shape = s } in Some (a_variable v (Some (variable_of of array)))) shape
+pub of_shape : {m : Option Meaning} {v : Variable} {value : ValueType} {array shape : Option ℕ} → m ≡ Some (a_variable v (Some (variable_of value array))) → value.shape ≡ shape → m ≡ Some (a_variable v (Some (variable_of (of_parts value.elem shape) array)))
+of_shape {v = v} {value = value} {array = array} is shape = is ∙ ap (λ (s : Option ℕ). Some (a_variable v (Some (variable_of (of_parts value.elem s) array)))) shape
 
 module _ (program : Program) where
   -- ---- a whole variable
@@ -188,4 +188,4 @@ module _ (program : Program) (p : Place) (text : List ℕ) (arguments : Vec Expr
 
 pub printf : (program : Program) (p : Place) (text : List ℕ) (arguments : Vec Expr Global) → All (HasOutcome program) arguments.items → HasOutcome program (E.Printf p text arguments)
 printf program p text arguments from here k i =
-    with_each arguments.items from (λ which x at. F.printed arguments which at) k i (λ ts typed. all_scalar program p text arguments here (i.texts here p text arguments O.itself) ts typed (shape_among ts) refl)
+    with_each arguments.items from (λ which x at. F.printed arguments which at) k i (λ ts typed. all_scalar program p text arguments here (i.texts p text arguments O.itself) ts typed (shape_among ts) refl)

@@ -26,12 +26,13 @@ use Rattle.cstar_tree.specs.Headers.{Program}
 use Rattle.cstar_tree.specs.Operations.{Target, assigned_elem, folds, left_elem, left_target, many, one, right_elem, sends, sign_of, target_of}
 use Rattle.cstar_tree.specs.Scopes.{Here, of_shape, of_written, part, written_type}
 use Rattle.cstar_tree.specs.Typed.{type_of}
-use Rattle.unique_types.specs.Outcomes.{HasItsInstances, HasItsNames, Outcome}
+use Rattle.unique_types.specs.Outcomes.{IsOfProgram, HasItsNames, Outcome}
 use Rattle.unique_types.specs.Outcomes as O
 use Rattle.unique_types.proofs.Bringing.{boxed, cast_elems, converted, fitted, spread}
+use Rattle.unique_types.proofs.Called.{brackets_call}
 use Rattle.unique_types.proofs.Coming.{AtHandOrAway, HasOutcome, at_hand_or_away, with_part, with_shape}
 use Rattle.unique_types.proofs.Coming as W
-use Rattle.unique_types.proofs.Judged.{Operand}
+use Rattle.unique_types.proofs.Judged.{Operand, of_parts}
 
 -- many targets are parallel
 many_parallel : (shape : Option ℕ) (p q : Place) → Some (left_target p shape) ≡ Some (many q) → shape ≡ None → ⊥
@@ -46,7 +47,7 @@ parallel_targets other are none = cc
 
 module _ (program : Program) (p : Place) where
   pub brackets : (inner : Box Expr Global) → HasOutcome program inner.value → HasOutcome program (E.Brackets p inner)
-  brackets inner from here k i = around (from here k (record { instances = λ place n arguments f at_function stands. i.instances place n arguments f at_function (O.in_brackets inner stands); texts = λ place q text arguments stands. i.texts place q text arguments (O.in_brackets inner stands) }))
+  brackets inner from here k i = around (from here k (record { instances = λ c at_function calls. i.instances c at_function (brackets_call here p inner calls); texts = λ q text arguments stands. i.texts q text arguments (O.in_brackets inner stands) }))
     where
       around : Outcome program here inner.value → Outcome program here (E.Brackets p inner)
       around (O.typed {t = t} h) = O.typed (X.brackets inner (boxed inner.alloc t) h)
@@ -137,7 +138,7 @@ module _ (program : Program) (p : Place) where
   cast_to : (written : TypeName) (ty : ValueType) (operand : Box Expr Global) (here : Here) → written_type here written ≡ Some ty → Operand program (part here) operand.value → AtHandOrAway here.current ty.shape → Outcome program here (E.ParallelCast p written operand)
   cast_to written ty operand here is x (W.at_hand h) = let y = spread operand.alloc x.tree ty.shape in O.typed (X.parallel_cast operand y.box is h x.types y.spread)
   cast_to written ty operand here is x (W.away of away) =
-      O.faulty (F.at (F.cast_away operand (is ∙ ap (λ (s : Option ℕ). let cast : ValueType = record { elem = ty.elem; shape = s } in Some cast) of) (x.tree, x.types) away))
+      O.faulty (F.at (F.cast_away operand (is ∙ ap (λ (s : Option ℕ). Some (of_parts ty.elem s)) of) (x.tree, x.types) away))
 
   by_written : (written : TypeName) (operand : Box Expr Global) (here : Here) (o : Option ShapeRef) → written.shape ≡ o → ((ty : ValueType) → written_type here written ≡ Some ty → Outcome program here (E.ParallelCast p written operand)) → Outcome program here (E.ParallelCast p written operand)
   by_written written operand here None is goes_on = goes_on (record { elem = written.elem; shape = None }) (ap (of_written here written) is)

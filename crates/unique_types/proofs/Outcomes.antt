@@ -10,7 +10,6 @@ use Rattle.cstar_tree.specs.declared.syntax.Expr.TheOpen.{Expr-F}
 use Rattle.cstar_tree.specs.declared.syntax.Expr.TheVariants as rolled
 use Rattle.cstar_tree.specs.ExpressionTypes as X
 use Rattle.cstar_tree.specs.Headers.{Program}
-use Rattle.unique_types.specs.Outcomes.{DecidesCalls}
 use Rattle.unique_types.specs.Outcomes as O
 use Rattle.unique_types.proofs.Calls as Calls
 use Rattle.unique_types.proofs.Coming.{HasOutcome}
@@ -18,7 +17,7 @@ use Rattle.unique_types.proofs.Intrinsics as Intrinsics
 use Rattle.unique_types.proofs.Naming as Naming
 use Rattle.unique_types.proofs.Operations as Operations
 
-module _ (program : Program) (decides : DecidesCalls program) where
+module _ (program : Program) where
   abbrev Part : Type 0
   Part = (e : Expr) × HasOutcome program e
 
@@ -45,7 +44,7 @@ module _ (program : Program) (decides : DecidesCalls program) where
   node (Expr-F.Number p value u) = subst (HasOutcome program) (sym (rolled.rolls-Number p value u)) (λ here k i. O.typed X.number)
   node (Expr-F.Dot p) = subst (HasOutcome program) (sym (rolled.rolls-Dot p)) (Naming.dot program p)
   node (Expr-F.Brackets p inner) = subst (HasOutcome program) (sym (rolled.rolls-Brackets p _)) (Operations.brackets program p (box inner) inner.value.1)
-  node (Expr-F.Call n arguments) = subst (HasOutcome program) (sym (rolled.rolls-Call n _)) (Calls.call program decides n _ (each arguments.items))
+  node (Expr-F.Call n arguments) = subst (HasOutcome program) (sym (rolled.rolls-Call n _)) (Calls.call program n _ (each arguments.items))
   node (Expr-F.LeftIndex p indexes n) = subst (HasOutcome program) (sym (rolled.rolls-LeftIndex p _ n)) (Naming.left_index program p _ n (each indexes.items))
   node (Expr-F.Pcoord p axis) = subst (HasOutcome program) (sym (rolled.rolls-Pcoord p _)) (Intrinsics.pcoord program p (box axis) axis.value.1)
   node (Expr-F.PositionsOf p written) = subst (HasOutcome program) (sym (rolled.rolls-PositionsOf p written)) (Naming.positions_of program p written)

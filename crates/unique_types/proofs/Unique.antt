@@ -11,6 +11,8 @@ use Rattle.cstar_tree.specs.declared.typed.TExpr.{TExpr}
 use Rattle.cstar_tree.specs.declared.typed.ValueType.{ValueType}
 use Rattle.cstar_tree.specs.declared.typed.Variable.{Variable}
 use Rattle.cstar_tree.specs.Conversions.{either, promoted, scalar, shape_among}
+use Rattle.cstar_tree.specs.ExpressionFaults.{HoldsBits}
+use Rattle.cstar_tree.specs.ExpressionFaults as F
 use Rattle.cstar_tree.specs.ExpressionTypes.{GivesOutside, IsVariable, Types, TypesEach, TypesIndexes, callee, cast_elem}
 use Rattle.cstar_tree.specs.ExpressionTypes as X
 use Rattle.cstar_tree.specs.Headers.{Placed, Program, Returns, returns_of}
@@ -18,7 +20,7 @@ use Rattle.cstar_tree.specs.Operations.{Target, left_target}
 use Rattle.cstar_tree.specs.Scopes.{Here, Meaning, VariableType, a_function, a_variable}
 use Rattle.cstar_tree.specs.Typed.{type_of}
 use Rattle.unique_types.specs.Alike.{IsAlike}
-use Rattle.unique_types.proofs.Judged.{IsLike, binary_type, choice_type, judged, prefix_type}
+use Rattle.unique_types.proofs.Judged.{IsLike, binary_type, choice_type, judged, of_parts, prefix_type}
 
 alike : {t u : TExpr} {b c d e : Bool} {v w : ValueType} {r s : Option Target} → IsLike t b v r d → IsLike u c w s e → v ≡ w → r ≡ s → d ≡ e → IsAlike t u × (b ≡ c)
 alike x y v_is r_is d_is = (record { type_is = x.type_is ∙ (v_is ∙ sym y.type_is); target_is = x.target_is ∙ (r_is ∙ sym y.target_is) }, x.value_is ∙ (d_is ∙ sym y.value_is))
@@ -33,6 +35,9 @@ one_function is known = let both = sym is ∙ known in cc
 
 pub one_placed : (functions : List Placed) {f g : ℕ} {p q : Placed} → f ≡ g → slice_get functions f ≡ Some p → slice_get functions g ≡ Some q → p ≡ q
 one_placed functions {p = p} same is known = let both = sym (subst (λ (k : ℕ). slice_get functions k ≡ Some p) same is) ∙ known in cc
+
+pub bits_shape : {ty : VariableType} {s : ℕ} → HoldsBits ty s → ty.value.shape ≡ Some s
+bits_shape (F.holds_bits bits) = refl
 
 abbrev pub returned : Here → Placed → ℕ → Returns
 returned here placed f = returns_of (callee here placed f) placed.function.result
@@ -55,9 +60,6 @@ same_shape [] (u ∷ us) h = absurd h
 same_shape (t ∷ ts) [] h = absurd h
 same_shape (t ∷ ts) (u ∷ us) h =
     ap (λ (ty : ValueType). either ty.shape (shape_among ts)) h.0.type_is ∙ ap (either (type_of u).shape) (same_shape ts us h.1)
-
-abbrev of_parts : Elem → Option ℕ → ValueType
-of_parts elem shape = record { elem = elem; shape = shape }
 
 same_parts : {a b : Elem} {s r : Option ℕ} → a ≡ b → s ≡ r → of_parts a s ≡ of_parts b r
 same_parts {b = b} {s = s} e h = ap (λ (k : Elem). of_parts k s) e ∙ ap (of_parts b) h

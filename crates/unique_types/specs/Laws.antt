@@ -14,7 +14,7 @@ use Rattle.cstar_tree.specs.Headers.{Program}
 use Rattle.cstar_tree.specs.Scopes.{Here}
 use Rattle.cstar_tree.specs.Typed.{type_of}
 use Rattle.unique_types.specs.Alike.{IsAlike}
-use Rattle.unique_types.specs.Outcomes.{DecidesCalls, HasItsInstances, HasItsNames, Outcome}
+use Rattle.unique_types.specs.Outcomes.{IsOfProgram, HasItsNames, Outcome}
 
 -- ---- one type
 
@@ -54,5 +54,4 @@ TypedExpressionsAreNotUntold =
 -- ---- one or the other
 
 abbrev pub ExpressionsAreTypedOrFaulty : Type 0
-ExpressionsAreTypedOrFaulty =
-    (program : Program) → DecidesCalls program → (here : Here) (e : Expr) → HasItsNames program here → HasItsInstances program here e → Outcome program here e
+ExpressionsAreTypedOrFaulty = (program : Program) (here : Here) (e : Expr) → HasItsNames program here → IsOfProgram program here e → Outcome program here e

@@ -1,5 +1,6 @@
 -- What typing an expression can come to, and what is asked of the place where it stands.
-use Rattle.std.specs.Prelude.{◌≡◌, ◌<◌, ◌^◌, ◌⊎◌, ℕ, Bool, List, length, slice_get, Some, None, Box, Vec}
+use Rattle.std.specs.Prelude.{◌≡◌, ◌<◌, ◌^◌, ℕ, Bool, List, length, slice_get, Some, None, Box, Vec}
+use Rattle.std.specs.List.{Contains}
 use Rattle.std.specs.declared.alloc.Global.{Global}
 use Rattle.cstar_base.specs.declared.faults.Fault.{Fault}
 use Rattle.cstar_base.specs.declared.operators.Place.{Place}
@@ -8,9 +9,10 @@ use Rattle.cstar_tree.specs.declared.syntax.Expr as E
 use Rattle.cstar_tree.specs.declared.syntax.Name.{Name}
 use Rattle.cstar_tree.specs.declared.typed.TExpr.{TExpr}
 use Rattle.cstar_tree.specs.declared.typed.Variable.{Variable}
+use Rattle.cstar_tree.specs.Calls.{Call, calls_in}
 use Rattle.cstar_tree.specs.ExpressionFaults.{FaultIn, IsPart, Uses, parameters_of, variable}
 use Rattle.cstar_tree.specs.ExpressionTypes.{Types, callee}
-use Rattle.cstar_tree.specs.Headers.{Leads, Placed, Program, returns_of, unknown}
+use Rattle.cstar_tree.specs.Headers.{Placed, Program, returns_of, unknown}
 use Rattle.cstar_tree.specs.Scopes.{Here, VariableType, a_function, a_shape, a_variable, extents_of, meaning}
 
 -- the type of a parameter or of the result of a function has a fault
@@ -33,10 +35,6 @@ pub data Outcome (program : Program) (here : Here) (e : Expr) : Type 0 where
 
 -- ---- what is asked
 
--- of any two functions it is known whether the one leads to the other
-abbrev pub DecidesCalls : Program → Type 0
-DecidesCalls program = (f g : ℕ) → Leads program.calls f g ⊎ (Leads program.calls f g → ⊥)
-
 -- a shape of this number is there
 abbrev pub IsShape : Here → ℕ → Type 0
 IsShape here shape = (extents : List ℕ) × (extents_of here shape ≡ Some extents)
@@ -49,14 +47,14 @@ pub record HasItsNames (program : Program) (here : Here) : Type 0 where
   pub variables : (word : List ℕ) (v : Variable) (ty : VariableType) (shape : ℕ) → meaning here word ≡ Some (a_variable v (Some ty)) → ty.value.shape ≡ Some shape → IsShape here shape
   pub current : (shape : ℕ) → here.current ≡ Some shape → IsShape here shape
 
--- an expression stands in another one, or is that one, each at its place
-pub data StandsIn : Here → Expr → Here → Expr → Type 0 where
-  itself : {here : Here} {e : Expr} → StandsIn here e here e
-  in_part : {here there place : Here} {e x y : Expr} → IsPart here e there x → StandsIn there x place y → StandsIn here e place y
-  in_brackets : {here place : Here} {y : Expr} {p : Place} (inner : Box Expr Global) → StandsIn here inner.value place y → StandsIn here (E.Brackets p inner) place y
+-- an expression stands in another one, or is that one
+pub data StandsIn : Expr → Expr → Type 0 where
+  itself : {e : Expr} → StandsIn e e
+  in_part : {here there : Here} {e x y : Expr} → IsPart here e there x → StandsIn x y → StandsIn e y
+  in_brackets : {y : Expr} {p : Place} (inner : Box Expr Global) → StandsIn inner.value y → StandsIn (E.Brackets p inner) y
 
--- Each call in the expression within a function is one of an instance of the program, and each text of
--- a `printf` has as many bytes as a list can have.
-pub record HasItsInstances (program : Program) (here : Here) (e : Expr) : Type 0 where
-  pub instances : (place : Here) (n : Name) (arguments : Vec Expr Global) (f around : ℕ) → StandsIn here e place (E.Call n arguments) → meaning place n.word ≡ Some (a_function f) → place.around ≡ Some around → (instance : ℕ) × (slice_get program.instances instance ≡ Some (record { function = f; current = place.current }))
-  pub texts : (place : Here) (p : Place) (text : List ℕ) (arguments : Vec Expr Global) → StandsIn here e place (E.Printf p text arguments) → length text < 2 ^ 63
+-- Each call of the expression within a function is one of an instance of the program, and each text of
+-- a `printf` in it has no more bytes than a list has items.
+pub record IsOfProgram (program : Program) (here : Here) (e : Expr) : Type 0 where
+  pub instances : (c : Call) (around : ℕ) → Contains (calls_in here e) c → here.around ≡ Some around → (instance : ℕ) × (slice_get program.instances instance ≡ Some (record { function = c.function; current = c.current }))
+  pub texts : (p : Place) (text : List ℕ) (arguments : Vec Expr Global) → StandsIn e (E.Printf p text arguments) → length text < 2 ^ 63

@@ -42,8 +42,8 @@ pub fn typed_expressions_are_not_untold()
 {}
 
 /// Each expression has a type, or a fault stands in it, or it rests on a variable or a function whose
-/// declaration has a fault. What is named at its place is there, its calls within a function are of
-/// instances of the program, and of any two functions it is known whether the one leads to the other.
+/// declaration has a fault. What is named at its place is there, and its calls within a function are of
+/// instances of the program.
 pub fn expressions_are_typed_or_faulty()
     ensures { ExpressionsAreTypedOrFaulty }
 {}

@@ -2,4 +2,4 @@ use Rattle.unique_types.proofs.Outcomes.{expression}
 use Rattle.unique_types.proofs.expressions_are_typed_or_faulty.Goals as goal
 
 pub returns : goal.returns
-returns c = λ program decides here e names calls. expression program decides e here names calls
+returns c = λ program here e names calls. expression program e here names calls
