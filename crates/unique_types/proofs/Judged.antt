@@ -269,7 +269,7 @@ fitted_taken : {types : List ValueType} {es fs : List TExpr} → AreFitted types
 fitted_taken C.none = X.none
 fitted_taken (C.next scalar fit rest) = X.next scalar (fitted_taken rest)
 
-abbrev operand_of : {program : Program} {here : Here} {e : Expr} {t : TExpr} → Types program here e t true → Operand program here e
+abbrev pub operand_of : {program : Program} {here : Here} {e : Expr} {t : TExpr} → Types program here e t true → Operand program here e
 operand_of {t = t} h = record { tree = t; types = h }
 
 pub judged : {program : Program} {here : Here} {e : Expr} {t : TExpr} {b : Bool} → Types program here e t b → Judged program here e t b

@@ -8,7 +8,9 @@ pub mod Intrinsics
 pub mod Judged
 pub mod Leading
 pub mod Naming
+pub mod OneFault
 pub mod Operations
 pub mod Outcomes
 pub mod Parts
+pub mod Told
 pub mod Unique

@@ -4,10 +4,11 @@ use Rattle.std.specs.List.{AllZip}
 use Rattle.cstar_base.specs.declared.faults.Fault.{Fault}
 use Rattle.cstar_base.specs.declared.operators.Place.{Place}
 use Rattle.cstar_tree.specs.declared.syntax.Expr.{Expr}
+use Rattle.cstar_tree.specs.declared.syntax.Expr as E
 use Rattle.cstar_tree.specs.declared.syntax.Name.{Name}
 use Rattle.cstar_tree.specs.declared.typed.TExpr.{TExpr}
 use Rattle.cstar_tree.specs.Constants.{Constant, constant}
-use Rattle.cstar_tree.specs.ExpressionFaults.{FaultIn, IsUntold, ValueFaultIn}
+use Rattle.cstar_tree.specs.ExpressionFaults.{FaultAt, FaultIn, IsUntold, ValueFaultIn}
 use Rattle.cstar_tree.specs.ExpressionTypes.{Types, TypesEach, TypesIndexes}
 use Rattle.cstar_tree.specs.Conversions.{scalar}
 use Rattle.cstar_tree.specs.Headers.{Program}
@@ -50,6 +51,20 @@ TypedValuesHaveNoFault =
 abbrev pub TypedExpressionsAreNotUntold : Type 0
 TypedExpressionsAreNotUntold =
     (program : Program) (here : Here) (e : Expr) (t : TExpr) (b : Bool) → Types program here e t b → IsUntold program here e → ⊥
+
+-- At most one fault stands at a node, but at a call, a scan, an enumerate, a `dimof` and a `printf`: at
+-- these one can stand beside another.
+abbrev pub HasOneAtMost : Expr → Type 0
+HasOneAtMost (E.Call' n _ arguments) = ⊥
+HasOneAtMost (E.DimOf' p shape _ axis) = ⊥
+HasOneAtMost (E.Scan' p _ source _ axis _ _ _ bit _) = ⊥
+HasOneAtMost (E.Enumerate' p _ axis _ _ _ bit) = ⊥
+HasOneAtMost (E.Printf' p text _ arguments) = ⊥
+HasOneAtMost _ = Unit {0}
+
+abbrev pub FaultsAtANodeAreOne : Type 0
+FaultsAtANodeAreOne =
+    (program : Program) (here : Here) (e : Expr) (f g : Fault) (p q : Place) → HasOneAtMost e → FaultAt program here e f p → FaultAt program here e g q → (f ≡ g) × (p ≡ q)
 
 -- ---- one or the other
 

@@ -2,7 +2,7 @@
 //! Readers find the laws here by name.
 #![tactic(auto)]
 
-ghost use Rattle.unique_types.specs.Laws.{ConstantsHaveTypes, ExpressionsAreTypedOrFaulty, TypedExpressionsAreNotUntold, TypedExpressionsHaveNoFault, TypedValuesHaveNoFault, TypesAreUnique, TypesOfIndexesAreUnique, TypesOfListsAreUnique};
+ghost use Rattle.unique_types.specs.Laws.{ConstantsHaveTypes, ExpressionsAreTypedOrFaulty, FaultsAtANodeAreOne, TypedExpressionsAreNotUntold, TypedExpressionsHaveNoFault, TypedValuesHaveNoFault, TypesAreUnique, TypesOfIndexesAreUnique, TypesOfListsAreUnique};
 
 /// The typed trees that the rules give an expression at a place have one type, are one as targets, and
 /// all have a value or none has.
@@ -39,6 +39,12 @@ pub fn typed_values_have_no_fault()
 /// whose header has a fault.
 pub fn typed_expressions_are_not_untold()
     ensures { TypedExpressionsAreNotUntold }
+{}
+
+/// At most one fault stands at a node, but at a call, a scan, an enumerate, a `dimof` and a `printf`: one
+/// number, at one place.
+pub fn faults_at_a_node_are_one()
+    ensures { FaultsAtANodeAreOne }
 {}
 
 /// Each expression has a type, or a fault stands in it, or it rests on a variable or a function whose
