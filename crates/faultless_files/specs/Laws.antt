@@ -1,0 +1,48 @@
+-- The laws: what the rules of typing type has no fault.
+use Rattle.std.specs.Prelude.{List}
+use Rattle.cstar_base.specs.declared.faults.Fault.{Fault}
+use Rattle.cstar_base.specs.declared.operators.Place.{Place}
+use Rattle.cstar_tree.specs.declared.syntax.Block.{Block}
+use Rattle.cstar_tree.specs.declared.syntax.Declaration.{Declaration}
+use Rattle.cstar_tree.specs.declared.syntax.Stmt.{Stmt}
+use Rattle.cstar_tree.specs.declared.syntax.Tree.{Tree}
+use Rattle.cstar_tree.specs.declared.typed.LocalVar.{LocalVar}
+use Rattle.cstar_tree.specs.declared.typed.TStmt.{TStmt}
+use Rattle.cstar_tree.specs.declared.typed.Typed.{Typed}
+use Rattle.cstar_tree.specs.FileFaults.{FaultOf, IsAccepted}
+use Rattle.cstar_tree.specs.Headers.{Program, Returns}
+use Rattle.cstar_tree.specs.IsTyped.{IsTyped}
+use Rattle.cstar_tree.specs.ProgramTypes.{TypesFile}
+use Rattle.cstar_tree.specs.Room.{HasRoom}
+use Rattle.cstar_tree.specs.Scopes.{Here}
+use Rattle.cstar_tree.specs.StatementFaults.{BlockFaultIn, DeclarationsFault, StatementFaultIn, StatementsFaultIn}
+use Rattle.cstar_tree.specs.StatementTypes.{TypesBlock, TypesDeclarations, TypesStatement, TypesStatements}
+use Rattle.faultless_files.specs.Files.{IsWellFormed}
+
+-- ---- statements
+
+abbrev pub TypedDeclarationsHaveNoFault : Type 0
+TypedDeclarationsHaveNoFault =
+    (program : Program) (here : Here) (ds : List Declaration) (locals : List LocalVar) → TypesDeclarations program here ds locals → (fault : Fault) (p : Place) → DeclarationsFault program here ds fault p → ⊥
+
+abbrev pub TypedStatementsHaveNoFault : Type 0
+TypedStatementsHaveNoFault =
+    (program : Program) (returns : Returns) (here : Here) (s : Stmt) (t : TStmt) → TypesStatement program returns here s t → (fault : Fault) (p : Place) → StatementFaultIn program returns here s fault p → ⊥
+
+abbrev pub TypedStatementListsHaveNoFault : Type 0
+TypedStatementListsHaveNoFault =
+    (program : Program) (returns : Returns) (here : Here) (ss : List Stmt) (ts : List TStmt) → TypesStatements program returns here ss ts → (fault : Fault) (p : Place) → StatementsFaultIn program returns here ss fault p → ⊥
+
+abbrev pub TypedBlocksHaveNoFault : Type 0
+TypedBlocksHaveNoFault =
+    (program : Program) (returns : Returns) (here : Here) (block : Block) (locals : List LocalVar) (statements : List TStmt) → TypesBlock program returns here block locals statements →
+    (fault : Fault) (p : Place) → BlockFaultIn program returns here block fault p → ⊥
+
+-- ---- files
+
+abbrev pub TypedFilesHaveNoFault : Type 0
+TypedFilesHaveNoFault = (tree : Tree) (typed : Typed) → TypesFile tree typed → IsTyped typed → IsWellFormed tree → (fault : Fault) (p : Place) → FaultOf tree fault p → ⊥
+
+abbrev pub TypedFilesAreAccepted : Type 0
+TypedFilesAreAccepted =
+    (tree : Tree) (typed : Typed) → TypesFile tree typed → IsTyped typed → IsWellFormed tree → ((other : Typed) → TypesFile tree other → HasRoom other.shapes.items other.need.items) → IsAccepted tree typed

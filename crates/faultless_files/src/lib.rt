@@ -1,0 +1,36 @@
+//! What the rules of typing type has no fault, and a file that they type is accepted.
+//! Readers find the laws here by name.
+#![tactic(auto)]
+
+ghost use Rattle.faultless_files.specs.Given.{ExpressionLaws};
+ghost use Rattle.faultless_files.specs.Laws.{TypedBlocksHaveNoFault, TypedDeclarationsHaveNoFault, TypedFilesAreAccepted, TypedFilesHaveNoFault, TypedStatementListsHaveNoFault, TypedStatementsHaveNoFault};
+
+/// No fault stands in declarations of a block that have types.
+pub fn typed_declarations_have_no_fault()
+    ensures { ExpressionLaws → TypedDeclarationsHaveNoFault }
+{}
+
+/// No fault stands in a statement that has a type, with all statements in it.
+pub fn typed_statements_have_no_fault()
+    ensures { ExpressionLaws → TypedStatementsHaveNoFault }
+{}
+
+/// No fault stands in statements one behind the other that have types.
+pub fn typed_statement_lists_have_no_fault()
+    ensures { ExpressionLaws → TypedStatementListsHaveNoFault }
+{}
+
+/// No fault stands in a block that has a type.
+pub fn typed_blocks_have_no_fault()
+    ensures { ExpressionLaws → TypedBlocksHaveNoFault }
+{}
+
+/// No fault stands in a file that has a type and is well formed.
+pub fn typed_files_have_no_fault()
+    ensures { ExpressionLaws → TypedFilesHaveNoFault }
+{}
+
+/// A file that has a type and is well formed is accepted where it has room.
+pub fn typed_files_are_accepted()
+    ensures { ExpressionLaws → TypedFilesAreAccepted }
+{}
