@@ -25,7 +25,7 @@ use Rattle.cstar_tree.specs.StatementFaults.{ArrayFault, DeclarationsFault, Decl
 use Rattle.cstar_tree.specs.StatementFaults as W
 use Rattle.cstar_tree.specs.StatementTypes.{IsDeclarable, TypesDeclarations, TypesInitial, TypesLocal, TypesLocals}
 use Rattle.cstar_tree.specs.StatementTypes as Y
-use Rattle.faultless_files.specs.Given.{ExpressionLaws}
+use Rattle.faultless_files.proofs.ExpressionLaws.{laws}
 use Rattle.faultless_files.specs.Laws.{TypedDeclarationsHaveNoFault}
 use Rattle.faultless_files.proofs.Lengths.{sound_length}
 
@@ -139,14 +139,14 @@ initial_typed Y.TypesInitial.no_initial i is = elim (none-some i is) [ ]
 initial_typed {program = program} {here = here} {ty = ty} (Y.TypesInitial.initial {i = j} {t = t} typed at_hand takes fit) i is =
     subst (IsInitial program here ty) (same_Some j i is) (record { t = t; typed = typed; at_hand = at_hand; takes = takes })
 
-module _ (laws : ExpressionLaws) (program : Program) where
+module _ (program : Program) where
   -- ---- declarators
 
   sound_declarator : {here : Here} {ty : ValueType} {d : Declarator} {local : LocalVar} {fault : Fault} {p : Place} → DeclaratorFault program here (Some ty) d fault p → TypesLocal program here ty d local → ⊥
   sound_declarator (W.DeclaratorFault.redeclared {m = m} stands) typed = no_meaning _ m typed.is_new stands
   sound_declarator {here = here} {ty = ty} (W.DeclaratorFault.in_length {e = e} with f) typed =
       let a = array_declared here ty e typed.variable (sym (ap (declared_type here (Some ty)) with) ∙ typed.its_type) in
-      sound_length laws program here e (pos a.number) a.length_is f
+      sound_length program here e (pos a.number) a.length_is f
   sound_declarator (W.DeclaratorFault.of_array f) typed = sound_array typed.variable typed.its_type typed.declarable f
   sound_declarator {here = here} {ty = ty} {d = d} (W.DeclaratorFault.in_initial {i = i} {fault = fault} {p = p} given f) typed =
       let it = initial_typed typed.initial i given in
@@ -195,5 +195,5 @@ module _ (laws : ExpressionLaws) (program : Program) where
       let all = declarations_typed typed in
       sound_declarations f all.3.0 (subst (λ (w : Option ValueType). TypesDeclarations program (behind_declarators here w d.variables.items) ds all.3.0) (sym all.1) all.3.1)
 
-pub declarations_sound : ExpressionLaws → TypedDeclarationsHaveNoFault
-declarations_sound laws program here ds locals typed fault p f = sound_declarations laws program f locals typed
+pub declarations_sound : TypedDeclarationsHaveNoFault
+declarations_sound program here ds locals typed fault p f = sound_declarations program f locals typed

@@ -16,7 +16,6 @@ use Rattle.cstar_tree.specs.ProgramTypes as Y
 use Rattle.cstar_tree.specs.Scopes.{Here, written_type}
 use Rattle.faultless_files.specs.Files.{NewParameters}
 use Rattle.faultless_files.proofs.Declarations.{sound_type}
-use Rattle.faultless_files.specs.Given.{ExpressionLaws}
 use Rattle.faultless_files.proofs.Statements.{block_typed, sound_block}
 
 -- ---- headers
@@ -51,7 +50,7 @@ instance_at Y.no_instance which r stands = elim (none-some r stands) [ ]
 instance_at {program = program} {shapes = shapes} (Y.next_instance {r = first} {i = i} typed more) zero r stands = subst (λ (s : Reached). (j : Instance) × TypesInstance program shapes s j) (same_Some first r stands) (i, typed)
 instance_at (Y.next_instance typed more) (suc which) r stands = instance_at more which r stands
 
-module _ (laws : ExpressionLaws) (program : Program) (shapes : List (List ℕ)) (r : Reached) where
+module _ (program : Program) (shapes : List (List ℕ)) (r : Reached) where
   sound_in : {placed : Placed} {fault : Fault} {p : Place} → InstanceFault program shapes r placed fault p → (i : Instance) (typed : TypesInstance program shapes r i) → typed.placed ≡ placed
       → NewParameters (header_place shapes typed.placed r) 0 typed.placed.function.parameters.items → ⊥
   sound_in {fault = fault} {p = p} f i typed same new = by_fault (subst (λ (x : Placed). InstanceFault program shapes r x fault p) (sym same) f)
@@ -64,7 +63,7 @@ module _ (laws : ExpressionLaws) (program : Program) (shapes : List (List ℕ)) 
       by_fault (W.InstanceFault.parameters f) = sound_parameters f i.params.items typed.parameters new
       by_fault (W.InstanceFault.body f) =
           let returns = returns_of (header_place shapes typed.placed r) typed.placed.function.result in
-          sound_block laws program returns f (block_typed laws program returns typed.block)
+          sound_block program returns f (block_typed program returns typed.block)
 
   pub sound_instance : {placed : Placed} {fault : Fault} {p : Place} → InstanceFault program shapes r placed fault p → (i : Instance) → TypesInstance program shapes r i → slice_get program.functions r.function ≡ Some placed
       → NewParameters (header_place shapes placed r) 0 placed.function.parameters.items → ⊥

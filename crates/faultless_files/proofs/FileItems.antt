@@ -23,7 +23,6 @@ use Rattle.faultless_files.specs.Files.{NewItems, NewVariables}
 use Rattle.faultless_files.proofs.Declarations.{sound_type}
 use Rattle.faultless_files.proofs.FileShapes.{either_most, more_shapes, sound_shapes}
 use Rattle.faultless_files.proofs.FileVariables.{sound_variables}
-use Rattle.faultless_files.specs.Given.{ExpressionLaws}
 
 -- ---- variables and functions add no shape
 
@@ -56,7 +55,7 @@ one_function known f =
     })
     (length known.shapes) (omega arith) (omega arith)
 
-module _ (laws : ExpressionLaws) (program : Program) (functions : List Binding) where
+module _ (program : Program) (functions : List Binding) where
   -- the first item of a file, as it is typed, with no more shapes than these
   abbrev FirstTyped : Known → List Item → ℕ → Type 0
   FirstTyped known [] number = Unit {0}
@@ -96,11 +95,11 @@ module _ (laws : ExpressionLaws) (program : Program) (functions : List Binding) 
   unfolding NewItems
   sound_items (W.ItemsFault.shapes list f) infos vars typed new few =
       let it = first_typed typed in
-      sound_shapes laws program functions f it.0 it.1 new.0 (omega (arith, few, it.2))
+      sound_shapes program functions f it.0 it.1 new.0 (omega (arith, few, it.2))
   sound_items (W.ItemsFault.written f) infos vars typed new few = let it = first_typed typed in sound_type f it.0 it.1
   sound_items {known = known} (W.ItemsFault.variables {d = d} {fault = fault} {p = p} f) infos vars typed new few =
       let it = first_typed typed in
-      sound_variables laws program functions it.0
+      sound_variables program functions it.0
       (subst (λ (w : Option ValueType). VariablesFault program functions w known d.variables.items fault p) it.1 f)
       it.2.0 it.2.1
       (subst (λ (w : Option ValueType). NewVariables functions w known d.variables.items) it.1 new.0)

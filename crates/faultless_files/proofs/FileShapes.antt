@@ -16,7 +16,6 @@ use Rattle.cstar_tree.specs.ProgramTypes.{TypesShapes}
 use Rattle.cstar_tree.specs.ProgramTypes as Y
 use Rattle.cstar_tree.specs.Scopes.{Binding, Here, a_shape, find}
 use Rattle.faultless_files.specs.Files.{NewShapes}
-use Rattle.faultless_files.specs.Given.{ExpressionLaws}
 use Rattle.faultless_files.proofs.Lengths.{sound_length}
 
 -- ---- extents
@@ -129,7 +128,7 @@ unfolding behind_shapes
 more_shapes functions Y.no_shape = omega arith
 more_shapes functions (Y.next_shape {known = known} {s = s} {ss = ss} named is more) = omega (arith, one_more functions known s, more_shapes functions more)
 
-module _ (laws : ExpressionLaws) (program : Program) (functions : List Binding) where
+module _ (program : Program) (functions : List Binding) where
   abbrev AreShapes : Known → List ShapeDefinition → ℕ → Type 0
   AreShapes known [] number = Unit {0}
   AreShapes known (s ∷ ss) number =
@@ -145,7 +144,7 @@ module _ (laws : ExpressionLaws) (program : Program) (functions : List Binding) 
       let here = file_place functions known in
       let b = extents_bounded here s all is in
       let it = extent_known here s.extents.items all b.given_is which e stands in
-      sound_length laws program here e (pos it.0) it.1 f
+      sound_length program here e (pos it.0) it.1 f
   sound_shape_definition (W.ShapeFault.extents f) all is new few = sound_extents f all is
   sound_shape_definition (W.ShapeFault.one_too_many absent many) all is new few = absurd (omega (arith, many, few))
 

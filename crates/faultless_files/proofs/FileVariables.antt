@@ -23,7 +23,7 @@ use Rattle.cstar_tree.specs.Scopes.{Binding, Here, VariableType, find}
 use Rattle.cstar_tree.specs.StatementTypes.{IsDeclarable}
 use Rattle.faultless_files.specs.Files.{NewVariables}
 use Rattle.faultless_files.proofs.Declarations.{array_declared, sound_array}
-use Rattle.faultless_files.specs.Given.{ExpressionLaws}
+use Rattle.faultless_files.proofs.ExpressionLaws.{laws}
 use Rattle.faultless_files.proofs.Lengths.{sound_length}
 
 -- an initialiser is constant, and its value is no fault
@@ -52,7 +52,7 @@ start_known {here = here} {elem = elem} (Y.at_constant {i = j} {k = k} {word = w
     let n = number_stands k w.0 w.1 in
     subst (IsStart here) (same_Some j i is) (record { form = k; is_constant = known; value = n.0; number_is = ap number_meant known ∙ n.1 })
 
-module _ (laws : ExpressionLaws) (program : Program) (functions : List Binding) (ty : ValueType) where
+module _ (program : Program) (functions : List Binding) (ty : ValueType) where
   -- a variable with its type
   record IsVariable (known : Known) (d : Declarator) : Type 0 where
     variable : VariableType
@@ -75,7 +75,7 @@ module _ (laws : ExpressionLaws) (program : Program) (functions : List Binding) 
   sound_variable {known = known} (W.VariableFault.in_length {e = e} with f) it new =
       let here = file_place functions known in
       let a = array_declared here ty e it.variable (sym (ap (declared_type here (Some ty)) with) ∙ it.type_is) in
-      sound_length laws program here e (pos a.number) a.length_is f
+      sound_length program here e (pos a.number) a.length_is f
   sound_variable (W.VariableFault.of_array f) it new = sound_array it.variable it.type_is it.declarable f
   sound_variable {known = known} {d = d} (W.VariableFault.in_initial {i = i} {fault = fault} {p = p} given f) it new =
       let here = file_place functions (behind_variable functions (Some ty) known d) in

@@ -1,5 +1,5 @@
 -- A typed file that is well formed has no fault, and it is accepted where it has room.
-use Rattle.std.proofs.Common.{◌≡◌, ℕ, List, [], length, refl, ap, arith}
+use Rattle.std.proofs.Common.{◌≡◌, ◌≤◌, ◌^◌, ℕ, List, [], length, refl, ap, subst, arith}
 use Rattle.cstar_base.specs.declared.faults.Fault.{Fault}
 use Rattle.cstar_base.specs.declared.operators.Place.{Place}
 use Rattle.cstar_tree.specs.declared.typed.Instance.{Instance}
@@ -12,23 +12,23 @@ use Rattle.cstar_tree.specs.ProgramTypes.{TypesFile, TypesInstances}
 use Rattle.cstar_tree.specs.ProgramTypes as Y
 use Rattle.faultless_files.specs.Laws.{TypedFilesAreAccepted, TypedFilesHaveNoFault}
 use Rattle.faultless_files.proofs.FileInstances.{instance_at, sound_instance}
+use Rattle.faultless_files.proofs.SameRooms.{same_machine_bits}
 use Rattle.faultless_files.proofs.FileItems.{sound_items}
-use Rattle.faultless_files.specs.Given.{ExpressionLaws}
 
 no_instances : {program : Program} {shapes : List (List ℕ)} {reached : List Reached} {instances : List Instance} → TypesInstances program shapes reached instances → reached ≡ [] → length instances ≡ 0
 no_instances Y.no_instance is = refl
 no_instances (Y.next_instance typed more) is = absurd (cc)
 
-pub files_sound : ExpressionLaws → TypedFilesHaveNoFault
-files_sound laws tree typed types is_typed well fault p f = by_fault f
+pub files_sound : TypedFilesHaveNoFault
+files_sound tree typed types is_typed well fault p f = by_fault f
   where
     by_fault : {fault : Fault} {p : Place} → FaultOf tree fault p → ⊥
     by_fault (W.FaultOf.in_items f) =
         let few = is_typed.few_shapes in
-        sound_items laws (program_of tree) (functions_named tree) f typed.shapes.items typed.vars.items types.items well.names (omega (arith, few))
+        sound_items (program_of tree) (functions_named tree) f typed.shapes.items typed.vars.items types.items well.names (omega (arith, few))
     by_fault (W.FaultOf.in_instance {r = r} {placed = placed} which is function f) =
         let it = instance_at types.instances which r is in
-        sound_instance laws (program_of tree) (file_known tree).shapes r f it.0 it.1 function (well.parameters r placed (record { which = which; is_instance = is; is_function = function }))
+        sound_instance (program_of tree) (file_known tree).shapes r f it.0 it.1 function (well.parameters r placed (record { which = which; is_instance = is; is_function = function }))
     by_fault (W.FaultOf.absent_main none) =
         let main = is_typed.main in
         let nothing : length typed.instances.items ≡ 0 = no_instances types.instances (ap (instances_from (file_known tree).shapes (file_functions tree)) none) in
@@ -36,9 +36,9 @@ files_sound laws tree typed types is_typed well fault p f = by_fault f
     by_fault (W.FaultOf.no_main {f = g} {placed = placed} is function f) = well.main g placed is function f
     by_fault (W.FaultOf.too_many_nodes many) = let few = well.few_nodes in absurd (omega (arith, few, many))
 
-pub files_accepted : ExpressionLaws → TypedFilesAreAccepted
-files_accepted laws tree typed types is_typed well room = record { no_fault = none_stands; types = types }
+pub files_accepted : TypedFilesAreAccepted
+files_accepted tree typed types is_typed well room = record { no_fault = none_stands; types = types }
   where
     none_stands : (fault : Fault) (p : Place) → Stands tree fault p → ⊥
-    none_stands fault p (W.Stands.of_file f) = files_sound laws tree typed types is_typed well fault p f
-    none_stands fault p (W.Stands.no_room {typed = other} none others no_room) = no_room (room other others)
+    none_stands fault p (W.Stands.of_file f) = files_sound tree typed types is_typed well fault p f
+    none_stands fault p (W.Stands.no_room {typed = other} none others no_room) = no_room (subst (λ (bits : ℕ). bits ≤ 2 ^ 30) (same_machine_bits tree typed other types others) room)

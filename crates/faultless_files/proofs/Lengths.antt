@@ -13,7 +13,7 @@ use Rattle.cstar_tree.specs.Headers.{Program}
 use Rattle.cstar_tree.specs.Scopes.{Here, extents_of, meaning, part, shape_of}
 use Rattle.cstar_tree.specs.StatementFaults.{LengthFaultIn}
 use Rattle.cstar_tree.specs.StatementFaults as W
-use Rattle.faultless_files.specs.Given.{ExpressionLaws}
+use Rattle.faultless_files.proofs.ExpressionLaws.{laws}
 
 -- what an expression is as a constant does not hang on whether it is a whole statement
 pub in_part : (here : Here) (e : Expr) → constant (part here) e ≡ constant here e
@@ -35,7 +35,7 @@ pub form_of : (k : Option Constant) (n : ℤ) → number_meant k ≡ Some n → 
 form_of None n is = elim (none-some n is) [ ]
 form_of (Some c) n is = (c, refl)
 
-module _ (laws : ExpressionLaws) (program : Program) where
+module _ (program : Program) where
   pub constant_typed : (here : Here) (e : Expr) (n : ℤ) → constant_number here e ≡ Some n → (t : TExpr) × Types program (part here) e t true
   constant_typed here e n is =
       let c = form_of (constant here e) n is in

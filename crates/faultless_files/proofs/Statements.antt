@@ -24,7 +24,7 @@ use Rattle.cstar_tree.specs.StatementTypes.{IsReturned, TypesBlock, TypesDeclara
 use Rattle.cstar_tree.specs.StatementTypes as Y
 use Rattle.faultless_files.proofs.Declarations.{current_is, sound_declarations, sound_shape}
 use Rattle.faultless_files.specs.Laws.{TypedBlocksHaveNoFault, TypedStatementListsHaveNoFault, TypedStatementsHaveNoFault}
-use Rattle.faultless_files.specs.Given.{ExpressionLaws}
+use Rattle.faultless_files.proofs.ExpressionLaws.{laws}
 
 pub same_shape : {v w : ValueType} → v ≡ w → v.shape ≡ w.shape
 same_shape is = ap (λ (v : ValueType). v.shape) is
@@ -34,7 +34,7 @@ returned_sound : {here : Here} {returns : Returns} {t f u : TExpr} → IsReturne
 returned_sound (Y.returned at_hand takes fit) (W.ReturnFault.parallel {s = s} scalar shaped) same = none-some s (sym (takes scalar) ∙ (sym (same_shape same) ∙ shaped))
 returned_sound (Y.returned at_hand takes fit) (W.ReturnFault.away {s = s} shaped away) same = away (current_is at_hand s shaped)
 
-module _ (laws : ExpressionLaws) (program : Program) where
+module _ (program : Program) where
   -- ---- the expressions of typed statements
 
   abbrev HasEffect : Here → Expr → Type 0
@@ -201,14 +201,14 @@ module _ (laws : ExpressionLaws) (program : Program) where
       sound_statements (W.in_later f) all = sound_statements f all.1
 
       pub sound_block : {here : Here} {block : Block} {fault : Fault} {p : Place} → BlockFaultIn program returns here block fault p → IsTypedBlock here block.declarations.items block.statements.items → ⊥
-      sound_block (W.in_declarations block f) all = sound_declarations laws program f all.locals all.declarations
+      sound_block (W.in_declarations block f) all = sound_declarations program f all.locals all.declarations
       sound_block (W.in_statements block f) all = sound_statements f all.statements
 
-pub statements_sound : ExpressionLaws → TypedStatementsHaveNoFault
-statements_sound laws program returns here s t typed fault p f = sound_statement laws program returns f (W.HasType.typed typed)
+pub statements_sound : TypedStatementsHaveNoFault
+statements_sound program returns here s t typed fault p f = sound_statement program returns f (W.HasType.typed typed)
 
-pub lists_sound : ExpressionLaws → TypedStatementListsHaveNoFault
-lists_sound laws program returns here ss ts typed fault p f = sound_statements laws program returns f (each_typed laws program returns typed)
+pub lists_sound : TypedStatementListsHaveNoFault
+lists_sound program returns here ss ts typed fault p f = sound_statements program returns f (each_typed program returns typed)
 
-pub blocks_sound : ExpressionLaws → TypedBlocksHaveNoFault
-blocks_sound laws program returns here block locals statements typed fault p f = sound_block laws program returns f (block_typed laws program returns typed)
+pub blocks_sound : TypedBlocksHaveNoFault
+blocks_sound program returns here block locals statements typed fault p f = sound_block program returns f (block_typed program returns typed)

@@ -1,5 +1,5 @@
 -- The laws: what the rules of typing type has no fault.
-use Rattle.std.specs.Prelude.{List}
+use Rattle.std.specs.Prelude.{◌≡◌, List}
 use Rattle.cstar_base.specs.declared.faults.Fault.{Fault}
 use Rattle.cstar_base.specs.declared.operators.Place.{Place}
 use Rattle.cstar_tree.specs.declared.syntax.Block.{Block}
@@ -13,7 +13,7 @@ use Rattle.cstar_tree.specs.FileFaults.{FaultOf, IsAccepted}
 use Rattle.cstar_tree.specs.Headers.{Program, Returns}
 use Rattle.cstar_tree.specs.IsTyped.{IsTyped}
 use Rattle.cstar_tree.specs.ProgramTypes.{TypesFile}
-use Rattle.cstar_tree.specs.Room.{HasRoom}
+use Rattle.cstar_tree.specs.Room.{HasRoom, machine_bits}
 use Rattle.cstar_tree.specs.Scopes.{Here}
 use Rattle.cstar_tree.specs.StatementFaults.{BlockFaultIn, DeclarationsFault, StatementFaultIn, StatementsFaultIn}
 use Rattle.cstar_tree.specs.StatementTypes.{TypesBlock, TypesDeclarations, TypesStatement, TypesStatements}
@@ -43,6 +43,10 @@ TypedBlocksHaveNoFault =
 abbrev pub TypedFilesHaveNoFault : Type 0
 TypedFilesHaveNoFault = (tree : Tree) (typed : Typed) → TypesFile tree typed → IsTyped typed → IsWellFormed tree → (fault : Fault) (p : Place) → FaultOf tree fault p → ⊥
 
+-- Typed programs of one file differ only in where their parts lie in memory.
+abbrev pub TypedProgramsNeedTheSameRoom : Type 0
+TypedProgramsNeedTheSameRoom =
+    (tree : Tree) (typed other : Typed) → TypesFile tree typed → TypesFile tree other → machine_bits typed.shapes.items typed.need.items ≡ machine_bits other.shapes.items other.need.items
+
 abbrev pub TypedFilesAreAccepted : Type 0
-TypedFilesAreAccepted =
-    (tree : Tree) (typed : Typed) → TypesFile tree typed → IsTyped typed → IsWellFormed tree → ((other : Typed) → TypesFile tree other → HasRoom other.shapes.items other.need.items) → IsAccepted tree typed
+TypedFilesAreAccepted = (tree : Tree) (typed : Typed) → TypesFile tree typed → IsTyped typed → IsWellFormed tree → HasRoom typed.shapes.items typed.need.items → IsAccepted tree typed
