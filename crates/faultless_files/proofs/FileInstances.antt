@@ -14,7 +14,7 @@ use Rattle.cstar_tree.specs.Headers.{Placed, Program, Reached, Returns, a_result
 use Rattle.cstar_tree.specs.ProgramTypes.{TypesInstance, TypesInstances, TypesParameters, TypesResult}
 use Rattle.cstar_tree.specs.ProgramTypes as Y
 use Rattle.cstar_tree.specs.Scopes.{Here, written_type}
-use Rattle.faultless_files.specs.Files.{NewParameters}
+use Rattle.faultless_files.proofs.NewNames.{NewParameters}
 use Rattle.faultless_files.proofs.Declarations.{sound_type}
 use Rattle.faultless_files.proofs.Statements.{block_typed, sound_block}
 

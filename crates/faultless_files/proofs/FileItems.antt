@@ -19,7 +19,7 @@ use Rattle.cstar_tree.specs.ProgramTypes.{TypesItems, TypesShapes, TypesVariable
 use Rattle.cstar_tree.specs.ProgramTypes as Y
 use Rattle.cstar_tree.specs.Scopes.{Binding, a_function, a_variable, find, written_type}
 use Rattle.cstar_tree.specs.declared.typed.Variable.TheVariants as V
-use Rattle.faultless_files.specs.Files.{NewItems, NewVariables}
+use Rattle.faultless_files.proofs.NewNames.{NewItems, NewVariables}
 use Rattle.faultless_files.proofs.Declarations.{sound_type}
 use Rattle.faultless_files.proofs.FileShapes.{either_most, more_shapes, sound_shapes}
 use Rattle.faultless_files.proofs.FileVariables.{sound_variables}

@@ -15,7 +15,7 @@ use Rattle.cstar_tree.specs.Headers.{Program}
 use Rattle.cstar_tree.specs.ProgramTypes.{TypesShapes}
 use Rattle.cstar_tree.specs.ProgramTypes as Y
 use Rattle.cstar_tree.specs.Scopes.{Binding, Here, a_shape, find}
-use Rattle.faultless_files.specs.Files.{NewShapes}
+use Rattle.faultless_files.proofs.NewNames.{NewShapes}
 use Rattle.faultless_files.proofs.Lengths.{sound_length}
 
 -- ---- extents

@@ -21,7 +21,7 @@ use Rattle.cstar_tree.specs.ProgramTypes.{Starts, TypesVariables}
 use Rattle.cstar_tree.specs.ProgramTypes as Y
 use Rattle.cstar_tree.specs.Scopes.{Binding, Here, VariableType, find}
 use Rattle.cstar_tree.specs.StatementTypes.{IsDeclarable}
-use Rattle.faultless_files.specs.Files.{NewVariables}
+use Rattle.faultless_files.proofs.NewNames.{NewVariables}
 use Rattle.faultless_files.proofs.Declarations.{array_declared, sound_array}
 use Rattle.faultless_files.proofs.ExpressionLaws.{laws}
 use Rattle.faultless_files.proofs.Lengths.{sound_length}

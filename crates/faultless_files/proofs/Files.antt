@@ -5,13 +5,14 @@ use Rattle.cstar_base.specs.declared.operators.Place.{Place}
 use Rattle.cstar_tree.specs.declared.typed.Instance.{Instance}
 use Rattle.cstar_tree.specs.FileFaults.{FaultOf, Stands}
 use Rattle.cstar_tree.specs.FileFaults as W
-use Rattle.cstar_tree.specs.FileScopes.{file_functions, file_known, functions_named}
-use Rattle.cstar_tree.specs.Headers.{Program, Reached}
+use Rattle.cstar_tree.specs.FileScopes.{file_functions, file_known, functions_named, nothing_known}
+use Rattle.cstar_tree.specs.Headers.{Program, Reached, header_place}
 use Rattle.cstar_tree.specs.Instances.{instances_from, program_of}
 use Rattle.cstar_tree.specs.ProgramTypes.{TypesFile, TypesInstances}
 use Rattle.cstar_tree.specs.ProgramTypes as Y
 use Rattle.faultless_files.specs.Laws.{TypedFilesAreAccepted, TypedFilesHaveNoFault}
 use Rattle.faultless_files.proofs.FileInstances.{instance_at, sound_instance}
+use Rattle.faultless_files.proofs.NewNames.{new_items, new_parameters}
 use Rattle.faultless_files.proofs.SameRooms.{same_machine_bits}
 use Rattle.faultless_files.proofs.FileItems.{sound_items}
 
@@ -25,10 +26,14 @@ files_sound tree typed types is_typed well fault p f = by_fault f
     by_fault : {fault : Fault} {p : Place} → FaultOf tree fault p → ⊥
     by_fault (W.FaultOf.in_items f) =
         let few = is_typed.few_shapes in
-        sound_items (program_of tree) (functions_named tree) f typed.shapes.items typed.vars.items types.items well.names (omega (arith, few))
+        let as_many = well.names in
+        sound_items (program_of tree) (functions_named tree) f typed.shapes.items typed.vars.items types.items
+        (new_items (functions_named tree) nothing_known tree.items.items (omega (arith, as_many))) (omega (arith, few))
     by_fault (W.FaultOf.in_instance {r = r} {placed = placed} which is function f) =
         let it = instance_at types.instances which r is in
-        sound_instance (program_of tree) (file_known tree).shapes r f it.0 it.1 function (well.parameters r placed (record { which = which; is_instance = is; is_function = function }))
+        let as_many = well.parameters r placed (record { which = which; is_instance = is; is_function = function }) in
+        sound_instance (program_of tree) (file_known tree).shapes r f it.0 it.1 function
+        (new_parameters (header_place (file_known tree).shapes placed r) 0 placed.function.parameters.items (omega (arith, as_many)))
     by_fault (W.FaultOf.absent_main none) =
         let main = is_typed.main in
         let nothing : length typed.instances.items ≡ 0 = no_instances types.instances (ap (instances_from (file_known tree).shapes (file_functions tree)) none) in

@@ -9,6 +9,7 @@ pub mod FileVariables
 pub mod Files
 pub mod Forms
 pub mod Lengths
+pub mod NewNames
 pub mod Numbered
 pub mod SameInstances
 pub mod SameItems
