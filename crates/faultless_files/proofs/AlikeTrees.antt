@@ -16,6 +16,7 @@ use Rattle.cstar_tree.specs.Conversions as C
 use Rattle.cstar_tree.specs.Room.{ExpressionRoom, beside, greatest_part, of_shape, room_step, same_room}
 use Rattle.cstar_tree.specs.Typed.{type_of}
 use Rattle.cstar_tree.specs.TypedParts.{call_step, calls_in, concat}
+use Rattle.faultless_files.proofs.ValueTypes.{elem_is, shape_is}
 
 abbrev pub room_of : ℕ → TExpr → ExpressionRoom
 room_of shape = fold-TExpr ExpressionRoom (room_step shape)
@@ -105,12 +106,6 @@ promoted_node : (ty : ValueType) (operand : Box TExpr Global) (e : TExpr) → op
 unfolding room_step concat
 promoted_node ty operand e is = subst (λ (x : TExpr). IsNode (T.Promote ty operand) brought_room concat (x ∷ [])) is
     (record { rooms_are = λ shape. by_node shape (TExpr-F.Promote ty operand) (rolled.rolls-Promote ty operand); calls_are = calls_by (TExpr-F.Promote ty operand) (rolled.rolls-Promote ty operand) })
-
-elem_is : {v w : ValueType} → v ≡ w → v.elem ≡ w.elem
-elem_is is = ap (λ (v : ValueType). v.elem) is
-
-shape_is : {v w : ValueType} → v ≡ w → v.shape ≡ w.shape
-shape_is is = ap (λ (v : ValueType). v.shape) is
 
 pub converted_alike : {t u x y : TExpr} {elem other : Elem} → elem ≡ other → AreAlike t u → IsConverted t elem x → IsConverted u other y → AreAlike x y
 converted_alike same a (C.as_it_is h) (C.as_it_is k) = a

@@ -27,6 +27,7 @@ use Rattle.cstar_tree.specs.StatementTypes.{IsDeclarable, TypesDeclarations, Typ
 use Rattle.cstar_tree.specs.StatementTypes as Y
 use Rattle.faultless_files.proofs.ExpressionLaws.{laws}
 use Rattle.faultless_files.specs.Laws.{TypedDeclarationsHaveNoFault}
+use Rattle.faultless_files.proofs.ValueTypes.{shape_is}
 use Rattle.faultless_files.proofs.Lengths.{sound_length}
 
 pub no_meaning : (m : Option Meaning) (n : Meaning) → IsNone m → m ≡ Some n → ⊥
@@ -114,7 +115,7 @@ sound_array {here = here} {ty = ty} {d = d} variable is may f = by_fault f
     by_fault (W.ArrayFault.no_shape {t = t} {length = length} typed none with) =
         let a = array_of length with in
         let s = sound_of length with in
-        elim (none-some s.of (sym none ∙ (ap (λ (t : ValueType). t.shape) (sym (same_Some ty t typed) ∙ sym a.value) ∙ s.shape_is))) [ ]
+        elim (none-some s.of (sym none ∙ (shape_is (sym (same_Some ty t typed) ∙ sym a.value) ∙ s.shape_is))) [ ]
     by_fault (W.ArrayFault.with_initial {length = length} {i = i} with given) = let s = sound_of length with in elim (none-some i (sym s.no_initial ∙ given)) [ ]
     by_fault (W.ArrayFault.outside {length = length} {n = n} with number away) =
         let a = array_of length with in
@@ -154,12 +155,12 @@ module _ (program : Program) where
   sound_declarator {here = here} {ty = ty} {d = d} (W.DeclaratorFault.away {i = i} {t = t} {s = s} new plain given value is shaped away) typed =
       let it = initial_typed typed.initial i given in
       let same = plain_declared here ty d.length typed.variable typed.its_type plain ∙ same_Some ty t is in
-      not_away away (current_is it.at_hand s (ap (λ (v : ValueType). v.shape) same ∙ shaped))
+      not_away away (current_is it.at_hand s (shape_is same ∙ shaped))
   sound_declarator {here = here} {ty = ty} {d = d} (W.DeclaratorFault.parallel_initial {i = i} {t = t} {x = x} {s = s} new plain given value is scalar shaped) typed =
       let it = initial_typed typed.initial i given in
       let same = plain_declared here ty d.length typed.variable typed.its_type plain ∙ same_Some ty t is in
       let one = laws.unique program (behind_declarator here (Some ty) d) i.value x it.t _ _ value it.typed in
-      elim (none-some s (sym (it.takes (ap (λ (v : ValueType). v.shape) same ∙ scalar)) ∙ (ap (λ (v : ValueType). v.shape) (sym one.0.type_is) ∙ shaped))) [ ]
+      elim (none-some s (sym (it.takes (shape_is same ∙ scalar)) ∙ (shape_is (sym one.0.type_is) ∙ shaped))) [ ]
 
   -- declarators one behind the other, as they are typed
   abbrev AreLocals : Here → ValueType → List Declarator → Type 0

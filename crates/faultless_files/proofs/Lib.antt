@@ -1,3 +1,4 @@
+pub mod Accepted
 pub mod AlikeStatements
 pub mod AlikeTrees
 pub mod Declarations
@@ -18,3 +19,4 @@ pub mod SameStatements
 pub mod SameTrees
 pub mod StatementForms
 pub mod Statements
+pub mod ValueTypes

@@ -48,14 +48,15 @@ record Grown (before behind : ℕ) (m : Option Meaning) : Type 0 where
   most : behind ≤ before + 1
   new : behind ≡ before + 1 → m ≡ None
 
-grown : (m : Option Meaning) (known other : Known) → length other.names ≡ length known.names + 1 → Grown (length known.names) (length (if is_some m then known else other).names) m
-grown None known other one = record { most = omega (arith, one); new = λ h. refl }
-grown (Some x) known other one = record { most = omega arith; new = λ h. absurd (omega (arith, h)) }
+-- what has no meaning yet is declared, so that one more is counted
+grown : {A : Type 0} (count : A → ℕ) (m : Option Meaning) (first other : A) → count other ≡ count first + 1 → Grown (count first) (count (if is_some m then first else other)) m
+grown count None first other one = record { most = omega (arith, one); new = λ h. refl }
+grown count (Some x) first other one = record { most = omega arith; new = λ h. absurd (omega (arith, h)) }
 
 shape_grown : (functions : List Binding) (known : Known) (s : ShapeDefinition) → Grown (length known.names) (length (behind_shape functions known s).names) (find known.names s.name.word)
 unfolding behind_shape
 shape_grown functions known s =
-    grown (find known.names s.name.word) known
+    grown (λ (k : Known). length k.names) (find known.names s.name.word) known
     (record {
       names = with_name known s.name.word (a_shape (length known.shapes));
       shapes = known.shapes ++ kept_extents (file_place functions known) s.extents.items ∷ [];
@@ -67,7 +68,7 @@ shape_grown functions known s =
 variable_grown : (functions : List Binding) (ty : Option ValueType) (known : Known) (d : Declarator) → Grown (length known.names) (length (behind_variable functions ty known d).names) (find known.names d.name.word)
 unfolding behind_variable
 variable_grown functions ty known d =
-    grown (find known.names d.name.word) known
+    grown (λ (k : Known). length k.names) (find known.names d.name.word) known
     (record {
       names = with_name known d.name.word (a_variable (V.File known.variables) (declared_type (file_place functions known) ty d.length));
       shapes = known.shapes;
@@ -79,7 +80,7 @@ variable_grown functions ty known d =
 function_grown : (known : Known) (f : Function) → Grown (length known.names) (length (behind_function known f).names) (find known.names f.name.word)
 unfolding behind_function
 function_grown known f =
-    grown (find known.names f.name.word) known
+    grown (λ (k : Known). length k.names) (find known.names f.name.word) known
     (record {
       names = with_name known f.name.word (a_function known.functions);
       shapes = known.shapes;
@@ -150,13 +151,9 @@ new_items functions known (item ∷ items) as_many =
 
 -- ---- parameters
 
-grown_names : (m : Option Meaning) (names other : Names) → length other.inner ≡ length names.inner + 1 → Grown (length names.inner) (length (if is_some m then names else other).inner) m
-grown_names None names other one = record { most = omega (arith, one); new = λ h. refl }
-grown_names (Some x) names other one = record { most = omega arith; new = λ h. absurd (omega (arith, h)) }
-
 parameter_grown : (here : Here) (number : ℕ) (p : Parameter) → Grown (length here.names.inner) (length (behind_parameter here number p).names.inner) (find here.names.inner p.name.word)
 parameter_grown here number p =
-    grown_names (find here.names.inner p.name.word) here.names
+    grown (λ (names : Names). length names.inner) (find here.names.inner p.name.word) here.names
     (record { inner = record { word = p.name.word; meaning = a_variable (V.Param number) (plain_type (written_type here p.type_name)) } ∷ here.names.inner; outer = here.names.outer })
     (omega arith)
 

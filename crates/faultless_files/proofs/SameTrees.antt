@@ -1,5 +1,5 @@
 -- The typed trees that an expression becomes differ only in where their parts lie in memory.
-use Rattle.std.proofs.Common.{◌≡◌, ℕ, Bool, List, [], ◌∷◌, map, slice_get, Option, Some, refl, sym, ap, ap₂, ◌∙◌, subst}
+use Rattle.std.proofs.Common.{◌≡◌, ℕ, Bool, List, [], ◌∷◌, map, slice_get, Some, refl, sym, ap, ap₂, ◌∙◌, subst}
 use Rattle.std.proofs.lemmas.Option.{none-some, same_Some}
 use Rattle.std.specs.List.{AllZip}
 use mathlib.Core.Former.{Count}
@@ -17,10 +17,12 @@ use Rattle.cstar_tree.specs.ExpressionFaults.{parameters_of}
 use Rattle.cstar_tree.specs.ExpressionTypes.{Types, TypesEach, TypesIndexes}
 use Rattle.cstar_tree.specs.ExpressionTypes as X
 use Rattle.cstar_tree.specs.Headers.{Program, Reached}
-use Rattle.cstar_tree.specs.Scopes.{Here, Meaning, a_function}
+use Rattle.cstar_tree.specs.Scopes.{Here}
 use Rattle.cstar_tree.specs.Typed.{type_of}
 use Rattle.faultless_files.proofs.ExpressionLaws.{laws}
+use Rattle.unique_types.proofs.Unique.{one_function, one_placed}
 use Rattle.faultless_files.proofs.AlikeTrees.{AreAlike, IsNode, converted_alike, each_fitted, each_promoted, each_spread, fitted_alike, node_alike, plain_room, spread_alike}
+use Rattle.faultless_files.proofs.ValueTypes.{elem_is, shape_is}
 use Rattle.faultless_files.proofs.Forms.{AreOperands, IsCallNode, IsCalled, IsOperand, assigned_type, calling, chosen_type, form, inside, left_type, outside, right_type}
 
 -- each instance of a program has one number
@@ -28,12 +30,6 @@ abbrev pub AreNumbered : Program → Type 0
 AreNumbered program = (i j : ℕ) (r : Reached) → slice_get program.instances i ≡ Some r → slice_get program.instances j ≡ Some r → i ≡ j
 
 -- ---- operands
-
-elem_is : {v w : ValueType} → v ≡ w → v.elem ≡ w.elem
-elem_is is = ap (λ (v : ValueType). v.elem) is
-
-shape_is : {v w : ValueType} → v ≡ w → v.shape ≡ w.shape
-shape_is is = ap (λ (v : ValueType). v.shape) is
 
 same_operands : (op : BinaryOp) {a b c d x y z w : TExpr} → AreAlike a c → AreAlike b d → AreOperands op a b x y → AreOperands op c d z w → AreAlike x z × AreAlike y w
 same_operands (B.Number op) p q h k = (fitted_alike (ap₂ (left_type op) p.type_is q.type_is) p h.0 k.0, fitted_alike (ap₂ (right_type op) p.type_is q.type_is) q h.1 k.1)
@@ -65,9 +61,6 @@ same_types (t ∷ ts) (u ∷ us) is =
     let rest : map Some ts ≡ map Some us = cc in
     ap₂ (λ (x : ValueType) (xs : List ValueType). x ∷ xs) (same_Some t u first) (same_types ts us rest)
 
-one_function : {m : Option Meaning} {f g : ℕ} → m ≡ Some (a_function f) → m ≡ Some (a_function g) → f ≡ g
-one_function is known = let both = sym is ∙ known in cc
-
 record IsSameCall (given other : List TExpr) (i j : ℕ) : Type 0 where
   arguments : AllZip AreAlike given other
   number : i ≡ j
@@ -83,7 +76,7 @@ module _ (program : Program) (numbered : AreNumbered program) where
   same_call_node : {here : Here} {word : List ℕ} {es : List Expr} {t u : TExpr} → type_of t ≡ type_of u → (j : IsCallNode program here word es t) (k : IsCallNode program here word es u) → AllZip AreAlike j.given k.given → AreAlike t u
   same_call_node {here = here} {t = t} same j k all =
       let f : j.f ≡ k.f = one_function j.means k.means in
-      let placed : j.placed ≡ k.placed = same_Some j.placed k.placed (sym (subst (λ (n : ℕ). slice_get program.functions n ≡ Some j.placed) f j.is_placed) ∙ k.is_placed) in
+      let placed = one_placed program.functions f j.is_placed k.is_placed in
       let types : j.types ≡ k.types = same_types j.types k.types (sym j.types_are ∙ (ap₂ (parameters_of here) placed f ∙ k.types_are)) in
       let called = subst (λ (ts : List ValueType). IsCalled program here k.f ts j.given j.arguments j.instance) types (subst (λ (n : ℕ). IsCalled program here n j.types j.given j.arguments j.instance) f j.called) in
       let it = same_call all called k.called in

@@ -1,5 +1,5 @@
 -- Typed statements have no fault.
-use Rattle.std.proofs.Common.{◌≡◌, ℕ, Bool, true, List, [], ◌∷◌, IfSome, Option, Some, sym, ap, subst, ◌∙◌}
+use Rattle.std.proofs.Common.{◌≡◌, ℕ, Bool, true, List, [], ◌∷◌, IfSome, Option, Some, sym, subst, ◌∙◌}
 use Rattle.std.proofs.lemmas.Option.{none-some, same_Some}
 use Rattle.cstar_base.specs.declared.faults.Fault.{Fault}
 use Rattle.cstar_base.specs.declared.operators.Place.{Place}
@@ -11,7 +11,6 @@ use Rattle.cstar_tree.specs.declared.syntax.Stmt as S
 use Rattle.cstar_tree.specs.declared.typed.LocalVar.{LocalVar}
 use Rattle.cstar_tree.specs.declared.typed.TExpr.{TExpr}
 use Rattle.cstar_tree.specs.declared.typed.TStmt.{TStmt}
-use Rattle.cstar_tree.specs.declared.typed.ValueType.{ValueType}
 use Rattle.cstar_tree.specs.Typed.{type_of}
 use Rattle.cstar_tree.specs.BlockScopes.{behind, behind_declarations, block_place, in_loop}
 use Rattle.cstar_tree.specs.ExpressionTypes.{Types}
@@ -22,16 +21,14 @@ use Rattle.cstar_tree.specs.ExpressionFaults.{FaultIn, ValueFaultIn}
 use Rattle.cstar_tree.specs.StatementFaults as W
 use Rattle.cstar_tree.specs.StatementTypes.{IsReturned, TypesBlock, TypesDeclarations, TypesEffectIf, TypesStatement, TypesStatements, TypesTest, TypesTestIf}
 use Rattle.cstar_tree.specs.StatementTypes as Y
+use Rattle.faultless_files.proofs.ValueTypes.{shape_is}
 use Rattle.faultless_files.proofs.Declarations.{current_is, sound_declarations, sound_shape}
 use Rattle.faultless_files.specs.Laws.{TypedBlocksHaveNoFault, TypedStatementListsHaveNoFault, TypedStatementsHaveNoFault}
 use Rattle.faultless_files.proofs.ExpressionLaws.{laws}
 
-pub same_shape : {v w : ValueType} → v ≡ w → v.shape ≡ w.shape
-same_shape is = ap (λ (v : ValueType). v.shape) is
-
 -- what is returned may be returned
 returned_sound : {here : Here} {returns : Returns} {t f u : TExpr} → IsReturned here returns t f → ReturnFault here returns u → type_of u ≡ type_of t → ⊥
-returned_sound (Y.returned at_hand takes fit) (W.ReturnFault.parallel {s = s} scalar shaped) same = none-some s (sym (takes scalar) ∙ (sym (same_shape same) ∙ shaped))
+returned_sound (Y.returned at_hand takes fit) (W.ReturnFault.parallel {s = s} scalar shaped) same = none-some s (sym (takes scalar) ∙ (sym (shape_is same) ∙ shaped))
 returned_sound (Y.returned at_hand takes fit) (W.ReturnFault.away {s = s} shaped away) same = away (current_is at_hand s shaped)
 
 module _ (program : Program) where
@@ -144,11 +141,11 @@ module _ (program : Program) where
     sound_at (W.shape_named body f) has = let all = parts_of has in sound_shape f all.0 all.1
     sound_at {here = here} (W.parallel_test {e = e} {t = t} {of = of} test is shaped) has =
         let it = tested test has in
-        none-some of (sym it.1.is_scalar ∙ (sym (same_shape (same_types here e t it.0 is it.1.typed)) ∙ shaped))
+        none-some of (sym it.1.is_scalar ∙ (sym (shape_is (same_types here e t it.0 is it.1.typed)) ∙ shaped))
     sound_at (W.where_alone test value none) has = let it = masked test has in none-some it.0 (sym none ∙ it.1)
     sound_at {here = here} (W.where_scalar {e = e} {t = t} test is none) has =
         let it = masked test has in
-        none-some it.2.1 (sym none ∙ (same_shape (same_types here e t it.2.0 is it.2.2) ∙ it.2.3))
+        none-some it.2.1 (sym none ∙ (shape_is (same_types here e t it.2.0 is it.2.2) ∙ it.2.3))
     sound_at (W.everywhere_alone body inner none) has = let all = parts_of has in none-some all.0 (sym none ∙ all.1)
     sound_at {here = here} (W.returned {e = e} {t = t} is f) has =
         let all = parts_of has in

@@ -50,3 +50,7 @@ TypedProgramsNeedTheSameRoom =
 
 abbrev pub TypedFilesAreAccepted : Type 0
 TypedFilesAreAccepted = (tree : Tree) (typed : Typed) → TypesFile tree typed → IsTyped typed → IsWellFormed tree → HasRoom typed.shapes.items typed.need.items → IsAccepted tree typed
+
+-- What is asked of a file above is no more than what an accepted one has.
+abbrev pub AcceptedFilesAreWellFormed : Type 0
+AcceptedFilesAreWellFormed = (tree : Tree) (typed : Typed) → IsAccepted tree typed → IsTyped typed × IsWellFormed tree × HasRoom typed.shapes.items typed.need.items
