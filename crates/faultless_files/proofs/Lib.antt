@@ -1,22 +1,22 @@
 pub mod Accepted
-pub mod AlikeStatements
-pub mod AlikeTrees
+mod AlikeStatements
+mod AlikeTrees
 pub mod Declarations
-pub mod ExpressionLaws
-pub mod FileInstances
-pub mod FileItems
-pub mod FileShapes
-pub mod FileVariables
+mod ExpressionLaws
+mod FileInstances
+mod FileItems
+mod FileShapes
+mod FileVariables
 pub mod Files
-pub mod Forms
-pub mod Lengths
-pub mod NewNames
-pub mod Numbered
-pub mod SameInstances
-pub mod SameItems
+mod Forms
+mod Lengths
+mod NewNames
+mod Numbered
+mod SameInstances
+mod SameItems
 pub mod SameRooms
-pub mod SameStatements
-pub mod SameTrees
-pub mod StatementForms
+mod SameStatements
+mod SameTrees
+mod StatementForms
 pub mod Statements
-pub mod ValueTypes
+mod ValueTypes

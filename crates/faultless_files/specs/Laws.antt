@@ -1,6 +1,7 @@
 -- The laws: what the rules of typing type has no fault.
 use Rattle.std.specs.Prelude.{◌≡◌, List}
 use Rattle.cstar_base.specs.declared.faults.Fault.{Fault}
+use Rattle.cstar_base.specs.declared.faults.Fault.TheVariants as F
 use Rattle.cstar_base.specs.declared.operators.Place.{Place}
 use Rattle.cstar_tree.specs.declared.syntax.Block.{Block}
 use Rattle.cstar_tree.specs.declared.syntax.Declaration.{Declaration}
@@ -9,7 +10,7 @@ use Rattle.cstar_tree.specs.declared.syntax.Tree.{Tree}
 use Rattle.cstar_tree.specs.declared.typed.LocalVar.{LocalVar}
 use Rattle.cstar_tree.specs.declared.typed.TStmt.{TStmt}
 use Rattle.cstar_tree.specs.declared.typed.Typed.{Typed}
-use Rattle.cstar_tree.specs.FileFaults.{FaultOf, IsAccepted}
+use Rattle.cstar_tree.specs.FileFaults.{FaultOf, IsAccepted, IsFirst}
 use Rattle.cstar_tree.specs.Headers.{Program, Returns}
 use Rattle.cstar_tree.specs.IsTyped.{IsTyped}
 use Rattle.cstar_tree.specs.ProgramTypes.{TypesFile}
@@ -50,6 +51,11 @@ TypedProgramsNeedTheSameRoom =
 
 abbrev pub TypedFilesAreAccepted : Type 0
 TypedFilesAreAccepted = (tree : Tree) (typed : Typed) → TypesFile tree typed → IsTyped typed → IsWellFormed tree → HasRoom typed.shapes.items typed.need.items → IsAccepted tree typed
+
+-- Without room, the want of it is the first fault of the file, and the only one.
+abbrev pub FilesWithoutRoomAreRefused : Type 0
+FilesWithoutRoomAreRefused =
+    (tree : Tree) (typed : Typed) → TypesFile tree typed → IsTyped typed → IsWellFormed tree → (HasRoom typed.shapes.items typed.need.items → ⊥) → IsFirst tree F.Space tree.end
 
 -- What is asked of a file above is no more than what an accepted one has.
 abbrev pub AcceptedFilesAreWellFormed : Type 0

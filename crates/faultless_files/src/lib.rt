@@ -2,7 +2,7 @@
 //! Readers find the laws here by name.
 #![tactic(auto)]
 
-ghost use Rattle.faultless_files.specs.Laws.{AcceptedFilesAreWellFormed, TypedBlocksHaveNoFault, TypedDeclarationsHaveNoFault, TypedFilesAreAccepted, TypedFilesHaveNoFault, TypedProgramsNeedTheSameRoom, TypedStatementListsHaveNoFault, TypedStatementsHaveNoFault};
+ghost use Rattle.faultless_files.specs.Laws.{AcceptedFilesAreWellFormed, FilesWithoutRoomAreRefused, TypedBlocksHaveNoFault, TypedDeclarationsHaveNoFault, TypedFilesAreAccepted, TypedFilesHaveNoFault, TypedProgramsNeedTheSameRoom, TypedStatementListsHaveNoFault, TypedStatementsHaveNoFault};
 
 /// No fault stands in declarations of a block that have types.
 pub fn typed_declarations_have_no_fault()
@@ -37,6 +37,11 @@ pub fn typed_programs_need_the_same_room()
 /// A file that has a type and is well formed is accepted where it has room.
 pub fn typed_files_are_accepted()
     ensures { TypedFilesAreAccepted }
+{}
+
+/// A file that has a type and is well formed is refused for want of room where it has none.
+pub fn files_without_room_are_refused()
+    ensures { FilesWithoutRoomAreRefused }
 {}
 
 /// A file that is accepted is well formed, so that nothing is asked there that is not needed.
