@@ -44,7 +44,7 @@ TypedBlocksHaveNoFault =
 abbrev pub TypedFilesHaveNoFault : Type 0
 TypedFilesHaveNoFault = (tree : Tree) (typed : Typed) → TypesFile tree typed → IsTyped typed → IsWellFormed tree → (fault : Fault) (p : Place) → FaultOf tree fault p → ⊥
 
--- Typed programs of one file differ only in where their parts lie in memory.
+-- Whichever typed program a file becomes, it needs as many bits.
 abbrev pub TypedProgramsNeedTheSameRoom : Type 0
 TypedProgramsNeedTheSameRoom =
     (tree : Tree) (typed other : Typed) → TypesFile tree typed → TypesFile tree other → machine_bits typed.shapes.items typed.need.items ≡ machine_bits other.shapes.items other.need.items
@@ -57,6 +57,6 @@ abbrev pub FilesWithoutRoomAreRefused : Type 0
 FilesWithoutRoomAreRefused =
     (tree : Tree) (typed : Typed) → TypesFile tree typed → IsTyped typed → IsWellFormed tree → (HasRoom typed.shapes.items typed.need.items → ⊥) → IsFirst tree F.Space tree.end
 
--- What is asked of a file above is no more than what an accepted one has.
+-- What is asked of a file above is no more than an accepted one has.
 abbrev pub AcceptedFilesAreWellFormed : Type 0
 AcceptedFilesAreWellFormed = (tree : Tree) (typed : Typed) → IsAccepted tree typed → IsTyped typed × IsWellFormed tree × HasRoom typed.shapes.items typed.need.items
