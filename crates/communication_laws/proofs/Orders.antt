@@ -1,5 +1,5 @@
 -- Folds and tests over numbers in order.
-use Rattle.std.proofs.Common.{◌≡◌, ℕ, zero, suc, ◌+◌, ◌-◌, ◌<◌, Bool, true, false, ◌∙◌, sym, ap, refl, arith}
+use Rattle.std.proofs.Common.{◌≡◌, ℕ, zero, suc, ◌+◌, ◌-◌, ◌<◌, ◌^◌, Bool, true, false, ◌∙◌, sym, ap, refl, arith}
 use Rattle.std.specs.Prelude.{◌||◌, if◌then◌else◌}
 use Rattle.cstar_base.specs.Orders.{fold_below, any_of}
 
@@ -51,3 +51,13 @@ fold_alike one other f g x y a b (suc n) start passes steps =
     stepped false false c d e so step = so
     stepped true false c d e so step = cc
     stepped false true c d e so step = cc
+
+-- a fold of words is a word
+pub fold_few : (step : ℕ → ℕ → ℕ) (f : ℕ → Bool) (x : ℕ → ℕ) (a n : ℕ) → a < 2 ^ 32 → ((i k : ℕ) → k < n → f k ≡ true → i < 2 ^ 32 → step i (x k) < 2 ^ 32) → fold_below step f x a n < 2 ^ 32
+unfolding fold_below
+fold_few step f x a zero few steps = few
+fold_few step f x a (suc n) few steps = by (f n) refl (fold_few step f x a n few (λ i k h. steps i k (omega (arith, h))))
+  where
+    by : (t : Bool) → f n ≡ t → fold_below step f x a n < 2 ^ 32 → (if t then step (fold_below step f x a n) (x n) else fold_below step f x a n) < 2 ^ 32
+    by true on small = steps (fold_below step f x a n) n (omega arith) on small
+    by false on small = small

@@ -28,7 +28,7 @@ use Rattle.communication_laws.specs.Scans.{ScansAreTheLanguages, HasBits, scan_o
 use Rattle.communication_laws.proofs.Orders.{fold_alike}
 use Rattle.communication_laws.proofs.Segments.{begins_by, parted_alike}
 
-sum_alike : (one other : Bool) (a b : ℕ) → fold_once C.Add one a b ≡ fold_once C.Add other a b
+pub sum_alike : (one other : Bool) (a b : ℕ) → fold_once C.Add one a b ≡ fold_once C.Add other a b
 unfolding fold_once
 sum_alike one other a b = sum_by_residues 32 one a b ∙ sym (sum_by_residues 32 other a b)
 

@@ -2,8 +2,24 @@
 #![tactic(auto)]
 
 ghost use Rattle.communication_laws.specs.Scans.{ScansAreTheLanguages};
+ghost use Rattle.communication_laws.specs.Sends.{SentTargetsAreTheLanguages, OverwritingSendsAreTheLanguages, CombiningSendsAreTheLanguages};
 
 /// A scan of a field that has the values gives at active positions what the scan of the values gives.
 pub fn scans_are_the_languages()
     ensures { ScansAreTheLanguages }
+{}
+
+/// A send writes at the positions that active senders name, and nowhere else.
+pub fn sent_targets_are_the_languages()
+    ensures { SentTargetsAreTheLanguages }
+{}
+
+/// Without a combiner each of them takes the value of its winner, by either order of senders.
+pub fn overwriting_sends_are_the_languages()
+    ensures { OverwritingSendsAreTheLanguages }
+{}
+
+/// With a combiner it takes the fold of the values from its old one, converted to its type.
+pub fn combining_sends_are_the_languages()
+    ensures { CombiningSendsAreTheLanguages }
 {}
