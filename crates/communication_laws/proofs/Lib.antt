@@ -1,5 +1,8 @@
 pub mod Combining
 pub mod Conversions
+pub mod Gets
+pub mod IndexWords
+pub mod Indexes
 pub mod Orders
 pub mod Scans
 pub mod Segments

@@ -1,3 +1,5 @@
+pub mod Gets
 pub mod Holding
+pub mod Indexes
 pub mod Scans
 pub mod Sends

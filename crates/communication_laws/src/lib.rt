@@ -1,6 +1,8 @@
 //! What the machine's scans, messages and checks of indexes do is what those of the language do.
 #![tactic(auto)]
 
+ghost use Rattle.communication_laws.specs.Gets.{GetsAreTheLanguages};
+ghost use Rattle.communication_laws.specs.Indexes.{IndexesWithinNamePositions, AddressesAreTheLanguages, ChecksOfIndexesAreTheLanguages};
 ghost use Rattle.communication_laws.specs.Scans.{ScansAreTheLanguages};
 ghost use Rattle.communication_laws.specs.Sends.{SentTargetsAreTheLanguages, OverwritingSendsAreTheLanguages, CombiningSendsAreTheLanguages};
 
@@ -22,4 +24,24 @@ pub fn overwriting_sends_are_the_languages()
 /// With a combiner it takes the fold of the values from its old one, converted to its type.
 pub fn combining_sends_are_the_languages()
     ensures { CombiningSendsAreTheLanguages }
+{}
+
+/// A get by the router reads at each position that has a target the number of the variable there.
+pub fn gets_are_the_languages()
+    ensures { GetsAreTheLanguages }
+{}
+
+/// The number that indexes within their extents name is that of a position.
+pub fn indexes_within_name_positions()
+    ensures { IndexesWithinNamePositions }
+{}
+
+/// The address that is made of coordinates is that number.
+pub fn addresses_are_the_languages()
+    ensures { AddressesAreTheLanguages }
+{}
+
+/// A check of coordinates finds the least active position at which an index is not within its extent.
+pub fn checks_of_indexes_are_the_languages()
+    ensures { ChecksOfIndexesAreTheLanguages }
 {}
