@@ -1,9 +1,10 @@
 -- Words of either sign are converted alike.
-use Rattle.std.proofs.Common.{◌≡◌, ℕ, zero, suc, ◌^◌, ◌%◌, ◌<◌, Bool, true, false, ℤ, pos, negsuc, ◌∙◌, sym, ap, refl, arith}
+use Rattle.std.proofs.Common.{◌≡◌, ℕ, zero, suc, ◌^◌, ◌%◌, ◌<◌, Bool, true, false, ℤ, pos, negsuc, ◌∙◌, sym, ap, subst, refl, arith}
 use Rattle.std.specs.Prelude.{◌==◌, if◌then◌else◌}
+use Rattle.std.proofs.lemmas.Bool.{eqb-true}
 use Rattle.cstar_base.specs.declared.elem.Elem.{Elem}
 use Rattle.cstar_base.specs.Numbers.{residue, number_of, truth_of, converted}
-use Rattle.cstar_base.proofs.NumberLaws.{kind_bits, residue_of_number, residue_of_pos, zero_number}
+use Rattle.cstar_base.proofs.NumberLaws.{kind_bits, residue_below, residue_of_number, residue_of_pos, zero_number}
 use Rattle.phase_meaning.proofs.Widths.{residue_cut}
 
 -- a number as one of so many bits: of one bit it is a truth value
@@ -43,3 +44,21 @@ converted_alike to from other w wide also small =
 pub wide_converted : (to from : Elem) (w : ℕ) → to.bits ≡ 32 → converted to from w ≡ residue 32 (number_of from.bits from.signed w)
 unfolding converted
 wide_converted to from w wide = ap (λ n. cut n (number_of from.bits from.signed w)) wide
+
+truth_below : (z : ℤ) → truth_of z < 2
+unfolding truth_of
+truth_below (pos zero) = omega arith
+truth_below (pos (suc n)) = omega arith
+truth_below (negsuc n) = omega arith
+
+-- a converted number has the bits of its type
+pub converted_below : (to from : Elem) (w : ℕ) → converted to from w < 2 ^ to.bits
+unfolding converted
+converted_below to from w = by (to.bits == 1) refl
+  where
+    z : ℤ
+    z = number_of from.bits from.signed w
+
+    by : (t : Bool) → (to.bits == 1) ≡ t → (if t then truth_of z else residue to.bits z) < 2 ^ to.bits
+    by true one = subst (λ (n : ℕ). truth_of z < 2 ^ n) (sym (eqb-true to.bits 1 one)) (truth_below z)
+    by false other = residue_below to.bits z

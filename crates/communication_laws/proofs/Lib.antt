@@ -7,4 +7,6 @@ pub mod Orders
 pub mod Scans
 pub mod Segments
 pub mod Sends
+pub mod Storing
+pub mod StoringSends
 pub mod Winners

@@ -26,9 +26,9 @@ use Rattle.source_meaning.specs.Reductions.{folded_into, step_of}
 use Rattle.source_meaning.specs.Sends.{Send, is_sent_to, received, value_or}
 use Rattle.source_meaning.specs.Sends as Language
 use Rattle.communication_laws.specs.Holding.{HasNumbers}
-use Rattle.communication_laws.specs.Sends.{AreWords, CombiningSendsAreTheLanguages, HasTargets, OverwritingSendsAreTheLanguages, SentTargetsAreTheLanguages, sent_word}
+use Rattle.communication_laws.specs.Sends.{HaveBits, CombiningSendsAreTheLanguages, HasTargets, OverwritingSendsAreTheLanguages, SentTargetsAreTheLanguages, sent_word}
 use Rattle.communication_laws.proofs.Combining.{combines_as}
-use Rattle.communication_laws.proofs.Conversions.{converted_alike, wide_converted}
+use Rattle.communication_laws.proofs.Conversions.{converted_alike, converted_below, wide_converted}
 use Rattle.communication_laws.proofs.Orders.{fold_alike, fold_few}
 use Rattle.communication_laws.proofs.Winners.{some_winner, winner_alike, winner_sends}
 
@@ -77,6 +77,16 @@ module _ (shapes : List SetShape) (m : BitMemory) (address : Field) (send : Send
   unfolding is_sent_to
   target_is = ap is_some same_winner ∙ some_winner m.winner (λ sender. Language.sends_to send target sender) send.count
 
+  -- the value of a winner has no more bits than the values
+  pub received_few : (bits : ℕ) → HaveBits bits send → (to from : Elem) (old : ℕ) → is_sent_to send target ≡ true → received m.winner A.Set to from send old target < 2 ^ bits
+  unfolding received
+  received_few bits few to from old sent =
+      subst (λ (o : Option ℕ). value_or old send.value o < 2 ^ bits) (sym (winner_is m.winner send target)) (by (winner_of m.winner (λ sender. Language.sends_to send target sender) send.count) refl)
+    where
+      by : (o : Option ℕ) → winner_of m.winner (λ sender. Language.sends_to send target sender) send.count ≡ o → value_or old send.value o < 2 ^ bits
+      by None is = let none : is_sent_to send target ≡ false = sym target_is ∙ ap is_some (same_winner ∙ is) in cc
+      by (Some k) is = let sends = winner_sends m.winner (λ sender. Language.sends_to send target sender) send.count k is in few k sends.0 (sender_active send target k sends.1)
+
   module _ (a : Field) (of : a.set ≡ address.set) where
     within : (k : ℕ) → k < send.count → k < processors shapes a.set
     within k b = subst (λ (set : ℕ). k < processors shapes set) (sym of) (inside k b)
@@ -94,7 +104,7 @@ module _ (shapes : List SetShape) (m : BitMemory) (address : Field) (send : Send
         by (Some k) is = let sends = winner_sends m.winner (λ sender. Language.sends_to send target sender) send.count k is in numbers k (within k sends.0) (sender_active send target k sends.1)
 
     module _ (op : AssignOp) (operator : Op) (is : assign_op_of op ≡ Some operator) (combining : folds op ≡ true)
-        (numbers : HasNumbers shapes m a send.active (λ sender. sent_word operator (send.value sender))) (words : AreWords send)
+        (numbers : HasNumbers shapes m a send.active (λ sender. sent_word operator (send.value sender))) (words : HaveBits 32 send)
         (d : Field) (to from : Elem) (old : ℕ) (wide : from.bits ≡ 32) (long : d.len ≡ to.bits) (holds : field_number m d target ≡ old) where
       abbrev reduction : Reduction
       reduction = fold_of operator (is_signed from)
@@ -136,6 +146,13 @@ module _ (shapes : List SetShape) (m : BitMemory) (address : Field) (send : Send
       combines =
           converted_alike to word_kind from (combined shapes m reduction d to.signed address a target) refl wide fold_is_few ∙ ap (converted to from) fold_is
           ∙ sym (received_is m.winner op to from send old target combining)
+
+-- what is received with an operator has the bits of the target's type
+pub folded_few : (w : Winner) (op : AssignOp) (to from : Elem) (send : Send) (old target : ℕ) → folds op ≡ true → received w op to from send old target < 2 ^ to.bits
+unfolding folded_into
+folded_few w op to from send old target is =
+    subst (λ (n : ℕ). n < 2 ^ to.bits) (sym (received_is w op to from send old target is))
+    (converted_below to from (fold_below (λ total v. step_of op (not from.signed) total v) (λ sender. Language.sends_to send target sender) send.value (converted from to old) send.count))
 
 pub sent_targets : SentTargetsAreTheLanguages
 sent_targets shapes m address send h target = target_is shapes m address send h target

@@ -7,13 +7,17 @@ use Rattle.cstar_base.specs.Numbers.{residue}
 use Rattle.cstar_tree.specs.declared.syntax.AssignOp.{AssignOp}
 use Rattle.cstar_tree.specs.declared.syntax.AssignOp.TheVariants as A
 use Rattle.cstar_tree.specs.Operations.{folds}
+use Rattle.cstar_tree.specs.declared.typed.Variable.{Variable}
 use Rattle.lower_base.specs.Operators.{assign_op_of, fold_of, is_signed}
+use Rattle.paris_code.specs.declared.instr.Instr.TheVariants as I
 use Rattle.paris_code.specs.declared.operands.Field.{Field}
+use Rattle.paris_code.specs.Meaning.{after}
 use Rattle.paris_code.specs.Memory.{BitMemory, field_number, processors}
 use Rattle.paris_code.specs.Sending.{combining, overwriting, winning_sender}
 use Rattle.paris_code.specs.Shapes.{SetShape}
-use Rattle.source_meaning.specs.Sends.{Send, is_sent_to, received}
-use Rattle.communication_laws.specs.Holding.{HasActive, HasNumbers}
+use Rattle.source_meaning.specs.Sends.{Send, is_sent_to, received, sent}
+use Rattle.source_meaning.specs.State.{State}
+use Rattle.communication_laws.specs.Holding.{HasActive, HasNumbers, HasVariable}
 
 -- the set of a field of addresses has the positions of a send, of which the same are active, and these have their targets
 -- there
@@ -42,9 +46,9 @@ abbrev pub sent_word : Op → ℕ → ℕ
 sent_word O.Sub word = residue 32 (neg_ℤ (pos word))
 sent_word _ word = word
 
--- the values that are sent are words
-abbrev pub AreWords : Send → Type 0
-AreWords send = (sender : ℕ) → sender < send.count → send.active sender ≡ true → send.value sender < 2 ^ 32
+-- the values that are sent are numbers of so many bits
+abbrev pub HaveBits : ℕ → Send → Type 0
+HaveBits bits send = (sender : ℕ) → sender < send.count → send.active sender ≡ true → send.value sender < 2 ^ bits
 
 -- With a combiner, where the senders have their words and the target its old value, it writes what the target
 -- receives, whatever type the target has.
@@ -52,6 +56,23 @@ abbrev pub CombiningSendsAreTheLanguages : Type 0
 CombiningSendsAreTheLanguages =
     (shapes : List SetShape) (m : BitMemory) (d address a : Field) (send : Send) → HasTargets shapes m address send
     → (op : AssignOp) (operator : Op) → assign_op_of op ≡ Some operator → folds op ≡ true
-    → a.set ≡ address.set → HasNumbers shapes m a send.active (λ sender. sent_word operator (send.value sender)) → AreWords send
+    → a.set ≡ address.set → HasNumbers shapes m a send.active (λ sender. sent_word operator (send.value sender)) → HaveBits 32 send
     → (to from : Elem) (old target : ℕ) → from.bits ≡ 32 → d.len ≡ to.bits → field_number m d target ≡ old
     → (combining shapes m (fold_of operator (is_signed from)) d to address a).value target ≡ received m.winner op to from send old target
+
+-- So behind such a send the field has what the variable has behind it in the language.
+abbrev pub OverwritingSendsStore : Type 0
+OverwritingSendsStore =
+    (shapes : List SetShape) (m : BitMemory) (args : List ℕ) (d address a : Field) (kind : Elem) (send : Send) (st : State) (x : Variable) → HasTargets shapes m address send
+    → a.set ≡ address.set → HasNumbers shapes m a send.active send.value → HaveBits d.len send
+    → m.winner ≡ st.winner → HasVariable shapes m d st x
+    → (to from : Elem) → HasVariable shapes (after shapes (I.SendWithOverwrite d kind address a) args m) d (sent A.Set to from x send st) x
+
+abbrev pub CombiningSendsStore : Type 0
+CombiningSendsStore =
+    (shapes : List SetShape) (m : BitMemory) (args : List ℕ) (d address a : Field) (send : Send) (st : State) (x : Variable) → HasTargets shapes m address send
+    → (op : AssignOp) (operator : Op) → assign_op_of op ≡ Some operator → folds op ≡ true
+    → a.set ≡ address.set → HasNumbers shapes m a send.active (λ sender. sent_word operator (send.value sender)) → HaveBits 32 send
+    → m.winner ≡ st.winner → HasVariable shapes m d st x
+    → (to from : Elem) → from.bits ≡ 32 → d.len ≡ to.bits
+    → HasVariable shapes (after shapes (I.SendWithCombiner (fold_of operator (is_signed from)) d to address a) args m) d (sent op to from x send st) x

@@ -4,7 +4,7 @@
 ghost use Rattle.communication_laws.specs.Gets.{GetsAreTheLanguages};
 ghost use Rattle.communication_laws.specs.Indexes.{IndexesWithinNamePositions, AddressesAreTheLanguages, ChecksOfIndexesAreTheLanguages};
 ghost use Rattle.communication_laws.specs.Scans.{ScansAreTheLanguages};
-ghost use Rattle.communication_laws.specs.Sends.{SentTargetsAreTheLanguages, OverwritingSendsAreTheLanguages, CombiningSendsAreTheLanguages};
+ghost use Rattle.communication_laws.specs.Sends.{SentTargetsAreTheLanguages, OverwritingSendsAreTheLanguages, CombiningSendsAreTheLanguages, OverwritingSendsStore, CombiningSendsStore};
 
 /// A scan of a field that has the values gives at active positions what the scan of the values gives.
 pub fn scans_are_the_languages()
@@ -24,6 +24,16 @@ pub fn overwriting_sends_are_the_languages()
 /// With a combiner it takes the fold of the values from its old one, converted to its type.
 pub fn combining_sends_are_the_languages()
     ensures { CombiningSendsAreTheLanguages }
+{}
+
+/// A field that has what a variable has before a send without a combiner has what it has behind the send.
+pub fn overwriting_sends_store()
+    ensures { OverwritingSendsStore }
+{}
+
+/// So it does with a combiner.
+pub fn combining_sends_store()
+    ensures { CombiningSendsStore }
 {}
 
 /// A get by the router reads at each position that has a target the number of the variable there.
