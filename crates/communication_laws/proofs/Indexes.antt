@@ -21,7 +21,7 @@ use Rattle.communication_laws.proofs.IndexWords.{index_read, outside_is, within_
 use Rattle.communication_laws.proofs.Winners.{winner_alike}
 use Rattle.std.proofs.lemmas.Nat.{mul-add-lt}
 
-both : (s t : Bool) → (s && t) ≡ true → (s ≡ true) × (t ≡ true)
+pub both : (s t : Bool) → (s && t) ≡ true → (s ≡ true) × (t ≡ true)
 both true t is = (refl, is)
 both false t is = cc
 
@@ -57,6 +57,10 @@ addresses shapes m args d set coordinates indexes p geometry has is =
     let parts = geometry_parts (extents_at shapes set) geometry in
     number_is m p (extents_at shapes set) args coordinates.items indexes parts.2 parts.3 has is
 
+pub neither : (s t : Bool) → (not s || not t) ≡ not (s && t)
+neither true t = refl
+neither false t = refl
+
 -- a coordinate, read by the sign of its index, is the number of the index
 whole_is : (m : BitMemory) (args : List ℕ) (p : ℕ) (c : Coordinate) (index : Operand) → HasIndex m args p c index → coordinate_whole m (is_signed index.elem) c args p ≡ index_at index p
 unfolding whole_number
@@ -76,10 +80,6 @@ any_outside_is m p (extent ∷ extents) args (c ∷ cs) (index ∷ indexes) many
     ∙ ap (λ t. t || any_outside m extents (with_signs indexes cs) (behind_coordinate c args) p) (outside_is extent (index_at index p))
     ∙ ap (λ t. not (is_within extent (index_at index p)) || t) (any_outside_is m p extents (behind_coordinate c args) cs indexes (omega (arith, many)) has.1)
     ∙ neither (is_within extent (index_at index p)) (are_within extents indexes p)
-  where
-    neither : (s t : Bool) → (not s || not t) ≡ not (s && t)
-    neither true t = refl
-    neither false t = refl
 
 pub checks_of_indexes : ChecksOfIndexesAreTheLanguages
 unfolding failing positions

@@ -1,8 +1,10 @@
 pub mod Combining
 pub mod Conversions
+pub mod Elements
 pub mod Gets
 pub mod IndexWords
 pub mod Indexes
+pub mod OnePosition
 pub mod Orders
 pub mod Scans
 pub mod Segments

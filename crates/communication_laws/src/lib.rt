@@ -1,8 +1,10 @@
 //! What the machine's scans, messages and checks of indexes do is what those of the language do.
 #![tactic(auto)]
 
+ghost use Rattle.communication_laws.specs.Elements.{ElementsAreNumberedByWords, ChecksOfElementsAreTheLanguages};
 ghost use Rattle.communication_laws.specs.Gets.{GetsAreTheLanguages};
 ghost use Rattle.communication_laws.specs.Indexes.{IndexesWithinNamePositions, AddressesAreTheLanguages, ChecksOfIndexesAreTheLanguages};
+ghost use Rattle.communication_laws.specs.OnePosition.{ScalarAddressesAreTheLanguages, ScalarChecksAreTheLanguages, ReadsOfPositionsAreTheLanguages, WritesOfPositionsStore};
 ghost use Rattle.communication_laws.specs.Scans.{ScansAreTheLanguages};
 ghost use Rattle.communication_laws.specs.Sends.{SentTargetsAreTheLanguages, OverwritingSendsAreTheLanguages, CombiningSendsAreTheLanguages, OverwritingSendsStore, CombiningSendsStore};
 
@@ -54,4 +56,34 @@ pub fn addresses_are_the_languages()
 /// A check of coordinates finds the least active position at which an index is not within its extent.
 pub fn checks_of_indexes_are_the_languages()
     ensures { ChecksOfIndexesAreTheLanguages }
+{}
+
+/// The address that the front end makes of scalar indexes within their extents is the number that they name.
+pub fn scalar_addresses_are_the_languages()
+    ensures { ScalarAddressesAreTheLanguages }
+{}
+
+/// Its check of them fails where one is not within its extent.
+pub fn scalar_checks_are_the_languages()
+    ensures { ScalarChecksAreTheLanguages }
+{}
+
+/// What is read of one position is the number of the variable there.
+pub fn reads_of_positions_are_the_languages()
+    ensures { ReadsOfPositionsAreTheLanguages }
+{}
+
+/// A field that has what a variable has before a write to one position has what it has behind the write.
+pub fn writes_of_positions_store()
+    ensures { WritesOfPositionsStore }
+{}
+
+/// The word of the index of an array is the number of the element that it names.
+pub fn elements_are_numbered_by_words()
+    ensures { ElementsAreNumberedByWords }
+{}
+
+/// An unsigned comparison of the word with the length tells whether there is such an element.
+pub fn checks_of_elements_are_the_languages()
+    ensures { ChecksOfElementsAreTheLanguages }
 {}
