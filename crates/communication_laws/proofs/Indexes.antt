@@ -1,24 +1,21 @@
 -- The machine's addresses and checks of left indexes are the language's.
-use Rattle.std.proofs.Common.{◌≡◌, ℕ, ◌+◌, ◌*◌, ◌<◌, ◌≤◌, ◌^◌, Bool, true, false, not, List, [], ◌∷◌, length, Option, Some, None, ◌∙◌, sym, ap, subst, refl, arith}
+use Rattle.std.proofs.Common.{◌≡◌, ℕ, ◌+◌, ◌*◌, ◌<◌, ◌≤◌, ◌^◌, Bool, true, false, not, List, [], ◌∷◌, length, ◌∙◌, sym, ap, subst, refl, arith}
 use Rattle.std.specs.Prelude.{◌&&◌, ◌||◌, unsigned_abs}
 use Rattle.vp_sets.specs.Positions.{are_positive, number_at, position_count}
 use Rattle.vp_sets.proofs.PositionLaws.{FirstOf, extent_bound, first_of, geometry_parts}
-use Rattle.cstar_base.specs.declared.operators.Winner.TheVariants as W
 use Rattle.cstar_base.specs.Numbers.{number_of}
 use Rattle.cstar_base.specs.Orders.{least_below}
 use Rattle.lower_base.specs.Operators.{is_signed}
 use Rattle.paris_code.specs.declared.operands.Coordinate.{Coordinate}
 use Rattle.paris_code.specs.declared.operands.Coordinate.TheVariants as C
-use Rattle.paris_code.specs.declared.operands.SignedCoordinate.{SignedCoordinate}
 use Rattle.paris_code.specs.Arguments.{behind_coordinate, coordinate_numbers, coordinate_whole}
-use Rattle.paris_code.specs.Checking.{any_outside, is_outside, set_of_coordinates}
+use Rattle.paris_code.specs.Checking.{any_outside, is_outside}
 use Rattle.paris_code.specs.Memory.{BitMemory, field_number, is_active, processors, whole_number}
 use Rattle.paris_code.specs.Shapes.{extents_at}
 use Rattle.source_meaning.specs.Gets.{Operand, are_within, coordinates_of, index_at, is_within, named_by}
-use Rattle.source_meaning.specs.Values.{failing, positions}
 use Rattle.communication_laws.specs.Indexes.{AddressesAreTheLanguages, ChecksOfIndexesAreTheLanguages, HasIndex, HasIndexes, IndexesWithinNamePositions, failing_at, with_signs}
 use Rattle.communication_laws.proofs.IndexWords.{index_read, outside_is, within_number, word_within}
-use Rattle.communication_laws.proofs.Winners.{winner_alike}
+use Rattle.communication_laws.proofs.Failing.{fails_alike}
 use Rattle.std.proofs.lemmas.Nat.{mul-add-lt}
 
 pub both : (s t : Bool) → (s && t) ≡ true → (s ≡ true) × (t ≡ true)
@@ -82,27 +79,8 @@ any_outside_is m p (extent ∷ extents) args (c ∷ cs) (index ∷ indexes) many
     ∙ neither (is_within extent (index_at index p)) (are_within extents indexes p)
 
 pub checks_of_indexes : ChecksOfIndexesAreTheLanguages
-unfolding failing positions
 checks_of_indexes shapes m args scope active set of place checked coordinates indexes own targets many are of_set alike has =
-    fails_at (least_below language (position_count (scope.extents set))) ∙ ap failing_at (sym same)
-  where
-    language : ℕ → Bool
-    language p = active set p && not (are_within (scope.extents of) indexes p)
-
-    fails_at : (o : Option ℕ) → (elim o [ None ↦ None | Some p ↦ Some (Some p) ]) ≡ failing_at o
-    fails_at None = refl
-    fails_at (Some p) = refl
-
-    machine : ℕ → List SignedCoordinate → List ℕ → Option ℕ
-    machine s list extents = least_below (λ p. is_active shapes m s p && any_outside m extents list args p) (processors shapes s)
-
-    same : machine (set_of_coordinates of checked.items) checked.items (extents_at shapes of) ≡ least_below language (position_count (scope.extents set))
-    same =
-        ap (λ s. machine s checked.items (extents_at shapes of)) of_set ∙ ap (λ list. machine set list (extents_at shapes of)) are ∙ ap (machine set (with_signs indexes coordinates)) targets
-        ∙ winner_alike W.Low _ language (processors shapes set) (λ p b.
-        ap (λ t. t && any_outside m (scope.extents of) (with_signs indexes coordinates) args p) (alike p b) ∙ by p b (active set p) refl)
-        ∙ ap (λ extents. least_below language (position_count extents)) own
-      where
-        by : (p : ℕ) → p < processors shapes set → (t : Bool) → active set p ≡ t → (t && any_outside m (scope.extents of) (with_signs indexes coordinates) args p) ≡ (t && not (are_within (scope.extents of) indexes p))
-        by p b true on = any_outside_is m p (scope.extents of) args coordinates indexes many (has p b on)
-        by p b false on = refl
+    fails_alike shapes m scope active set (λ p. any_outside m (extents_at shapes of) checked.items args p) (λ p. not (are_within (scope.extents of) indexes p)) own alike
+    (λ p b on. ap (λ list. any_outside m (extents_at shapes of) list args p) are ∙ ap (λ extents. any_outside m extents (with_signs indexes coordinates) args p) targets
+    ∙ any_outside_is m p (scope.extents of) args coordinates indexes many (has p b on))
+    ∙ ap (λ s. failing_at (least_below (λ p. is_active shapes m s p && any_outside m (extents_at shapes of) checked.items args p) (processors shapes s))) (sym of_set)

@@ -1,6 +1,7 @@
 pub mod Combining
 pub mod Conversions
 pub mod Elements
+pub mod Failing
 pub mod Gets
 pub mod IndexWords
 pub mod Indexes
@@ -9,6 +10,7 @@ pub mod Orders
 pub mod Scans
 pub mod Segments
 pub mod Sends
+pub mod Steps
 pub mod Storing
 pub mod StoringSends
 pub mod Winners

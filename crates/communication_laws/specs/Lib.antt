@@ -5,3 +5,4 @@ pub mod Indexes
 pub mod OnePosition
 pub mod Scans
 pub mod Sends
+pub mod Steps

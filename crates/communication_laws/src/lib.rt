@@ -7,6 +7,7 @@ ghost use Rattle.communication_laws.specs.Indexes.{IndexesWithinNamePositions, A
 ghost use Rattle.communication_laws.specs.OnePosition.{ScalarAddressesAreTheLanguages, ScalarChecksAreTheLanguages, ReadsOfPositionsAreTheLanguages, WritesOfPositionsStore};
 ghost use Rattle.communication_laws.specs.Scans.{ScansAreTheLanguages};
 ghost use Rattle.communication_laws.specs.Sends.{SentTargetsAreTheLanguages, OverwritingSendsAreTheLanguages, CombiningSendsAreTheLanguages, OverwritingSendsStore, CombiningSendsStore};
+ghost use Rattle.communication_laws.specs.Steps.{SumsWithStepsAreRead, StepsWithinMove, ChecksOfStepsAreTheLanguages};
 
 /// A scan of a field that has the values gives at active positions what the scan of the values gives.
 pub fn scans_are_the_languages()
@@ -56,6 +57,21 @@ pub fn addresses_are_the_languages()
 /// A check of coordinates finds the least active position at which an index is not within its extent.
 pub fn checks_of_indexes_are_the_languages()
     ensures { ChecksOfIndexesAreTheLanguages }
+{}
+
+/// The word of the sum of a coordinate and a step to a neighbour is read as their sum.
+pub fn sums_with_steps_are_read()
+    ensures { SumsWithStepsAreRead }
+{}
+
+/// Where it lies within the extent it is the coordinate to which the step leads.
+pub fn steps_within_move()
+    ensures { StepsWithinMove }
+{}
+
+/// A check of steps finds the least active position from which an index does not lead to one within its extent.
+pub fn checks_of_steps_are_the_languages()
+    ensures { ChecksOfStepsAreTheLanguages }
 {}
 
 /// The address that the front end makes of scalar indexes within their extents is the number that they name.
