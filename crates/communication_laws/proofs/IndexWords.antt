@@ -1,12 +1,13 @@
 -- The words of indexes, and when they lie within extents.
-use Rattle.std.proofs.Common.{◌≡◌, ℕ, ◌<◌, ◌≤◌, ◌^◌, Bool, true, false, not, ℤ, pos, negsuc, ◌∙◌, sym, ap, refl, inl, inr, lit<, arith}
+use Rattle.std.proofs.Common.{◌≡◌, ℕ, ◌<◌, ◌≤◌, ◌^◌, Bool, true, false, not, ℤ, pos, negsuc, ◌∙◌, sym, ap, refl, ◌⊎◌, ◌-ℤ◌, inl, inr, lit<, arith}
 use Rattle.std.specs.Prelude.{nat_lt, ◌||◌, unsigned_abs}
 use Rattle.std.proofs.lemmas.Bool.{cases_lt, lt-ltb, le-ltb}
+use Rattle.std.proofs.lemmas.Int.{ints}
 use Rattle.std.proofs.lemmas.Bool.Decides.{nat_tests}
 use Rattle.std.proofs.Math.Nat.{mod-eq_of_lt, pow-le-pow_right}
 use Rattle.cstar_base.specs.declared.elem.Elem.{Elem}
 use Rattle.cstar_base.specs.Numbers.{number_of, residue}
-use Rattle.cstar_base.proofs.NumberLaws.{kind_bits, number_in_lower, number_unsigned, residue_of_pos}
+use Rattle.cstar_base.proofs.NumberLaws.{kind_bits, number_in_lower, number_in_upper, number_unsigned, residue_of_pos}
 use Rattle.lower_base.specs.Operators.{is_signed}
 use Rattle.paris_code.specs.Checking.{is_outside}
 use Rattle.phase_meaning.proofs.Widths.{number_in_word}
@@ -14,7 +15,7 @@ use Rattle.source_meaning.specs.Gets.{Operand, index_at, is_within}
 use Rattle.source_meaning.specs.Reductions.{int_type}
 use Rattle.source_meaning.specs.Values.{at}
 use Rattle.communication_laws.specs.Indexes.{index_word}
-use Rattle.communication_laws.proofs.Conversions.{wide_converted}
+use Rattle.communication_laws.proofs.Conversions.{converted_below, wide_converted}
 
 -- a number within an extent is not below 0
 pub within_number : (extent : ℕ) (z : ℤ) → is_within extent z ≡ true → (z ≡ pos (unsigned_abs z)) × (unsigned_abs z < extent)
@@ -54,3 +55,28 @@ index_read index p small =
     let elem : Elem = index.elem in
     let bits = kind_bits elem.bits elem.signed elem.kind in
     ap (number_of 32 (elem.signed || nat_lt elem.bits 32)) (wide_converted int_type elem (at index.value p) refl) ∙ word_read elem.bits elem.signed (at index.value p) bits.0 bits.1 small
+
+least_within : (count w : ℕ) → nat_lt w count ≡ is_within count (pos w)
+unfolding is_within
+least_within count w = grind (arith, nat_tests)
+
+-- a word that is read with a sign lies within an extent of at most half the words where it does without
+word_is_within : (count : ℕ) (signed : Bool) (w : ℕ) → count ≤ 2 ^ 31 → w < 2 ^ 32 → nat_lt w count ≡ is_within count (number_of 32 signed w)
+word_is_within count signed w few small = by signed (cases_lt w (2 ^ 31))
+  where
+    plain : nat_lt w count ≡ is_within count (pos w)
+    plain = least_within count w
+
+    by : (s : Bool) → (w < 2 ^ 31) ⊎ (2 ^ 31 ≤ w) → nat_lt w count ≡ is_within count (number_of 32 s w)
+    by false which = plain ∙ sym (ap (is_within count) (number_unsigned 32 w))
+    by true (inl low) = plain ∙ sym (ap (is_within count) (number_in_lower 32 w low))
+    by true (inr high) = le-ltb w count (omega (arith, few, high)) ∙ sym (ap (is_within count) (number_in_upper 32 w high) ∙ below (is_within count (pos w -ℤ pos (2 ^ 32))) refl)
+      where
+        below : (t : Bool) → is_within count (pos w -ℤ pos (2 ^ 32)) ≡ t → t ≡ false
+        below true is = let number = (within_number count (pos w -ℤ pos (2 ^ 32)) is).0 in absurd (omega (arith, ints, small, number))
+        below false is = refl
+
+-- so the word of an index is below a count where the index lies within it
+pub index_is_within : (count : ℕ) (index : Operand) (p : ℕ) → count ≤ 2 ^ 31 → at index.value p < 2 ^ index.elem.bits → nat_lt (index_word index p) count ≡ is_within count (index_at index p)
+index_is_within count index p few small =
+    word_is_within count (is_signed index.elem) (index_word index p) few (converted_below int_type index.elem (at index.value p)) ∙ ap (is_within count) (index_read index p small)

@@ -5,6 +5,7 @@ pub mod Failing
 pub mod Gets
 pub mod IndexWords
 pub mod Indexes
+pub mod KnownPositions
 pub mod OnePosition
 pub mod Orders
 pub mod Scans

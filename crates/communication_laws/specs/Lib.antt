@@ -2,6 +2,7 @@ pub mod Elements
 pub mod Gets
 pub mod Holding
 pub mod Indexes
+pub mod KnownPositions
 pub mod OnePosition
 pub mod Scans
 pub mod Sends

@@ -1,9 +1,10 @@
 //! What the machine's scans, messages and checks of indexes do is what those of the language do.
 #![tactic(auto)]
 
-ghost use Rattle.communication_laws.specs.Elements.{ElementsAreNumberedByWords, ChecksOfElementsAreTheLanguages};
+ghost use Rattle.communication_laws.specs.Elements.{ElementsAreNumberedByWords, ChecksOfElementsAreTheLanguages, MissingElementsAreRefused};
 ghost use Rattle.communication_laws.specs.Gets.{GetsAreTheLanguages};
 ghost use Rattle.communication_laws.specs.Indexes.{IndexesWithinNamePositions, AddressesAreTheLanguages, ChecksOfIndexesAreTheLanguages};
+ghost use Rattle.communication_laws.specs.KnownPositions.{KnownPositionsAreTheLanguages};
 ghost use Rattle.communication_laws.specs.OnePosition.{ScalarAddressesAreTheLanguages, ScalarChecksAreTheLanguages, ReadsOfPositionsAreTheLanguages, WritesOfPositionsStore};
 ghost use Rattle.communication_laws.specs.Scans.{ScansAreTheLanguages};
 ghost use Rattle.communication_laws.specs.Sends.{SentTargetsAreTheLanguages, OverwritingSendsAreTheLanguages, CombiningSendsAreTheLanguages, OverwritingSendsStore, CombiningSendsStore};
@@ -84,6 +85,11 @@ pub fn scalar_checks_are_the_languages()
     ensures { ScalarChecksAreTheLanguages }
 {}
 
+/// The position that lowering knows of scalar indexes that are constants is the one that they name.
+pub fn known_positions_are_the_languages()
+    ensures { KnownPositionsAreTheLanguages }
+{}
+
 /// What is read of one position is the number of the variable there.
 pub fn reads_of_positions_are_the_languages()
     ensures { ReadsOfPositionsAreTheLanguages }
@@ -102,4 +108,9 @@ pub fn elements_are_numbered_by_words()
 /// An unsigned comparison of the word with the length tells whether there is such an element.
 pub fn checks_of_elements_are_the_languages()
     ensures { ChecksOfElementsAreTheLanguages }
+{}
+
+/// The check that code makes where there is none fails.
+pub fn missing_elements_are_refused()
+    ensures { MissingElementsAreRefused }
 {}
