@@ -16,16 +16,16 @@ use Rattle.communication_laws.proofs.Indexes.{neither}
 use Rattle.communication_laws.proofs.IndexWords.{outside_is, within_number}
 
 pub sums_with_steps : SumsWithStepsAreRead
-sums_with_steps own by few (inl on) =
+sums_with_steps own by few (word, inl on) =
     ap (number_of 32 true) (mod-eq_of_lt (let e : own + by < 2 ^ 32 = omega (arith, few, on) in e)) ∙ number_in_lower 32 (own + by) (omega (arith, few, on))
     ∙ (let e : pos (own + by) ≡ pos own +ℤ pos by = omega (arith, ints) in e) ∙ sym (ap (λ z. pos own +ℤ z) (number_in_lower 32 by (omega (arith, on))))
-sums_with_steps own by few (inr back) = elim (cases_lt (own + by) (2 ^ 32)) [
+sums_with_steps own by few (word, inr back) = elim (cases_lt (own + by) (2 ^ 32)) [
   | inl below ↦
-      ap (number_of 32 true) (mod-eq_of_lt below) ∙ number_in_upper 32 (own + by) (omega (arith, few, back.0))
-      ∙ (let e : pos (own + by) -ℤ pos (2 ^ 32) ≡ pos own +ℤ (pos by -ℤ pos (2 ^ 32)) = omega (arith, ints) in e) ∙ sym (ap (λ z. pos own +ℤ z) (number_in_upper 32 by (omega (arith, back.0))))
+      ap (number_of 32 true) (mod-eq_of_lt below) ∙ number_in_upper 32 (own + by) (omega (arith, few, back))
+      ∙ (let e : pos (own + by) -ℤ pos (2 ^ 32) ≡ pos own +ℤ (pos by -ℤ pos (2 ^ 32)) = omega (arith, ints) in e) ∙ sym (ap (λ z. pos own +ℤ z) (number_in_upper 32 by (omega (arith, back))))
   | inr past ↦
-      ap (number_of 32 true) (let e : (own + by) % 2 ^ 32 ≡ own + by - 2 ^ 32 = omega (arith, few, past, back.1) in e) ∙ number_in_lower 32 (own + by - 2 ^ 32) (omega (arith, few, back.1))
-      ∙ (let e : pos (own + by - 2 ^ 32) ≡ pos own +ℤ (pos by -ℤ pos (2 ^ 32)) = omega (arith, ints, past) in e) ∙ sym (ap (λ z. pos own +ℤ z) (number_in_upper 32 by (omega (arith, back.0))))
+      ap (number_of 32 true) (let e : (own + by) % 2 ^ 32 ≡ own + by - 2 ^ 32 = omega (arith, few, past, word) in e) ∙ number_in_lower 32 (own + by - 2 ^ 32) (omega (arith, few, word))
+      ∙ (let e : pos (own + by - 2 ^ 32) ≡ pos own +ℤ (pos by -ℤ pos (2 ^ 32)) = omega (arith, ints, past) in e) ∙ sym (ap (λ z. pos own +ℤ z) (number_in_upper 32 by (omega (arith, back))))
 ]
 
 pub steps_within_move : StepsWithinMove

@@ -16,12 +16,12 @@ use Rattle.communication_laws.specs.Indexes.{failing_at}
 
 -- a word is a step of at most 2^20 coordinates, in either direction
 abbrev pub IsStep : ℕ → Type 0
-IsStep by = (by ≤ 2 ^ 20) ⊎ ((2 ^ 32 ≤ by + 2 ^ 20) × (by < 2 ^ 32))
+IsStep by = (by < 2 ^ 32) × ((by ≤ 2 ^ 20) ⊎ (2 ^ 32 ≤ by + 2 ^ 20))
 
 -- The sum of a coordinate and a step, as a word, is read as their sum.
 abbrev pub SumsWithStepsAreRead : Type 0
 SumsWithStepsAreRead =
-    (own by : ℕ) → own < 2 ^ 20 → IsStep by → number_of 32 true ((own + by) % 2 ^ 32) ≡ pos own +ℤ number_of 32 true by
+    (own by : ℕ) → own ≤ 2 ^ 20 → IsStep by → number_of 32 true ((own + by) % 2 ^ 32) ≡ pos own +ℤ number_of 32 true by
 
 -- An index that is such a sum and lies within its extent names the coordinate that the step leads to.
 abbrev pub StepsWithinMove : Type 0
