@@ -20,7 +20,7 @@ pub fn sent_targets_are_the_languages()
     ensures { SentTargetsAreTheLanguages }
 {}
 
-/// Without a combiner each of them takes the value of its winner, by either order of senders.
+/// Without a combiner each of them takes the value of its winner, be that the greatest sender or the least.
 pub fn overwriting_sends_are_the_languages()
     ensures { OverwritingSendsAreTheLanguages }
 {}
