@@ -1,0 +1,17 @@
+pub mod Combining
+pub mod Conversions
+pub mod Elements
+pub mod Failing
+pub mod Gets
+pub mod IndexWords
+pub mod Indexes
+pub mod KnownPositions
+pub mod OnePosition
+pub mod Orders
+pub mod Scans
+pub mod Segments
+pub mod Sends
+pub mod Steps
+pub mod Storing
+pub mod StoringSends
+pub mod Winners

@@ -1,0 +1,9 @@
+pub mod Elements
+pub mod Gets
+pub mod Holding
+pub mod Indexes
+pub mod KnownPositions
+pub mod OnePosition
+pub mod Scans
+pub mod Sends
+pub mod Steps
