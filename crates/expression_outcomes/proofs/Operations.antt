@@ -26,12 +26,13 @@ use Rattle.cstar_tree.specs.Headers.{Program}
 use Rattle.cstar_tree.specs.Operations.{Target, assigned_elem, folds, left_elem, left_target, many, one, right_elem, sends, sign_of, target_of}
 use Rattle.cstar_tree.specs.Scopes.{Here, of_shape, of_written, part, written_type}
 use Rattle.cstar_tree.specs.Typed.{type_of}
-use Rattle.unique_types.specs.Outcomes.{IsOfProgram, HasItsNames, Outcome}
-use Rattle.unique_types.specs.Outcomes as O
-use Rattle.unique_types.proofs.Bringing.{boxed, cast_elems, converted, fitted, spread}
-use Rattle.unique_types.proofs.Called.{brackets_call}
-use Rattle.unique_types.proofs.Coming.{AtHandOrAway, HasOutcome, at_hand_or_away, with_part, with_shape}
-use Rattle.unique_types.proofs.Coming as W
+use Rattle.expression_outcomes.specs.Outcomes.{IsOfProgram, HasItsNames, Outcome}
+use Rattle.expression_outcomes.specs.Outcomes as O
+use Rattle.expression_outcomes.proofs.Fitting.{fitted, spread}
+use Rattle.unique_types.proofs.Bringing.{boxed, cast_elems, converted}
+use Rattle.expression_outcomes.proofs.Called.{brackets_call}
+use Rattle.expression_outcomes.proofs.Coming.{AtHandOrAway, HasOutcome, at_hand_or_away, with_part, with_shape}
+use Rattle.expression_outcomes.proofs.Coming as W
 use Rattle.unique_types.proofs.Judged.{Operand, of_parts}
 
 -- many targets are parallel

@@ -21,14 +21,15 @@ use Rattle.cstar_tree.specs.ExpressionTypes as X
 use Rattle.cstar_tree.specs.Headers.{Placed, Program, Returns, a_value, nothing, unknown}
 use Rattle.cstar_tree.specs.Scopes.{Here, a_function, meaning, part}
 use Rattle.cstar_tree.specs.Typed.{type_of}
-use Rattle.unique_types.specs.Outcomes.{IsOfProgram, Outcome}
-use Rattle.unique_types.specs.Outcomes as O
-use Rattle.unique_types.proofs.Bringing.{all_fitted, each_length, vec_below}
-use Rattle.unique_types.proofs.Called.{it_calls}
-use Rattle.unique_types.proofs.Coming.{AtHandOrAway, HasOutcome, at_hand_or_away, with_each, with_function}
-use Rattle.unique_types.proofs.Coming as W
+use Rattle.expression_outcomes.specs.Outcomes.{IsOfProgram, Outcome}
+use Rattle.expression_outcomes.specs.Outcomes as O
+use Rattle.expression_outcomes.proofs.Fitting.{all_fitted, each_length}
+use Rattle.unique_types.proofs.Bringing.{vec_below}
+use Rattle.expression_outcomes.proofs.Called.{it_calls}
+use Rattle.expression_outcomes.proofs.Coming.{AtHandOrAway, HasOutcome, at_hand_or_away, with_each, with_function}
+use Rattle.expression_outcomes.proofs.Coming as W
 use Rattle.unique_types.proofs.Judged.{of_parts}
-use Rattle.unique_types.proofs.Leading.{decided}
+use Rattle.expression_outcomes.proofs.Leading.{decided}
 use Rattle.unique_types.proofs.Unique.{returned}
 
 -- ---- the header

@@ -18,9 +18,9 @@ use Rattle.cstar_tree.specs.ExpressionTypes as X
 use Rattle.cstar_tree.specs.Headers.{Program}
 use Rattle.cstar_tree.specs.Scopes.{Here, IsAtHand, Meaning, VariableType, a_function, a_shape, a_variable, extents_of, index_place, meaning, part, shape_meant, shape_of}
 use Rattle.cstar_tree.specs.Scopes as S
-use Rattle.unique_types.specs.Outcomes.{IsOfProgram, HasItsNames, IsShape, Outcome}
-use Rattle.unique_types.specs.Outcomes as O
-use Rattle.unique_types.proofs.Called.{around_there, elsewhere, part_calls, place_there}
+use Rattle.expression_outcomes.specs.Outcomes.{IsOfProgram, HasItsNames, IsShape, Outcome}
+use Rattle.expression_outcomes.specs.Outcomes as O
+use Rattle.expression_outcomes.proofs.Called.{around_there, elsewhere, part_calls, place_there}
 use Rattle.unique_types.proofs.Judged.{Operand}
 
 -- ---- places of parts
