@@ -1,3 +1,4 @@
+pub mod ByParts
 pub mod Called
 pub mod Calls
 pub mod Coming
@@ -7,3 +8,4 @@ pub mod Leading
 pub mod Naming
 pub mod Operations
 pub mod Outcomes
+pub mod Untold

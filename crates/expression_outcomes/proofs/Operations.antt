@@ -30,8 +30,7 @@ use Rattle.expression_outcomes.specs.Outcomes.{IsOfProgram, HasItsNames, Outcome
 use Rattle.expression_outcomes.specs.Outcomes as O
 use Rattle.expression_outcomes.proofs.Fitting.{fitted, spread}
 use Rattle.unique_types.proofs.Bringing.{boxed, cast_elems, converted}
-use Rattle.expression_outcomes.proofs.Called.{brackets_call}
-use Rattle.expression_outcomes.proofs.Coming.{AtHandOrAway, HasOutcome, at_hand_or_away, with_part, with_shape}
+use Rattle.expression_outcomes.proofs.Coming.{AtHandOrAway, HasOutcome, at_hand_or_away, of_program_inside, with_part, with_shape}
 use Rattle.expression_outcomes.proofs.Coming as W
 use Rattle.unique_types.proofs.Judged.{Operand, of_parts}
 
@@ -48,7 +47,7 @@ parallel_targets other are none = cc
 
 module _ (program : Program) (p : Place) where
   pub brackets : (inner : Box Expr Global) → HasOutcome program inner.value → HasOutcome program (E.Brackets p inner)
-  brackets inner from here k i = around (from here k (record { instances = λ c at_function calls. i.instances c at_function (brackets_call here p inner calls); texts = λ q text arguments stands. i.texts q text arguments (O.in_brackets inner stands) }))
+  brackets inner from here k i = around (from here k (of_program_inside inner i))
     where
       around : Outcome program here inner.value → Outcome program here (E.Brackets p inner)
       around (O.typed {t = t} h) = O.typed (X.brackets inner (boxed inner.alloc t) h)
