@@ -102,7 +102,7 @@ known_at_hand : {current : Option ℕ} {o : Option ValueType} {elem : Elem} {s :
 known_at_hand X.faulty is = absurd (cc)
 known_at_hand (X.typed h) is = current_at_hand h (ap (λ (ty : ValueType). ty.shape) (same_Some _ _ is))
 
-all_at : {A : Type 0} (P : A → Type 0) (xs : List A) (which : ℕ) {x : A} → All P xs → slice_get xs which ≡ Some x → P x
+pub all_at : {A : Type 0} (P : A → Type 0) (xs : List A) (which : ℕ) {x : A} → All P xs → slice_get xs which ≡ Some x → P x
 all_at P [] which all is = absurd (cc)
 all_at P (y ∷ ys) zero all is = subst P (same_Some _ _ is) (All-head P y ys all)
 all_at P (y ∷ ys) (suc which) all is = all_at P ys which (All-tail P y ys all) is
@@ -253,7 +253,7 @@ no_fault_at (F.axis_no_constant_dim axis has none) h =
 
 -- ---- the expression
 
-axis_part : {here : Here} {e axis : Expr} → IsAxisPart e axis → IsPart here e (part here) axis
+pub axis_part : {here : Here} {e axis : Expr} → IsAxisPart e axis → IsPart here e (part here) axis
 axis_part (F.IsAxisPart.along along) = F.IsPart.along along
 axis_part (F.IsAxisPart.of_dim axis) = F.IsPart.of_dim axis
 

@@ -1,16 +1,8 @@
 pub mod Bringing
-pub mod Called
-pub mod Calls
-pub mod Coming
 pub mod Constants
 pub mod Faultless
-pub mod Intrinsics
 pub mod Judged
-pub mod Leading
-pub mod Naming
 pub mod OneFault
-pub mod Operations
-pub mod Outcomes
 pub mod Parts
 pub mod Told
 pub mod Unique

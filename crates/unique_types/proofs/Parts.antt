@@ -85,7 +85,7 @@ result_is {program} {here} {placed = placed} j means is =
     let p = one_placed program.functions f is j.is_placed in
     ap (λ (k : ℕ). returned here placed k) f ∙ ap (λ (q : Placed). returned here q j.f) p
 
-no_faulty_type : (types : List ValueType) (which : ℕ) → slice_get (map Some types) which ≡ Some None → ⊥
+pub no_faulty_type : (types : List ValueType) (which : ℕ) → slice_get (map Some types) which ≡ Some None → ⊥
 no_faulty_type [] which is = cc
 no_faulty_type (ty ∷ types) zero is = cc
 no_faulty_type (ty ∷ types) (suc which) is = no_faulty_type types which is

@@ -15,7 +15,6 @@ use Rattle.cstar_tree.specs.Headers.{Program}
 use Rattle.cstar_tree.specs.Scopes.{Here}
 use Rattle.cstar_tree.specs.Typed.{type_of}
 use Rattle.unique_types.specs.Alike.{IsAlike}
-use Rattle.unique_types.specs.Outcomes.{IsOfProgram, HasItsNames, Outcome}
 
 -- ---- one type
 
@@ -65,8 +64,3 @@ HasOneAtMost _ = Unit {0}
 abbrev pub FaultsAtANodeAreOne : Type 0
 FaultsAtANodeAreOne =
     (program : Program) (here : Here) (e : Expr) (f g : Fault) (p q : Place) → HasOneAtMost e → FaultAt program here e f p → FaultAt program here e g q → (f ≡ g) × (p ≡ q)
-
--- ---- one or the other
-
-abbrev pub ExpressionsAreTypedOrFaulty : Type 0
-ExpressionsAreTypedOrFaulty = (program : Program) (here : Here) (e : Expr) → HasItsNames program here → IsOfProgram program here e → Outcome program here e

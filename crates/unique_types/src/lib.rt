@@ -2,7 +2,7 @@
 //! Readers find the laws here by name.
 #![tactic(auto)]
 
-ghost use Rattle.unique_types.specs.Laws.{ConstantsHaveTypes, ExpressionsAreTypedOrFaulty, FaultsAtANodeAreOne, TypedExpressionsAreNotUntold, TypedExpressionsHaveNoFault, TypedValuesHaveNoFault, TypesAreUnique, TypesOfIndexesAreUnique, TypesOfListsAreUnique};
+ghost use Rattle.unique_types.specs.Laws.{ConstantsHaveTypes, FaultsAtANodeAreOne, TypedExpressionsAreNotUntold, TypedExpressionsHaveNoFault, TypedValuesHaveNoFault, TypesAreUnique, TypesOfIndexesAreUnique, TypesOfListsAreUnique};
 
 /// The typed trees that the rules give an expression at a place have one type, are one as targets, and
 /// all have a value or none has.
@@ -45,11 +45,4 @@ pub fn typed_expressions_are_not_untold()
 /// number, at one place.
 pub fn faults_at_a_node_are_one()
     ensures { FaultsAtANodeAreOne }
-{}
-
-/// Each expression has a type, or a fault stands in it, or it rests on a variable or a function whose
-/// declaration has a fault. What is named at its place is there, and its calls within a function are of
-/// instances of the program.
-pub fn expressions_are_typed_or_faulty()
-    ensures { ExpressionsAreTypedOrFaulty }
 {}

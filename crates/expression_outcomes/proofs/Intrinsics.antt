@@ -23,12 +23,12 @@ use Rattle.cstar_tree.specs.ExpressionTypes as X
 use Rattle.cstar_tree.specs.Headers.{Program}
 use Rattle.cstar_tree.specs.Scopes.{Here, VariableType, extents_of, part}
 use Rattle.cstar_tree.specs.Typed.{type_of}
-use Rattle.unique_types.specs.Outcomes.{HasItsNames, Outcome}
-use Rattle.unique_types.specs.Outcomes as O
+use Rattle.expression_outcomes.specs.Outcomes.{HasItsNames, Outcome}
+use Rattle.expression_outcomes.specs.Outcomes as O
 use Rattle.unique_types.proofs.Bringing.{converted}
-use Rattle.unique_types.proofs.Coming.{HasOutcome, with_part, with_variable}
+use Rattle.expression_outcomes.proofs.Coming.{HasOutcome, with_part, with_variable}
 use Rattle.unique_types.proofs.Judged.{IsAlong, Operand, of_parts}
-use Rattle.unique_types.proofs.Naming.{variable_of}
+use Rattle.expression_outcomes.proofs.Naming.{variable_of}
 use Rattle.unique_types.proofs.Unique.{bits_shape}
 
 -- ---- segment bits

@@ -16,19 +16,20 @@ use Rattle.cstar_tree.specs.declared.typed.ValueType.{ValueType}
 use Rattle.cstar_tree.specs.Conversions.{int, parallel, scalar}
 use Rattle.cstar_tree.specs.ExpressionFaults.{IsAway, IsCall, parameters_of}
 use Rattle.cstar_tree.specs.ExpressionFaults as F
-use Rattle.cstar_tree.specs.ExpressionTypes.{AreTaken, Gives, IsCallable, IsKnownAtHand, TypesEach, callee, result_known}
+use Rattle.cstar_tree.specs.ExpressionTypes.{AreTaken, Gives, GivesOutside, IsCallable, IsKnownAtHand, TypesEach, callee, result_known}
 use Rattle.cstar_tree.specs.ExpressionTypes as X
 use Rattle.cstar_tree.specs.Headers.{Placed, Program, Returns, a_value, nothing, unknown}
 use Rattle.cstar_tree.specs.Scopes.{Here, a_function, meaning, part}
 use Rattle.cstar_tree.specs.Typed.{type_of}
-use Rattle.unique_types.specs.Outcomes.{IsOfProgram, Outcome}
-use Rattle.unique_types.specs.Outcomes as O
-use Rattle.unique_types.proofs.Bringing.{all_fitted, each_length, vec_below}
-use Rattle.unique_types.proofs.Called.{it_calls}
-use Rattle.unique_types.proofs.Coming.{AtHandOrAway, HasOutcome, at_hand_or_away, with_each, with_function}
-use Rattle.unique_types.proofs.Coming as W
+use Rattle.expression_outcomes.specs.Outcomes.{IsOfProgram, Outcome}
+use Rattle.expression_outcomes.specs.Outcomes as O
+use Rattle.expression_outcomes.proofs.Fitting.{all_fitted, each_length}
+use Rattle.unique_types.proofs.Bringing.{vec_below}
+use Rattle.expression_outcomes.proofs.Called.{it_calls}
+use Rattle.expression_outcomes.proofs.Coming.{AtHandOrAway, HasOutcome, at_hand_or_away, with_each, with_function}
+use Rattle.expression_outcomes.proofs.Coming as W
 use Rattle.unique_types.proofs.Judged.{of_parts}
-use Rattle.unique_types.proofs.Leading.{decided}
+use Rattle.expression_outcomes.proofs.Leading.{decided}
 use Rattle.unique_types.proofs.Unique.{returned}
 
 -- ---- the header
@@ -118,10 +119,13 @@ module _ (program : Program) (n : Name) (arguments : Vec Expr Global) (here : He
     abbrev this_call : IsCall program here n arguments.items f placed ts
     this_call = record { is_function = means; is_placed = is_placed; typed = typed }
 
-    called : {ty : ValueType} {has_value : Bool} (o : Option ℕ) → here.around ≡ o → AreTaken types ts → IsCallable here.current (map Some types) (returned here placed f) → Gives (returned here placed f) ty has_value → Outcome program here this
-    called None outside take callable gives =
+    called_outside : {ty : ValueType} {has_value : Bool} → here.around ≡ None → AreTaken types ts → IsCallable here.current (map Some types) (returned here placed f) → GivesOutside (returned here placed f) ty has_value → Outcome program here this
+    called_outside outside take callable gives =
         let few = arguments.small in
-        O.typed (X.call_outside arguments (vec_below arguments.alloc ts (omega (arith, arguments.ok, each_length typed))) means is_placed outside are callable (X.known gives) typed take)
+        O.typed (X.call_outside arguments (vec_below arguments.alloc ts (omega (arith, arguments.ok, each_length typed))) means is_placed outside are callable gives typed take)
+
+    called : {ty : ValueType} {has_value : Bool} (o : Option ℕ) → here.around ≡ o → AreTaken types ts → IsCallable here.current (map Some types) (returned here placed f) → Gives (returned here placed f) ty has_value → Outcome program here this
+    called None outside take callable gives = called_outside outside take callable (X.known gives)
     called (Some around) is_around take callable gives = elim (decided program.calls f around) [
       | inl leads ↦ O.faulty (F.at (F.recursion arguments this_call is_around leads))
       | inr no_way ↦
@@ -133,8 +137,13 @@ module _ (program : Program) (n : Name) (arguments : Vec Expr Global) (here : He
           O.typed (X.call arguments given means is_placed is_around no_way instance.1 are callable gives typed fs.2)
     ]
 
+    unknown_result : (o : Option ℕ) → here.around ≡ o → returned here placed f ≡ unknown → AreTaken types ts → All (IsKnownAtHand here.current) (map Some types) → Outcome program here this
+    unknown_result (Some around) at_function is take known = O.rests (O.on_function arguments means is_placed (O.result at_function is))
+    unknown_result None outside is take known =
+        called_outside outside take (record { parameters_at_hand = known; result_at_hand = subst (λ (r : Returns). IsKnownAtHand here.current (result_known r)) (sym is) X.faulty }) (subst (λ (r : Returns). GivesOutside r (scalar int) true) (sym is) X.not_known)
+
     by_result : (r : Returns) → returned here placed f ≡ r → AreTaken types ts → All (IsKnownAtHand here.current) (map Some types) → Outcome program here this
-    by_result unknown is take known = O.rests (O.on_function arguments means is_placed (O.result is))
+    by_result unknown is take known = unknown_result here.around refl is take known
     by_result nothing is take known =
         called here.around refl take (record { parameters_at_hand = known; result_at_hand = subst (λ (r : Returns). IsKnownAtHand here.current (result_known r)) (sym is) X.faulty }) (subst (λ (r : Returns). Gives r (scalar int) false) (sym is) X.no_value)
     by_result (a_value ty) is take known = elim (known_or_other here.current ty) [

@@ -10,12 +10,12 @@ use Rattle.cstar_tree.specs.declared.syntax.Expr.TheOpen.{Expr-F}
 use Rattle.cstar_tree.specs.declared.syntax.Expr.TheVariants as rolled
 use Rattle.cstar_tree.specs.ExpressionTypes as X
 use Rattle.cstar_tree.specs.Headers.{Program}
-use Rattle.unique_types.specs.Outcomes as O
-use Rattle.unique_types.proofs.Calls as Calls
-use Rattle.unique_types.proofs.Coming.{HasOutcome}
-use Rattle.unique_types.proofs.Intrinsics as Intrinsics
-use Rattle.unique_types.proofs.Naming as Naming
-use Rattle.unique_types.proofs.Operations as Operations
+use Rattle.expression_outcomes.specs.Outcomes as O
+use Rattle.expression_outcomes.proofs.Calls as Calls
+use Rattle.expression_outcomes.proofs.Coming.{HasOutcome}
+use Rattle.expression_outcomes.proofs.Intrinsics as Intrinsics
+use Rattle.expression_outcomes.proofs.Naming as Naming
+use Rattle.expression_outcomes.proofs.Operations as Operations
 
 module _ (program : Program) where
   abbrev Part : Type 0

@@ -1,11 +1,13 @@
 -- What an expression comes to, from what its parts and its names come to.
-use Rattle.std.proofs.Common.{◌≡◌, ◌+◌, inl, inr, ℕ, zero, suc, Bool, sym, true, false, List, [], ◌∷◌, Option, Some, None, refl, ap, subst, ◌∙◌, arith}
+use Rattle.std.proofs.Common.{◌≡◌, ◌+◌, inl, inr, ℕ, zero, suc, Bool, sym, true, false, List, [], ◌∷◌, Option, Some, None, Box, refl, ap, subst, ◌∙◌, arith}
 use Rattle.std.specs.List.{All, slice_get}
+use Rattle.std.specs.declared.alloc.Global.{Global}
 use Rattle.std.proofs.lemmas.Bool.Decides.{eqb_tells}
 use Rattle.std.proofs.lemmas.List.Elements.{All-head, All-tail}
 use Rattle.cstar_base.specs.declared.faults.Fault.{Fault}
 use Rattle.cstar_base.specs.declared.operators.Place.{Place}
 use Rattle.cstar_tree.specs.declared.syntax.Expr.{Expr}
+use Rattle.cstar_tree.specs.declared.syntax.Expr as E
 use Rattle.cstar_tree.specs.declared.syntax.Name.{Name}
 use Rattle.cstar_tree.specs.declared.syntax.ShapeRef.{ShapeRef}
 use Rattle.cstar_tree.specs.declared.syntax.ShapeRef.TheVariants as R
@@ -18,9 +20,9 @@ use Rattle.cstar_tree.specs.ExpressionTypes as X
 use Rattle.cstar_tree.specs.Headers.{Program}
 use Rattle.cstar_tree.specs.Scopes.{Here, IsAtHand, Meaning, VariableType, a_function, a_shape, a_variable, extents_of, index_place, meaning, part, shape_meant, shape_of}
 use Rattle.cstar_tree.specs.Scopes as S
-use Rattle.unique_types.specs.Outcomes.{IsOfProgram, HasItsNames, IsShape, Outcome}
-use Rattle.unique_types.specs.Outcomes as O
-use Rattle.unique_types.proofs.Called.{around_there, elsewhere, part_calls, place_there}
+use Rattle.expression_outcomes.specs.Outcomes.{IsOfProgram, HasItsNames, IsShape, Outcome}
+use Rattle.expression_outcomes.specs.Outcomes as O
+use Rattle.expression_outcomes.proofs.Called.{around_there, brackets_call, elsewhere, part_calls, place_there}
 use Rattle.unique_types.proofs.Judged.{Operand}
 
 -- ---- places of parts
@@ -29,13 +31,19 @@ known_elsewhere : {program : Program} (here : Here) (dot : Option ℕ) (whole : 
 unfolding meaning extents_of
 known_elsewhere here dot whole k = record { functions = k.functions; shapes = k.shapes; variables = k.variables; current = k.current }
 
-known_there : {program : Program} {here there : Here} {e x : Expr} → IsPart here e there x → HasItsNames program here → HasItsNames program there
+pub known_there : {program : Program} {here there : Here} {e x : Expr} → IsPart here e there x → HasItsNames program here → HasItsNames program there
 known_there {program} {here} {there} is k = subst (HasItsNames program) (sym (place_there is)) (known_elsewhere here there.dot there.whole k)
 
-of_program_there : {program : Program} {here there : Here} {e x : Expr} → IsPart here e there x → IsOfProgram program here e → IsOfProgram program there x
+pub of_program_there : {program : Program} {here there : Here} {e x : Expr} → IsPart here e there x → IsOfProgram program here e → IsOfProgram program there x
 of_program_there is i = record {
   instances = λ c around calls at_function. i.instances c around (part_calls is calls) (sym (around_there is) ∙ at_function);
   texts = λ p text arguments stands. i.texts p text arguments (O.in_part is stands);
+}
+
+pub of_program_inside : {program : Program} {here : Here} {p : Place} (inner : Box Expr Global) → IsOfProgram program here (E.Brackets p inner) → IsOfProgram program here inner.value
+of_program_inside {here = here} {p = p} inner i = record {
+  instances = λ c around calls at_function. i.instances c around (brackets_call here p inner calls) at_function;
+  texts = λ q text arguments stands. i.texts q text arguments (O.in_brackets inner stands);
 }
 
 -- ---- parts

@@ -15,10 +15,10 @@ use Rattle.cstar_tree.specs.ExpressionTypes.{Types, callee}
 use Rattle.cstar_tree.specs.Headers.{Placed, Program, returns_of, unknown}
 use Rattle.cstar_tree.specs.Scopes.{Here, VariableType, a_function, a_shape, a_variable, extents_of, meaning}
 
--- the type of a parameter or of the result of a function has a fault
+-- the type of a parameter of a function has a fault, or within a function that of the result
 pub data HasFaultyHeader (here : Here) (placed : Placed) (f : ℕ) : Type 0 where
   parameter : (which : ℕ) → slice_get (parameters_of here placed f) which ≡ Some None → HasFaultyHeader here placed f
-  result : returns_of (callee here placed f) placed.function.result ≡ unknown → HasFaultyHeader here placed f
+  result : {around : ℕ} → here.around ≡ Some around → returns_of (callee here placed f) placed.function.result ≡ unknown → HasFaultyHeader here placed f
 
 -- an expression rests on a declaration that has a fault of its own
 pub data Rests (program : Program) : Here → Expr → Type 0 where
@@ -32,6 +32,9 @@ pub data Outcome (program : Program) (here : Here) (e : Expr) : Type 0 where
   typed : {t : TExpr} {has_value : Bool} → Types program here e t has_value → Outcome program here e
   faulty : {fault : Fault} {p : Place} → FaultIn program here e fault p → Outcome program here e
   rests : Rests program here e → Outcome program here e
+
+abbrev pub HasType : Program → Here → Expr → Type 0
+HasType program here e = (t : TExpr) × (has_value : Bool) × Types program here e t has_value
 
 -- ---- what is asked
 
@@ -58,3 +61,7 @@ pub data StandsIn : Expr → Expr → Type 0 where
 pub record IsOfProgram (program : Program) (here : Here) (e : Expr) : Type 0 where
   pub instances : (c : Call) (around : ℕ) → Contains (calls_in here e) c → here.around ≡ Some around → (instance : ℕ) × (slice_get program.instances instance ≡ Some (record { function = c.function; current = c.current }))
   pub texts : (p : Place) (text : List ℕ) (arguments : Vec Expr Global) → StandsIn e (E.Printf p text arguments) → length text < 2 ^ 63
+
+-- no name at a place stands for a variable whose declaration has a fault
+abbrev pub HasTypedVariables : Here → Type 0
+HasTypedVariables here = (word : List ℕ) (v : Variable) → meaning here word ≡ Some (a_variable v None) → ⊥

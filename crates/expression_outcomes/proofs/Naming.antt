@@ -25,11 +25,12 @@ use Rattle.cstar_tree.specs.Formats.{conversions, pieces_of}
 use Rattle.cstar_tree.specs.Headers.{Program}
 use Rattle.cstar_tree.specs.Scopes.{Here, Meaning, VariableType, a_variable, extents_of, index_place, part, shape_of}
 use Rattle.cstar_tree.specs.Typed.{type_of}
-use Rattle.unique_types.specs.Outcomes.{HasItsNames, Outcome}
-use Rattle.unique_types.specs.Outcomes as O
-use Rattle.unique_types.proofs.Bringing.{all_promoted, all_spread, boxed, each_length, few_pieces, indexes_length, vec_below}
-use Rattle.unique_types.proofs.Coming.{AtHandOrAway, HasOutcome, at_hand_or_away, is_shape, with_each, with_indexes, with_part, with_shape, with_variable}
-use Rattle.unique_types.proofs.Coming as W
+use Rattle.expression_outcomes.specs.Outcomes.{HasItsNames, Outcome}
+use Rattle.expression_outcomes.specs.Outcomes as O
+use Rattle.expression_outcomes.proofs.Fitting.{all_promoted, all_spread, each_length, few_pieces, indexes_length}
+use Rattle.unique_types.proofs.Bringing.{boxed, vec_below}
+use Rattle.expression_outcomes.proofs.Coming.{AtHandOrAway, HasOutcome, at_hand_or_away, is_shape, with_each, with_indexes, with_part, with_shape, with_variable}
+use Rattle.expression_outcomes.proofs.Coming as W
 use Rattle.unique_types.proofs.Judged.{Operand, of_parts}
 
 -- ---- variables

@@ -26,12 +26,12 @@ use Rattle.cstar_tree.specs.Headers.{Program}
 use Rattle.cstar_tree.specs.Operations.{Target, assigned_elem, folds, left_elem, left_target, many, one, right_elem, sends, sign_of, target_of}
 use Rattle.cstar_tree.specs.Scopes.{Here, of_shape, of_written, part, written_type}
 use Rattle.cstar_tree.specs.Typed.{type_of}
-use Rattle.unique_types.specs.Outcomes.{IsOfProgram, HasItsNames, Outcome}
-use Rattle.unique_types.specs.Outcomes as O
-use Rattle.unique_types.proofs.Bringing.{boxed, cast_elems, converted, fitted, spread}
-use Rattle.unique_types.proofs.Called.{brackets_call}
-use Rattle.unique_types.proofs.Coming.{AtHandOrAway, HasOutcome, at_hand_or_away, with_part, with_shape}
-use Rattle.unique_types.proofs.Coming as W
+use Rattle.expression_outcomes.specs.Outcomes.{IsOfProgram, HasItsNames, Outcome}
+use Rattle.expression_outcomes.specs.Outcomes as O
+use Rattle.expression_outcomes.proofs.Fitting.{fitted, spread}
+use Rattle.unique_types.proofs.Bringing.{boxed, cast_elems, converted}
+use Rattle.expression_outcomes.proofs.Coming.{AtHandOrAway, HasOutcome, at_hand_or_away, of_program_inside, with_part, with_shape}
+use Rattle.expression_outcomes.proofs.Coming as W
 use Rattle.unique_types.proofs.Judged.{Operand, of_parts}
 
 -- many targets are parallel
@@ -47,7 +47,7 @@ parallel_targets other are none = cc
 
 module _ (program : Program) (p : Place) where
   pub brackets : (inner : Box Expr Global) → HasOutcome program inner.value → HasOutcome program (E.Brackets p inner)
-  brackets inner from here k i = around (from here k (record { instances = λ c at_function calls. i.instances c at_function (brackets_call here p inner calls); texts = λ q text arguments stands. i.texts q text arguments (O.in_brackets inner stands) }))
+  brackets inner from here k i = around (from here k (of_program_inside inner i))
     where
       around : Outcome program here inner.value → Outcome program here (E.Brackets p inner)
       around (O.typed {t = t} h) = O.typed (X.brackets inner (boxed inner.alloc t) h)

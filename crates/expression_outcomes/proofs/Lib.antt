@@ -1,0 +1,11 @@
+pub mod ByParts
+pub mod Called
+pub mod Calls
+pub mod Coming
+pub mod Fitting
+pub mod Intrinsics
+pub mod Leading
+pub mod Naming
+pub mod Operations
+pub mod Outcomes
+pub mod Untold

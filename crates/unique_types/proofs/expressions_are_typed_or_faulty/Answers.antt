@@ -1,5 +1,0 @@
-use Rattle.unique_types.proofs.Outcomes.{expression}
-use Rattle.unique_types.proofs.expressions_are_typed_or_faulty.Goals as goal
-
-pub returns : goal.returns
-returns c = λ program here e names calls. expression program e here names calls
