@@ -19,7 +19,7 @@ use Rattle.code_lengths.specs.NamingStatements.{StandFrom, StatementNamesVariabl
 use Rattle.code_lengths.specs.Ready.{HasDeclared, HasStatementCode, IsReady, NumbersVariables}
 use Rattle.code_lengths.proofs.Declaring.{first_part, info_of, of_block, row_variables, second_part}
 use Rattle.code_lengths.proofs.Drafting.{as_it_was, extended}
-use Rattle.lower_base.specs.Drafts.{Draft, Fails, Made, Makes, then_make, with_instr}
+use Rattle.lower_base.specs.Drafts.{Draft, Fails, Made, Makes, step as step_of, then_make, with_instr}
 use Rattle.lower_base.specs.declared.emit.Out.{Out}
 use Rattle.lower_stmt.specs.declared.statement.Frame.{Frame}
 use Rattle.lower_stmt.specs.Statements.{part_of, restored, statement_of, statements_of}
@@ -38,9 +38,9 @@ use Rattle.code_follows.proofs.Assigning.{effect_follows}
 use Rattle.code_follows.proofs.Executing.{Exits, IsGiven, Jumped, Left, LeftSo, RanOn, follows_from, go_on}
 use Rattle.code_follows.proofs.Callees.{CallsFollow}
 use Rattle.code_follows.proofs.Following.{Extends, Follows, follows_other, HasRegisters, Ran, Sim, delayed, extends_made, keeps_all, nothing_said}
-use Rattle.code_follows.proofs.Jumping.{jumps, moved_to, sim_moved}
+use Rattle.code_follows.proofs.Jumping.{jumps, moved_to, sim_landed}
 use Rattle.code_follows.proofs.Restoring.{Restores}
-use Rattle.code_follows.proofs.Settings.{At, Begun, Held, Setting, Within, and_one, begun_later, earlier, holding, layout, onto, start, stay}
+use Rattle.code_follows.proofs.Settings.{At, Begun, Held, LastsTo, Setting, Within, and_one, begun_later, earlier, holding, layout, onto, stands_here, start, stay}
 use Rattle.code_follows.proofs.Starting.{AreCoded, AreSettled, Now, coded, go_after, initials_follow, initials_grow}
 use Rattle.code_follows.proofs.Statements.{StandsHere, StandsIn, expression_code, statement_made}
 
@@ -57,15 +57,16 @@ module _ (g : Setting) (has : HasRegisters g) (alive : Variable → Type 0) (fil
   effect_statement f n d s0 (Source.Ends early u) Fails h = tt
 
   -- contexts are loaded, and a jump out of a loop leads to where this is held
-  jumps_out : (held : Held) (newest place : ℕ) (d : Draft) (s0 : CodeState) (st : State) → Restores g held contexts newest → Begun g d → At g s0 (length d.code) → Sim g alive st s0 → Within g (with_instr (I.FrontJump place) (restored contexts newest d)) → Jumped g alive held d s0 st place
-  jumps_out held newest place d s0 st restores free at sim within =
+  jumps_out : (held : Held) (newest place : ℕ) (d : Draft) (s0 : CodeState) (st : State) → Restores g held contexts newest → LastsTo g held place → Begun g d → At g s0 (length d.code) → Sim g alive st s0 → Within g (with_instr (I.FrontJump place) (restored contexts newest d)) → Jumped g alive held d s0 st place
+  unfolding step_of
+  jumps_out held newest place d s0 st restores lasts free at sim within =
       let loaded : Draft = restored contexts newest d in
       let r = restores.loads alive d s0 st free at sim (earlier g loaded (with_instr (I.FrontJump place) loaded) 1 (and_one g (I.FrontJump place) loaded) within) in
       record {
         t = moved_to g alive (place + start g) r.t;
         go = onto g s0 r.t (moved_to g alive (place + start g) r.t) r.go (jumps g alive place loaded r.t within r.at);
         at = omega arith;
-        sim = sim_moved (holding g held) alive st r.t (place + start g) r.sim;
+        sim = sim_landed (holding g held) alive st r.t (length loaded.code) place (I.FrontJump place) r.at (stands_here g (I.FrontJump place) loaded within refl) refl lasts r.sim;
         keeps = r.keeps;
       }
 
@@ -109,11 +110,11 @@ module _ (g : Setting) (has : HasRegisters g) (alive : Variable → Type 0) (fil
 
   pub breaks : (f : Exits) (n : ℕ) (d : Draft) (s0 : CodeState) (st : State) → StandsHere g f contexts → Begun g d → At g s0 (length d.code) → Sim g alive st s0 → Follows g (Left g alive f d s0) s0 (Source.Gives Broke st) (Makes n (with_instr (I.FrontJump f.frame.after) (restored contexts f.frame.saved.in_loop d)))
   unfolding Follows LeftSo
-  breaks f n d s0 st stands free at sim = λ within. jumps_out f.loop f.frame.saved.in_loop f.frame.after d s0 st stands.loop free at sim within
+  breaks f n d s0 st stands free at sim = λ within. jumps_out f.loop f.frame.saved.in_loop f.frame.after d s0 st stands.loop stands.after free at sim within
 
   pub continues : (f : Exits) (n : ℕ) (d : Draft) (s0 : CodeState) (st : State) → StandsHere g f contexts → Begun g d → At g s0 (length d.code) → Sim g alive st s0 → Follows g (Left g alive f d s0) s0 (Source.Gives Continued st) (Makes n (with_instr (I.FrontJump f.frame.next) (restored contexts f.frame.saved.in_loop d)))
   unfolding Follows LeftSo
-  continues f n d s0 st stands free at sim = λ within. jumps_out f.loop f.frame.saved.in_loop f.frame.next d s0 st stands.loop free at sim within
+  continues f n d s0 st stands free at sim = λ within. jumps_out f.loop f.frame.saved.in_loop f.frame.next d s0 st stands.loop stands.next free at sim within
 
   pub block_stands : (n : ℕ) (locals : Vec LocalVar Global) (p : Vec (Unit {0}) Global) (row : _) → HasStatementCode g.typed g.instance n (S.Block' locals p row) → StandFrom (variables_of g.instance.body) n (map info_of locals.items ++ row_variables row)
   block_stands n locals p row c = subst (λ (own : List VarInfo). StandFrom (variables_of g.instance.body) n own) (of_block locals p row) c.stands

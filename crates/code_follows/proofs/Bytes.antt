@@ -54,7 +54,7 @@ module _ (g : Setting) (has : HasRegisters g) (alive : Variable → Type 0) wher
     input = refl;
     returns = h.returns;
     few = h.few;
-    memory = g.held.still st (record st { input = more }) s.memory (λ k e p. refl) refl h.memory;
+    memory = g.held.still s.at st (record st { input = more }) s.memory (λ k e p. refl) refl h.memory;
     bytes = more_bytes byte more (subst (λ (xs : List ℕ). AreBytes xs) is h.bytes);
   }
 
@@ -87,7 +87,7 @@ module _ (g : Setting) (has : HasRegisters g) (alive : Variable → Type 0) wher
             turns = sim.turns;
             output = sim.output;
             input = sim.input;
-            memory = g.held.finally st s.memory sim.memory;
+            memory = g.held.finally s.at st s.memory sim.memory;
           }
 
   -- the byte as a value

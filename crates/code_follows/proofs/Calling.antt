@@ -26,10 +26,10 @@ use Rattle.code_follows.proofs.Jumping.{behind_turn, sim_spent, spends, stops}
 use Rattle.code_follows.proofs.Settings.{At, Begun, CallStands, Reaches, Setting, Within, and_one, at_next, begins_here, begun_later, code_more, earlier, layout, one, onto, regs_more, stands_here}
 
 module _ (g : Setting) (has : HasRegisters g) (alive : Variable → Type 0) (files_live : (k : ℕ) → alive (V.File k)) (scope : Scope) (active : Active) (calls_follow : CallsFollow g scope active) where
-  -- what the registers share with what is called
-  shared_of : (st : State) (s : CodeState) → Sim g alive st s → Shared g st s
+  -- what the registers share with what is called, and what is held behind the place
+  shared_of : (place : ℕ) (st : State) (s : CodeState) → s.at ≤ place → Sim g alive st s → Shared g place st s
   unfolding register_of variable_named
-  shared_of st s h = record {
+  shared_of place st s behind h = record {
     registers = h.registers;
     files = λ k info is scalar. h.scalars (V.File k) info (files_live k) (is, scalar);
     small = λ k info is scalar. h.small (V.File k) info (files_live k) (is, scalar);
@@ -38,7 +38,7 @@ module _ (g : Setting) (has : HasRegisters g) (alive : Variable → Type 0) (fil
     output = h.output;
     input = h.input;
     bytes = h.bytes;
-    memory = h.memory;
+    memory = g.held.onward s.at place st s.memory behind h.memory;
   }
 
   module _ {index : ℕ} (m : MayCall g active index) where
@@ -105,7 +105,7 @@ module _ (g : Setting) (has : HasRegisters g) (alive : Variable → Type 0) (fil
       output = b.shared.output;
       input = b.shared.input;
       bytes = b.shared.bytes;
-      memory = b.shared.memory;
+      memory = subst (λ (n : ℕ). g.held.holds n u b.t.memory) (sym b.at) b.shared.memory;
       returns = b.returns;
       few = let fewer = b.turned in let few = sim.few in omega (arith, fewer, few);
     }
@@ -159,8 +159,8 @@ module _ (g : Setting) (has : HasRegisters g) (alive : Variable → Type 0) (fil
           sim_turned : Sim g alive begun_body spent
           sim_turned = sim_spent g alive st s left some sim
 
-          shared : Shared g begun_body (enters_in left)
-          shared = let h = shared_of begun_body spent sim_turned in record { registers = h.registers; files = h.files; small = h.small; constants = h.constants; turns = h.turns; output = h.output; input = h.input; bytes = h.bytes; memory = h.memory }
+          shared : Shared g (spent.at + 1) begun_body (enters_in left)
+          shared = let h = shared_of (spent.at + 1) begun_body spent (omega arith) sim_turned in record { registers = h.registers; files = h.files; small = h.small; constants = h.constants; turns = h.turns; output = h.output; input = h.input; bytes = h.bytes; memory = h.memory }
 
           stands : CallStands g index
           stands =

@@ -27,7 +27,7 @@ use Rattle.code_follows.proofs.Executing.{Exits, Left, LeftSo, TestMade, Tested,
 use Rattle.code_follows.proofs.Callees.{CallsFollow}
 use Rattle.code_follows.proofs.Following.{Extends, Follows, HasRegisters, Ran, Sim, delayed, then_on}
 use Rattle.code_follows.proofs.Jumping.{jumps, moved_to, sim_moved, skips}
-use Rattle.code_follows.proofs.Settings.{At, Begun, Reaches, Setting, Within, and_one, begun_later, code_more, earlier, layout, onto, start}
+use Rattle.code_follows.proofs.Settings.{At, Begun, Reaches, Setting, Within, ahead, and_one, begun_later, code_more, earlier, layout, onto, start}
 use Rattle.code_follows.proofs.Statements.{MadeSo, StandsHere, StandsIn, if_first, if_second, if_test, statement_made}
 
 module _ (g : Setting) (has : HasRegisters g) (alive : Variable → Type 0) (files : (k : ℕ) → alive (V.File k)) (numbers : NumbersVariables g.instance (layout g)) (ready : (n : ℕ) (d : Draft) → IsReady g.typed g.instance (layout g) n d)
@@ -55,7 +55,7 @@ module _ (g : Setting) (has : HasRegisters g) (alive : Variable → Type 0) (fil
         t = moved_to g alive (target + start g) r.t;
         go = onto g s0 r.t (moved_to g alive (target + start g) r.t) r.go (jumps g alive target e r.t (within_jump w) r.at);
         at = omega (arith, is);
-        sim = sim_moved g alive st r.t (target + start g) r.sim;
+        sim = sim_moved g alive st r.t (target + start g) (ahead g e h (1 + k) r.t (target + start g) (extended e (with_instr (I.FrontJump target) e) h 1 k (and_one g (I.FrontJump target) e) x) r.at (omega (arith, is))) r.sim;
         keeps = r.keeps;
       }
 
@@ -112,7 +112,7 @@ module _ (g : Setting) (has : HasRegisters g) (alive : Variable → Type 0) (fil
           let grown : Extended d (r.grown.0 + 1) jump = extended d tests.e jump r.grown.0 1 r.grown.1 (and_one g (I.FrontJumpZero tests.r place) tests.e) in
           follows_from g alive f d jump (r.grown.0 + 1) s0 t (executed scope first n active st1) (Makes (behind n first) made_first.e) grown go r.keeps
           (subst (λ (made : Made ℕ). Follows g (Left g alive f jump t) t (executed scope first n active st1) made) made_first.is
-          (first_agrees f jump t st1 framed among jump_homes (begun_later g d jump (r.grown.0 + 1) grown free) there (sim_moved g alive st1 r.t (r.t.at + 1) r.sim) (if_first g numbers declares n test p first second c)))
+          (first_agrees f jump t st1 framed among jump_homes (begun_later g d jump (r.grown.0 + 1) grown free) there (sim_moved g alive st1 r.t (r.t.at + 1) (omega arith) r.sim) (if_first g numbers declares n test p first second c)))
 
       -- else the code jumps over it
       over : (st1 : State) (r : Tested g alive d s0 false st1 tests.r tests.e) → Within g jump → Reaches g s0 (moved_to g alive (place + start g) r.t)
@@ -147,7 +147,7 @@ module _ (g : Setting) (has : HasRegisters g) (alive : Variable → Type 0) (fil
             t = moved_to g alive (place + start g) r.t;
             go = over n test p first None' isin first_agrees f d s0 st framed among none free at sim c st1 r within;
             at = omega (arith, here_is);
-            sim = sim_moved g alive st1 r.t (place + start g) r.sim;
+            sim = sim_moved g alive st1 r.t (place + start g) (let at1 = r.at in omega (arith, at1)) r.sim;
             keeps = r.keeps;
           }
 
@@ -188,12 +188,14 @@ module _ (g : Setting) (has : HasRegisters g) (alive : Variable → Type 0) (fil
           let t : CodeState = moved_to g alive (place n test p first (Some' q second) isin first_agrees f d s0 st framed among none free at sim c + start g) r.t in
           let landed = leap_here in
           let there : At g t (length leap.code) = omega (arith, landed) in
+          let to_leap : Extended condition.e (1 + (long n test p first (Some' q second) isin first_agrees f d s0 st framed among none free at sim c + 1)) leap =
+          extended condition.e (jump n test p first (Some' q second) isin first_agrees f d s0 st framed among none free at sim c) leap 1 (long n test p first (Some' q second) isin first_agrees f d s0 st framed among none free at sim c + 1) (and_one g (I.FrontJumpZero condition.r (place n test p first (Some' q second) isin first_agrees f d s0 st framed among none free at sim c)) condition.e)
+          (extended (jump n test p first (Some' q second) isin first_agrees f d s0 st framed among none free at sim c) first_made.e leap (long n test p first (Some' q second) isin first_agrees f d s0 st framed among none free at sim c) 1 first_made.extended (and_one g (I.FrontJump (place n test p first (Some' q second) isin first_agrees f d s0 st framed among none free at sim c + more)) first_made.e)) in
           let grown : Extended d (r.grown.0 + (1 + (long n test p first (Some' q second) isin first_agrees f d s0 st framed among none free at sim c + 1))) leap =
-          extended d condition.e leap r.grown.0 (1 + (long n test p first (Some' q second) isin first_agrees f d s0 st framed among none free at sim c + 1)) r.grown.1 (extended condition.e (jump n test p first (Some' q second) isin first_agrees f d s0 st framed among none free at sim c) leap 1 (long n test p first (Some' q second) isin first_agrees f d s0 st framed among none free at sim c + 1) (and_one g (I.FrontJumpZero condition.r (place n test p first (Some' q second) isin first_agrees f d s0 st framed among none free at sim c)) condition.e)
-          (extended (jump n test p first (Some' q second) isin first_agrees f d s0 st framed among none free at sim c) first_made.e leap (long n test p first (Some' q second) isin first_agrees f d s0 st framed among none free at sim c) 1 first_made.extended (and_one g (I.FrontJump (place n test p first (Some' q second) isin first_agrees f d s0 st framed among none free at sim c + more)) first_made.e))) in
+          extended d condition.e leap r.grown.0 (1 + (long n test p first (Some' q second) isin first_agrees f d s0 st framed among none free at sim c + 1)) r.grown.1 to_leap in
           follows_from g alive f d leap (r.grown.0 + (1 + (long n test p first (Some' q second) isin first_agrees f d s0 st framed among none free at sim c + 1))) s0 t (executed scope second (n + declared first) active st1) (Makes (behind (behind n first) second) made_second.e) grown (over n test p first (Some' q second) isin first_agrees f d s0 st framed among none free at sim c st1 r within) r.keeps
           (subst (λ (made : Made ℕ). Follows g (Left g alive f leap t) t (executed scope second (n + declared first) active st1) made) made_second.is
-          (second_agrees f leap t st1 framed among leap_homes (begun_later g d leap (r.grown.0 + (1 + (long n test p first (Some' q second) isin first_agrees f d s0 st framed among none free at sim c + 1))) grown free) there (sim_moved g alive st1 r.t (place n test p first (Some' q second) isin first_agrees f d s0 st framed among none free at sim c + start g) r.sim) (if_second g numbers declares n test p first q second c)))
+          (second_agrees f leap t st1 framed among leap_homes (begun_later g d leap (r.grown.0 + (1 + (long n test p first (Some' q second) isin first_agrees f d s0 st framed among none free at sim c + 1))) grown free) there (sim_moved g alive st1 r.t (place n test p first (Some' q second) isin first_agrees f d s0 st framed among none free at sim c + start g) (ahead g condition.e leap (1 + (long n test p first (Some' q second) isin first_agrees f d s0 st framed among none free at sim c + 1)) r.t (place n test p first (Some' q second) isin first_agrees f d s0 st framed among none free at sim c + start g) to_leap r.at (omega (arith, landed))) r.sim) (if_second g numbers declares n test p first q second c)))
 
     pub if_else : Agrees n (S.If' test p first (Some' q second))
     unfolding executed else_executed else_of Extends

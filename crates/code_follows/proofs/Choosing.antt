@@ -30,7 +30,7 @@ use Rattle.code_follows.specs.Fragment.{IsIn, May}
 use Rattle.code_follows.proofs.Branching.{IsMadeWord, decided_goes, goes_on, jump_long, jump_more, tested}
 use Rattle.code_follows.proofs.Following.{Arrives, Extends, Follows, HasRegisters, IsScalar, Keeps, Sim, delayed, held, keeps_all, keeps_on, then_on, kept_later}
 use Rattle.code_follows.proofs.Jumping.{jumps, moved_to, sim_moved}
-use Rattle.code_follows.proofs.Settings.{At, Begun, Reaches, Setting, Within, and_one, begun_later, earlier, onto, start, stay}
+use Rattle.code_follows.proofs.Settings.{At, Begun, Reaches, Setting, Within, ahead, and_one, begun_later, earlier, onto, start, stay}
 use Rattle.code_follows.proofs.Stores.{IsPut}
 use Rattle.code_follows.proofs.Values.{Dest, Does, Value_of, with_reg, put_by}
 use Rattle.code_follows.proofs.Words.{below_bits, below_word, constant_below, held_wide}
@@ -101,7 +101,7 @@ module _ (g : Setting) (has : HasRegisters g) (alive : Variable → Type 0) wher
           t = moved_to g alive (target + start g) arr.t;
           go = jumps_past e f k target s arr.t x within arr.go arr.at;
           at = omega (arith, is);
-          sim = sim_moved g alive st arr.t (target + start g) arr.sim;
+          sim = sim_moved g alive st arr.t (target + start g) (ahead g e f (1 + k) arr.t (target + start g) grown arr.at (omega (arith, is))) arr.sim;
           keeps = arr.keeps;
           holds = record {
             register = holds.register;
@@ -124,7 +124,7 @@ module _ (g : Setting) (has : HasRegisters g) (alive : Variable → Type 0) wher
       word = p.word;
       value = p.value;
       small = p.small;
-      sim = sim_moved g alive _ p.t (target + start g) p.sim;
+      sim = sim_moved g alive _ p.t (target + start g) (ahead g e f (1 + k) p.t (target + start g) (extended e (with_instr (I.FrontJump target) e) f 1 k (and_one g (I.FrontJump target) e) grows) p.at (omega (arith, is))) p.sim;
       keeps = p.keeps;
     };
   }
@@ -229,7 +229,7 @@ module _ (g : Setting) (has : HasRegisters g) (alive : Variable → Type 0) wher
           let long_so = jump_long g alive false tests.register target tests.behind in
           let go : Reaches g s t = onto g s arr.t t arr.go (decided_goes g alive false true tests.register target tests.behind arr.t (tested g alive from d tests.behind s v u tests.register arr ∙ so) within arr.at) in
           goes_on g alive R R s s (one u) (O.Scalar r) half.behind (O.Scalar r) last.behind (1 + more) (stay g s)
-          (subst (λ (m : Made Out). Follows g R s (one u) m) half.is (first_does d leap (long_test + 1) s t u R r free dest go (omega (arith, place, long_so)) (sim_moved g alive u arr.t (arr.t.at + 1) arr.sim) to_leap arr.keeps)) half_last
+          (subst (λ (m : Made Out). Follows g R s (one u) m) half.is (first_does d leap (long_test + 1) s t u R r free dest go (omega (arith, place, long_so)) (sim_moved g alive u arr.t (arr.t.at + 1) (omega arith) arr.sim) to_leap arr.keeps)) half_last
           (λ w later is inner. lands.over half.behind last.behind more (target + more) w later last.extended ends_there inner is)
 
       -- where it is, the second
@@ -237,7 +237,7 @@ module _ (g : Setting) (has : HasRegisters g) (alive : Variable → Type 0) wher
       goes_second v u arr so within =
           let t : CodeState = moved_to g alive (target + start g) arr.t in
           let go : Reaches g s t = onto g s arr.t t arr.go (decided_goes g alive false false tests.register target tests.behind arr.t (tested g alive from d tests.behind s v u tests.register arr ∙ so) within arr.at) in
-          subst (λ (m : Made Out). Follows g R s (other u) m) last.is (second_does d skip (long_test + (1 + (long + 1))) s t u R r free dest go (omega (arith, second_there)) (sim_moved g alive u arr.t (target + start g) arr.sim) to_skip arr.keeps)
+          subst (λ (m : Made Out). Follows g R s (other u) m) last.is (second_does d skip (long_test + (1 + (long + 1))) s t u R r free dest go (omega (arith, second_there)) (sim_moved g alive u arr.t (target + start g) (ahead g tests.behind skip (1 + (long + 1)) arr.t (target + start g) tests_skip arr.at (omega (arith, second_there))) arr.sim) to_skip arr.keeps)
 
       pub scalar_choice_follows : Follows g R s (then_do (condition st) next) (scalar_choice_by (O.Scalar r) test first second long more d)
       unfolding Extends

@@ -79,7 +79,7 @@ module _ (g : Setting) where
     returns = h.returns;
     few = subst (λ (k : ℕ). k ≤ g.most) (sym turns) h.few;
     bytes = subst (λ (i : Machine.Rest). AreBytes i.bytes) (sym input) h.bytes;
-    memory = g.held.still u v s.memory fields winner h.memory;
+    memory = g.held.still s.at u v s.memory fields winner h.memory;
   }
 
   -- what holds of more variables holds of fewer
@@ -249,7 +249,7 @@ module _ (g : Setting) (has : HasRegisters g) where
         bytes = sim.bytes;
         returns = sim.returns;
         few = sim.few;
-        memory = g.held.still st (with_scalar (V.Local n) 0 st) s.memory (λ k e p. refl) refl sim.memory;
+        memory = g.held.still s.at st (with_scalar (V.Local n) 0 st) s.memory (λ k e p. refl) refl sim.memory;
       }
         where
           not_it : (x : Variable) → (x ≡ V.Local n → ⊥) → (with_scalar (V.Local n) 0 st).scalar x ≡ st.scalar x

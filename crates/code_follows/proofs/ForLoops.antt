@@ -168,9 +168,9 @@ module _ (g : Setting) (has : HasRegisters g) (alive : Variable → Type 0) (fil
       unfolding in_loop at_loop
       inner_among = record { loop = omega arith; all = among.among.all }
 
-      inner_here : StandsHere g (in_body inner g.held f) contexts
-      unfolding in_loop at_loop
-      inner_here = record { among = inner_among; loop = restores_none g contexts 0 refl; all = among.all }
+      inner_here : Begun g made_first.e → StandsHere g (in_body inner g.held f) contexts
+      unfolding in_loop at_loop here
+      inner_here free = record { among = inner_among; loop = restores_none g contexts 0 refl; all = among.all; after = calls_follow.lasts after (let low = free.code in omega (arith, low)); next = calls_follow.lasts next (let low = free.code in omega (arith, low)) }
 
       begin_homes : before_body.homes ≡ []
       unfolding with_instr with_step
@@ -245,12 +245,12 @@ module _ (g : Setting) (has : HasRegisters g) (alive : Variable → Type 0) (fil
           delayed g (Left g alive f made_first.e t) behind_loop t go_round (Makes (behind n body) behind_loop) (0, as_it_was behind_loop) (λ within.
           loop_runs g alive scope active (passes_or_absent scope active test) body n (behind n body) (tests_fall n test) inner f made_first.e enters made_body.e made_step.e behind_loop turn (λ v. done scope active step v) within so.3 so.0 so.2 long (part_length_of g.typed (layout g) step) (condition_length_of g.typed (layout g) test + 1) made_body.extended made_step.extended made_back.extended (omega (arith, regs1, regs2))
           (falls body n)
-          (λ s v here_s sim_s. subst (λ (m : Made ℕ). Follows g (Left g alive (in_body inner g.held f) before_body s) s (executed scope body n active v) m) made_body.is (agrees (in_body inner g.held f) before_body s v inner_frame inner_here begin_homes begun_body here_s sim_s c.body_code))
+          (λ s v here_s sim_s. subst (λ (m : Made ℕ). Follows g (Left g alive (in_body inner g.held f) before_body s) s (executed scope body n active v) m) made_body.is (agrees (in_body inner g.held f) before_body s v inner_frame (inner_here free) begin_homes begun_body here_s sim_s c.body_code))
           (part_falls n step)
           (λ s v here_s sim_s. subst (λ (m : Made (Unit {0})). Follows g (RanOn g alive made_body.e s) s (done scope active step v) m) made_step.is (part_follows n step steps c.step_code made_body.e s v begun_step here_s sim_s))
-          (λ s v here_s sim_s. made_back.leads begun_back within s v here_s sim_s)
+          (λ s v here_s sim_s. made_back.leads begun_back (let low = free.code in let turn_is = so.3 in let a = code_more g (I.FrontJump place) made_first.e in omega (arith, low, turn_is, a)) within s v here_s sim_s)
           (behind n body) steps_in_all t (moved_to g alive (place + start g) t) u all_grown (jumps g alive place made_first.e t (earlier g enters behind_loop (1 + (long + (part_length_of g.typed (layout g) step + (condition_length_of g.typed (layout g) test + 1)))) enters_grown within) at)
-          (keeps_all g made_first.e t) (omega (arith, at_test)) (sim_moved g alive u t (place + start g) sim))
+          (keeps_all g made_first.e t) (omega (arith, at_test)) (sim_moved g alive u t (place + start g) (let turn_is = so.3 in let a = code_more g (I.FrontJump place) made_first.e in omega (arith, at, turn_is, a)) sim))
 
     pub for_agrees : Agrees g has alive files numbers ready declares scope active calls_follow contexts n whole
     unfolding executed statement_of then_make Extends
@@ -325,9 +325,9 @@ module _ (g : Setting) (has : HasRegisters g) (alive : Variable → Type 0) (fil
       unfolding in_loop at_loop
       do_among = record { loop = omega arith; all = among.among.all }
 
-      do_here : StandsHere g (in_body do_inner g.held f) contexts
-      unfolding in_loop at_loop
-      do_here = record { among = do_among; loop = restores_none g contexts 0 refl; all = among.all }
+      do_here : Begun g d → StandsHere g (in_body do_inner g.held f) contexts
+      unfolding in_loop at_loop here
+      do_here free = record { among = do_among; loop = restores_none g contexts 0 refl; all = among.all; after = calls_follow.lasts do_after (let low = free.code in omega (arith, low)); next = calls_follow.lasts do_next (let low = free.code in omega (arith, low)) }
 
       do_homes : do_before.homes ≡ []
       unfolding with_instr with_step
@@ -375,10 +375,10 @@ module _ (g : Setting) (has : HasRegisters g) (alive : Variable → Type 0) (fil
           delayed g (Left g alive f d t) behind_do t go_round (Makes (behind n body) behind_do) (0, as_it_was behind_do) (λ within.
           do_runs g alive scope active (passes scope active test) body n (behind n body) (test_falls n test) do_inner f d d made_do.e made_do.e behind_do do_turn (λ v. Source.Gives Onward v) within so.2 so.0 so.1 do_long 0 (used_length_of g.typed (layout g) 32 true test + 1) made_do.extended (as_it_was made_do.e) made_while.extended (omega (arith, regs1))
           (falls body n)
-          (λ s v here_s sim_s. subst (λ (m : Made ℕ). Follows g (Left g alive (in_body do_inner g.held f) do_before s) s (executed scope body n active v) m) made_do.is (agrees (in_body do_inner g.held f) do_before s v do_frame do_here do_homes begun_body here_s sim_s (do_body g numbers declares n p body test c)))
+          (λ s v here_s sim_s. subst (λ (m : Made ℕ). Follows g (Left g alive (in_body do_inner g.held f) do_before s) s (executed scope body n active v) m) made_do.is (agrees (in_body do_inner g.held f) do_before s v do_frame (do_here free) do_homes begun_body here_s sim_s (do_body g numbers declares n p body test c)))
           (λ v. omega arith)
           (λ s v here_s sim_s within_s. (refl, record { grown = (0, as_it_was made_do.e); t = s; go = stay g s; at = here_s; sim = sim_s; keeps = keeps_all g made_do.e s }))
-          (λ s v here_s sim_s. made_while.leads (begun_later g do_before made_do.e do_long made_do.extended begun_body) within s v here_s sim_s)
+          (λ s v here_s sim_s. made_while.leads (begun_later g do_before made_do.e do_long made_do.extended begun_body) (let low = free.code in let turn_is = so.2 in omega (arith, low, turn_is)) within s v here_s sim_s)
           (behind n body) _ t u refl do_grown at sim)
 
     pub do_agrees : Agrees g has alive files numbers ready declares scope active calls_follow contexts n (S.Do' p body test)

@@ -166,6 +166,8 @@ module _ {Known : Setting → Scope → Active → Type 1} (scope : Scope) (besi
             follows held from entries upto a known inner (in_one_more f) d t st (record { outcome = framed_so.outcome; main = framed_so.main; scalar = framed_so.scalar }) (record {
               among = deep;
               loop = restores_inside g saved held from entries upto inside f.loop contexts f.frame.saved.in_loop stands.loop;
+              after = stands.after;
+              next = stands.next;
               all = restores_inside g saved held from entries upto inside f.all contexts f.frame.saved.in_all stands.all;
             }) none free at sim c;
       }

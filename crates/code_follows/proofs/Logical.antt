@@ -23,7 +23,7 @@ use Rattle.code_follows.specs.Fragment.{IsWord}
 use Rattle.code_follows.proofs.Branching.{IsMadeWord, decided_goes, decides, jump_long, jump_more, tested, then_from}
 use Rattle.code_follows.proofs.Following.{Arrives, Extends, Follows, HasRegisters, Keeps, Sim, delayed, arrives_fresh, keeps_all, keeps_on, value_kept}
 use Rattle.code_follows.proofs.Jumping.{moved_to, sim_moved}
-use Rattle.code_follows.proofs.Settings.{At, Begun, Reaches, Setting, Within, and_one, begun_later, earlier, onto, regs_more, start, stay}
+use Rattle.code_follows.proofs.Settings.{At, Begun, Reaches, Setting, Within, ahead, and_one, begun_later, earlier, onto, regs_more, start, stay}
 use Rattle.code_follows.proofs.Values.{Does, HasWord, Value_of, and_register, takes_word, with_reg}
 use Rattle.code_follows.proofs.Words.{below_bits, held_wide}
 
@@ -137,12 +137,12 @@ module _ (g : Setting) (has : HasRegisters g) (alive : Variable → Type 0) (is_
         (below_bits ty.elem.bits (from_bool b) word.1 few) (is ∙ sym (held_wide ty.elem (from_bool b) word.1 few))
 
     -- from behind an operand that decides
-    leaps : (x : ℕ) (e : Draft) (z : Bool) (t : CodeState) (u : State) → decides is_or z ≡ true → Within g (jump_if_decided is_or x target e) → At g t (length e.code) → Sim g alive u t → Reaches g s t → Keeps g d s t → slice_index t.registers d.regs ≡ from_bool is_or → nonzero (slice_index t.registers x) ≡ z
+    leaps : (x : ℕ) (e : Draft) (k : ℕ) → Extended e k done → (z : Bool) (t : CodeState) (u : State) → decides is_or z ≡ true → Within g (jump_if_decided is_or x target e) → At g t (length e.code) → Sim g alive u t → Reaches g s t → Keeps g d s t → slice_index t.registers d.regs ≡ from_bool is_or → nonzero (slice_index t.registers x) ≡ z
         → Arrives g alive ty.elem quiet d s (Scalar (from_bool is_or)) u (O.Scalar d.regs) done
-    leaps x e z t u so within place held_so go keeps begins is =
+    leaps x e k grown z t u so within place held_so go keeps begins is =
         let t1 : CodeState = moved_to g alive (target + start g) t in
         let goes : Reaches g t t1 = subst (λ (c : Bool). Reaches g t (moved_to g alive (if c then target + start g else t.at + 1) t)) so (decided_goes g alive is_or z x target e t is within place) in
-        landed is_or t1 u (onto g s t t1 go goes) (omega (arith, ends_there)) (sim_moved g alive u t (target + start g) held_so) keeps begins
+        landed is_or t1 u (onto g s t t1 go goes) (omega (arith, ends_there)) (sim_moved g alive u t (target + start g) (ahead g e done k t (target + start g) grown place (omega (arith, ends_there))) held_so) keeps begins
 
     -- and past one that does not
     goes_past : (x : ℕ) (e : Draft) (z : Bool) (t : CodeState) → decides is_or z ≡ false → Within g (jump_if_decided is_or x target e) → At g t (length e.code) → nonzero (slice_index t.registers x) ≡ z → Reaches g t (moved_to g alive (t.at + 1) t)
@@ -156,7 +156,7 @@ module _ (g : Setting) (has : HasRegisters g) (alive : Variable → Type 0) (is_
     behind_right : (z c : Bool) (t : CodeState) (u : State) → decides is_or z ≡ c → Within g done → At g t (length right.behind.code) → Sim g alive u t → Reaches g s t → Keeps g d s t → slice_index t.registers d.regs ≡ from_bool is_or → nonzero (slice_index t.registers right.register) ≡ z → Ends_so u z
     unfolding begun step_of
     behind_right z true t u so within place held_so go keeps begins is =
-        subst (λ (b : Bool). Ends_so u b) (decides_so is_or z so) (leaps right.register right.behind z t u so (earlier g again done 1 again_done within) place held_so go keeps begins is)
+        subst (λ (b : Bool). Ends_so u b) (decides_so is_or z so) (leaps right.register right.behind (1 + 1) right_done z t u so (earlier g again done 1 again_done within) place held_so go keeps begins is)
     behind_right z false t u so within place held_so go keeps begins is =
         let t1 : CodeState = moved_to g alive (t.at + 1) t in
         let long_so = jump_long g alive is_or right.register target right.behind in
@@ -166,7 +166,7 @@ module _ (g : Setting) (has : HasRegisters g) (alive : Variable → Type 0) (is_
         let regs = opened_again.regs in
         let h : HasWord g has alive (from_bool (not is_or)) d done s u d.regs =
         takes_word g has alive (from_bool (not is_or)) d again _ (I.FrontConst d.regs (from_bool (not is_or))) s t1 u d.regs free
-        (onto g s t t1 go (goes_past right.register right.behind z t so (earlier g again done 1 again_done within) place is)) (omega (arith, place, long_so)) (sim_moved g alive u t (t.at + 1) held_so) grown_again keeps within refl refl (omega arith) (omega (arith, inside, regs)) in
+        (onto g s t t1 go (goes_past right.register right.behind z t so (earlier g again done 1 again_done within) place is)) (omega (arith, place, long_so)) (sim_moved g alive u t (t.at + 1) (omega arith) held_so) grown_again keeps within refl refl (omega arith) (omega (arith, inside, regs)) in
         subst (λ (b : Bool). Ends_so u b) (undecided is_or z so) (landed (not is_or) h.t u h.go h.at h.sim h.keeps h.is)
 
     -- the right operand, behind a left one that does not decide
@@ -182,7 +182,7 @@ module _ (g : Setting) (has : HasRegisters g) (alive : Variable → Type 0) (is_
         let keeps : Keeps g d s t1 = keeps_on g d opened h.grown.0 s h.t arr.t h.grown.1 h.keeps arr.keeps in
         let begins : slice_index arr.t.registers d.regs ≡ from_bool is_or = arr.keeps d.regs (value_kept g opened d.regs free.regs inside) ∙ h.is in
         then_from g alive (Value_of g has alive to true leap t1) (Value_of g has alive ty.elem quiet d s) s t1 (other u) (λ w after. Source.Gives (Scalar (from_bool (nonzero (at w 0)))) after) (O.Scalar right.register) right.behind (Makes (O.Scalar d.regs) done) go
-        (subst (λ (m : Made Out). Follows g (Value_of g has alive to true leap t1) t1 (other u) m) right.is (other_does leap t1 u (begun_later g d leap ((0 + 1) + (long + 1)) (extended d opened leap (0 + 1) (long + 1) to_opened to_leap) free) (omega (arith, place, long_so)) (sim_moved g alive u arr.t (arr.t.at + 1) arr.sim)))
+        (subst (λ (m : Made Out). Follows g (Value_of g has alive to true leap t1) t1 (other u) m) right.is (other_does leap t1 u (begun_later g d leap ((0 + 1) + (long + 1)) (extended d opened leap (0 + 1) (long + 1) to_opened to_leap) free) (omega (arith, place, long_so)) (sim_moved g alive u arr.t (arr.t.at + 1) (omega arith) arr.sim)))
         (1 + 1, right_done)
         (λ w last b. λ inner. behind_right (nonzero (at w 0)) (decides is_or (nonzero (at w 0))) b.t last refl inner b.at b.sim (onto g s t1 b.t go b.go)
         (keeps_on g d leap ((0 + 1) + (long + 1)) s t1 b.t (extended d opened leap (0 + 1) (long + 1) to_opened to_leap) keeps b.keeps) (b.keeps d.regs (value_kept g leap d.regs free.regs (omega (arith, inside, regs))) ∙ begins)
@@ -200,7 +200,7 @@ module _ (g : Setting) (has : HasRegisters g) (alive : Variable → Type 0) (is_
         by : (h : HasWord g has alive (from_bool is_or) d opened s st d.regs) (v : Value) (u : State) (arr : Arrives g alive from true opened h.t v u (O.Scalar left.register) left.behind) (c : Bool) → decides is_or (nonzero (number v)) ≡ c
             → Follows g (Value_of g has alive ty.elem quiet d s) s (if c then Source.Gives (Scalar (from_bool is_or)) u else then_do (other u) (λ w after. Source.Gives (Scalar (from_bool (nonzero (at w 0)))) after)) (Makes (O.Scalar d.regs) done)
         by h v u arr true so = λ within.
-            leaps left.register left.behind (nonzero (number v)) arr.t u so (earlier g leap done (more + (1 + 1)) leap_done within) arr.at arr.sim (onto g s h.t arr.t h.go arr.go)
+            leaps left.register left.behind (1 + (more + (1 + 1))) left_done (nonzero (number v)) arr.t u so (earlier g leap done (more + (1 + 1)) leap_done within) arr.at arr.sim (onto g s h.t arr.t h.go arr.go)
             (keeps_on g d opened h.grown.0 s h.t arr.t h.grown.1 h.keeps arr.keeps) (arr.keeps d.regs (value_kept g opened d.regs free.regs inside) ∙ h.is) (tested g alive from opened left.behind h.t v u left.register arr)
         by h v u arr false so =
             delayed g (Value_of g has alive ty.elem quiet d s) leap s (then_do (other u) (λ w after. Source.Gives (Scalar (from_bool (nonzero (at w 0)))) after)) (Makes (O.Scalar d.regs) done) (_, leap_done) (λ within. goes_right v u so h arr within)

@@ -73,7 +73,7 @@ module _ (g : Setting) (has : HasRegisters g) (alive : Variable → Type 0) (n :
   -- the source and the code print the same
   sim_printed : (bytes : List ℕ) (st : State) (s : CodeState) → Sim g alive st s → Sim g alive (with_output bytes st) (with_printed bytes s)
   unfolding with_output
-  sim_printed bytes st s h = record { registers = h.registers; scalars = h.scalars; small = h.small; constants = h.constants; turns = h.turns; output = ap (λ (o : List ℕ). o ++ bytes) h.output; input = h.input; bytes = h.bytes; returns = h.returns; few = h.few; memory = g.held.still st (with_output bytes st) s.memory (λ k e p. refl) refl h.memory }
+  sim_printed bytes st s h = record { registers = h.registers; scalars = h.scalars; small = h.small; constants = h.constants; turns = h.turns; output = ap (λ (o : List ℕ). o ++ bytes) h.output; input = h.input; bytes = h.bytes; returns = h.returns; few = h.few; memory = g.held.still (s.at + 1) st (with_output bytes st) s.memory (λ k e p. refl) refl (g.held.onward s.at (s.at + 1) st s.memory (omega arith) h.memory) }
 
   printed_on : (one rest : List ℕ) (st : State) → with_output (one ++ rest) st ≡ with_output rest (with_output one st)
   unfolding with_output

@@ -26,7 +26,7 @@ use Rattle.lower_stmt.specs.Statements.{statement_of}
 use Rattle.paris_code.specs.declared.operands.Field.{Field}
 use Rattle.code_follows.proofs.Executing.{Exits}
 use Rattle.code_follows.proofs.Restoring.{Restores}
-use Rattle.code_follows.proofs.Settings.{Setting, layout}
+use Rattle.code_follows.proofs.Settings.{LastsTo, Setting, layout}
 
 -- the frame of a statement of the function
 pub record StandsIn (g : Setting) (f : Frame) : Type 0 where
@@ -39,10 +39,13 @@ pub in_context_too : (g : Setting) (f : Frame) → StandsIn g f → StandsIn g (
 unfolding in_context
 in_context_too g f h = record { outcome = h.outcome; main = h.main; scalar = h.scalar }
 
--- a statement among these saved contexts: where those of its loop are loaded, and where all are, this is held
+-- a statement among these saved contexts: where those of its loop are loaded, and where all are, this is held, and the
+-- first lasts to where jumps out of the loop and to its next round lead
 pub record StandsHere (g : Setting) (f : Exits) (contexts : List Field) : Type 1 where
   pub among : StandsAmong f.frame contexts
   pub loop : Restores g f.loop contexts f.frame.saved.in_loop
+  pub after : LastsTo g f.loop f.frame.after
+  pub next : LastsTo g f.loop f.frame.next
   pub all : Restores g f.all contexts f.frame.saved.in_all
 
 -- under one context more

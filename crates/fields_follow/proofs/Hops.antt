@@ -176,7 +176,7 @@ module _ (g : Setting) where
         ends = places.ends (length e.code) i d (a ∷ []) there (hop_plain axis k d a) tt refl
 
         was : HoldsFields g.typed g.image fields.active st s.memory
-        was = fields.opens st s.memory sim.memory
+        was = fields.opens s.at st s.memory sim.memory
 
     -- a fresh field of the set
     abbrev IsFresh : ℕ → ℕ → ℕ → Field → Type 0

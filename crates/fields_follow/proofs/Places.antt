@@ -59,8 +59,8 @@ module _ (g : Setting) where
   -- what the memory holds of the source's state is the numbers of the fields, where these positions are active
   pub record HoldsTheFields : Type 0 where
     pub active : Active
-    pub opens : (st : State) (m : BitMemory) → g.held.holds st m → HoldsFields g.typed g.image active st m
-    pub closes : (st : State) (m : BitMemory) → HoldsFields g.typed g.image active st m → g.held.holds st m
+    pub opens : (at : ℕ) (st : State) (m : BitMemory) → g.held.holds at st m → HoldsFields g.typed g.image active st m
+    pub closes : (at : ℕ) (st : State) (m : BitMemory) → HoldsFields g.typed g.image active st m → g.held.holds at st m
 
   -- the instruction that the draft gets next stands in the unit
   pub stands_here : (i : Instr) (d : Draft) → Within g (with_instr i d) → step_of i ≡ Plain i → StandsAt g.unit (length d.code) i
