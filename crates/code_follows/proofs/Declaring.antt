@@ -8,11 +8,9 @@ use Rattle.cstar_tree.specs.declared.typed.VarInfo.{VarInfo}
 use Rattle.cstar_tree.specs.declared.typed.Variable.{Variable}
 use Rattle.cstar_tree.specs.declared.typed.Variable.TheVariants as V
 use Rattle.cstar_tree.specs.Variables.{variables_of}
-use Rattle.code_lengths.specs.Growth.{Extended}
 use Rattle.code_lengths.specs.Naming.{IsDeclared, variable_named}
 use Rattle.code_lengths.specs.NamingStatements.{StandFrom}
 use Rattle.code_lengths.proofs.Declaring.{at_length, info_of, second_part}
-use Rattle.code_lengths.proofs.Drafting.{as_it_was, extended}
 use Rattle.lower_base.specs.Drafts.{Draft, Made, Makes, step as step_of, then_make, with_instr}
 use Rattle.lower_base.specs.Layouts.{entries_of, register_of}
 use Rattle.lower_stmt.specs.Variables.{all_cleared, begins_constant, cleared, cleared_fields, with_home}
@@ -24,6 +22,7 @@ use Rattle.code_follows.specs.Fragment.{IsScalarLocal, OrAmong}
 use Rattle.code_follows.specs.Agreement.{AreBytes}
 use Rattle.code_follows.proofs.Executing.{ran_from}
 use Rattle.code_follows.proofs.Following.{HasRegisters, IsScalar, Keeps, Ran, Sim, held, input_of, keeps_all, variable_kept}
+use Rattle.code_follows.proofs.Growing.{Extended, as_it_was, extended}
 use Rattle.code_follows.proofs.Settings.{At, Setting, Within, and_one, at_next, begins_here, earlier, layout, one, regs_more, stay}
 use Rattle.code_follows.proofs.Stores.{below_free, same_is, sim_begun, same_itself}
 use Rattle.std.proofs.lemmas.Nat.{pow_pos}

@@ -278,15 +278,14 @@ module _ (t : Typed) (image : Image) {beside : Beside} (p : IsProgramBeside besi
           let h = has t image p codable compiled inside number b is open_calls m in
           let numbers = numbered t image p codable compiled inside number b is open_calls m in
           let is_ready = ready t image p codable compiled inside number b is open_calls m in
-          let declared = declares t image p codable compiled inside number b is open_calls m in
           let where_it_is = scope t image p codable compiled inside number b is open_calls m in
           let never_rises = falls t image p codable compiled inside number b is open_calls m in
           let around : Around Known inner where_it_is active =
-          record { has = h; numbers = numbers; ready = is_ready; declares = declared; calls = calls_follow; falls = never_rises; known = known } in
+          record { has = h; numbers = numbers; ready = is_ready; calls = calls_follow; falls = never_rises; known = known } in
           let runs : Follows inner (Left inner OfFileOrParam out begin s) s (executed where_it_is body 0 active opening_state) (body_of t (layout_of t (words t image p codable compiled) number) f body begin) =
           subst (λ (made : Made ℕ). Follows inner (Left inner OfFileOrParam out begin s) s (executed where_it_is body 0 active opening_state) made) (sym (as_block locals q row))
           (statement_follows where_it_is (λ g. besides.follows g where_it_is) inner active around [] OfFileOrParam (λ k. tt) 0 before_all body isin.0 out begin s opening_state
-          (framed t image p codable compiled inside number b is open_calls m) (stands_here t image p codable compiled inside number b is open_calls m ((calls_follow inside inner.from inner.entries inner.upto active known).lasts 0 (omega arith))) (blank_homes t image (scalars t image p codable compiled) codable compiled number b) (record { regs = let regs = blank_regs t image (scalars t image p codable compiled) codable compiled number b in omega (arith, regs); code = omega arith; fields = omega arith }) stands sim c) in
+          (framed t image p codable compiled inside number b is open_calls m) (stands_here t image p codable compiled inside number b is open_calls m ((calls_follow inside inner.from inner.entries inner.upto active known).lasts 0 (omega arith))) (declares t image p codable compiled inside number b is open_calls m begin (blank_homes t image (scalars t image p codable compiled) codable compiled number b)) (record { regs = let regs = blank_regs t image (scalars t image p codable compiled) codable compiled number b in omega (arith, regs); code = omega arith; fields = omega arith }) stands sim c) in
           let made = body_made t image p codable compiled inside number b is open_calls m (body_of t (layout_of t (words t image p codable compiled) number) f body begin) (made_so body body_is) in
           let never : ends_in_return b.body ≡ true → NeverOnward (executed where_it_is body 0 active opening_state) =
           λ ends. never_second (initialised where_it_is active 0 locals.items _) _ (λ u. body_never where_it_is active locals q row (sym (ap (λ (x : TStmt). ends_in_return x) body_is) ∙ ends) (0 + length locals.items) u) in

@@ -6,9 +6,7 @@ use Rattle.cstar_base.specs.declared.elem.Elem.{Elem}
 use Rattle.cstar_base.specs.Numbers.{converted}
 use Rattle.cstar_tree.specs.declared.typed.VarInfo.{VarInfo}
 use Rattle.cstar_tree.specs.declared.typed.Variable.{Variable}
-use Rattle.code_lengths.specs.Growth.{Extended}
 use Rattle.code_lengths.specs.Naming.{variable_named}
-use Rattle.code_lengths.proofs.Drafting.{extended}
 use Rattle.lower_base.specs.declared.emit.Out.{Out}
 use Rattle.lower_base.specs.declared.emit.Out.TheVariants as O
 use Rattle.lower_base.specs.Constants.{constant_register, first_free}
@@ -22,6 +20,7 @@ use Rattle.source_meaning.specs.State.{Early, Outcome, State, then_do}
 use Rattle.source_meaning.specs.Values.{Scalar, Value}
 use Rattle.code_follows.specs.Agreement.{AreBytes, end_of, mark_of}
 use Rattle.code_follows.proofs.ConstantRegisters.{below_values}
+use Rattle.code_follows.proofs.Growing.{Extended, extended}
 use Rattle.code_follows.proofs.Settings.{At, EndsIn, Reaches, Setting, Within, earlier, ends_later, layout}
 
 -- the word that holds a number of a type: the number promoted to 32 bits

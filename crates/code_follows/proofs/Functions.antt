@@ -6,7 +6,7 @@ use Rattle.cstar_tree.specs.declared.typed.TStmt.{TStmt}
 use Rattle.cstar_tree.specs.declared.typed.Typed.{Typed}
 use Rattle.cstar_tree.specs.declared.typed.VarInfo.{VarInfo}
 use Rattle.code_lengths.specs.Agreement.{StandsAmong}
-use Rattle.code_lengths.specs.Ready.{HasDeclared, IsCodable, IsReady, NumbersVariables}
+use Rattle.code_lengths.specs.Ready.{HasDeclared, IsCodable, IsReadyButForFields, NumbersVariables}
 use Rattle.lower_base.specs.Drafts.{Draft, Fails, Made, Makes, then_make}
 use Rattle.lower_base.specs.Layouts.{Layout, layout_of}
 use Rattle.lower_stmt.specs.declared.statement.Frame.{Frame}
@@ -31,7 +31,7 @@ use Rattle.code_follows.proofs.Closed.{NoJump}
 use Rattle.code_follows.proofs.Endings.{NeverOnward}
 use Rattle.code_follows.proofs.Executing.{Exits, Left, LeftSo, Returns}
 use Rattle.code_follows.proofs.Following.{Finishes, Follows, HasRegisters}
-use Rattle.code_follows.proofs.Regions.{all_declared, all_numbered, all_ready}
+use Rattle.code_follows.proofs.Regions.{first_declared, all_numbered, all_ready}
 use Rattle.code_follows.proofs.Restoring.{restores_none}
 use Rattle.code_follows.proofs.Returning.{end_more, left_at_end}
 use Rattle.code_follows.proofs.Settings.{Held, LastsTo, Setting, Within, earlier}
@@ -64,14 +64,14 @@ module _ (t : Typed) (image : Image) {beside : Beside} (p : IsProgramBeside besi
   abbrev pub scope : Scope
   scope = scope_of t i (calls t most)
 
-  pub ready : (n : ℕ) (d : Draft) → IsReady t i own n d
+  pub ready : (n : ℕ) (d : Draft) → IsReadyButForFields t i own n d
   ready n d = all_ready t (scalars t image p codable compiled) (words t image p codable compiled) number i is n d
 
   pub numbered : NumbersVariables i own
   numbered = all_numbered t (scalars t image p codable compiled) (words t image p codable compiled) number i is
 
-  pub declares : (n : ℕ) (d : Draft) → d.homes ≡ [] → HasDeclared t i own n d
-  declares n d none = all_declared t (scalars t image p codable compiled) (words t image p codable compiled) number i is n d none
+  pub declares : (d : Draft) → d.homes ≡ [] → HasDeclared t i own 0 d
+  declares d none = first_declared t (scalars t image p codable compiled) (words t image p codable compiled) number i is d none
 
   abbrev pub frame : Frame
   frame = body_frame (number == 0) i

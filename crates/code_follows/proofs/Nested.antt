@@ -18,8 +18,6 @@ use Rattle.cstar_tree.specs.declared.typed.ValueType.{ValueType}
 use Rattle.cstar_tree.specs.declared.typed.VarInfo.{VarInfo}
 use Rattle.cstar_tree.specs.declared.typed.Variable.{Variable}
 use Rattle.cstar_tree.specs.Typed.{type_of}
-use Rattle.code_lengths.specs.Growth.{Extended}
-use Rattle.code_lengths.proofs.Drafting.{as_it_was, extended}
 use Rattle.lower_base.specs.declared.emit.Out.{Out}
 use Rattle.lower_base.specs.declared.emit.Out.TheVariants as O
 use Rattle.lower_base.specs.Constants.{first_free, word_in}
@@ -46,6 +44,7 @@ use Rattle.code_follows.specs.Fragment.{IsGiven, IsWord, Takes}
 use Rattle.code_follows.proofs.Changing.{no_place, only_set, operated_set_is, scalar_type, set_is, stepped_is, stepping}
 use Rattle.code_follows.proofs.Following.{Arrives, Extends, Follows, HasRegisters, IsKept, IsScalar, Keeps, Sim, delayed, extends_then, finishes_later, holds_fresh, held, keeps_all, keeps_on, register_at, register_is, register_kept, register_set, then_follows, then_on, keeps_less, value_kept}
 use Rattle.code_follows.proofs.Fresh.{IsClear, IsFresh, fresh_register, fresh_then, made_so}
+use Rattle.code_follows.proofs.Growing.{Extended, as_it_was, extended}
 use Rattle.code_follows.proofs.Settings.{At, Begun, Reaches, Setting, Within, ahead, and_one, at_next, begins_here, begun_later, earlier, layout, one, onto, regs_more, stay}
 use Rattle.code_follows.proofs.Stores.{IsPut, variable_dest}
 use Rattle.code_follows.proofs.Values.{Dest, Does, Grows_on, HasWord, Value_of, and_register, extends_in_register, extends_operated, extends_word, operates, register_same, rewrapped, some_word, with_reg, word_follows, put_by, written_at}

@@ -12,12 +12,10 @@ use Rattle.cstar_tree.specs.declared.typed.TExpr as T
 use Rattle.cstar_tree.specs.declared.typed.ValueType.{ValueType}
 use Rattle.cstar_tree.specs.declared.typed.Variable.TheVariants as V
 use Rattle.cstar_tree.specs.declared.typed.Variable.{Variable}
-use Rattle.code_lengths.specs.Growth.{Extended}
 use Rattle.code_lengths.specs.Lowerable.{IsLowerable}
 use Rattle.code_lengths.specs.Naming.{NamesVariables}
 use Rattle.code_lengths.specs.Shaped.{IsShaped}
-use Rattle.code_lengths.specs.Ready.{HasCode, HaveCode, IsReady}
-use Rattle.code_lengths.proofs.Drafting.{as_it_was, extended}
+use Rattle.code_lengths.specs.Ready.{HasCode, HaveCode, IsReadyButForFields}
 use Rattle.lower_base.specs.declared.emit.Out.{Out}
 use Rattle.lower_base.specs.declared.emit.Out.TheVariants as O
 use Rattle.lower_base.specs.Drafts.{Draft, Fails, Made, Makes, Plain, in_register, step as step_of, then_make, with_instr}
@@ -39,11 +37,12 @@ use Rattle.code_follows.proofs.Expressions.{arguments_do}
 use Rattle.code_follows.proofs.Arguments.{AreHeld, Given, arguments_follow}
 use Rattle.code_follows.proofs.Callees.{CallsFollow}
 use Rattle.code_follows.proofs.Following.{Extends, Follows, HasRegisters, Keeps, Ran, Sim, delayed, extends_made, finishes_later, keeps_all, keeps_on, then_follows}
+use Rattle.code_follows.proofs.Growing.{Extended, as_it_was, extended}
 use Rattle.code_follows.proofs.Settings.{At, Begun, Reaches, Setting, and_one, at_next, begins_here, layout, one, onto, placed_instr, stay}
 use Rattle.code_follows.proofs.Values.{extends_in_register}
 use Rattle.code_follows.proofs.Words.{below_word, held_wide}
 
-module _ (g : Setting) (has : HasRegisters g) (alive : Variable → Type 0) (n : ℕ) (files : (k : ℕ) → alive (V.File k)) (ready : (d : Draft) → IsReady g.typed g.instance (layout g) n d) (scope : Scope) (active : Active) (calls_follow : CallsFollow g scope active) where
+module _ (g : Setting) (has : HasRegisters g) (alive : Variable → Type 0) (n : ℕ) (files : (k : ℕ) → alive (V.File k)) (ready : (d : Draft) → IsReadyButForFields g.typed g.instance (layout g) n d) (scope : Scope) (active : Active) (calls_follow : CallsFollow g scope active) where
   -- ---- the pieces
 
   -- the words stand in the registers, whatever is printed

@@ -14,7 +14,6 @@ use Rattle.cstar_tree.specs.declared.typed.Typed.{Typed}
 use Rattle.cstar_tree.specs.declared.typed.VarInfo.{VarInfo}
 use Rattle.cstar_tree.specs.declared.typed.Variable.{Variable}
 use Rattle.cstar_tree.specs.declared.typed.Variable.TheVariants as V
-use Rattle.code_lengths.specs.Growth.{Extended}
 use Rattle.code_lengths.specs.Naming.{variable_named}
 use Rattle.code_lengths.specs.Ready.{HasStatementCode, IsCodable}
 use Rattle.code_lengths.proofs.Declaring.{all_at, first_part, info_of, row_variables}
@@ -48,6 +47,7 @@ use Rattle.code_follows.proofs.Entering.{AllBeside, EntersThere, before_all, cal
 use Rattle.code_follows.proofs.Executing.{Left}
 use Rattle.code_follows.proofs.Following.{held, Extends, Follows, Sim}
 use Rattle.code_follows.proofs.Functions.{BodyMade, EndsSo, RunsFunction, among, body_made, declares, ends_by, exits, falls, frame, framed, g, has, numbered, own, ready, runs_function, scope, stands_here}
+use Rattle.code_follows.proofs.Growing.{Extended}
 use Rattle.code_follows.proofs.Openings.{constants_run}
 use Rattle.std.proofs.lemmas.Nat.{pow_pos}
 use Rattle.source_meaning.specs.Reductions.{int_type}
@@ -56,7 +56,7 @@ use Rattle.code_follows.proofs.Numbers.{zero_converted}
 use Rattle.code_follows.proofs.Regions.{IsOwn, base_behind, base_inside, below, local_own, own_behind, param_own}
 use Rattle.code_follows.proofs.Settings.{At, EndsIn, Held, Reaches, Setting, Within, earlier, ends_later, ends_now, onto, start}
 use Rattle.code_follows.proofs.Standing.{start_in}
-use Rattle.code_follows.proofs.Starting.{none_cleared, Now, settled_so}
+use Rattle.code_follows.proofs.Starting.{clears_declare, none_cleared, Now, settled_so}
 use Rattle.code_follows.proofs.Units.{constants_grow, empty_unit, main_is, starts_homes, starts_regs, with_constants, with_starts}
 use Rattle.paris_code.specs.declared.program.Unit.{Unit as CodeUnit}
 
@@ -240,21 +240,21 @@ module _ (t : Typed) (image : Image) {beside : Beside} (p : IsProgramBeside besi
       let has_it = has t image p codable compiled holding 0 p.main p.is_main [] turns in
       let numbers = numbered t image p codable compiled holding 0 p.main p.is_main [] turns in
       let is_ready = ready t image p codable compiled holding 0 p.main p.is_main [] turns in
-      let declared = declares t image p codable compiled holding 0 p.main p.is_main [] turns in
       let here = scope t image p codable compiled holding 0 p.main p.is_main [] turns in
       let never_rises = falls t image p codable compiled holding 0 p.main p.is_main [] turns in
       let framed_so = framed t image p codable compiled holding 0 p.main p.is_main [] turns in
       let among_so = among t image p codable compiled holding 0 p.main p.is_main [] turns in
       let around : Around Known main_setting here active =
-      record { has = has_it; numbers = numbers; ready = is_ready; declares = declared; calls = main_calls; falls = never_rises; known = known } in
+      record { has = has_it; numbers = numbers; ready = is_ready; calls = main_calls; falls = never_rises; known = known } in
       let homes = starts_homes t image (scalars t image p codable compiled) codable compiled p.main in
       let regs = starts_regs t image (scalars t image p codable compiled) codable compiled p.main in
       let c : HasStatementCode t p.main 0 (S.Block' locals q row) = subst (λ (s : TStmt). HasStatementCode t p.main 0 s) is (codable 0 p.main p.is_main).1 in
-      let own_row = block_code main_setting has_it wide one numbers is_ready declared here active calls_in_main (never_rises active) [] 0 locals q row c in
-      let initial = block_initials main_setting has_it wide one numbers is_ready declared here active calls_in_main (never_rises active) [] 0 locals q row c in
+      let own_row = block_code main_setting has_it wide one numbers is_ready here active calls_in_main (never_rises active) [] 0 locals q row c in
+      let initial = block_initials main_setting has_it wide one numbers is_ready here active calls_in_main (never_rises active) [] 0 locals q row c in
       let settled = settled_so main_setting has_it wide one is_ready here active calls_in_main OfFileOrParam locals.items 0 (λ x living. inl living) (λ x own. inr own) before_all h.0.1 in
-      let stand = first_part (map info_of locals.items) (row_variables row) (block_stands main_setting has_it wide one numbers is_ready declared here active calls_in_main (never_rises active) [] 0 locals q row c) in
-      let code : Made ℕ = begun_code main_setting has_it wide one numbers is_ready declared here active calls_in_main (never_rises active) [] locals.items row out 0 begun_there in
+      let stand = first_part (map info_of locals.items) (row_variables row) (block_stands main_setting has_it wide one numbers is_ready here active calls_in_main (never_rises active) [] 0 locals q row c) in
+      let declared = clears_declare main_setting true locals.items 0 begun_there begun_there (none_cleared main_setting has_it wide one is_ready here active calls_in_main locals.items 0 begun_there h.0.0) stand numbers (declares t image p codable compiled holding 0 p.main p.is_main [] turns begun_there homes) in
+      let code : Made ℕ = begun_code main_setting has_it wide one numbers is_ready here active calls_in_main (never_rises active) [] locals.items row out 0 begun_there in
       let code_is : body_of t (own t image p codable compiled holding 0 p.main p.is_main [] turns) f p.main.body begun_there ≡ code =
       ap (λ (b : TStmt). body_of t (own t image p codable compiled holding 0 p.main p.is_main [] turns) f b begun_there) is
       ∙ ap (λ (m : Made (Unit {0})). then_make (then_make m (λ u between. then_make (all_initialised t (own t image p codable compiled holding 0 p.main p.is_main [] turns) locals.items 0 between) (λ v after. Makes (0 + length locals.items) after))) (λ number after. statements_of t (own t image p codable compiled holding 0 p.main p.is_main [] turns) row f [] number after))
@@ -265,7 +265,7 @@ module _ (t : Typed) (image : Image) {beside : Beside} (p : IsProgramBeside besi
       let never : ends_in_return p.main.body ≡ true → NeverOnward whole =
       λ ends. never_second (initialised here active 0 locals.items _) _ (λ u. body_never here active locals q row (sym (ap (λ (x : TStmt). ends_in_return x) is) ∙ ends) (0 + length locals.items) u) in
       let ends : EndsSo t image p codable compiled holding 0 p.main p.is_main [] turns whole made.e = ends_by t image p codable compiled holding 0 p.main p.is_main [] turns whole made.e made.unit never in
-      let grown : (j : ℕ) × Extended begun_there j made.e = subst (λ (m : Made ℕ). Extends main_setting begun_there m) made.is_made (begun_grows main_setting has_it wide one numbers is_ready declared here active calls_in_main (never_rises active) [] locals.items row out 0 begun_there h.0.0 settled initial own_row framed_so among_so homes) in
+      let grown : (j : ℕ) × Extended begun_there j made.e = subst (λ (m : Made ℕ). Extends main_setting begun_there m) made.is_made (begun_grows main_setting has_it wide one numbers is_ready here active calls_in_main (never_rises active) [] locals.items row out 0 begun_there h.0.0 settled initial own_row framed_so among_so declared) in
       let opens = opened_so (earlier main_setting begun_there made.e grown.0 grown.1 ends.inside) in
       let now : Variable → Type 0 = λ x. Now main_setting has_it wide one is_ready here active calls_in_main locals.items 0 x in
       let sim : Sim main_setting now (begun_body locals.items row) opens.there =
@@ -276,7 +276,7 @@ module _ (t : Typed) (image : Image) {beside : Beside} (p : IsProgramBeside besi
       (runs_function t image p codable compiled holding 0 p.main p.is_main [] turns begun_there made.e made.n opens.there whole ends closed
       (subst (λ (m : Made ℕ). Follows main_setting (Left main_setting OfFileOrParam out begun_there opens.there) opens.there whole m) made.is_made
       (follows_fewer main_setting wide OfFileOrParam (λ x living. inl living) out begun_there opens.there whole code
-      (begun_follows main_setting has_it wide one numbers is_ready declared here active calls_in_main (never_rises active) [] locals.items row out 0 begun_there opens.there (begun_body locals.items row) h.0.0 stand settled initial own_row framed_so among_so homes (record { regs = omega (arith, regs); code = omega arith; fields = omega arith }) opens.at sim
+      (begun_follows main_setting has_it wide one numbers is_ready here active calls_in_main (never_rises active) [] locals.items row out 0 begun_there opens.there (begun_body locals.items row) h.0.0 stand settled initial own_row framed_so among_so declared (record { regs = omega (arith, regs); code = omega arith; fields = omega arith }) opens.at sim
       (λ e there u none free at sim_there. row_follows here (λ g. besides.follows g here) main_setting active around [] wide one (0 + length locals.items) (among_before OfFileOrParam 0 (length locals.items) before_all) row h.0.2 out e there u framed_so (stands_here t image p codable compiled holding 0 p.main p.is_main [] turns (calls_in_main.lasts 0 (omega arith))) none free at sim_there own_row))))))
   runs _ is h = absurd h
 

@@ -4,9 +4,7 @@ use Rattle.std.specs.Prelude.{IfSome}
 use Rattle.cstar_tree.specs.declared.typed.TExpr.{TExpr}
 use Rattle.cstar_tree.specs.declared.typed.Variable.TheVariants as V
 use Rattle.cstar_tree.specs.declared.typed.Variable.{Variable}
-use Rattle.code_lengths.specs.Growth.{Extended}
-use Rattle.code_lengths.specs.Ready.{HasCode, IsReady}
-use Rattle.code_lengths.proofs.Drafting.{extended}
+use Rattle.code_lengths.specs.Ready.{HasCode, HasDeclared, IsReadyButForFields}
 use Rattle.lower_base.specs.Drafts.{Draft, Made, Makes, step as step_of, then_make, with_instr}
 use Rattle.lower_expr.specs.Lengths.{used_length_of}
 use Rattle.lower_stmt.specs.Lengths.{condition_length_of}
@@ -21,6 +19,7 @@ use Rattle.code_follows.specs.Fragment.{IsTested, naming}
 use Rattle.code_follows.proofs.Callees.{CallsFollow}
 use Rattle.code_follows.proofs.Executing.{Jumped, TestMade, Tested, test_follows, test_made}
 use Rattle.code_follows.proofs.Following.{Finishes, Follows, HasRegisters, Sim, keeps_all}
+use Rattle.code_follows.proofs.Growing.{Extended, extended}
 use Rattle.code_follows.proofs.Jumping.{jumps, moved_to, returns_to, sim_landed, sim_moved}
 use Rattle.code_follows.proofs.Settings.{At, Begun, Setting, Within, and_one, code_more, earlier, layout, onto, stands_here, start}
 
@@ -31,7 +30,7 @@ module _ (g : Setting) (alive : Variable → Type 0) where
   Leads d turn behind s (Source.Gives false u) = Jumped g alive g.held d s u behind
   Leads d turn behind s (Source.Ends early u) = Finishes g early u s
 
-  module _ (has : HasRegisters g) (files : (k : ℕ) → alive (V.File k)) (n : ℕ) (ready : (d : Draft) → IsReady g.typed g.instance (layout g) n d) (scope : Scope) (active : Active) (calls_follow : CallsFollow g scope active) where
+  module _ (has : HasRegisters g) (files : (k : ℕ) → alive (V.File k)) (n : ℕ) (ready : (d : Draft) → IsReadyButForFields g.typed g.instance (layout g) n d) (scope : Scope) (active : Active) (calls_follow : CallsFollow g scope active) where
     -- the code of the jump back is made, and leads where it should
     pub record BackMade (test : Option TExpr) (turn : ℕ) (d : Draft) : Type 0 where
       pub e : Draft
@@ -64,9 +63,9 @@ module _ (g : Setting) (alive : Variable → Type 0) where
         }
     tested_leads d tested r turn s (Source.Ends early u) low within h = h (earlier g tested (with_instr (I.FrontJumpNonzero r turn) tested) 1 (and_one g (I.FrontJumpNonzero r turn) tested) within)
 
-    pub back_made : (test : Option TExpr) (turn : ℕ) (d : Draft) → IsTested (naming g.may alive) test → IfSome test (HasCode g.typed g.instance n) → BackMade test turn d
+    pub back_made : (test : Option TExpr) (turn : ℕ) (d : Draft) → IsTested (naming g.may alive) test → IfSome test (HasCode g.typed g.instance n) → (m : ℕ) → n ≤ m → HasDeclared g.typed g.instance (layout g) m d → BackMade test turn d
     unfolding IsTested jump_back_of condition_length_of passes_or_absent then_make Leads step_of
-    back_made None turn d isin c = record {
+    back_made None turn d isin c m less known = record {
       e = with_instr (I.FrontJump turn) d;
       is = refl;
       extended = and_one g (I.FrontJump turn) d;
@@ -78,9 +77,9 @@ module _ (g : Setting) (alive : Variable → Type 0) where
         keeps = keeps_all g d s;
       };
     }
-    back_made (Some test) turn d isin c = by (test_made g alive has files n ready scope active calls_follow test d isin c)
+    back_made (Some test) turn d isin c m less known = by (test_made g alive has files n ready scope active calls_follow test d isin c m less known)
       where
-        by : TestMade g alive has files n ready scope active calls_follow test d → BackMade (Some test) turn d
+        by : TestMade g alive has files n ready scope active calls_follow test d m → BackMade (Some test) turn d
         by made = record {
           e = with_instr (I.FrontJumpNonzero made.r turn) made.e;
           is = ap (λ (m : Made ℕ). then_make m (λ r after. Makes tt (with_instr (I.FrontJumpNonzero r turn) after))) made.is;

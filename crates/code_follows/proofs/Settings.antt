@@ -5,8 +5,6 @@ use Rattle.cstar_link.specs.Linked.{code_from, moved_by}
 use Rattle.cstar_tree.specs.declared.typed.Instance.{Instance}
 use Rattle.cstar_tree.specs.declared.typed.Typed.{Typed}
 use Rattle.cstar_tree.specs.declared.typed.Variable.TheVariants as V
-use Rattle.code_lengths.specs.Growth.{Extended}
-use Rattle.code_lengths.proofs.Drafting.{and_instr, as_it_was}
 use Rattle.field_alloc.specs.Placed.{IsPlaced, of_set}
 use Rattle.lower_base.specs.Drafts.{Draft, Plain, Step, step as step_of, with_instr, with_step}
 use Rattle.lower_base.specs.Layouts.{Layout, layout_of}
@@ -26,6 +24,7 @@ use Rattle.paris_code.specs.Shapes.{bits_at, shapes_of}
 use Rattle.paris_code.specs.Spans.{JumpsTo, StandsAt}
 use Rattle.source_meaning.specs.State.{State}
 use Rattle.code_follows.specs.Fragment.{May}
+use Rattle.code_follows.proofs.Growing.{Extended, and_instr, as_it_was}
 use Rattle.code_follows.proofs.Standing.{stands, start_in}
 
 -- What a memory holds of the source's state where the code stands at a place of the image, and what of it still where the

@@ -7,9 +7,7 @@ use Rattle.cstar_base.specs.declared.elem.Elem.{Elem}
 use Rattle.cstar_tree.specs.declared.typed.VarInfo.{VarInfo}
 use Rattle.cstar_tree.specs.declared.typed.Variable.{Variable}
 use Rattle.cstar_tree.specs.declared.typed.Variable.TheVariants as V
-use Rattle.code_lengths.specs.Growth.{Extended}
 use Rattle.code_lengths.specs.Naming.{variable_named}
-use Rattle.code_lengths.proofs.Drafting.{extended, as_it_was}
 use Rattle.lower_base.specs.declared.emit.Out.{Out}
 use Rattle.lower_base.specs.Constants.{first_free}
 use Rattle.lower_base.specs.Drafts.{Draft}
@@ -18,6 +16,7 @@ use Rattle.paris_code.specs.Code.{CodeState, with_register}
 use Rattle.source_meaning.specs.State.{State, is_same, with_scalar}
 use Rattle.source_meaning.specs.Values.{Scalar, Value}
 use Rattle.code_follows.proofs.Following.{HasRegisters, IsScalar, Keeps, Sim, held, variable_kept, keeps_on}
+use Rattle.code_follows.proofs.Growing.{Extended, as_it_was, extended}
 use Rattle.code_follows.proofs.Settings.{At, Begun, Reaches, Setting, layout, ahead, onto}
 use Rattle.code_follows.proofs.Values.{Dest, written_at}
 use Rattle.code_follows.proofs.ConstantRegisters.{behind_variables}

@@ -15,9 +15,9 @@ use Rattle.cstar_tree.specs.declared.typed.VarInfo.{VarInfo}
 use Rattle.cstar_tree.specs.declared.typed.Variable.{Variable}
 use Rattle.cstar_tree.specs.StatementTypes.{variable_info}
 use Rattle.cstar_tree.specs.Typed.{type_of}
-use Rattle.code_lengths.specs.Growth.{Extended, Grows}
+use Rattle.code_lengths.specs.Growth.{GrowsOr}
 use Rattle.code_lengths.specs.Naming.{HasVariable, plain}
-use Rattle.code_lengths.proofs.Drafting.{append_nothing, as_it_was, extended}
+use Rattle.code_lengths.proofs.Drafting.{append_nothing}
 use Rattle.lower_base.specs.declared.emit.Out.{Out}
 use Rattle.lower_base.specs.declared.emit.Out.TheVariants as O
 use Rattle.lower_base.specs.declared.operators.Machine.{Machine}
@@ -50,6 +50,7 @@ use Rattle.source_meaning.specs.Targets.{read, variable_target}
 use Rattle.source_meaning.specs.Values.{Active, Scalar, Scope, Value, at, convert_to, each, failing, unary_of, unless}
 use Rattle.code_follows.specs.Fragment.{IsWord}
 use Rattle.code_follows.proofs.Following.{Arrives, Extends, Follows, HasRegisters, IsScalar, Keeps, Sim, extends_then, finishes_later, arrives_fresh, held, keeps_all, keeps_on, knowing, register_at, register_is, register_kept, register_set, then_follows, keeps_less}
+use Rattle.code_follows.proofs.Growing.{Extended, as_it_was, extended, from_growth}
 use Rattle.code_follows.proofs.Operators.{by_machine, machine_below, machine_same, minus_same, wide_signed}
 use Rattle.code_follows.proofs.Settings.{At, Begun, Reaches, Setting, Within, ahead, and_one, at_next, begins_here, begun_later, earlier, ends_now, layout, one, onto, placed_instr, regs_more, start, stay}
 use Rattle.code_follows.proofs.Words.{below_bits, below_word, held_wide}
@@ -59,7 +60,7 @@ abbrev pub with_reg : Draft → Draft
 with_reg d = record d { regs = d.regs + 1 }
 
 pub and_register : (d : Draft) → Extended d 0 (with_reg d)
-and_register d = record { name = refl; more = []; code = append_nothing d.code; long = refl; entries = []; fields = append_nothing d.fields; regs = omega arith; homes = refl }
+and_register d = record { more = []; code = append_nothing d.code; long = refl; entries = []; fields = append_nothing d.fields; regs = omega arith }
 
 pub some_word : (a b : ℕ) → Scalar a ≡ Scalar b → a ≡ b
 unfolding at
@@ -198,9 +199,9 @@ module _ (g : Setting) (has : HasRegisters g) (alive : Variable → Type 0) wher
   }
 
   -- what stands in the code of an operator grows
-  pub extends_grown : {A : Type 0} (P : A → Type 0) (d : Draft) (n : ℕ) (made : Made A) → Grows d n P made → Extends g d made
-  unfolding Extends Grows
-  extends_grown P d n (Makes x e) h = (n, h.1)
+  pub extends_grown : {A : Type 0} (P : A → Type 0) (d : Draft) (n : ℕ) (made : Made A) → GrowsOr (Unit {0}) d n P made → Extends g d made
+  unfolding Extends GrowsOr
+  extends_grown P d n (Makes x e) h = (n, from_growth d e n h.1)
   extends_grown P d n Fails h = tt
 
   pub extends_in_register : {A : Type 0} (d : Draft) (v : Out) (next : ℕ → Made A) → ((r : ℕ) → Extends g d (next r)) → Extends g d (in_register v next)

@@ -22,12 +22,10 @@ use Rattle.cstar_tree.specs.declared.typed.VarInfo.{VarInfo}
 use Rattle.cstar_tree.specs.declared.typed.Variable.{Variable}
 use Rattle.cstar_tree.specs.declared.typed.Variable.TheVariants as V
 use Rattle.cstar_tree.specs.Typed.{type_of}
-use Rattle.code_lengths.specs.Growth.{Extended}
 use Rattle.code_lengths.specs.Lowerable.{IsLowerable}
 use Rattle.code_lengths.specs.Naming.{NamesVariables}
-use Rattle.code_lengths.specs.Ready.{IsReady}
+use Rattle.code_lengths.specs.Ready.{IsReadyButForFields}
 use Rattle.code_lengths.specs.Shaped.{IsShaped}
-use Rattle.code_lengths.proofs.Drafting.{extended}
 use Rattle.lower_base.specs.declared.emit.Out.{Out}
 use Rattle.lower_base.specs.declared.emit.Out.TheVariants as O
 use Rattle.lower_base.specs.Drafts.{Draft, Made, Makes, an_entry, first_bits, then_make, with_instr}
@@ -55,6 +53,7 @@ use Rattle.source_meaning.specs.Values.{Parallel, Scope, Value}
 use Rattle.source_meaning.proofs.ConstantLaws.{Boxed}
 use Rattle.cstar_base.proofs.NumberLaws.{kind_bits}
 use Rattle.code_follows.proofs.Following.{HasRegisters, Sim, held}
+use Rattle.code_follows.proofs.Growing.{Extended, extended}
 use Rattle.code_follows.proofs.Settings.{At, Setting, Within, and_one, layout, onto}
 use Rattle.fields_follow.specs.Fragment.{HasOperation, IsOperand, IsOperandOrTruth, IsOperation, IsTarget, IsUpdate, IsWide}
 use Rattle.fields_follow.specs.Fields.{IsElement, file_number}
@@ -76,7 +75,7 @@ use Rattle.fields_follow.proofs.Effects.{IsEntryFor, in_place_last, put_last}
 use Rattle.fields_follow.proofs.Expressions.{operand_at}
 use Rattle.code_follows.specs.Fragment.{ScalarsAmong}
 
-module _ (g : Setting) (has : HasRegisters g) (alive : Variable → Type 0) (n : ℕ) (ready : (d : Draft) → IsReady g.typed g.instance (layout g) n d) (places : PlacesFields g) (fields : HoldsTheFields g) where
+module _ (g : Setting) (has : HasRegisters g) (alive : Variable → Type 0) (n : ℕ) (ready : (d : Draft) → IsReadyButForFields g.typed g.instance (layout g) n d) (places : PlacesFields g) (fields : HoldsTheFields g) where
   -- What comes last writes the variable where it is active: with the entry for it before, the code leaves a state that
   -- has what the source stores.
   module _ (set k : ℕ) (info : VarInfo) (is : IsElement g.typed k info set 0) (d : Draft) (s : CodeState) (st : State) where

@@ -3,8 +3,7 @@ use Rattle.std.proofs.Common.{ℕ, ◌+◌, ◌≡◌, ◌∙◌, inl, inr, true
 use Rattle.cstar_tree.specs.declared.typed.TExpr.{TExpr}
 use Rattle.cstar_tree.specs.declared.typed.Variable.{Variable}
 use Rattle.cstar_tree.specs.Typed.{type_of}
-use Rattle.code_lengths.specs.Ready.{IsReady}
-use Rattle.code_lengths.proofs.Drafting.{extended}
+use Rattle.code_lengths.specs.Ready.{IsReadyButForFields}
 use Rattle.lower_base.specs.declared.emit.Out.{Out}
 use Rattle.lower_base.specs.declared.emit.Out.TheVariants as O
 use Rattle.lower_base.specs.Drafts.{Draft, Fails, Made, Makes}
@@ -14,6 +13,7 @@ use Rattle.source_meaning.specs.Expressions.{evaluated}
 use Rattle.source_meaning.specs.State.{Gives, Outcome, State}
 use Rattle.source_meaning.specs.Values.{Active, Scalar, Scope, Value}
 use Rattle.code_follows.proofs.Following.{Follows, HasRegisters, IsKept, Ran, Sim}
+use Rattle.code_follows.proofs.Growing.{extended}
 use Rattle.code_follows.proofs.Parts.{BesideFollows}
 use Rattle.code_follows.proofs.Settings.{At, Begun, Reaches, Setting, Within, layout, onto}
 use Rattle.code_follows.proofs.Values.{Dest}
@@ -32,7 +32,7 @@ use Rattle.fields_follow.proofs.Reducing.{GivesNumber, number_to}
 use Rattle.fields_follow.proofs.Reductions.{GivesRegister, OperandsStand, fold_type, folds_give}
 
 module _ (g : Setting) (scope : Scope) (active : Active) (known : KnowsFields g scope active) (has : HasRegisters g) where
-  module _ (alive : Variable → Type 0) (n : ℕ) (ready : (d : Draft) → IsReady g.typed g.instance (layout g) n d) (e : TExpr) (c : HasItsCode g.typed g.instance alive n e) (d : Draft) (s : CodeState) (st : State) (begun : Begun g d) (here : At g s (length d.code)) (sim : Sim g alive st s) where
+  module _ (alive : Variable → Type 0) (n : ℕ) (ready : (d : Draft) → IsReadyButForFields g.typed g.instance (layout g) n d) (e : TExpr) (c : HasItsCode g.typed g.instance alive n e) (d : Draft) (s : CodeState) (st : State) (begun : Begun g d) (here : At g s (length d.code)) (sim : Sim g alive st s) where
     -- what is kept of the memory lasts over code behind the draft
     kept_behind : (f : Draft) (t : CodeState) → Within g f → Reaches (under g active) s t → StaysNamed g (length d.code) (length d.fields) (length f.code) s.memory t.memory → known.kept t.memory
     kept_behind f t within go stays =

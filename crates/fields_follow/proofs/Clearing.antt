@@ -9,8 +9,6 @@ use Rattle.std.specs.Prelude.{nat_le, nat_lt}
 use Rattle.cstar_base.specs.Operators.{outcome}
 use Rattle.cstar_tree.specs.declared.typed.VarInfo.{VarInfo}
 use Rattle.cstar_tree.specs.declared.typed.Variable.{Variable}
-use Rattle.code_lengths.specs.Growth.{Extended}
-use Rattle.code_lengths.proofs.Drafting.{and_instr, extended}
 use Rattle.lower_base.specs.Drafts.{Draft, step as step_of, with_instr}
 use Rattle.lower_expr.specs.Joined.{operation_of}
 use Rattle.paris_code.specs.declared.instr.Instr.{Instr}
@@ -27,6 +25,7 @@ use Rattle.paris_code.specs.Spans.{IsNamedAt, StandsAt}
 use Rattle.paris_code.specs.Writes.{Write, covers, written}
 use Rattle.source_meaning.specs.State.{State}
 use Rattle.source_meaning.specs.Values.{nonzero}
+use Rattle.code_follows.proofs.Growing.{Extended, and_instr, extended}
 use Rattle.code_follows.proofs.Settings.{At, Reaches, Setting, StandsBelow, Within, and_one, at_next, begins_here, code_more, earlier, one_writes, onto, placed_instr}
 use Rattle.constant_trees.proofs.Words.{from_bool_below}
 use Rattle.fields_follow.specs.Fields.{IsElement}

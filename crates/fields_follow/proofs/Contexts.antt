@@ -1,16 +1,15 @@
 -- `where` follows where what stands under it does.
 use Rattle.std.proofs.Common.{◌≡◌, ◌∙◌, ℕ, ◌+◌, ◌<◌, ◌≤◌, true, List, [], ◌∷◌, ◌++◌, length, refl, sym, ap, arith}
+use Rattle.code_follows.proofs.Statements.{declared_on}
 use Rattle.cstar_tree.specs.declared.typed.TExpr.{TExpr}
 use Rattle.cstar_tree.specs.declared.typed.TStmt.{TStmt, Held-TStmt-If-2, None', Some'}
 use Rattle.cstar_tree.specs.declared.typed.TStmt as S
 use Rattle.cstar_tree.specs.declared.typed.Variable.{Variable}
-use Rattle.code_lengths.specs.Growth.{Extended}
 use Rattle.code_lengths.specs.Lowerable.{InField}
 use Rattle.code_lengths.specs.LowerableStatements.{IsLowerableStatement}
 use Rattle.code_lengths.specs.NamingStatements.{StatementNamesVariables, behind}
-use Rattle.code_lengths.specs.Ready.{HasCode, HasStatementCode, IsReady}
+use Rattle.code_lengths.specs.Ready.{HasCode, HasStatementCode, IsReadyButForFields, HasDeclared}
 use Rattle.code_lengths.specs.ShapedStatements.{IsShapedStatement}
-use Rattle.code_lengths.proofs.Drafting.{and_instr, as_it_was, extended}
 use Rattle.lower_base.specs.Drafts.{Draft, Made, Makes, an_entry, step as step_of, then_make, with_instr}
 use Rattle.lower_stmt.specs.Frames.{in_context}
 use Rattle.lower_stmt.specs.Statements.{closing, kept_for, narrowed, otherwise_of, statement_of, turned, with_kept}
@@ -26,6 +25,7 @@ use Rattle.source_meaning.specs.Values.{Active, Parallel, Scope, Value, nonzero}
 use Rattle.source_meaning.proofs.ConstantLaws.{Boxed}
 use Rattle.code_follows.proofs.Executing.{Exits, Left, go_on}
 use Rattle.code_follows.proofs.Following.{Extends, HasRegisters, at_once, follows_same}
+use Rattle.code_follows.proofs.Growing.{Extended, and_instr, as_it_was, extended}
 use Rattle.code_follows.proofs.Parts.{ComesOn, Part, StatementPart, in_one_more}
 use Rattle.code_follows.proofs.Settings.{Setting, Within, and_one, code_more, earlier, layout}
 use Rattle.code_follows.specs.Fragment.{ScalarsAmong}
@@ -33,7 +33,7 @@ use Rattle.fields_follow.specs.Fragment.{IsCondition}
 use Rattle.fields_follow.proofs.Forms.{HasItsCode}
 use Rattle.fields_follow.proofs.Instructions.{extents, shapes}
 use Rattle.fields_follow.proofs.Knowing.{KnowsFields, Lasts, flags_last, lasts_both}
-use Rattle.fields_follow.proofs.Entering.{TestMade, code_more_by, context_led, entered, entries_more, holds, holds_own, saved, saved_own, test_made}
+use Rattle.fields_follow.proofs.Entering.{TestMade, code_more_by, context_led, entered, entries_more, holds, holds_own, saved, saved_own, test_made, test_declares}
 use Rattle.fields_follow.proofs.Saving.{Kept, arrives, arrives_now, kept_lasts, own_below, part_closed, test_below}
 use Rattle.fields_follow.proofs.Leading.{HasTests, Led, TestsAre, keeps_tests, led_weaker, loads_tests, named_next, narrows, turns}
 use Rattle.fields_follow.proofs.Leaving.{EndsBelow}
@@ -50,7 +50,7 @@ unfolding executed then_do
 where_means scope a shape test p first second k v st is =
     ap (λ (o : Outcome Value). then_do o (λ x after. then_go (executed scope first k (where_nonzero shape x a) after) (else_executed scope second (k + declared first) (where_zero shape x a)))) is
 
-module _ (g : Setting) (has : HasRegisters g) (scope : Scope) (active : Active) (known : KnowsFields g scope active) (alive : Variable → Type 0) (n : ℕ) (ready : (d : Draft) → IsReady g.typed g.instance (layout g) n d) where
+module _ (g : Setting) (has : HasRegisters g) (scope : Scope) (active : Active) (known : KnowsFields g scope active) (alive : Variable → Type 0) (n : ℕ) (ready : (d : Draft) → IsReadyButForFields g.typed g.instance (layout g) n d) where
   -- what is known of the code of the condition
   where_test : (shape : ℕ) (test : TExpr) (p : Boxed) (first : TStmt) (second : Held-TStmt-If-2) → HasStatementCode g.typed g.instance n (S.Where' shape test p first second) → InField g.typed test × HasCode g.typed g.instance n test
   unfolding IsShapedStatement IsLowerableStatement StatementNamesVariables
@@ -60,7 +60,7 @@ module _ (g : Setting) (has : HasRegisters g) (scope : Scope) (active : Active) 
   where_alone : (shape : ℕ) (test : TExpr) (p : Boxed) (first : TStmt) → IsCondition shape test → InField g.typed test → HasItsCode g.typed g.instance alive n test → (f : Exits) (contexts : List Field) → StatementPart KnowsFields g scope alive first n f contexts
       → ComesOn g scope alive active (S.Where' shape test p first None') n f contexts
   unfolding else_executed statement_of an_entry then_make closing narrowed with_kept kept_for otherwise_of step_of Extends
-  where_alone shape test p first condition field c f contexts parts d s st none begun at sim =
+  where_alone shape test p first condition field c f contexts parts d s st declares begun at sim =
       follows_same g (Left g alive f d s) s refl
       (ap (λ (made : Made (Unit {0})). then_make made (λ u known. then_make (closing (saved shape d) (code (inner_of known))) (λ m behind. otherwise_of g.typed (layout g) None' f.frame contexts shape (saved shape d) (holds shape d) m behind))) tests.1.1.0
       ∙ ap (λ (made : Made ℕ). then_make (closing (saved shape d) made) (λ m behind. otherwise_of g.typed (layout g) None' f.frame contexts shape (saved shape d) (holds shape d) m behind)) made.1.0)
@@ -87,7 +87,7 @@ module _ (g : Setting) (has : HasRegisters g) (scope : Scope) (active : Active) 
       narrows g scope active known alive active (λ m. Kept g scope active known alive (saved shape d) m) (length inner.code) (length inner.fields) (length e.code) lasts d save s st shape v w_inner led_save in
       follows_same g (Left g alive f d s) s (where_means scope active shape test p first None' n v st (condition_means g scope known.places known.same_extents alive n active shape test st condition c below.0)) refl
       (go_on g alive (λ u h. Led g scope active known alive active (λ m. Kept g scope active known alive (saved shape d) m) d h s u) f d s (executed scope first n (among shape v active) st) (λ u. Gives Onward u) (behind n first) last (Makes (behind n first) last)
-      (part_closed g scope active known alive (among shape v active) (saved shape d) (λ m. Kept g scope active known alive (saved shape d) m) f d inner e s st longer.0 (behind n first) (λ a u. executed scope first n a u) code part made.1.0 inner_homes begun lasts (λ m kept. kept.1) (λ m kept. kept.0)
+      (part_closed g scope active known alive (among shape v active) (saved shape d) (λ m. Kept g scope active known alive (saved shape d) m) f d inner e s st longer.0 n (behind n first) (λ a u. executed scope first n a u) code part made.1.0 inner_declares begun lasts (λ m kept. kept.1) (λ m kept. kept.0)
       (λ q x differ. sym (among_beside shape v active q x differ)) longer.1 led_inner) (0, as_it_was last)
       (λ u led. arrives_now g scope active known alive (λ m. Kept g scope active known alive (saved shape d) m) f d s u (behind n first) last (λ m kept. kept.0) led))))
     where
@@ -98,7 +98,7 @@ module _ (g : Setting) (has : HasRegisters g) (scope : Scope) (active : Active) 
       o = executed scope (S.Where' shape test p first None') n active st
 
       tests : TestMade g shape d test
-      tests = test_made g shape d test alive n ready field c
+      tests = test_made g shape d test alive n declares field c
 
       after : Draft
       after = tests.1.0
@@ -115,17 +115,17 @@ module _ (g : Setting) (has : HasRegisters g) (scope : Scope) (active : Active) 
       inner_more : Extended after 2 inner
       inner_more = and_instr (I.LogandContextWithTest shape) after save 1 (and_one g (I.StoreContext (saved shape d)) after)
 
-      inner_homes : inner.homes ≡ []
-      inner_homes = inner_more.homes ∙ tests.1.1.1.1.homes ∙ none
+      inner_declares : HasDeclared g.typed g.instance (layout g) n inner
+      inner_declares = declared_on g (I.LogandContextWithTest shape) n save (declared_on g (I.StoreContext (saved shape d)) n after (test_declares g shape d test alive n declares field c tests))
 
       code : Draft → Made ℕ
       code begin = statement_of g.typed (layout g) first (in_context f.frame) (contexts ++ saved shape d ∷ []) n begin
 
-      part : Part KnowsFields g scope alive (saved shape d) (in_one_more f) (behind n first) (λ a u. executed scope first n a u) code
+      part : Part KnowsFields g scope alive (saved shape d) (in_one_more f) n (behind n first) (λ a u. executed scope first n a u) code
       part = parts (saved shape d)
 
-      made : (e : Draft) × ((code inner ≡ Makes (behind n first) e) × ((k : ℕ) × Extended inner k e) × (e.homes ≡ []))
-      made = part.made inner inner_homes
+      made : (e : Draft) × ((code inner ≡ Makes (behind n first) e) × ((k : ℕ) × Extended inner k e) × HasDeclared g.typed g.instance (layout g) (behind n first) e)
+      made = part.made inner inner_declares
 
       e : Draft
       e = made.0
@@ -140,7 +140,7 @@ module _ (g : Setting) (has : HasRegisters g) (scope : Scope) (active : Active) 
   where_else : (shape : ℕ) (test : TExpr) (p q : Boxed) (first second : TStmt) → IsCondition shape test → InField g.typed test → HasItsCode g.typed g.instance alive n test → (f : Exits) (contexts : List Field) → StatementPart KnowsFields g scope alive first n f contexts
       → StatementPart KnowsFields g scope alive second (behind n first) f contexts → ComesOn g scope alive active (S.Where' shape test p first (Some' q second)) n f contexts
   unfolding declared else_executed statement_of an_entry then_make closing narrowed with_kept kept_for otherwise_of turned step_of Extends
-  where_else shape test p q first second condition field c f contexts parts other_parts d s st none begun at sim =
+  where_else shape test p q first second condition field c f contexts parts other_parts d s st declares begun at sim =
       follows_same g (Left g alive f d s) s refl
       (ap (λ (made : Made (Unit {0})). then_make made (λ u known. then_make (closing saved_in (code (inner_of known))) rest)) tests.1.1.0
       ∙ ap (λ (made : Made ℕ). then_make (closing saved_in made) rest) made.1.0 ∙ ap (λ (made : Made ℕ). closing saved_in made) other_made.1.0)
@@ -191,13 +191,13 @@ module _ (g : Setting) (has : HasRegisters g) (scope : Scope) (active : Active) 
       let led_inner : Led g scope active known alive (among shape v active) (λ m. KeptTests m) d inner s st = narrows g scope active known alive active (λ m. KeptTests m) (length inner.code) (length inner.fields) (length e.code) lasts d keep s st shape v w_inner led_keep in
       follows_same g (Left g alive f d s) s (where_means scope active shape test p first (Some' q second) n v st (condition_means g scope known.places known.same_extents alive n active shape test st condition c below.0)) refl
       (go_on g alive (λ u x. Led g scope active known alive active (λ m. KeptTests m) d x s u) f d s (executed scope first n (among shape v active) st) (executed scope second (behind n first) (others shape v active)) (behind n first) back (Makes m last)
-      (part_closed g scope active known alive (among shape v active) saved_in (λ m. KeptTests m) f d inner e s st longer.0 (behind n first) (λ a u. executed scope first n a u) code (parts saved_in) made.1.0 inner_homes begun lasts (λ m kept. kept.0.1) (λ m kept. kept.0.0) (λ y x differ. sym (among_beside shape v active y x differ)) longer.1 led_inner)
+      (part_closed g scope active known alive (among shape v active) saved_in (λ m. KeptTests m) f d inner e s st longer.0 n (behind n first) (λ a u. executed scope first n a u) code (parts saved_in) made.1.0 inner_declares begun lasts (λ m kept. kept.0.1) (λ m kept. kept.0.0) (λ y x differ. sym (among_beside shape v active y x differ)) longer.1 led_inner)
       (2 + (far.0 + 1), last_more)
       (λ u led.
       let led_loads : Led g scope active known alive active (λ m. KeptTests m × TestsAre g shape active v m) d loads s u = loads_tests g scope active known alive active (λ m. KeptTests m) (length inner.code) (length inner.fields) (length e.code) lasts d back s u v holds_in (λ m kept. kept.1) w_loads led in
       let led_turns : Led g scope active known alive (others shape v active) (λ m. KeptTests m) d turns_back s u = turns g scope active known alive active (λ m. KeptTests m) (length inner.code) (length inner.fields) (length e.code) lasts d loads s u shape v w_turns led_loads in
       arrives g scope active known alive (λ m. Kept g scope active known alive saved_in m) f d s (executed scope second (behind n first) (others shape v active) u) (Makes m last) (λ m kept. kept.0)
-      (part_closed g scope active known alive (others shape v active) saved_in (λ m. Kept g scope active known alive saved_in m) f d turns_back h s u far.0 m (λ a x. executed scope second (behind n first) a x) other_code (other_parts saved_in) other_made.1.0 back_homes begun lasts_late (λ m kept. kept.1) (λ m kept. kept.0) (λ y x differ. sym (others_beside shape v active y x differ)) far.1
+      (part_closed g scope active known alive (others shape v active) saved_in (λ m. Kept g scope active known alive saved_in m) f d turns_back h s u far.0 (behind n first) m (λ a x. executed scope second (behind n first) a x) other_code (other_parts saved_in) other_made.1.0 back_declares begun lasts_late (λ m kept. kept.1) (λ m kept. kept.0) (λ y x differ. sym (others_beside shape v active y x differ)) far.1
       (led_weaker g scope active known alive (others shape v active) (λ m. KeptTests m) (λ m. Kept g scope active known alive saved_in m) d turns_back s u (λ m kept. kept.0) led_turns))))))
     where
       v : ℕ → ℕ
@@ -216,7 +216,7 @@ module _ (g : Setting) (has : HasRegisters g) (scope : Scope) (active : Active) 
       KeptTests memory = Kept g scope active known alive saved_in memory × HasTests g active v holds_in memory
 
       tests : TestMade g shape d test
-      tests = test_made g shape d test alive n ready field c
+      tests = test_made g shape d test alive n declares field c
 
       after : Draft
       after = tests.1.0
@@ -236,14 +236,14 @@ module _ (g : Setting) (has : HasRegisters g) (scope : Scope) (active : Active) 
       inner_more : Extended after 3 inner
       inner_more = and_instr (I.LogandContextWithTest shape) after keep 2 (and_instr (I.StoreTest holds_in) after save 1 (and_one g (I.StoreContext saved_in) after))
 
-      inner_homes : inner.homes ≡ []
-      inner_homes = inner_more.homes ∙ tests.1.1.1.1.homes ∙ none
+      inner_declares : HasDeclared g.typed g.instance (layout g) n inner
+      inner_declares = declared_on g (I.LogandContextWithTest shape) n keep (declared_on g (I.StoreTest holds_in) n save (declared_on g (I.StoreContext saved_in) n after (test_declares g shape d test alive n declares field c tests)))
 
       code : Draft → Made ℕ
       code begin = statement_of g.typed (layout g) first (in_context f.frame) (contexts ++ saved_in ∷ []) n begin
 
-      made : (e : Draft) × ((code inner ≡ Makes (behind n first) e) × ((k : ℕ) × Extended inner k e) × (e.homes ≡ []))
-      made = (parts saved_in).made inner inner_homes
+      made : (e : Draft) × ((code inner ≡ Makes (behind n first) e) × ((k : ℕ) × Extended inner k e) × HasDeclared g.typed g.instance (layout g) (behind n first) e)
+      made = (parts saved_in).made inner inner_declares
 
       e : Draft
       e = made.0
@@ -266,8 +266,8 @@ module _ (g : Setting) (has : HasRegisters g) (scope : Scope) (active : Active) 
       back_more : Extended inner (longer.0 + 3) turns_back
       back_more = extended inner e turns_back longer.0 3 longer.1 (extended e back turns_back 1 2 (and_one g (I.LoadContext saved_in) e) from_back)
 
-      back_homes : turns_back.homes ≡ []
-      back_homes = back_more.homes ∙ inner_homes
+      back_declares : HasDeclared g.typed g.instance (layout g) (behind n first) turns_back
+      back_declares = declared_on g (I.LogandcContextWithTest shape) (behind n first) loads (declared_on g (I.LoadTest holds_in) (behind n first) back (declared_on g (I.LoadContext saved_in) (behind n first) e made.1.2))
 
       other_code : Draft → Made ℕ
       other_code begin = statement_of g.typed (layout g) second (in_context f.frame) (contexts ++ saved_in ∷ []) (behind n first) begin
@@ -275,8 +275,8 @@ module _ (g : Setting) (has : HasRegisters g) (scope : Scope) (active : Active) 
       rest : ℕ → Draft → Made ℕ
       rest k begin = otherwise_of g.typed (layout g) (Some' q second) f.frame contexts shape saved_in holds_in k begin
 
-      other_made : (h : Draft) × ((other_code turns_back ≡ Makes m h) × ((k : ℕ) × Extended turns_back k h) × (h.homes ≡ []))
-      other_made = (other_parts saved_in).made turns_back back_homes
+      other_made : (h : Draft) × ((other_code turns_back ≡ Makes m h) × ((k : ℕ) × Extended turns_back k h) × HasDeclared g.typed g.instance (layout g) m h)
+      other_made = (other_parts saved_in).made turns_back back_declares
 
       h : Draft
       h = other_made.0

@@ -20,9 +20,7 @@ use Rattle.cstar_tree.specs.declared.typed.UnaryOp.TheVariants as U
 use Rattle.cstar_tree.specs.declared.typed.ValueType.{ValueType}
 use Rattle.cstar_tree.specs.declared.typed.VarInfo.{VarInfo}
 use Rattle.cstar_tree.specs.declared.typed.Variable.{Variable}
-use Rattle.code_lengths.specs.Growth.{Extended}
-use Rattle.code_lengths.specs.Ready.{IsReady}
-use Rattle.code_lengths.proofs.Drafting.{extended}
+use Rattle.code_lengths.specs.Ready.{IsReadyButForFields}
 use Rattle.lower_base.specs.declared.emit.Out.{Out}
 use Rattle.lower_base.specs.declared.emit.Out.TheVariants as O
 use Rattle.lower_base.specs.Drafts.{Draft, Fails, Made, Makes, a_field, a_flag, an_entry, first_bits, in_field, step as step_of, then_make, with_instr}
@@ -51,6 +49,7 @@ use Rattle.source_meaning.specs.State.{Gives, Outcome, State, then_do}
 use Rattle.source_meaning.specs.Values.{Parallel, Scope, Value, at, convert_to, each, nonzero, unary_of}
 use Rattle.source_meaning.proofs.ConstantLaws.{Boxed}
 use Rattle.code_follows.proofs.Following.{Extends, HasRegisters, Sim}
+use Rattle.code_follows.proofs.Growing.{Extended, extended}
 use Rattle.code_follows.proofs.Numbers.{zero_converted}
 use Rattle.code_follows.proofs.Settings.{At, Setting, Within, and_one, layout}
 use Rattle.constant_trees.proofs.Words.{from_bool_below}
@@ -373,7 +372,7 @@ module _ (g : Setting) where
       bit_of true = refl
       bit_of false = refl
 
-  module _ (has : HasRegisters g) (alive : Variable → Type 0) (n : ℕ) (ready : (d : Draft) → IsReady g.typed g.instance (layout g) n d) (places : PlacesFields g) (fields : HoldsTheFields g) where
+  module _ (has : HasRegisters g) (alive : Variable → Type 0) (n : ℕ) (ready : (d : Draft) → IsReadyButForFields g.typed g.instance (layout g) n d) (places : PlacesFields g) (fields : HoldsTheFields g) where
     -- What is said where a truth value goes to a variable of the file, behind code of conditions, is said of its code.
     module _ (set k offset bits : ℕ) (info : VarInfo) (is_element : IsElement g.typed k info set 0) (some : 0 < bits) (word : info.elem.bits ≡ bits) (d : Draft) (s : CodeState) (st : State) (here : At g s (length d.code)) (sim : Sim g alive st s)
         (entry : (f : Draft) (m : ℕ) → Extended d m f → Within g f → IsFileField g k 0 (field_at set offset bits)) (Q : Out → Draft → Type 0) where

@@ -14,9 +14,8 @@ use Rattle.cstar_tree.specs.declared.typed.Variable.{Variable}
 use Rattle.cstar_tree.specs.declared.typed.Variable.TheVariants as V
 use Rattle.cstar_tree.specs.StatementTypes.{variable_info}
 use Rattle.cstar_tree.specs.Typed.{type_of}
-use Rattle.code_lengths.specs.Growth.{Extended}
 use Rattle.code_lengths.specs.Naming.{HasVariable, NamesVariables, plain}
-use Rattle.code_lengths.specs.Ready.{IsReady}
+use Rattle.code_lengths.specs.Ready.{IsReadyButForFields}
 use Rattle.lower_base.specs.declared.emit.Out.{Out}
 use Rattle.lower_base.specs.declared.emit.Out.TheVariants as O
 use Rattle.lower_base.specs.Drafts.{Draft, Fails, Made, Makes, a_field, an_entry, in_field, step as step_of, then_make, with_instr}
@@ -40,6 +39,7 @@ use Rattle.source_meaning.specs.State.{State}
 use Rattle.source_meaning.proofs.ConstantLaws.{Boxed}
 use Rattle.vp_sets.specs.Positions.{coordinate}
 use Rattle.code_follows.proofs.Following.{Extends, HasRegisters, Sim, extends_then, held}
+use Rattle.code_follows.proofs.Growing.{Extended}
 use Rattle.code_follows.proofs.Words.{held_wide}
 use Rattle.code_follows.proofs.Settings.{At, Setting, Within, and_one, layout}
 use Rattle.fields_follow.specs.Fragment.{AreWrapping, IsOperand, IsOperation, IsPromoted, IsPure, IsWide}
@@ -64,7 +64,7 @@ use Rattle.std.proofs.lemmas.Bool.{eqb-true}
 use Rattle.std.proofs.lemmas.Bool.Decides.{nat_tests}
 use Rattle.std.specs.Prelude.{nat_le}
 
-module _ (g : Setting) (has : HasRegisters g) (alive : Variable → Type 0) (n : ℕ) (ready : (d : Draft) → IsReady g.typed g.instance (layout g) n d) (places : PlacesFields g) (fields : HoldsTheFields g) where
+module _ (g : Setting) (has : HasRegisters g) (alive : Variable → Type 0) (n : ℕ) (ready : (d : Draft) → IsReadyButForFields g.typed g.instance (layout g) n d) (places : PlacesFields g) (fields : HoldsTheFields g) where
   abbrev operand : ℕ → Bool → TExpr → Draft → Made Out
   operand bits quiet e d = operand_of g has alive n ready places fields bits quiet e d
 

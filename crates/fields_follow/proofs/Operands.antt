@@ -7,8 +7,7 @@ use Rattle.cstar_base.specs.declared.operators.Place.{Place}
 use Rattle.cstar_base.specs.Operators.{divides, outcome}
 use Rattle.cstar_tree.specs.declared.typed.TExpr.{TExpr}
 use Rattle.cstar_tree.specs.declared.typed.Variable.{Variable}
-use Rattle.code_lengths.specs.Ready.{IsReady}
-use Rattle.code_lengths.proofs.Drafting.{as_it_was, extended}
+use Rattle.code_lengths.specs.Ready.{IsReadyButForFields}
 use Rattle.lower_base.specs.declared.emit.Out.{Out}
 use Rattle.lower_base.specs.declared.emit.Out.TheVariants as O
 use Rattle.lower_base.specs.declared.operators.Machine.{Machine}
@@ -34,6 +33,7 @@ use Rattle.paris_code.specs.Spans.{StandsAt}
 use Rattle.source_meaning.specs.Constants.{then_value}
 use Rattle.source_meaning.specs.State.{State}
 use Rattle.code_follows.proofs.Following.{Extends, HasRegisters, Sim, extends_made, extends_then, held}
+use Rattle.code_follows.proofs.Growing.{as_it_was, extended}
 use Rattle.code_follows.proofs.Settings.{At, Setting, Within, and_one, layout}
 use Rattle.fields_follow.specs.Fragment.{IsDivisor, IsOperation, IsPromoted, IsPure}
 use Rattle.fields_follow.proofs.Forms.{HasItsCode, HasItsWord, StandsInRegister, divisor_word, no_pure_divisor, promoted_not_held, promoted_stands, pure_word, word_never_zero}
@@ -116,7 +116,7 @@ module _ (g : Setting) where
       by (R.Word (K.Imm word)) = subst (λ (m : Machine). Extends g e (on_word m op place dest left (K.Imm word) spare e)) (sym (operation_is op signed operates)) (1, and_one g (I.OperateConstant act dest left (K.Imm word)) e)
       by (R.Word (K.Reg r)) = subst (λ (m : Machine). Extends g e (on_word m op place dest left (K.Reg r) spare e)) (sym (operation_is op signed operates)) (spread (divides op) r)
 
-  module _ (has : HasRegisters g) (alive : Variable → Type 0) (n : ℕ) (ready : (d : Draft) → IsReady g.typed g.instance (layout g) n d) (places : PlacesFields g) (fields : HoldsTheFields g) where
+  module _ (has : HasRegisters g) (alive : Variable → Type 0) (n : ℕ) (ready : (d : Draft) → IsReadyButForFields g.typed g.instance (layout g) n d) (places : PlacesFields g) (fields : HoldsTheFields g) where
     abbrev operand : ℕ → Bool → TExpr → Code
     operand bits quiet e = operand_of g has alive n ready places fields bits quiet e
 

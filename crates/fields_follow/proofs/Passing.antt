@@ -3,8 +3,6 @@ use Rattle.std.proofs.Common.{◌≡◌, ◌∙◌, ℕ, ◌+◌, ◌<◌, ◌�
 use Rattle.cstar_tree.specs.declared.typed.VarInfo.{VarInfo}
 use Rattle.cstar_tree.specs.declared.typed.Variable.{Variable}
 use Rattle.cstar_tree.specs.declared.typed.Variable.TheVariants as V
-use Rattle.code_lengths.specs.Growth.{Extended}
-use Rattle.code_lengths.proofs.Drafting.{as_it_was, extended}
 use Rattle.lower_base.specs.Drafts.{Draft, Fails, Made, Makes, then_make, with_instr}
 use Rattle.paris_code.specs.declared.instr.Instr.{Instr}
 use Rattle.paris_code.specs.declared.operands.Field.{Field}
@@ -15,6 +13,7 @@ use Rattle.paris_code.specs.Spans.{IsNamedAt, StandsAt, entry_of, fields_of}
 use Rattle.source_meaning.specs.State.{State}
 use Rattle.phase_meaning.proofs.Widths.{cut_cut}
 use Rattle.code_follows.proofs.Following.{Extends, Sim, held}
+use Rattle.code_follows.proofs.Growing.{Extended, as_it_was, extended}
 use Rattle.code_follows.proofs.Settings.{At, Reaches, Setting, Within, and_one, code_more, earlier, onto, stay}
 use Rattle.fields_follow.specs.Fields.{IsElement}
 use Rattle.fields_follow.proofs.Bits.{first_number}

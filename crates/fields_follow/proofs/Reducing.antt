@@ -15,8 +15,6 @@ use Rattle.cstar_tree.specs.declared.typed.ValueType.{ValueType}
 use Rattle.cstar_tree.specs.declared.typed.Variable.{Variable}
 use Rattle.cstar_tree.specs.Typed.{type_of}
 use Rattle.constant_trees.proofs.Words.{unary_below}
-use Rattle.code_lengths.specs.Growth.{Extended}
-use Rattle.code_lengths.proofs.Drafting.{and_instr, as_it_was, extended}
 use Rattle.lower_base.specs.declared.emit.Out.{Out}
 use Rattle.lower_base.specs.declared.emit.Out.TheVariants as O
 use Rattle.lower_base.specs.Drafts.{Draft, Fails, Made, Makes, Plain, from, in_field, in_register, step as step_of, then_make, with_instr}
@@ -41,6 +39,7 @@ use Rattle.source_meaning.specs.State.{State}
 use Rattle.source_meaning.specs.Values.{Scalar, Value, unary_of}
 use Rattle.source_meaning.proofs.ConstantLaws.{Boxed}
 use Rattle.code_follows.proofs.Following.{Extends, HasRegisters, Sim}
+use Rattle.code_follows.proofs.Growing.{Extended, and_instr, as_it_was, extended}
 use Rattle.code_follows.proofs.Operators.{minus_same, wide_signed}
 use Rattle.code_follows.proofs.Settings.{At, Reaches, Setting, Within, and_one, at_next, begins_here, earlier, layout, one, onto, placed_instr, start}
 use Rattle.code_follows.proofs.Values.{Dest}

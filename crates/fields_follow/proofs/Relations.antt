@@ -12,8 +12,7 @@ use Rattle.cstar_tree.specs.declared.typed.TExpr as T
 use Rattle.cstar_tree.specs.declared.typed.ValueType.{ValueType}
 use Rattle.cstar_tree.specs.declared.typed.Variable.{Variable}
 use Rattle.cstar_tree.specs.Typed.{type_of}
-use Rattle.code_lengths.specs.Ready.{IsReady}
-use Rattle.code_lengths.proofs.Drafting.{and_instr, extended}
+use Rattle.code_lengths.specs.Ready.{IsReadyButForFields}
 use Rattle.cstar_base.proofs.NumberLaws.{kind_bits}
 use Rattle.lower_base.specs.declared.emit.Out.{Out}
 use Rattle.lower_base.specs.declared.operators.Machine.{Machine}
@@ -40,6 +39,7 @@ use Rattle.source_meaning.specs.State.{State}
 use Rattle.source_meaning.specs.Values.{nonzero}
 use Rattle.source_meaning.proofs.ConstantLaws.{Boxed}
 use Rattle.code_follows.proofs.Following.{Extends, HasRegisters, Sim, extends_then}
+use Rattle.code_follows.proofs.Growing.{and_instr, extended}
 use Rattle.code_follows.proofs.Operators.{wide_signed}
 use Rattle.code_follows.proofs.Settings.{At, Setting, Within, and_one, code_more, earlier, layout, one}
 use Rattle.fields_follow.specs.Fragment.{HaveTheirKinds, IsRelation}
@@ -73,7 +73,7 @@ unfolding bits_of
 relation_most None = omega arith
 relation_most (Some kind) = (kind_bits kind.bits kind.signed kind.kind).1
 
-module _ (g : Setting) (has : HasRegisters g) (alive : Variable → Type 0) (n : ℕ) (ready : (d : Draft) → IsReady g.typed g.instance (layout g) n d) (places : PlacesFields g) (fields : HoldsTheFields g) where
+module _ (g : Setting) (has : HasRegisters g) (alive : Variable → Type 0) (n : ℕ) (ready : (d : Draft) → IsReadyButForFields g.typed g.instance (layout g) n d) (places : PlacesFields g) (fields : HoldsTheFields g) where
   abbrev operand : ℕ → Bool → TExpr → Draft → Made Out
   operand bits quiet e d = operand_of g has alive n ready places fields bits quiet e d
 

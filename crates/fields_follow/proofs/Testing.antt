@@ -19,8 +19,8 @@ use Rattle.cstar_tree.specs.StatementTypes.{variable_info}
 use Rattle.cstar_tree.specs.Typed.{type_of}
 use Rattle.code_lengths.specs.Lowerable.{InField}
 use Rattle.code_lengths.specs.Naming.{HasVariable, NamesVariables, plain}
-use Rattle.code_lengths.specs.Ready.{IsReady}
-use Rattle.code_lengths.proofs.Agreeing.{expressions}
+use Rattle.code_lengths.specs.Ready.{IsReadyButForFields}
+use Rattle.code_lengths.proofs.Agreeing.{lengths_if_made}
 use Rattle.lower_base.specs.declared.emit.Out.{Out}
 use Rattle.lower_base.specs.declared.emit.Out.TheVariants as O
 use Rattle.lower_base.specs.Drafts.{Draft, Made, Makes, an_entry, in_field, step as step_of, then_make, with_instr}
@@ -106,7 +106,7 @@ condition_means g scope places same alive n active set e st (inl inner) c exists
 condition_means g scope places same alive n active set e st (inr kinded) c exists =
     pure_means scope active g.typed g.instance n set e st kinded.0 (are_grids g scope places same set) c.code.names ∙ ap (λ (xs : List ℕ). Source.Gives (Parallel (λ q. value_in xs st e q)) st) (same set exists)
 
-module _ (g : Setting) (has : HasRegisters g) (alive : Variable → Type 0) (n : ℕ) (ready : (d : Draft) → IsReady g.typed g.instance (layout g) n d) (places : PlacesFields g) (fields : HoldsTheFields g) where
+module _ (g : Setting) (has : HasRegisters g) (alive : Variable → Type 0) (n : ℕ) (ready : (d : Draft) → IsReadyButForFields g.typed g.instance (layout g) n d) (places : PlacesFields g) (fields : HoldsTheFields g) where
   abbrev operand : ℕ → Bool → TExpr → Draft → Made Out
   operand bits quiet e d = operand_of g has alive n ready places fields bits quiet e d
 
@@ -323,8 +323,8 @@ module _ (g : Setting) (has : HasRegisters g) (alive : Variable → Type 0) (n :
   flag_grows : (set : ℕ) (e : TExpr) → HasItsCode g.typed g.instance alive n e → InField g.typed e → (d : Draft) → Extends g d (flag_of set (condition_of g.typed (layout g) e) d)
   unfolding flag_of condition_by
   flag_grows set e c field d =
-      flag_extends g (is_flag e) set (operand_at g (bits_of (kind_of e)) e) (tested g.typed (layout g) e) d (extends_grown g has alive _ d _ _ ((expressions g.typed g.instance (layout g)).operand (bits_of (kind_of e)) n true e d c.code (ready d)))
-      (extends_grown g has alive _ d _ _ ((expressions g.typed g.instance (layout g)).test n e d c.code field (ready d)))
+      flag_extends g (is_flag e) set (operand_at g (bits_of (kind_of e)) e) (tested g.typed (layout g) e) d (extends_grown g has alive _ d _ _ ((lengths_if_made g.typed g.instance (layout g)).operand (bits_of (kind_of e)) n true e d c.code (ready d)))
+      (extends_grown g has alive _ d _ _ ((lengths_if_made g.typed g.instance (layout g)).test n e d c.code field (ready d)))
 
   -- what comes behind two of them
   flags_after : (set : ℕ) (left right : TExpr) → IsInnerCondition set left → IsInnerCondition set right → HaveTheirCode g.typed g.instance alive n left right → IsKnown set left → IsKnown set right → (d : Draft) (s : CodeState) (st : State) → At g s (length d.code) → Sim g alive st s

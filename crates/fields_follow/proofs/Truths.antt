@@ -5,7 +5,6 @@ use Rattle.std.proofs.lemmas.Bool.Decides.{nat_tests}
 use Rattle.std.proofs.lemmas.Nat.{mod_below}
 use Rattle.cstar_base.specs.Operators.{outcome}
 use Rattle.cstar_tree.specs.declared.typed.Variable.{Variable}
-use Rattle.code_lengths.proofs.Drafting.{extended}
 use Rattle.lower_base.specs.Drafts.{Draft, Plain, step as step_of, with_instr}
 use Rattle.lower_expr.specs.Joined.{operation_of}
 use Rattle.paris_code.specs.declared.instr.Instr.{Instr}
@@ -22,6 +21,7 @@ use Rattle.source_meaning.specs.State.{State}
 use Rattle.source_meaning.specs.Values.{nonzero}
 use Rattle.code_follows.proofs.Besides.{sim_saying}
 use Rattle.code_follows.proofs.Following.{Sim}
+use Rattle.code_follows.proofs.Growing.{extended}
 use Rattle.code_follows.proofs.Settings.{Setting, Within, and_one, code_more, onto, placed_instr}
 use Rattle.fields_follow.proofs.Flags.{Stored, bit_fits, stored, written_to}
 use Rattle.fields_follow.proofs.Instructions.{number_in, place, shapes, wrote}

@@ -8,10 +8,9 @@ use Rattle.cstar_tree.specs.declared.typed.Variable.{Variable}
 use Rattle.cstar_tree.specs.declared.typed.Variable.TheVariants as V
 use Rattle.cstar_tree.specs.StatementTypes.{variable_info}
 use Rattle.cstar_tree.specs.Typed.{type_of}
-use Rattle.code_lengths.specs.Growth.{Extended}
 use Rattle.code_lengths.specs.Naming.{HasVariable, NamesVariables, plain}
-use Rattle.code_lengths.specs.Ready.{IsReady}
-use Rattle.code_lengths.proofs.Drafting.{and_instr, append_nothing, as_it_was}
+use Rattle.code_lengths.specs.Ready.{IsReadyButForFields}
+use Rattle.code_lengths.proofs.Drafting.{append_nothing}
 use Rattle.lower_base.specs.declared.emit.Out.{Out}
 use Rattle.lower_base.specs.declared.emit.Out.TheVariants as O
 use Rattle.lower_base.specs.Drafts.{Draft, Fails, Made, Makes, an_entry, first_bits, fresh_for, in_field, shortened, then_make, with_instr}
@@ -30,6 +29,7 @@ use Rattle.paris_code.specs.Memory.{processors}
 use Rattle.paris_code.specs.Proper.{IsEntry}
 use Rattle.source_meaning.specs.State.{State}
 use Rattle.code_follows.proofs.Following.{HasRegisters, Sim, held}
+use Rattle.code_follows.proofs.Growing.{Extended, and_instr, as_it_was}
 use Rattle.code_follows.proofs.Settings.{At, Setting, Within, and_one, layout}
 use Rattle.fields_follow.specs.Fragment.{IsPure}
 use Rattle.fields_follow.specs.Fields.{IsElement, file_number}
@@ -49,7 +49,7 @@ abbrev pub next_field : ℕ → ℕ → Draft → Field
 next_field set len d = record { set = set; offset = length d.fields; len = len }
 
 pub and_entry : (set len : ℕ) (owner : Owner) (d : Draft) → Extended d 0 (with_entry set len owner d)
-and_entry set len owner d = record { name = refl; more = []; code = append_nothing d.code; long = refl; entries = record { set = set; len = len; owner = owner } ∷ []; fields = refl; regs = omega arith; homes = refl }
+and_entry set len owner d = record { more = []; code = append_nothing d.code; long = refl; entries = record { set = set; len = len; owner = owner } ∷ []; fields = refl; regs = omega arith }
 
 pub one_more : (set len : ℕ) (owner : Owner) (d : Draft) → length (with_entry set len owner d).fields ≡ length d.fields + 1
 one_more set len owner d = length-append d.fields (record { set = set; len = len; owner = owner } ∷ [])
@@ -59,7 +59,7 @@ module _ (g : Setting) where
   pub taken : (set len : ℕ) (owner : Owner) (d e : Draft) (n : ℕ) → Within g e → Extended (with_entry set len owner d) n e → IsEntry g.unit (length d.fields) (record { set = set; len = len; owner = owner })
   taken set len owner d e n w x = entry_is g d.fields x.entries (record { set = set; len = len; owner = owner }) e w x.fields
 
-  module _ (has : HasRegisters g) (alive : Variable → Type 0) (n : ℕ) (ready : (d : Draft) → IsReady g.typed g.instance (layout g) n d) (places : PlacesFields g) (fields : HoldsTheFields g) where
+  module _ (has : HasRegisters g) (alive : Variable → Type 0) (n : ℕ) (ready : (d : Draft) → IsReadyButForFields g.typed g.instance (layout g) n d) (places : PlacesFields g) (fields : HoldsTheFields g) where
     -- the code of so many bits of a value, and of an operand
     abbrev pub code_of : ℕ → TExpr → Code
     code_of bits e = value_of g.typed (layout g) bits e
