@@ -1,5 +1,5 @@
 -- Blocks and statements in a row, and what jumps out of a loop.
-use Rattle.std.proofs.Common.{◌≡◌, ◌∙◌, ℕ, ◌+◌, ◌≤◌, false, List, [], ◌++◌, map, Vec, Global, length, sym, subst, arith, refl, Option, None, Some}
+use Rattle.std.proofs.Common.{◌≡◌, ℕ, ◌+◌, ◌≤◌, false, List, ◌++◌, map, Vec, Global, length, sym, subst, arith, refl, Option, None, Some}
 use mathlib.Core.Former.{Count}
 use Rattle.std.proofs.lemmas.List.{length-map}
 use Rattle.std.specs.List.{All}

@@ -1,5 +1,5 @@
 -- `if`, with `else` and without.
-use Rattle.std.proofs.Common.{◌≡◌, ◌∙◌, ℕ, ◌+◌, Bool, true, false, List, [], length, sym, ap, subst, arith}
+use Rattle.std.proofs.Common.{◌≡◌, ◌∙◌, ℕ, ◌+◌, Bool, true, false, List, length, sym, ap, subst, arith}
 use Rattle.cstar_tree.specs.declared.typed.TExpr.{TExpr}
 use Rattle.cstar_tree.specs.declared.typed.TStmt.{TStmt, Held-TStmt-If-2, None', Some'}
 use Rattle.cstar_tree.specs.declared.typed.TStmt as S
@@ -7,7 +7,7 @@ use Rattle.cstar_tree.specs.declared.typed.Variable.TheVariants as V
 use Rattle.cstar_tree.specs.declared.typed.Variable.{Variable}
 use Rattle.code_lengths.specs.NamingStatements.{behind}
 use Rattle.code_lengths.specs.Ready.{HasDeclared, HasStatementCode, IsReadyButForFields, NumbersVariables}
-use Rattle.lower_base.specs.Drafts.{Draft, Made, Makes, here, then_make, with_instr, with_step}
+use Rattle.lower_base.specs.Drafts.{Draft, Made, Makes, here, then_make, with_instr}
 use Rattle.lower_stmt.specs.Frames.{has_result}
 use Rattle.lower_stmt.specs.Lengths.{statement_length_of}
 use Rattle.lower_stmt.specs.Statements.{else_of, past, statement_of}

@@ -1,5 +1,5 @@
 -- `for`, `while` and `do`.
-use Rattle.std.proofs.Common.{◌≡◌, ◌∙◌, ℕ, ◌+◌, ◌≤◌, true, List, [], length, Option, Some, None, refl, sym, ap, subst, arith}
+use Rattle.std.proofs.Common.{◌≡◌, ◌∙◌, ℕ, ◌+◌, ◌≤◌, true, List, length, Option, Some, None, refl, sym, ap, subst, arith}
 use Rattle.std.specs.Prelude.{IfSome}
 use Rattle.cstar_tree.specs.declared.typed.TExpr.{TExpr}
 use Rattle.cstar_tree.specs.declared.typed.TStmt.{TStmt}
@@ -21,7 +21,7 @@ use Rattle.code_lengths.proofs.Homes.{still_declared}
 use Rattle.code_lengths.proofs.Readiness.{ready_before}
 use Rattle.code_lengths.proofs.Declaring.{of_for, of_while}
 use Rattle.lower_base.specs.declared.emit.Out.{Out}
-use Rattle.lower_base.specs.Drafts.{Draft, Fails, Made, Makes, here, then_make, with_instr, with_step}
+use Rattle.lower_base.specs.Drafts.{Draft, Fails, Made, Makes, here, then_make, with_instr}
 use Rattle.lower_expr.specs.Effects.{effect_length_of, effect_of}
 use Rattle.lower_expr.specs.Lengths.{used_length_of}
 use Rattle.lower_stmt.specs.declared.statement.Frame.{Frame}

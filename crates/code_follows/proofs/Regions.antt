@@ -4,7 +4,7 @@ use Rattle.std.proofs.lemmas.Option.{slice_get_within, slice_get_past}
 use Rattle.std.proofs.lemmas.List.{append-nil}
 use Rattle.std.specs.Cmp.Lexicographic.{pointwise, same_text}
 use Rattle.std.specs.List.{All}
-use Rattle.std.specs.Prelude.{fold, is_none, take}
+use Rattle.std.specs.Prelude.{fold, is_none}
 use Rattle.cstar_tree.specs.declared.typed.Instance.{Instance}
 use Rattle.cstar_tree.specs.declared.typed.Typed.{Typed}
 use Rattle.cstar_tree.specs.declared.typed.VarInfo.{VarInfo}
@@ -19,7 +19,6 @@ use Rattle.lower_base.specs.Drafts.{Draft, Made, an_entry, from}
 use Rattle.paris_code.specs.declared.operands.Field.{Field}
 use Rattle.lower_base.specs.Layouts.{Numbering, Registers, behind, earlier_base, elements_of, entered, entries_of, field_of, first_fields, first_named, layout_of, nothing_numbered, numbered, param_entries, register_of, registers_of, result_register, with_instance, with_local}
 use Rattle.code_follows.specs.Fragment.{IsScalarVariable}
-use Rattle.code_follows.proofs.Lists.{all_first, all_rest}
 use Rattle.code_follows.proofs.Standing.{some_same}
 
 -- an instance whose parameters, result and block variables are scalars
