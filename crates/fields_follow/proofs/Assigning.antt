@@ -336,7 +336,7 @@ module _ (g : Setting) (has : HasRegisters g) (alive : Variable → Type 0) (n :
               leaves_value set h.k h.info h.is d s st (λ x. outcome (stepping op) 32 (not signed) (held elem (old x)) 1) w
               (λ x below small. ap (λ (e : Elem). updated (step_op op) e (promoted e) (old x) 1) is_elem ∙ updated_is (step_op op) (stepping op) elem (promoted elem) (old x) 1 (step_assigns op) (ap (λ (e : Elem). e.bits == 1) (sym is_elem) ∙ no_truth) (promoted_wide elem) small)
               d1 i within (passes_all g alive (length d1.fields) d1 s st (Unit {0}) here sim)
-              (puts_operate_constant g elem.bits set (stepping op) signed f f (K.Imm 1) s (λ q. held elem (old q)) (λ divided. refl) (modular_keeps (stepping op) signed elem.bits 1 (step_modular op) (kind_bits elem.bits elem.signed elem.kind).1) refl numbers.0 (omega arith))))),
+              (puts_operate_constant g elem.bits set (stepping op) signed f f (K.Imm 1) s (λ q. held elem (old q)) (step_known op) (modular_keeps (stepping op) signed elem.bits 1 (step_modular op) (kind_bits elem.bits elem.signed elem.kind).1) refl numbers.0 (omega arith))))),
         ),
       ),
     )

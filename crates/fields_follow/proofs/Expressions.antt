@@ -46,7 +46,7 @@ use Rattle.code_follows.proofs.Values.{extends_grown}
 use Rattle.code_follows.proofs.Words.{below_word, held_wide}
 use Rattle.fields_follow.specs.Fragment.{AreWrapping, IsOperation, IsPromoted, IsPure, IsWide}
 use Rattle.fields_follow.proofs.Extents.{get_names}
-use Rattle.fields_follow.proofs.Forms.{HasItsCode, HasItsWord, StandsInRegister, promoted_stands, pure_kept, pure_word, word_never_zero}
+use Rattle.fields_follow.proofs.Forms.{HasItsCode, HasItsWord, StandsInRegister, promoted_stands, pure_kept, pure_word}
 use Rattle.fields_follow.proofs.Hops.{puts_same}
 use Rattle.fields_follow.proofs.Instructions.{AreAlike, HasNumbers, Puts, alike_same, extents, has_alike, puts_coordinate, puts_extended, puts_lognot, puts_negate, shapes, whole_keeps}
 use Rattle.fields_follow.proofs.Lengths.{Keeps, converted_first, held_has, operation_keeps, operation_most}
@@ -277,7 +277,7 @@ module _ (g : Setting) (has : HasRegisters g) (alive : Variable → Type 0) (n :
   pub operands_keep : (bits set : ℕ) (op : Op) (signed : Bool) (right : TExpr) (st : State) → bits ≤ 32 → IsOperation op right → IsPure set right ⊎ IsPromoted set right → HasItsCode g.typed g.instance alive n right → (q : ℕ) → Keeps op signed (operation_bits bits op right) (word_at (extents g set) st right q)
   operands_keep bits set op signed right st most is operand c q =
       operation_keeps bits op signed right (word_at (extents g set) st right q) most (λ word is_word. constant_at set right st operand c q word is_word)
-      (whole_keeps op signed (word_at (extents g set) st right q) is.0 (λ divided. word_never_zero set op right (extents g set) st is operand divided q))
+      (whole_keeps op signed (word_at (extents g set) st right q) is.0)
 
   pub binary_at : (set : ℕ) (ty : ValueType) (place : Place) (op : Op) (p q : Boxed) (left right : TExpr) (st : State) (s : CodeState) → Sim g alive st s → IsPure set (T.Binary' ty place op p left q right) → HasItsCode g.typed g.instance alive n (T.Binary' ty place op p left q right) → (x : ℕ) → x < processors (shapes g) set
       → outcome op 32 (not (type_of left).elem.signed) (word_at (extents g set) st left x) (word_at (extents g set) st right x) ≡ word_at (extents g set) st (T.Binary' ty place op p left q right) x

@@ -34,6 +34,7 @@ pub mod Neighbours
 pub mod News
 pub mod Onto
 pub mod Operands
+pub mod Outcomes
 pub mod Passing
 pub mod PassingTests
 pub mod Places
@@ -46,6 +47,7 @@ pub mod Reductions
 pub mod Relations
 pub mod Saving
 pub mod Sizes
+pub mod Spreading
 pub mod TestFlags
 pub mod Testing
 pub mod Totals

@@ -43,6 +43,7 @@ use Rattle.fields_follow.proofs.Meaning.{AreOperands, DividesByNoZero, left_of, 
 use Rattle.fields_follow.proofs.Passing.{After, Behind, GivesField, Passes, after_same, after_weaker, code_longer, fields_longer, gives_less, gives_numbers, made_after, names_second, names_third, passes_all, passes_on, puts_own, still_numbers, then_after}
 use Rattle.fields_follow.proofs.Places.{HoldsTheFields, PlacesFields, stands_here}
 use Rattle.fields_follow.proofs.Quiet.{promoted_quiet, pure_quiet}
+use Rattle.fields_follow.proofs.Spreading.{GivesWord}
 use Rattle.fields_follow.proofs.Totals.{held_below}
 use Rattle.fields_follow.proofs.Values.{Gives, Valued, code_of, next_field, one_more, operand_after, operand_of, taken, with_entry}
 
@@ -201,14 +202,9 @@ module _ (g : Setting) where
             word_spread bits set d (K.Reg r) v s st here sim (subst (λ (w : ℕ). w < 2 ^ 32) (sym holds.0) holds.1) (λ q. h.value (extents g set) st q ∙ sym holds.0) within))
 
     -- the right operand stands in a field, or is a word that is the same at every position
-    pub record GivesWord (bound : ℕ) (d : Draft) (s : CodeState) (st : State) (v : ℕ → ℕ) (k : Konst) (e : Draft) : Type 0 where
-      pub passes : Passes g alive bound d e s st (Unit {0})
-      pub small : word_in g k passes.t < 2 ^ 32
-      pub same : (q : ℕ) → v q ≡ word_in g k passes.t
-
     abbrev pub GivesRight : ℕ → ℕ → Draft → CodeState → ℕ → State → (ℕ → ℕ) → Right → Draft → Type 0
     GivesRight bits bound d s set st v right e =
-        ((b : Field) × ((right ≡ R.Field b) × GivesField g alive bits bound d s set st v b e)) ⊎ ((k : Konst) × ((right ≡ R.Word k) × GivesWord bound d s st v k e))
+        ((b : Field) × ((right ≡ R.Field b) × GivesField g alive bits bound d s set st v b e)) ⊎ ((k : Konst) × ((right ≡ R.Word k) × GivesWord g alive bound d s st v k e))
 
     -- one that is not promoted stands in a field
     abbrev pub RightField : ℕ → Draft → CodeState → ℕ → State → (ℕ → ℕ) → Right → Draft → Type 0
@@ -307,7 +303,7 @@ module _ (g : Setting) where
             let early_a : Behind g a e1 = (length e2.code, (behind_a.1.0, longer)) in
             let behind_b : Behind g b e2 = (length e2.code, (names_third g i dest a b [] (length e2.code) there refl, omega arith)) in
             last i within (passes_on g alive bound (length e1.fields) d e1 e2 s st (Behind g a e1) (Behind g b e2) (Unit {0}) less left.passes gives.passes (λ u. early_a) (λ u. behind_b))
-            (puts_operate g bits set op signed dest a b gives.passes.t v w never keeps long
+            (puts_operate g bits set op signed dest a b gives.passes.t v w operates keeps long
             (still_numbers g alive places fields bits bound (length e1.fields) d s set st v a e1 e2 (Behind g b e2) left gives.passes behind_b (omega arith) behind_a)
             (gives_numbers g alive places fields bits (length e1.fields) e1 left.passes.t set st w b e2 gives))) within
         by right (inr (k, (same, gives))) within =
@@ -320,7 +316,7 @@ module _ (g : Setting) where
             let same_all : (λ (q : ℕ). outcome op 32 (not signed) (v q) (word_in g k gives.passes.t)) ≡ (λ q. outcome op 32 (not signed) (v q) (w q)) = λ j q. outcome op 32 (not signed) (v q) (sym (gives.same q) j) in
             last i within (passes_on g alive bound (length e1.fields) d e1 e2 s st (Behind g a e1) (Unit {0}) (Unit {0}) less left.passes gives.passes (λ u. early_a) (λ u. tt))
             (subst (λ (x : ℕ → ℕ). Puts g set i dest gives.passes.t x) same_all
-            (puts_operate_constant g bits set op signed dest a k gives.passes.t v (λ divided. ap (λ (x : ℕ). x == 0) (sym (gives.same 0)) ∙ never divided 0) (subst (λ (x : ℕ). Keeps op signed bits x) (gives.same 0) (keeps 0)) long
+            (puts_operate_constant g bits set op signed dest a k gives.passes.t v operates (subst (λ (x : ℕ). Keeps op signed bits x) (gives.same 0) (keeps 0)) long
             (still_numbers g alive places fields bits bound (length e1.fields) d s set st v a e1 e2 (Unit {0}) left gives.passes tt (omega arith) behind_a) gives.small))) within
 
     -- an operator on two operands, from the entry that is taken for a promoted left one
