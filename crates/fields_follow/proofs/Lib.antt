@@ -6,7 +6,9 @@ pub mod ConditionCode
 pub mod Conditions
 pub mod Contexts
 pub mod Deciding
+pub mod Dividing
 pub mod Effects
+pub mod Ending
 pub mod Entering
 pub mod Example
 pub mod Expressions

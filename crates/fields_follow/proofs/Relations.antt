@@ -36,19 +36,22 @@ use Rattle.paris_code.specs.Code.{CodeState}
 use Rattle.paris_code.specs.Memory.{processors}
 use Rattle.paris_code.specs.Operators.{comparison_of}
 use Rattle.paris_code.specs.Spans.{StandsAt}
-use Rattle.source_meaning.specs.State.{State}
-use Rattle.source_meaning.specs.Values.{nonzero}
+use Rattle.source_meaning.specs.State as Source
+use Rattle.source_meaning.specs.State.{Outcome, State}
+use Rattle.source_meaning.specs.Values.{Parallel, Value, nonzero}
 use Rattle.source_meaning.proofs.ConstantLaws.{Boxed}
-use Rattle.code_follows.proofs.Following.{Extends, HasRegisters, Sim, extends_then}
+use Rattle.code_follows.proofs.Following.{Extends, Follows, HasRegisters, Sim, extends_then}
 use Rattle.code_follows.proofs.Operators.{wide_signed}
-use Rattle.code_follows.proofs.Settings.{At, Setting, Within, and_one, earlier, layout, one}
+use Rattle.code_follows.proofs.Settings.{At, stay, Setting, Within, and_one, earlier, layout, one}
 use Rattle.fields_follow.specs.Fragment.{HaveTheirKinds, IsRelation}
 use Rattle.fields_follow.proofs.Expressions.{constant_at, operand_at, operand_grows, pure_after}
 use Rattle.fields_follow.proofs.NarrowKinds.{narrow_compares, relation_has}
 use Rattle.fields_follow.proofs.Forms.{HasItsCode}
 use Rattle.fields_follow.proofs.Instructions.{HasNumbers, shapes, extents, place}
-use Rattle.fields_follow.proofs.Meaning.{AreOperands, left_of, right_of, value_in, word_at}
-use Rattle.fields_follow.proofs.Operands.{GivesRight, RightField, left_after, pure_left, pure_right, right_after, right_extends}
+use Rattle.fields_follow.proofs.Meaning.{AreOperands, binary_means, left_of, promoted_means, right_of, value_in, word_at}
+use Rattle.fields_follow.proofs.Operands.{GivesRight, RightField, Takes, promoted_left, pure_left, pure_right, right_after, right_extends}
+use Rattle.fields_follow.proofs.Dividing.{left_ended, right_ended}
+use Rattle.fields_follow.proofs.Outcomes.{Ended, Given, Known, ended_back, known_follows, meant, then_known}
 use Rattle.fields_follow.proofs.Passing.{After, Behind, GivesField, after_same, code_longer, fields_longer, gives_numbers, made_after, names_second, passes_from, passes_on, still_numbers, then_after}
 use Rattle.fields_follow.proofs.Places.{HoldsTheFields, PlacesFields, names_first, stands_here}
 use Rattle.fields_follow.proofs.Quiet.{pure_quiet}
@@ -142,7 +145,7 @@ module _ (g : Setting) (has : HasRegisters g) (alive : Variable → Type 0) (n :
 
       both : HasBoth g alive bits set (length d.fields) a spare d1 e3 s st v w
       both =
-          spread_behind g alive places fields bits set a k v w d e1 e2 s st left right (length e3.code) (earlier g e3 (with_instr compare e3) 1 (and_one g compare e3) within) (names_first g compare a (spare ∷ []) (length e3.code) there refl)
+          spread_behind g alive places fields bits set (length d1.fields) a k v w d e1 e2 s st (omega arith) (fields_longer d1 e1 left.passes.grown.0 left.passes.grown.1) left right (length e3.code) (earlier g e3 (with_instr compare e3) 1 (and_one g compare e3) within) (names_first g compare a (spare ∷ []) (length e3.code) there refl)
           (names_second g compare a spare [] (length e3.code) there refl) (omega arith)
 
   -- the comparison, wherever the operands stand
@@ -163,6 +166,9 @@ module _ (g : Setting) (has : HasRegisters g) (alive : Variable → Type 0) (n :
 
     are : HaveTheirKinds set left right
     are = is.1
+
+    abbrev number : TExpr → ℕ → ℕ
+    number e = λ q. value_in (extents g set) st e q
 
     abbrev v : ℕ → ℕ
     v = λ q. word_at (extents g set) st left q
@@ -233,29 +239,38 @@ module _ (g : Setting) (has : HasRegisters g) (alive : Variable → Type 0) (n :
             ap at_kind some ∙ narrow_compares op kind unsigned (v q) (w q) is.0 (signs kind some) words.0 words.1
 
     -- the code of a relation
-    chosen : AreOperands set left right → After g Q (then_make (spread_into (operand bits (is_quiet right) left) left spare d1) (λ a e. next a e))
+    chosen : (o : Outcome Value) → (meant g fields left st ≡ Source.Gives (Parallel (number left)) st → meant g fields right st ≡ Source.Gives (Parallel (number right)) st → o ≡ Source.Gives (Parallel u) st) → (Ended g s (meant g fields left st) → Ended g s o)
+        → (meant g fields left st ≡ Source.Gives (Parallel (number left)) st → Ended g s (meant g fields right st) → Ended g s o) → AreOperands set left right → After g (Known g s o u st Q) (then_make (spread_into (operand bits (is_quiet right) left) left spare d1) (λ a e. next a e))
     unfolding compared
-    chosen (inl (pure, any_operand)) =
-        then_after g (GivesField g alive bits (length d1.fields) d1 s set st v) Q (spread_into (operand bits (is_quiet right) left) left spare d1) (λ a e. next a e)
+    chosen o gives left_ends right_ends (inl (pure, any_operand)) =
+        then_known g s (meant g fields left st) (number left) st (GivesField g alive bits (length d1.fields) d1 s set st v) (Known g s o u st Q) (spread_into (operand bits (is_quiet right) left) left spare d1) (λ a e. next a e)
         (pure_left g has alive n ready places fields bits set left (is_quiet right) pure c_left (pure_after g has alive n ready places fields bits set left most pure c_left) spare d1 s st here sim) next_extends
-        (λ a e1 one. then_after g (GivesRight g has alive n ready places fields bits (length e1.fields) e1 one.passes.t set st w) Q (right_by (operand bits true right) op right e1) (λ b after. compared (M.Compare c.relation) a b spare after)
-        (right_after g has alive n ready places fields bits set op right no_check any_operand c_right (λ p. pure_after g has alive n ready places fields bits set right most p c_right) e1 one.passes.t st one.passes.at one.passes.sim) (λ b after. compared_extends c.relation a b spare after)
-        (λ b e2 two. by a e1 one b e2 two))
+        (λ is_left a e1 one. then_known g one.passes.t (meant g fields right st) (number right) st (λ b f. Takes op b × GivesRight g has alive n ready places fields bits (length e1.fields) e1 one.passes.t set st w b f) (Known g s o u st Q) (right_by (operand bits true right) op right e1) (λ b after. compared (M.Compare c.relation) a b spare after)
+        (right_after g has alive n ready places fields bits set op right (inl no_check) any_operand c_right (λ p. pure_after g has alive n ready places fields bits set right most p c_right) e1 one.passes.t st one.passes.at one.passes.sim) (λ b after. compared_extends c.relation a b spare after)
+        (λ is_right b e2 two. by (gives is_left is_right) a e1 one b e2 two.1) (λ early z f. inr (right_ends is_left (ended_back g s one.passes.t (meant g fields right st) one.passes.go early))))
+        (λ early z f. inr (left_ends early))
       where
-        by : (a : Field) (e1 : Draft) (one : GivesField g alive bits (length d1.fields) d1 s set st v a e1) (b : Right) (e2 : Draft) → GivesRight g has alive n ready places fields bits (length e1.fields) e1 one.passes.t set st w b e2 → After g Q (compared (M.Compare c.relation) a b spare e2)
-        by a e1 one b e2 (inl (f, (same, gives))) =
-            after_same g Q (ap (λ (x : Right). compared (M.Compare c.relation) a x spare e2) same)
-            (made_after g Q tt (with_instr (I.Compare c.relation a f) e2) (λ within. field_compared bits set c.relation (length d1.fields) a f v w u d e1 e2 s st words_compare (let more = one_more set bits W.Own d in omega (arith, more)) (fields_longer d1 e1 one.passes.grown.0 one.passes.grown.1) one gives within))
-        by a e1 one b e2 (inr (k, (same, gives))) =
-            after_same g Q (ap (λ (x : Right). compared (M.Compare c.relation) a x spare e2) same)
-            (made_after g Q tt (with_instr (I.Compare c.relation a spare) (with_instr (I.MoveConstant spare k) e2)) (λ within. word_compared bits set c.relation a k v w u d e1 e2 s st words_compare one gives within))
-    chosen (inr (promoted, pure)) =
-        then_after g (GivesField g alive bits (length d.fields) d1 s set st v) Q (spread_into (operand bits (is_quiet right) left) left spare d1) (λ a e. next a e)
-        (left_after g has alive n ready places fields bits set left (is_quiet right) (λ p. pure_quiet set right pure) (inr promoted) c_left (λ p. pure_after g has alive n ready places fields bits set left most p c_left) d s st here sim (λ x. operand_grows g has alive n ready places fields bits left c_left (is_quiet right) x)) next_extends
-        (λ a e1 one. then_after g (RightField g has alive n ready places fields bits e1 one.passes.t set st w) Q (right_by (operand bits true right) op right e1) (λ b after. compared (M.Compare c.relation) a b spare after)
+        by : o ≡ Source.Gives (Parallel u) st → (a : Field) (e1 : Draft) (one : GivesField g alive bits (length d1.fields) d1 s set st v a e1) (b : Right) (e2 : Draft) → GivesRight g has alive n ready places fields bits (length e1.fields) e1 one.passes.t set st w b e2 → After g (Known g s o u st Q) (compared (M.Compare c.relation) a b spare e2)
+        by is_given a e1 one b e2 (inl (f, (same, gives))) =
+            after_same g (Known g s o u st Q) (ap (λ (x : Right). compared (M.Compare c.relation) a x spare e2) same)
+            (made_after g (Known g s o u st Q) tt (with_instr (I.Compare c.relation a f) e2) (λ within. inl (is_given, field_compared bits set c.relation (length d1.fields) a f v w u d e1 e2 s st words_compare (let more = one_more set bits W.Own d in omega (arith, more)) (fields_longer d1 e1 one.passes.grown.0 one.passes.grown.1) one gives within)))
+        by is_given a e1 one b e2 (inr (k, (same, gives))) =
+            after_same g (Known g s o u st Q) (ap (λ (x : Right). compared (M.Compare c.relation) a x spare e2) same)
+            (made_after g (Known g s o u st Q) tt (with_instr (I.Compare c.relation a spare) (with_instr (I.MoveConstant spare k) e2)) (λ within. inl (is_given, word_compared bits set c.relation a k v w u d e1 e2 s st words_compare one gives within)))
+    chosen o gives left_ends right_ends (inr (promoted, pure)) =
+        then_after g (GivesField g alive bits (length d.fields) d1 s set st v) (Known g s o u st Q) (spread_into (operand bits (is_quiet right) left) left spare d1) (λ a e. next a e)
+        (promoted_left g has alive n ready places fields bits set left (is_quiet right) (pure_quiet set right pure) promoted c_left d s st here sim) next_extends
+        (λ a e1 one. then_known g one.passes.t (meant g fields right st) (number right) st (RightField g has alive n ready places fields bits e1 one.passes.t set st w) (Known g s o u st Q) (right_by (operand bits true right) op right e1) (λ b after. compared (M.Compare c.relation) a b spare after)
         (pure_right g has alive n ready places fields bits set op right pure c_right (pure_after g has alive n ready places fields bits set right most pure c_right) e1 one.passes.t st one.passes.at one.passes.sim) (λ b after. compared_extends c.relation a b spare after)
-        (λ b e2 (f, (same, gives)). after_same g Q (ap (λ (x : Right). compared (M.Compare c.relation) a x spare e2) same)
-        (made_after g Q tt (with_instr (I.Compare c.relation a f) e2) (λ within. field_compared bits set c.relation (length d.fields) a f v w u d e1 e2 s st words_compare (omega arith) (let first = one_more set bits W.Own d in let more = fields_longer d1 e1 one.passes.grown.0 one.passes.grown.1 in omega (arith, first, more)) one gives within))))
+        (λ is_right b e2 (f, (same, given)). after_same g (Known g s o u st Q) (ap (λ (x : Right). compared (M.Compare c.relation) a x spare e2) same)
+        (made_after g (Known g s o u st Q) tt (with_instr (I.Compare c.relation a f) e2) (λ within. inl (gives is_left is_right, field_compared bits set c.relation (length d.fields) a f v w u d e1 e2 s st words_compare (omega arith) (let first = one_more set bits W.Own d in let more = fields_longer d1 e1 one.passes.grown.0 one.passes.grown.1 in omega (arith, first, more)) one given within))))
+        (λ early z f. inr (right_ends is_left (ended_back g s one.passes.t (meant g fields right st) one.passes.go early))))
+      where
+        is_left : meant g fields left st ≡ Source.Gives (Parallel (number left)) st
+        is_left = promoted_means fields.scope fields.active set (extents g set) left st promoted
 
-    pub relation_after : After g Q (then_make (spread_into (operand bits (is_quiet right) left) left spare d1) (λ a e. next a e))
-    relation_after = chosen (relation_operands set left right are)
+    pub relation_after : (ty : ValueType) (place : Place) (p q : Boxed) → ty.shape ≡ Some set → Follows g (Given g u st Q) s (meant g fields (T.Binary' ty place op p left q right) st) (then_make (spread_into (operand bits (is_quiet right) left) left spare d1) (λ a e. next a e))
+    relation_after ty place p q shaped =
+        known_follows g s (meant g fields (T.Binary' ty place op p left q right) st) u st Q (then_make (spread_into (operand bits (is_quiet right) left) left spare d1) (λ a e. next a e))
+        (chosen (meant g fields (T.Binary' ty place op p left q right) st) (λ one other. binary_means fields.scope fields.active set ty place op p q left right (number left) (number right) st shaped no_check one other)
+        (λ early. left_ended g fields ty place op p q left right s st early) (λ is_left early. right_ended g fields ty place op p q left right (number left) s s st (stay g s) is_left early) (relation_operands set left right are))

@@ -14,7 +14,7 @@ use Rattle.paris_code.specs.Spans.{IsNamedAt}
 use Rattle.source_meaning.specs.State.{State}
 use Rattle.code_follows.proofs.Settings.{Setting, Within, and_one, code_more}
 use Rattle.fields_follow.proofs.Instructions.{HasNumbers, puts_constant, shapes, word_in}
-use Rattle.fields_follow.proofs.Passing.{Behind, GivesField, Passes, Stands, code_longer, fields_longer, first_there, flags_of, in_file_has, passes_less, passes_on, still_numbers}
+use Rattle.fields_follow.proofs.Passing.{Behind, GivesField, Passes, Stands, code_longer, first_there, flags_of, in_file_has, passes_less, passes_on, still_numbers}
 use Rattle.fields_follow.proofs.Places.{HoldsTheFields, IsOwnField, PlacesFields}
 use Rattle.fields_follow.proofs.Values.{next_field, one_more, taken, with_entry}
 use Rattle.fields_follow.proofs.Writing.{Written, own_written}
@@ -34,13 +34,13 @@ module _ (g : Setting) (alive : Variable → Type 0) where
 
   module _ (places : PlacesFields g) (fields : HoldsTheFields g) where
     -- where both are named later, in the field that was taken first
-    pub spread_behind : (bits set : ℕ) (a : Field) (k : Konst) (v w : ℕ → ℕ) (d e1 e2 : Draft) (s : CodeState) (st : State)
-        → (left : GivesField g alive bits (length (with_entry set bits W.Own d).fields) (with_entry set bits W.Own d) s set st v a e1) → GivesWord (length e1.fields) e1 left.passes.t st w k e2
+    pub spread_behind : (bits set bound : ℕ) (a : Field) (k : Konst) (v w : ℕ → ℕ) (d e1 e2 : Draft) (s : CodeState) (st : State) → length (with_entry set bits W.Own d).fields ≤ bound → bound ≤ length e1.fields
+        → (left : GivesField g alive bits bound (with_entry set bits W.Own d) s set st v a e1) → GivesWord (length e1.fields) e1 left.passes.t st w k e2
         → (later : ℕ) → Within g (with_instr (I.MoveConstant (next_field set bits d) k) e2) → IsNamedAt g.unit a.offset later → IsNamedAt g.unit (next_field set bits d).offset later → length (with_instr (I.MoveConstant (next_field set bits d) k) e2).code ≤ later
         → HasBoth bits set (length d.fields) a (next_field set bits d) (with_entry set bits W.Own d) (with_instr (I.MoveConstant (next_field set bits d) k) e2) s st v w
     unfolding step_of passes_on passes_less
-    spread_behind bits set a k v w d e1 e2 s st left right later within named_a named_spare behind_both = record {
-      passes = passes_on g alive (length d.fields) (length d.fields) d1 e2 e3 s st (Unit {0}) (Unit {0}) (Unit {0}) (omega arith) (passes_less g alive (length d.fields) (length d1.fields) d1 e2 s st (Unit {0}) (omega (arith, first)) both) spreads (λ u. tt) (λ u. tt);
+    spread_behind bits set bound a k v w d e1 e2 s st low less left right later within named_a named_spare behind_both = record {
+      passes = passes_on g alive (length d.fields) (length d.fields) d1 e2 e3 s st (Unit {0}) (Unit {0}) (Unit {0}) (omega arith) (passes_less g alive (length d.fields) bound d1 e2 s st (Unit {0}) (omega (arith, first, low)) both) spreads (λ u. tt) (λ u. tt);
       left = still left.stands;
       right = subst (λ (x : ℕ → ℕ). HasNumbers g bits set spare moved.t x) same_all moved.has;
     }
@@ -66,9 +66,9 @@ module _ (g : Setting) (alive : Variable → Type 0) where
         longer : length e1.code ≤ length e2.code
         longer = code_longer e1 e2 right.passes.grown.0 right.passes.grown.1
 
-        both : Passes g alive (length d1.fields) d1 e2 s st (Unit {0})
+        both : Passes g alive bound d1 e2 s st (Unit {0})
         both =
-            passes_on g alive (length d1.fields) (length e1.fields) d1 e1 e2 s st (Behind g a e1) (Unit {0}) (Unit {0}) (fields_longer d1 e1 left.passes.grown.0 left.passes.grown.1) left.passes right.passes
+            passes_on g alive bound (length e1.fields) d1 e1 e2 s st (Behind g a e1) (Unit {0}) (Unit {0}) less left.passes right.passes
             (λ u. (later, (named_a, omega (arith, long, longer, behind_both)))) (λ u. tt)
 
         own : IsOwnField g spare
@@ -95,12 +95,12 @@ module _ (g : Setting) (alive : Variable → Type 0) where
         }
 
         numbers : HasNumbers g bits set a right.passes.t v
-        numbers = still_numbers g alive places fields bits (length d1.fields) (length e1.fields) d1 s set st v a e1 e2 (Unit {0}) left right.passes tt (omega arith) (later, (named_a, omega (arith, long, behind_both)))
+        numbers = still_numbers g alive places fields bits bound (length e1.fields) d1 s set st v a e1 e2 (Unit {0}) left right.passes tt (omega arith) (later, (named_a, omega (arith, long, behind_both)))
 
         was_on : (q : ℕ) → q < processors (shapes g) set → is_active (shapes g) moved.t.memory set q ≡ true → is_active (shapes g) right.passes.t.memory set q ≡ true
         was_on q below on = flags_of g alive places fields st right.passes.t set q right.passes.sim numbers.exists below ∙ sym (flags_of g alive places fields st moved.t set q moved.sim numbers.exists below) ∙ on
 
-        still : Stands g alive bits (length d1.fields) e1 set a left.passes.t st v → HasNumbers g bits set a moved.t v
+        still : Stands g alive bits bound e1 set a left.passes.t st v → HasNumbers g bits set a moved.t v
         still (inl h) = record {
           of_set = numbers.of_set;
           exists = numbers.exists;
@@ -108,7 +108,7 @@ module _ (g : Setting) (alive : Variable → Type 0) where
           are = λ q below on.
               first_there g alive places fields set a h.long st moved.t moved.sim numbers.of_set numbers.exists h.fits h.ends q below
               ∙ ap (λ (m : ℕ). m % 2 ^ a.len)
-              (moved.stays again (record a { len = h.long }) h.somewhere later q (λ equal. let newer = h.newer in omega (arith, newer, equal, first)) h.own h.named named_a (let before = h.before in omega (arith, before, longer)) (omega (arith, long, behind_both)))
+              (moved.stays again (record a { len = h.long }) h.somewhere later q (λ equal. let newer = h.newer in omega (arith, newer, equal, first, low)) h.own h.named named_a (let before = h.before in omega (arith, before, longer)) (omega (arith, long, behind_both)))
               ∙ sym (first_there g alive places fields set a h.long st right.passes.t right.passes.sim numbers.of_set numbers.exists h.fits h.ends q below)
               ∙ numbers.are q below (was_on q below on);
           small = λ q below on. numbers.small q below (was_on q below on);
