@@ -1,5 +1,5 @@
 -- What the code of `where` has done where what stands under it begins: its condition has run, and the context is saved.
-use Rattle.std.proofs.Common.{◌≡◌, ◌∙◌, ℕ, ◌+◌, ◌<◌, ◌≤◌, List, length, slice_index, refl, ap, subst, arith, [], ◌∷◌}
+use Rattle.std.proofs.Common.{◌⊎◌, inl, inr, subst, ◌≡◌, ◌∙◌, ℕ, ◌+◌, ◌<◌, ◌≤◌, List, length, slice_index, refl, ap, arith, [], ◌∷◌}
 use Rattle.lower_expr.specs.Lengths.{tested_length}
 use Rattle.paris_code.specs.declared.program.Owner.{Owner}
 use Rattle.code_follows.proofs.Starting.{DeclaredBy, declared_grown}
@@ -20,13 +20,17 @@ use Rattle.paris_code.specs.Code.{CodeState}
 use Rattle.paris_code.specs.Memory.{BitMemory}
 use Rattle.paris_code.specs.Spans.{IsNamedAt}
 use Rattle.source_meaning.specs.State.{State}
-use Rattle.source_meaning.specs.Values.{Active, Scope}
+use Rattle.source_meaning.specs.Values.{Parallel, Active, Scope}
 use Rattle.code_follows.proofs.Following.{HasRegisters, Sim}
 use Rattle.code_follows.proofs.Growing.{Extended, extended, from_growth}
 use Rattle.code_follows.proofs.Settings.{At, Begun, Setting, Within, and_one, code_more, earlier, layout}
 use Rattle.fields_follow.specs.Fragment.{IsCondition}
 use Rattle.fields_follow.proofs.Forms.{HasItsCode}
 use Rattle.fields_follow.proofs.Instructions.{extents}
+use Rattle.fields_follow.proofs.Ending.{ended_so}
+use Rattle.fields_follow.proofs.Outcomes.{Ended, Known, follows_known}
+use Rattle.source_meaning.specs.Expressions.{evaluated}
+use Rattle.source_meaning.specs.State as Source
 use Rattle.fields_follow.proofs.Knowing.{KnowsFields, kept_open, sim_open}
 use Rattle.fields_follow.proofs.Saving.{Kept}
 use Rattle.fields_follow.proofs.Leading.{Led, TestsAre, saves_context}
@@ -110,13 +114,35 @@ module _ (g : Setting) (shape : ℕ) (d : Draft) (test : TExpr) where
       abbrev Tested : (BitMemory → Type 0) → BitMemory → Type 0
       Tested kept m = kept m × TestsAre g shape active (λ q. value_in (extents g shape) st test q) m
 
-      -- the condition has run
-      condition_leads : (has : HasRegisters g) (n : ℕ) (ready : (d : Draft) → IsReadyButForFields g.typed g.instance (layout g) n d) → IsCondition shape test → HasItsCode g.typed g.instance alive n test → At g s (length d.code) → Sim g alive st s → Within g after
-          → Led g scope active known alive active (λ m. Tested known.kept m) d after s st
+      -- the condition gives its numbers in the source, and its code leaves the test flags
+      abbrev pub HasRun : Type 0
+      HasRun =
+          (evaluated scope test active st ≡ Source.Gives (Parallel (λ q. value_in (extents g shape) st test q)) st)
+          × LeavesTests (under g active) alive (fields_under g active scope known.same_extents) (for_test shape d) s shape st (λ q. value_in (extents g shape) st test q) after
+
+      -- so it is, or both end early
+      pub condition_runs : (has : HasRegisters g) (n : ℕ) (ready : (d : Draft) → IsReadyButForFields g.typed g.instance (layout g) n d) → IsCondition shape test → HasItsCode g.typed g.instance alive n test → At g s (length d.code) → Sim g alive st s → Within g after → HasRun ⊎ Ended g s (evaluated scope test active st)
       unfolding After
-      condition_leads has n ready condition c at sim w =
-          let l = subst (λ (m : Made (Unit {0})). After (under g active) (λ u f. LeavesTests (under g active) alive (fields_under g active) (for_test shape d) s shape st (λ q. value_in (extents g shape) st test q) f) m) made.1.1.0
-          (condition_tested (under g active) (registers_under g active has) alive n ready (places_under g active known.places) (fields_under g active) shape test condition c (for_test shape d) s st at (sim_open g scope active known alive st s sim)) (within_under g active w) in
+      condition_runs has n ready condition c at sim w =
+          by
+          (subst (λ (m : Made (Unit {0})). After (under g active) (Known (under g active) s (evaluated scope test active st) v st R) m) made.1.1.0
+          (follows_known (under g active) s (evaluated scope test active st) v st R (tested g.typed (layout g) test (for_test shape d))
+          (condition_tested (under g active) (registers_under g active has) alive n ready (places_under g active known.places) (fields_under g active scope known.same_extents) shape test condition c (for_test shape d) s st at (sim_open g scope active known alive st s sim)))
+          (within_under g active w))
+        where
+          v : ℕ → ℕ
+          v = λ q. value_in (extents g shape) st test q
+
+          R : Unit {0} → Draft → Type 0
+          R u f = LeavesTests (under g active) alive (fields_under g active scope known.same_extents) (for_test shape d) s shape st v f
+
+          by : Known (under g active) s (evaluated scope test active st) v st R made.0 after → HasRun ⊎ Ended g s (evaluated scope test active st)
+          by (inl given) = inl given
+          by (inr ended) = inr (ended_so g scope active known s (evaluated scope test active st) ended)
+
+      condition_leads : HasRun → Sim g alive st s → Within g after → Led g scope active known alive active (λ m. Tested known.kept m) d after s st
+      condition_leads run sim w =
+          let l = run.1 in
           record {
             grown = (0 + l.leaves.grown.0, extended d (for_test shape d) after 0 l.leaves.grown.0 (extended d (entered shape d) (for_test shape d) 0 0 (and_entry shape 1 W.Own d) (and_entry shape 1 W.Own (entered shape d))) l.leaves.grown.1);
             t = l.leaves.t;
@@ -136,9 +162,9 @@ module _ (g : Setting) (shape : ℕ) (d : Draft) (test : TExpr) where
       saves = with_instr (I.StoreContext (saved shape d)) after
 
       -- and behind it the context is saved
-      pub context_led : (has : HasRegisters g) (n : ℕ) (ready : (d : Draft) → IsReadyButForFields g.typed g.instance (layout g) n d) → IsCondition shape test → HasItsCode g.typed g.instance alive n test → At g s (length d.code) → Sim g alive st s
+      pub context_led : HasRun → Sim g alive st s
           → (later : ℕ) → Within g saves → IsNamedAt g.unit (saved shape d).offset later → length after.code < later → Led g scope active known alive active (λ m. Tested (λ x. Kept g scope active known alive (saved shape d) x) m) d saves s st
-      context_led has n ready condition c at sim later w named behind_it =
+      context_led run sim later w named behind_it =
           let w_after : Within g after = earlier g after saves 1 (and_one g (I.StoreContext (saved shape d)) after) w in
           saves_context g scope active known alive active known.kept g.from g.entries g.upto known.lasts d after s st (λ m. TestsAre g shape active (λ q. value_in (extents g shape) st test q) m) (saved shape d) later (let b = begun.code in let l = code_more_by in omega (arith, b, l)) begun.fields
-          (let up = w.upto in let one = code_more g (I.StoreContext (saved shape d)) after in omega (arith, up, one)) (saved_own w_after) refl named behind_it (λ m other same tests p below on. same shape p ∙ tests p below on) w (condition_leads has n ready condition c at sim w_after)
+          (let up = w.upto in let one = code_more g (I.StoreContext (saved shape d)) after in omega (arith, up, one)) (saved_own w_after) refl named behind_it (λ m other same tests p below on. same shape p ∙ tests p below on) w (condition_leads run sim w_after)

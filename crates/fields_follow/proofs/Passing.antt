@@ -179,10 +179,6 @@ module _ (g : Setting) where
       stands = stands_less bits bound other f set h gives.passes.t st v less gives.stands;
     }
 
-    pub gives_less : (bits bound other : ℕ) (d e : Draft) (s : CodeState) (set : ℕ) (st : State) (v : ℕ → ℕ) (h : Field) → bound ≤ other → GivesField bits other d s set st v h e → GivesField bits bound d s set st v h e
-    unfolding passes_less
-    gives_less bits bound other d e s set st v h less gives = record { passes = passes_less bound other d e s st (Behind h e) less gives.passes; stands = stands_less bits bound other e set h gives.passes.t st v less gives.stands }
-
     module _ (places : PlacesFields g) (fields : HoldsTheFields g) where
       -- which positions are active
       pub flags_of : (st : State) (t : CodeState) (set p : ℕ) → Sim g alive st t → set < length (shapes g) → p < processors (shapes g) set → is_active (shapes g) t.memory set p ≡ fields.active set p
