@@ -26,8 +26,8 @@ pub fn parallel_code_means_source()
 {}
 
 /// Such a program is this one, which gives a parallel variable its own coordinates, adds 1 to them, calls a function where
-/// they are less than 3 and makes them 0 elsewhere, by `where` with an `else`, and prints their sum. The function adds 10
-/// where they are less than 2, and returns from there. So the law speaks of some, with contexts.
+/// they are less than 3 and divides 12 by them elsewhere, by `where` with an `else`, and prints their sum. The function
+/// adds 10 where they are less than 2, and returns from there. So the law speaks of some, with contexts.
 pub fn example_is_parallel()
     ensures { ExampleIsParallel }
 {}
