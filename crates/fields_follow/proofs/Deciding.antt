@@ -65,7 +65,7 @@ use Rattle.fields_follow.proofs.Testing.{and_ended, and_given, both_flagged, inn
 use Rattle.fields_follow.proofs.Expressions.{convert_ended, convert_means, unary_ended}
 use Rattle.fields_follow.proofs.Lengths.{relates_plainly}
 use Rattle.fields_follow.proofs.Outcomes.{Ended, meant, then_known}
-use Rattle.fields_follow.proofs.Truths.{either_or_both, joined_bits}
+use Rattle.fields_follow.proofs.Truths.{either_or_both, joined_bits, truth_still}
 use Rattle.fields_follow.proofs.ConditionCode.{AnyBit, Truth, flag_after, put_in, relation_put, stored_behind, zero_put}
 use Rattle.fields_follow.proofs.Forms.{HasItsCode}
 use Rattle.fields_follow.proofs.Instructions.{Puts, extents, number_in, place, shapes}
@@ -465,11 +465,11 @@ module _ (g : Setting) where
               let longer = code_longer e1 e2 right_bit.passes.grown.0 right_bit.passes.grown.1 in
               let early : Behind g a e1 = (length e2.code, (named_a, longer)) in
               let passes : PassesTests g alive d e2 s st (Unit {0}) = tests_on g alive d e1 e2 s st (Behind g a e1) (Behind g b e2) (Unit {0}) left_bit.passes right_bit.passes (λ u. early) (λ u. behind_b) in
-              let still : (q : ℕ) → number_in g a right_bit.passes.t q ≡ number_in g a left_bit.passes.t q = λ q. right_bit.passes.stays behind_b a left_bit.somewhere (length e2.code) q left_bit.older left_bit.own left_bit.ends left_bit.named left_bit.before named_a (omega arith) in
+              let still : (q : ℕ) → q < processors (shapes g) set → number_in g a right_bit.passes.t q ≡ number_in g a left_bit.passes.t q = λ q below. truth_still g alive places fields d e1 e2 s set st (words_of left) a (Behind g b e2) (length e2.code) left_bit right_bit.passes behind_b named_a (omega arith) q below in
               let on : (q : ℕ) → q < processors (shapes g) set → is_active (shapes g) right_bit.passes.t.memory set q ≡ true → fields.active set q ≡ true = λ q below active. sym (flags_of g alive places fields st right_bit.passes.t set q right_bit.passes.sim right_bit.exists below) ∙ active in
               let puts : Puts g set i (field_at set offset 1) right_bit.passes.t (words_of e) =
               subst (λ (v : ℕ → ℕ). Puts g set i (field_at set offset 1) right_bit.passes.t v) value
-              (puts_joined is_or set offset a b right_bit.passes.t (words_of left) (words_of right) (λ q below active. still q ∙ left_bit.are q below (on q below active)) (λ q below active. right_bit.are q below (on q below active))) in
+              (puts_joined is_or set offset a b right_bit.passes.t (words_of left) (words_of right) (λ q below active. still q below ∙ left_bit.are q below (on q below active)) (λ q below active. right_bit.are q below (on q below active))) in
               subst (λ (m : ℕ). Q (O.Field (field_at set offset m)) (with_instr i e2)) is_one
               (last (gives given exists) e2 (with_instr i e2) (Unit {0}) within passes tt (takes_behind 1 (sym is_one) i e2 (words_of e) (Unit {0}) passes within puts)))) (λ early. ended (ends early)))
 
@@ -478,7 +478,7 @@ module _ (g : Setting) where
           by false several =
               after_same g Q (joined_code is_or set offset bits e left right d join several)
               (both_flagged g has alive n ready places fields set left right is also same codes d s st here sim Q (λ a b e2. joined_last is_or set offset bits a b e2) (λ a b e2. (2, joined_more g is_or set offset bits a b e2)) (λ given exists a b e1 e2 one two. made_after g Q (O.Field f) (joined_behind is_or set offset bits a b e2) (λ within.
-              let (passes, takes) = truths_taken g places fields alive set k offset info is_element bits some word is_or a b d e1 e2 s st (words_of left) (words_of right) one two (λ m longer. entry (joined_behind is_or set offset bits a b e2) m longer within) within in
+              let (passes, takes) = truths_taken g places fields alive set k offset info is_element bits some word is_or a b d e1 e2 s st (words_of left) (words_of right) one two (let some_bits = some in grind (arith, nat_tests, several, some_bits)) (λ m longer. entry (joined_behind is_or set offset bits a b e2) m longer within) within in
               last (gives given exists) e2 (joined_behind is_or set offset bits a b e2) (Unit {0}) within passes tt (subst (λ (v : ℕ → ℕ). TakesBehind g set f e2 (joined_behind is_or set offset bits a b e2) passes.t v) value takes))) (λ early. ended (ends early)))
 
       truth_computed : (e : TExpr) → IsTruth set bits e → HasItsCode g.typed g.instance alive n e → Last e → Ends e → After g Q (computed_to g.typed (layout g) (O.Field f) e d)

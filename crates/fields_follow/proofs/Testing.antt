@@ -1,6 +1,7 @@
 -- The code of a condition leaves the test flags.
-use Rattle.std.proofs.Common.{◌%◌, ◌≡◌, ◌∙◌, ℕ, ◌<◌, ◌^◌, ◌==◌, ◌&&◌, ◌||◌, ◌⊎◌, inl, inr, Bool, true, false, List, length, Option, Some, None, refl, sym, ap, arith, if◌then◌else◌}
+use Rattle.std.proofs.Common.{subst, ◌%◌, ◌≡◌, ◌∙◌, ℕ, ◌<◌, ◌^◌, ◌==◌, ◌&&◌, ◌||◌, ◌⊎◌, inl, inr, Bool, true, false, List, length, Option, Some, None, refl, sym, ap, arith, if◌then◌else◌}
 use Rattle.std.specs.Int.{from_bool}
+use Rattle.std.specs.Prelude.{is_none, nat_le}
 use Rattle.cstar_base.specs.declared.elem.Elem.{Elem}
 use Rattle.cstar_base.specs.declared.operators.Op.{Op}
 use Rattle.cstar_base.specs.declared.operators.Place.{Place}
@@ -23,8 +24,8 @@ use Rattle.code_lengths.specs.Ready.{IsReadyButForFields}
 use Rattle.code_lengths.proofs.Agreeing.{lengths_if_made}
 use Rattle.lower_base.specs.declared.emit.Out.{Out}
 use Rattle.lower_base.specs.declared.emit.Out.TheVariants as O
-use Rattle.lower_base.specs.Drafts.{Draft, Made, Makes, an_entry, in_field, step as step_of, then_make, with_instr}
-use Rattle.lower_base.specs.Kinds.{binary_kind, bits_of, common_kind, is_bitwise, kind_of, truth_type}
+use Rattle.lower_base.specs.Drafts.{Draft, Made, Makes, an_entry, first_bits, in_field, step as step_of, then_make, with_instr}
+use Rattle.lower_base.specs.Kinds.{binary_kind, bits_of, common_kind, is_bitwise, kind_of, narrow, truth_type}
 use Rattle.lower_base.specs.Operators.{negates, relates}
 use Rattle.lower_expr.specs.declared.operands.Own.{Own}
 use Rattle.lower_expr.specs.Joined.{flag_by, is_flag, operation_of}
@@ -33,7 +34,9 @@ use Rattle.lower_expr.specs.Steps.{has_truth, is_kept}
 use Rattle.lower_expr.specs.Values.{condition_by, condition_of, flag_of, logical_by, next_of, nonzero_tested, tested, tested_by, truth_of, value_of, zero_tested}
 use Rattle.paris_code.specs.declared.instr.Instr.TheVariants as I
 use Rattle.paris_code.specs.declared.operands.Field.{Field}
+use Rattle.paris_code.specs.declared.program.Owner.{Owner}
 use Rattle.paris_code.specs.declared.program.Owner.TheVariants as W
+use Rattle.paris_code.specs.Proper.{IsEntry}
 use Rattle.paris_code.specs.Code.{CodeState}
 use Rattle.paris_code.specs.Memory.{processors}
 use Rattle.source_meaning.specs.Constants.{is_constant}
@@ -45,6 +48,7 @@ use Rattle.source_meaning.specs.Values.{Active, Parallel, Scope, Value, at, nonz
 use Rattle.source_meaning.proofs.ConstantLaws.{Boxed}
 use Rattle.std.proofs.Math.Nat.{mod-eq_of_lt}
 use Rattle.std.proofs.lemmas.Bool.{eqb-true}
+use Rattle.code_follows.proofs.Growing.{as_it_was}
 use Rattle.code_follows.proofs.Following.{Extends, Follows, HasRegisters, Sim, extends_then, follows_same, held}
 use Rattle.code_follows.proofs.Values.{extends_grown}
 use Rattle.code_follows.proofs.Settings.{At, Setting, and_one, layout}
@@ -59,15 +63,25 @@ use Rattle.fields_follow.proofs.Lengths.{held_first}
 use Rattle.fields_follow.proofs.Meaning.{binary_means, either, left_of, promoted_means, read_is, right_of, unary_means, value_in, word_at}
 use Rattle.fields_follow.proofs.Lengths.{relates_plainly}
 use Rattle.fields_follow.proofs.Outcomes.{Ended, Given, Known, ended_on, follows_given, follows_like, given_follows, given_weaker, known_follows, meant, then_known}
-use Rattle.fields_follow.proofs.Passing.{After, after_same, after_weaker, made_after, passes_all, passes_from, small_there, then_after}
+use Rattle.fields_follow.proofs.Passing.{After, Behind, after_same, after_weaker, made_after, passes_all, passes_from, small_there, then_after}
+use Rattle.fields_follow.proofs.PassingTests.{tests_passed}
 use Rattle.fields_follow.proofs.Places.{HoldsTheFields, PlacesFields}
 use Rattle.fields_follow.proofs.Pure.{ignores_both, pure_means}
 use Rattle.fields_follow.proofs.NarrowKinds.{kind_most, zero_told}
 use Rattle.fields_follow.proofs.Sizes.{binary_parts, brackets_part, unary_part}
 use Rattle.fields_follow.proofs.Values.{Gives, and_entry, next_field, operand_after, operand_of, taken, variable_has, with_entry}
 use Rattle.fields_follow.proofs.TestFlags.{LeavesTests, numbers_tell, puts_nonzero, tested_last}
-use Rattle.fields_follow.proofs.Truths.{either_or_both, field_bit, field_told, truth_told}
+use Rattle.fields_follow.proofs.Truths.{either_or_both, field_bit, field_told, truth_told, variable_truth}
 use Rattle.fields_follow.proofs.Relations.{relation_after, relation_code, relation_operands}
+
+-- a type of one bit
+flag_elem : (elem : Elem) → (bits_of (narrow elem) == 1) ≡ true → elem.bits ≡ 1
+unfolding bits_of narrow
+flag_elem elem one = by (elem.bits == 32) refl
+  where
+    by : (b : Bool) → (elem.bits == 32) ≡ b → elem.bits ≡ 1
+    by true wide = let wrong = sym (ap (λ (b : Bool). bits_of (if b then None else Some elem) == 1) wide) ∙ one in cc
+    by false small = eqb-true elem.bits 1 (sym (ap (λ (b : Bool). bits_of (if b then None else Some elem) == 1) small) ∙ one)
 
 -- two that ignore the context
 both_ignore : (left right : TExpr) → (ignores_context left && ignores_context right) ≡ true → (ignores_context left ≡ true) × (ignores_context right ≡ true)
@@ -120,6 +134,7 @@ value_means scope active t i n set (T.Binary' ty place op p left q right) st is 
     (either (λ pure. pure_means scope active t i n set left st pure parts.1) (λ promoted. promoted_means scope active set (scope.extents set) left st promoted) (left_of set left right (relation_operands set left right h.1)))
     (either (λ pure. pure_means scope active t i n set right st pure parts.2) (λ promoted. promoted_means scope active set (scope.extents set) right st promoted) (right_of set left right (relation_operands set left right h.1))))
     (λ (h : (relates op ≡ false) × HasItsKind set (T.Binary' ty place op p left q right) × ((bits_of (kind_of (T.Binary' ty place op p left q right)) == 1) ≡ false)). pure_means scope active t i n set (T.Binary' ty place op p left q right) st h.1.0 free) is.1
+value_means scope active t i n set (T.Variable ty x) st is free = pure_means scope active t i n set (T.Variable ty x) st is.0 free
 value_means scope active t i n set e st is free = pure_means scope active t i n set e st is.0.0 free
 
 module _ (g : Setting) (has : HasRegisters g) (alive : Variable → Type 0) (n : ℕ) (ready : (d : Draft) → IsReadyButForFields g.typed g.instance (layout g) n d) (places : PlacesFields g) (fields : HoldsTheFields g) where
@@ -143,11 +158,14 @@ module _ (g : Setting) (has : HasRegisters g) (alive : Variable → Type 0) (n :
   abbrev IsTested : ℕ → TExpr → Type 0
   IsTested set e = Says set e (λ d s st _ f. Condition set e d s st f) (λ d. tested g.typed (layout g) e d)
 
+  -- the code of one bit, which stands where it is a variable
+  abbrev bit_code : TExpr → Draft → Made Out
+  bit_code e d = elim (own_of 1 e) as (λ _. Made Out) [ Some own ↦ standing g.typed (layout g) 1 own d | None ↦ value_of g.typed (layout g) 1 e d ]
+
   -- The value of a condition that is no word has one bit.
   record HasBit (set : ℕ) (e : TExpr) : Type 0 where
-    pub kind : kind_of e ≡ Some truth_type
-    pub own : own_of 1 e ≡ None
-    pub value : Says set e (λ d s st. Bit g alive places fields d s set st (numbers_of set e st)) (λ d. value_of g.typed (layout g) 1 e d)
+    pub kind : bits_of (kind_of e) ≡ 1
+    pub value : Says set e (λ d s st. Bit g alive places fields d s set st (numbers_of set e st)) (bit_code e)
 
   -- or it is a value of more than one bit
   abbrev HasWord : ℕ → TExpr → Type 0
@@ -198,6 +216,47 @@ module _ (g : Setting) (has : HasRegisters g) (alive : Variable → Type 0) (n :
       d1 : Draft
       d1 = with_entry set info.elem.bits (W.File (file_number g.typed k 0)) d
 
+  -- where it has one bit, that is it
+  variable_bit : (set k : ℕ) (ty : ValueType) → ty.shape ≡ Some set → ty.elem.bits ≡ 1 → HasVariable g.typed g.instance n (V.File k) (plain ty) → Says set (T.Variable ty (V.File k)) (λ d s st. Bit g alive places fields d s set st (numbers_of set (T.Variable ty (V.File k)) st)) (bit_code (T.Variable ty (V.File k)))
+  unfolding own_of standing first_bits then_make an_entry evaluated value_in tests_passed passes_from
+  variable_bit set k ty shaped one v d s st here sim =
+      given_follows g s (meant g fields (T.Variable ty (V.File k)) st) (λ q. st.parallel (V.File k) 0 q) st R (bit_code (T.Variable ty (V.File k)) d) (ap (λ (x : Value). Source.Gives x st) (read_is fields.scope fields.active ty set k st shaped))
+      (after_same g R
+      (ap (λ (b : Bool). code (own b ty.shape)) (ap (λ (m : ℕ). nat_le 1 m) one) ∙ ap (λ (o : Option ℕ). code (own true o)) shaped
+      ∙ ap (λ (m : Made Field). then_make m (λ f after. Makes (O.Field (first_bits 1 f)) after)) (field_is g k 0 set info d is))
+      (made_after g R (O.Field f) d1 (λ within. (
+        f,
+        (
+          refl,
+          variable_truth g alive places fields set k info f d d1 s st is one (subst (λ (m : ℕ). IsEntry g.unit (length d.fields) (record { set = set; len = m; owner = owner })) one (taken g set info.elem.bits owner d d1 0 within (as_it_was d1))) refl refl
+              (tests_passed g alive (length d.fields) d d1 s st (Behind g f d1) (omega arith) (passes_from g alive (length d.fields) d d1 d1 s st (Behind g f d1) (and_entry set info.elem.bits owner d) (passes_all g alive (length d.fields) d1 s st (Behind g f d1) here sim))),
+        ),
+      ))))
+    where
+      own : Bool → Option ℕ → Option Own
+      own b o = if is_none o || b then Some (record { shape = o; variable = V.File k }) else None
+
+      code : Option Own → Made Out
+      code o = elim o as (λ _. Made Out) [ Some own ↦ standing g.typed (layout g) 1 own d | None ↦ value_of g.typed (layout g) 1 (T.Variable ty (V.File k)) d ]
+
+      info : VarInfo
+      info = variable_info v.word (plain ty) v.start
+
+      is : IsElement g.typed k info set 0
+      is = element_is g.typed g.instance n k set ty shaped v
+
+      owner : Owner
+      owner = W.File (file_number g.typed k 0)
+
+      f : Field
+      f = next_field set 1 d
+
+      d1 : Draft
+      d1 = with_entry set info.elem.bits owner d
+
+      R : Out → Draft → Type 0
+      R = Bit g alive places fields d s set st (λ q. st.parallel (V.File k) 0 q)
+
   -- a value that the test flag does not tell without it
   pure_tested : (set : ℕ) (e : TExpr) → HasItsKind set e → has_truth e ≡ false → HasItsCode g.typed g.instance alive n e → IsTested set e
   unfolding tested_by
@@ -207,14 +266,12 @@ module _ (g : Setting) (has : HasRegisters g) (alive : Variable → Type 0) (n :
 
   -- ---- bits
 
-  -- no condition is a constant, so its value is nowhere yet
+  -- no condition is a constant, so its value stands in no register
   bit_after : (set : ℕ) (e : TExpr) → IsInnerCondition set e → HasBit set e → Says set e (λ d s st. Bit g alive places fields d s set st (numbers_of set e st)) (λ d. operand_at g 1 e d)
   unfolding operand_by in_place
   bit_after set e is bit d s st here sim =
       follows_same g (Given g (numbers_of set e st) st (Bit g alive places fields d s set st (numbers_of set e st))) s refl
-      (ap (λ (o : Option ℕ). elim o as (λ _. Made Out) [ Some r ↦ Makes (O.Scalar r) d | None ↦ elim (own_of 1 e) as (λ _. Made Out) [ Some own ↦ standing g.typed (layout g) 1 own d | None ↦ value_of g.typed (layout g) 1 e d ] ]) (not_held (layout g) e (condition_constant set e is))
-      ∙ ap (λ (o : Option Own). elim o as (λ _. Made Out) [ Some own ↦ standing g.typed (layout g) 1 own d | None ↦ value_of g.typed (layout g) 1 e d ]) bit.own)
-      (bit.value d s st here sim)
+      (ap (λ (o : Option ℕ). elim o as (λ _. Made Out) [ Some r ↦ Makes (O.Scalar r) d | None ↦ bit_code e d ]) (not_held (layout g) e (condition_constant set e is))) (bit.value d s st here sim)
 
   bit_told : (set : ℕ) (e : TExpr) → IsInnerCondition set e → HasBit set e → Says set e (λ d s st. Told g alive places fields d s set st (numbers_of set e st)) (λ d. operand_at g 1 e d)
   bit_told set e is bit d s st here sim =
@@ -224,9 +281,8 @@ module _ (g : Setting) (has : HasRegisters g) (alive : Variable → Type 0) (n :
 
   -- a word or a bit tells
   operand_told : (set : ℕ) (e : TExpr) → IsInnerCondition set e → HasItsCode g.typed g.instance alive n e → HasWord set e ⊎ HasBit set e → Says set e (λ d s st. Told g alive places fields d s set st (numbers_of set e st)) (λ d. operand_at g (bits_of (kind_of e)) e d)
-  unfolding bits_of
   operand_told set e is c (inl word) d s st here sim = pure_told set e word.0 c d s st here sim
-  operand_told set e is c (inr bit) d s st here sim = follows_same g (Given g (numbers_of set e st) st (Told g alive places fields d s set st (numbers_of set e st))) s refl (ap (λ (k : Option Elem). operand_at g (bits_of k) e d) bit.kind) (bit_told set e is bit d s st here sim)
+  operand_told set e is c (inr bit) d s st here sim = follows_same g (Given g (numbers_of set e st) st (Told g alive places fields d s set st (numbers_of set e st))) s refl (ap (λ (m : ℕ). operand_at g m e d) bit.kind) (bit_told set e is bit d s st here sim)
 
   pure_known : (set : ℕ) (e : TExpr) → HasWord set e → has_truth e ≡ false → HasItsCode g.typed g.instance alive n e → IsKnown set e
   pure_known set e word no_truth c = (pure_tested set e word.0 no_truth c, inl word)
@@ -252,17 +308,16 @@ module _ (g : Setting) (has : HasRegisters g) (alive : Variable → Type 0) (n :
   unfolding IsPure IsNarrowed value_in value_of kind_of own_of evaluated
   brackets_known set ty p inner is same part (tests, whole) = (
     λ d s st here sim. follows_same g (Given g (numbers_of set inner st) st (λ _ f. Condition set inner d s st f)) s refl (brackets_code ty p inner d (condition_constant set (T.Brackets' ty p inner) is) (condition_constant set inner part)) (tests d s st here sim),
-    either (λ (word : HasWord set inner). inl (((same, word.0.0), word.0.1), word.1)) (λ (bit : HasBit set inner). inr (record { kind = bit.kind; own = bit.own; value = bit.value })) whole,
+    either (λ (word : HasWord set inner). inl (((same, word.0.0), word.0.1), word.1)) (λ (bit : HasBit set inner). inr (record { kind = bit.kind; value = bit.value })) whole,
   )
 
   relation_known : (set : ℕ) (ty : ValueType) (place : Place) (op : Op) (p q : Boxed) (left right : TExpr) → IsWide set ty → IsRelation set op left right → HasItsCode g.typed g.instance alive n (T.Binary' ty place op p left q right)
       → IsKnown set (T.Binary' ty place op p left q right)
-  unfolding tested_by has_truth value_in kind_of binary_kind own_of
+  unfolding tested_by has_truth value_in kind_of binary_kind own_of bits_of
   relation_known set ty place op p q left right wide is c = (
     λ d s st here sim. follows_same g (Given g (numbers_of set whole st) st (λ _ f. Condition set whole d s st f)) s refl (ap (λ (b : Bool). tested_by b (truth_of g.typed (layout g) whole) (next_of g.typed (layout g) (bits_of (kind_of whole)) true whole) d) is.0) (truth d s st here sim),
     inr (record {
-      kind = ap (λ (b : Bool). if b then Some truth_type else if is_bitwise op then common_kind (kind_of left) (kind_of right) else None) is.0;
-      own = refl;
+      kind = ap (λ (b : Bool). bits_of (if b then Some truth_type else if is_bitwise op then common_kind (kind_of left) (kind_of right) else None)) is.0;
       value = λ d s st here sim.
           follows_same g (Given g (numbers_of set whole st) st (Bit g alive places fields d s set st (numbers_of set whole st))) s refl (relation_value g set ty place op p q left right d wide.0 is.0 no_check)
           (stored_after g alive places fields (meant g fields whole st) (numbers_of set whole st) set (numbers_of set whole st) d s st (truth_of g.typed (layout g) whole (with_entry set 1 W.Own d)) (truth (with_entry set 1 W.Own d) s st here sim));
@@ -318,10 +373,10 @@ module _ (g : Setting) (has : HasRegisters g) (alive : Variable → Type 0) (n :
   }
 
   not_known : (set : ℕ) (ty : ValueType) (p : Boxed) (inner : TExpr) → IsWide set ty → IsNegated set inner → IsKnown set (T.Unary' ty U.Not p inner)
-  unfolding tested_by has_truth truth_of value_in unary_of kind_of negates own_of
+  unfolding tested_by has_truth truth_of value_in unary_of kind_of negates own_of bits_of
   not_known set ty p inner wide is = (
     λ d s st here sim. negated d s st (λ _ f. Condition set whole d s st f) (truth_of g.typed (layout g) whole d) (zero_after g alive places fields (meant g fields inner st) (numbers_of set inner st) set (numbers_of set inner st) (operand_at g (bits_of (kind_of inner)) inner) d s st (is.told d s st here sim)),
-    inr (record { kind = refl; own = refl; value = by (bits_of (kind_of inner) == 1) refl }),
+    inr (record { kind = refl; value = by (bits_of (kind_of inner) == 1) refl }),
   )
     where
       whole : TExpr
@@ -348,12 +403,12 @@ module _ (g : Setting) (has : HasRegisters g) (alive : Variable → Type 0) (n :
 
   -- an operand is put in a field of one bit
   flagged : (set : ℕ) (e : TExpr) → IsInnerCondition set e → IsKnown set e → Says set e (λ d s st. Truth g alive places fields d s set st (numbers_of set e st)) (λ d. flag_of set (condition_of g.typed (layout g) e) d)
-  unfolding flag_of flag_by condition_by bits_of
+  unfolding flag_of flag_by condition_by
   flagged set e is (tests, inl word) d s st here sim =
       follows_same g (Given g (numbers_of set e st) st (Truth g alive places fields d s set st (numbers_of set e st))) s refl (ap (λ (b : Bool). flag_by b set (operand_at g (bits_of (kind_of e)) e) (tested g.typed (layout g) e) d) word.1)
       (flag_after g alive places fields (meant g fields e st) (numbers_of set e st) set (numbers_of set e st) d s st (tested g.typed (layout g) e d) (tests d s st here sim))
   flagged set e is (tests, inr bit) d s st here sim =
-      follows_same g (Given g (numbers_of set e st) st (Truth g alive places fields d s set st (numbers_of set e st))) s refl (ap (λ (k : Option Elem). flag_by (bits_of k == 1) set (operand_at g (bits_of k) e) (tested g.typed (layout g) e) d) bit.kind)
+      follows_same g (Given g (numbers_of set e st) st (Truth g alive places fields d s set st (numbers_of set e st))) s refl (ap (λ (m : ℕ). flag_by (m == 1) set (operand_at g m e) (tested g.typed (layout g) e) d) bit.kind)
       (bit_taken g alive places fields (meant g fields e st) (numbers_of set e st) set (numbers_of set e st) d s st (operand_at g 1 e d) (bit_after set e is bit d s st here sim))
 
   flag_grows : (set : ℕ) (e : TExpr) → HasItsCode g.typed g.instance alive n e → InField g.typed e → (d : Draft) → Extends g d (flag_of set (condition_of g.typed (layout g) e) d)
@@ -419,12 +474,12 @@ module _ (g : Setting) (has : HasRegisters g) (alive : Variable → Type 0) (n :
 
   -- a bit that is no test flag is tested
   bit_known : (set : ℕ) (e : TExpr) → IsInnerCondition set e → has_truth e ≡ false → HasBit set e → IsKnown set e
-  unfolding tested_by bits_of
+  unfolding tested_by
   bit_known set e is no_truth bit = (
     λ d s st here sim.
         follows_same g (Given g (numbers_of set e st) st (λ _ f. Condition set e d s st f)) s refl
         (ap (λ (b : Bool). tested_by b (truth_of g.typed (layout g) e) (next_of g.typed (layout g) (bits_of (kind_of e)) true e) d) no_truth
-        ∙ ap (λ (k : Option Elem). nonzero_tested (next_of g.typed (layout g) (bits_of k) true e) d) bit.kind)
+        ∙ ap (λ (m : ℕ). nonzero_tested (next_of g.typed (layout g) m true e) d) bit.kind)
         (nonzero_after g alive places fields (meant g fields e st) (numbers_of set e st) set (numbers_of set e st) (operand_at g 1 e) d s st (bit_told set e is bit d s st here sim)),
     inr bit,
   )
@@ -432,7 +487,7 @@ module _ (g : Setting) (has : HasRegisters g) (alive : Variable → Type 0) (n :
   -- ---- all conditions
 
   known : (set : ℕ) (e : TExpr) → IsInnerCondition set e → HasItsCode g.typed g.instance alive n e → IsKnown set e
-  unfolding IsInnerCondition IsPure has_truth NamesVariables value_in value_of kind_of own_of negates tested_by evaluated
+  unfolding IsInnerCondition IsPure has_truth NamesVariables value_in value_of kind_of own_of negates tested_by evaluated bits_of
   known set (T.Brackets' ty p inner) is c = brackets_known set ty p inner is is.0 is.1 (known set inner is.1 (brackets_part g alive n places fields ty p inner c))
   known set (T.Unary' ty op p inner) is c = by op is.1 c (λ part code. known set inner part code)
     where
@@ -449,17 +504,21 @@ module _ (g : Setting) (has : HasRegisters g) (alive : Variable → Type 0) (n :
       by U.Complement (inl h) c of_inner = let wrong = h.0 in cc
   known set (T.LogicalOr' ty p left q right) is c =
       let codes = or_codes g.typed g.instance alive n set ty p q left right is.2 c in
-      bit_known set (T.LogicalOr' ty p left q right) is refl (record { kind = refl; own = refl; value = joined_bit true set ty.shape (T.LogicalOr' ty p left q right) left right is.0.0 is.1 is.2 is.3 codes (known set left is.1 codes.left_code) (known set right is.2 codes.right_code) (λ st given exists. or_given set ty p q left right st is.1 is.2 is.3 given exists) (λ s st early. or_ended ty p q left right s st early) })
+      bit_known set (T.LogicalOr' ty p left q right) is refl (record { kind = refl; value = joined_bit true set ty.shape (T.LogicalOr' ty p left q right) left right is.0.0 is.1 is.2 is.3 codes (known set left is.1 codes.left_code) (known set right is.2 codes.right_code) (λ st given exists. or_given set ty p q left right st is.1 is.2 is.3 given exists) (λ s st early. or_ended ty p q left right s st early) })
   known set (T.LogicalAnd' ty p left q right) is c =
       let codes = and_codes g.typed g.instance alive n set ty p q left right is.2 c in
-      bit_known set (T.LogicalAnd' ty p left q right) is refl (record { kind = refl; own = refl; value = joined_bit false set ty.shape (T.LogicalAnd' ty p left q right) left right is.0.0 is.1 is.2 is.3 codes (known set left is.1 codes.left_code) (known set right is.2 codes.right_code) (λ st given exists. and_given set ty p q left right st is.1 is.2 is.3 given exists) (λ s st early. and_ended ty p q left right s st early) })
+      bit_known set (T.LogicalAnd' ty p left q right) is refl (record { kind = refl; value = joined_bit false set ty.shape (T.LogicalAnd' ty p left q right) left right is.0.0 is.1 is.2 is.3 codes (known set left is.1 codes.left_code) (known set right is.2 codes.right_code) (λ st given exists. and_given set ty p q left right st is.1 is.2 is.3 given exists) (λ s st early. and_ended ty p q left right s st early) })
   known set (T.Binary' ty place op p left q right) is c = by is.1
     where
       by : IsRelation set op left right ⊎ ((relates op ≡ false) × HasItsKind set (T.Binary' ty place op p left q right) × ((bits_of (kind_of (T.Binary' ty place op p left q right)) == 1) ≡ false)) → IsKnown set (T.Binary' ty place op p left q right)
       by (inl relation) = relation_known set ty place op p q left right is.0 relation c
       by (inr plain_one) = pure_known set (T.Binary' ty place op p left q right) (plain_one.1, plain_one.2) plain_one.0 c
-  known set (T.Variable ty (V.File k)) is c = ((λ d s st here sim. variable_tested set k ty is.0.0 c.code.names d s st here sim), inl is)
-  known set (T.Variable ty x) is c = absurd is.0.0
+  known set (T.Variable ty (V.File k)) is c = ((λ d s st here sim. variable_tested set k ty is.0 c.code.names d s st here sim), by (bits_of (kind_of (T.Variable ty (V.File k))) == 1) refl)
+    where
+      by : (b : Bool) → (bits_of (kind_of (T.Variable ty (V.File k))) == 1) ≡ b → HasWord set (T.Variable ty (V.File k)) ⊎ HasBit set (T.Variable ty (V.File k))
+      by false word = inl (is, word)
+      by true one = inr (record { kind = eqb-true (bits_of (kind_of (T.Variable ty (V.File k)))) 1 one; value = λ d s st here sim. variable_bit set k ty is.0 (flag_elem ty.elem one) c.code.names d s st here sim })
+  known set (T.Variable ty x) is c = absurd is.0
   known set e is c = pure_known set e is refl c
 
   pub inner_tested : (set : ℕ) (e : TExpr) → IsInnerCondition set e → HasItsCode g.typed g.instance alive n e → IsTested set e

@@ -150,7 +150,7 @@ HasOperation op elem value = elim (assign_op_of op) [
 
 -- A condition that may be part of others: a relation of two operands, a value that is not zero, `!` of a condition or of
 -- any value, or two joined by `&&` or `||`. The right one of these ignores the context: it has no get and no quotient, not
--- even one of constants. A value of one bit is such a condition only if it is a truth value.
+-- even one of constants. A value of one bit is such a condition only if it is a variable or a truth value.
 unfoldable pub IsInnerCondition : ℕ → TExpr → Type 0
 IsInnerCondition set (T.Brackets' ty p inner) = (ty ≡ type_of inner) × IsInnerCondition set inner
 IsInnerCondition set (T.Unary' ty op p operand) = IsWide set ty × (((negates op ≡ true) × (IsInnerCondition set operand ⊎ HasItsKind set operand)) ⊎ ((negates op ≡ false) × IsPure set (T.Unary' ty op p operand)))
@@ -158,6 +158,7 @@ IsInnerCondition set (T.LogicalOr' ty p left q right) = IsWide set ty × IsInner
 IsInnerCondition set (T.LogicalAnd' ty p left q right) = IsWide set ty × IsInnerCondition set left × IsInnerCondition set right × (ignores_context right ≡ true)
 IsInnerCondition set (T.Binary' ty place op p left q right) =
     IsWide set ty × (IsRelation set op left right ⊎ ((relates op ≡ false) × HasItsKind set (T.Binary' ty place op p left q right) × ((bits_of (kind_of (T.Binary' ty place op p left q right)) == 1) ≡ false)))
+IsInnerCondition set (T.Variable ty x) = HasItsKind set (T.Variable ty x)
 IsInnerCondition set e = HasItsKind set e × ((bits_of (kind_of e) == 1) ≡ false)
 
 -- a condition of `where`: such a one, or any value
