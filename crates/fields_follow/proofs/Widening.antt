@@ -1,5 +1,5 @@
 -- `everywhere` follows where what stands under it does.
-use Rattle.std.proofs.Common.{◌≡◌, ◌∙◌, ℕ, ◌+◌, ◌≤◌, List, [], ◌∷◌, ◌++◌, length, refl, sym, ap, arith}
+use Rattle.std.proofs.Common.{◌≡◌, ℕ, ◌+◌, ◌≤◌, List, [], ◌∷◌, ◌++◌, length, refl, sym, ap, arith}
 use Rattle.code_lengths.specs.Ready.{HasDeclared}
 use Rattle.code_follows.proofs.Statements.{declared_on}
 use Rattle.fields_follow.proofs.Entering.{declared_entry}
