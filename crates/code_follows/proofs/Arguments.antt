@@ -6,8 +6,6 @@ use Rattle.cstar_base.specs.declared.elem.Elem.{Elem}
 use Rattle.cstar_tree.specs.declared.typed.TExpr.{TExpr, Row_of-TExpr, end_of-TExpr, more_of-TExpr}
 use Rattle.cstar_tree.specs.declared.typed.Variable.{Variable}
 use Rattle.cstar_tree.specs.Typed.{type_of}
-use Rattle.code_lengths.specs.Growth.{Extended}
-use Rattle.code_lengths.proofs.Drafting.{as_it_was, extended}
 use Rattle.lower_base.specs.declared.emit.Out.{Out}
 use Rattle.lower_base.specs.Drafts.{Draft, Fails, Made, Makes}
 use Rattle.lower_expr.specs.Kinds.{list_bits}
@@ -23,6 +21,7 @@ use Rattle.source_meaning.specs.State.{Outcome, State, then_do, with_output}
 use Rattle.source_meaning.specs.Values.{Active, Scope, Value}
 use Rattle.code_follows.specs.Fragment.{elems_of}
 use Rattle.code_follows.proofs.Following.{Arrives, Extends, Follows, HasRegisters, Holds, Keeps, Sim, extends_then, finishes_later, keeps_all, keeps_on, knowing, then_follows}
+use Rattle.code_follows.proofs.Growing.{Extended, as_it_was, extended}
 use Rattle.code_follows.proofs.Settings.{At, Begun, Reaches, Setting, begun_later, layout, onto, stay}
 use Rattle.code_follows.proofs.Values.{Does, Value_of}
 

@@ -19,13 +19,13 @@ use Rattle.cstar_tree.specs.declared.typed.ValueType.{ValueType}
 use Rattle.cstar_tree.specs.declared.typed.VarInfo.{VarInfo}
 use Rattle.cstar_tree.specs.declared.typed.Variable.{Variable}
 use Rattle.cstar_tree.specs.declared.typed.Variable.TheVariants as V
-use Rattle.code_lengths.specs.Growth.{Extended, Grows}
+use Rattle.code_lengths.specs.Growth.{GrowsOr}
 use Rattle.code_lengths.specs.Lowerable.{Calls, IsLowerable}
-use Rattle.code_lengths.proofs.Drafting.{extended, fresh_grows}
+use Rattle.code_lengths.proofs.Drafting.{fresh_grows}
 use Rattle.cstar_tree.specs.Typed.{type_of}
 use Rattle.code_lengths.specs.Naming.{HasVariable, NamesVariables, plain}
 use Rattle.cstar_tree.specs.StatementTypes.{variable_info}
-use Rattle.code_lengths.specs.Ready.{HasCode, HaveCode, IsReady}
+use Rattle.code_lengths.specs.Ready.{HasCode, HaveCode, IsReadyButForFields}
 use Rattle.lower_base.specs.declared.emit.Out.{Out}
 use Rattle.lower_base.specs.declared.emit.Out.TheVariants as O
 use Rattle.lower_base.specs.Constants.{word_in}
@@ -50,6 +50,7 @@ use Rattle.code_follows.specs.Fragment.{AreIn, IsBeside, IsEffect, IsGiven, IsIn
 use Rattle.code_follows.proofs.Changing.{no_place, only_set, operated_set_is, scalar_type, set_is, stepped_is, stepping}
 use Rattle.code_follows.proofs.CallValues.{call_code}
 use Rattle.code_follows.proofs.Expressions.{arguments_do, assign_names, brackets_code, operand, step_names, value_follows}
+use Rattle.code_follows.proofs.Growing.{Extended, extended, from_growth}
 use Rattle.code_follows.proofs.Printing.{printf_code, printf_follows}
 use Rattle.code_follows.proofs.Arguments.{AreDone}
 use Rattle.code_follows.proofs.Callees.{CallsFollow, MayCall, TakesThese}
@@ -67,7 +68,7 @@ use Rattle.code_follows.proofs.Effects.{promoted_wide, working_wide}
 use Rattle.code_follows.proofs.Given.{given_set, given_word}
 use Rattle.cstar_base.specs.Numbers.{converted}
 
-module _ (g : Setting) (has : HasRegisters g) (alive : Variable → Type 0) (n : ℕ) (files : (k : ℕ) → alive (V.File k)) (ready : (d : Draft) → IsReady g.typed g.instance (layout g) n d) (scope : Scope) (active : Active) (calls_follow : CallsFollow g scope active)
+module _ (g : Setting) (has : HasRegisters g) (alive : Variable → Type 0) (n : ℕ) (files : (k : ℕ) → alive (V.File k)) (ready : (d : Draft) → IsReadyButForFields g.typed g.instance (layout g) n d) (scope : Scope) (active : Active) (calls_follow : CallsFollow g scope active)
     (x : Variable) (info : VarInfo) (living : alive x) (scalar : IsScalar g x info) where
   abbrev own : ℕ
   own = register_of (layout g) x
@@ -158,7 +159,7 @@ module _ (g : Setting) (has : HasRegisters g) (alive : Variable → Type 0) (n :
 
 -- ---- effects as they stand in the tree
 
-module _ (g : Setting) (has : HasRegisters g) (alive : Variable → Type 0) (n : ℕ) (files : (k : ℕ) → alive (V.File k)) (ready : (d : Draft) → IsReady g.typed g.instance (layout g) n d) (scope : Scope) (active : Active) (calls_follow : CallsFollow g scope active) where
+module _ (g : Setting) (has : HasRegisters g) (alive : Variable → Type 0) (n : ℕ) (files : (k : ℕ) → alive (V.File k)) (ready : (d : Draft) → IsReadyButForFields g.typed g.instance (layout g) n d) (scope : Scope) (active : Active) (calls_follow : CallsFollow g scope active) where
   abbrev pub Runs : (State → Outcome Value) → (Draft → Made Out) → Type 0
   Runs part code = (d : Draft) (s : CodeState) (st : State) → Begun g d → At g s (length d.code) → Sim g alive st s → Follows g (λ v u out e. Ran g alive d s u e) s (part st) (code d)
 
@@ -258,7 +259,7 @@ module _ (g : Setting) (has : HasRegisters g) (alive : Variable → Type 0) (n :
 
   -- a call whose value is not used
   call_effect : (ty : ValueType) (index : ℕ) (p : Vec (Unit {0}) Global) (row : _) → g.may.calls None index (elems_of row) → (AreIn (naming g.may alive)) row → HasCode g.typed g.instance n (T.Call' ty index p row) → Runs (λ st. evaluated scope (T.Call' ty index p row) active st) (λ d. effect_of g.typed (layout g) (T.Call' ty index p row) d)
-  unfolding evaluated effect_of value_of IsLowerable fresh_for a_register then_make Grows
+  unfolding evaluated effect_of value_of IsLowerable fresh_for a_register then_make GrowsOr
   call_effect ty index p row may isin c d s st free here sim = by m.callee.callee.result refl
     where
       known : TakesThese g active index (elems_of row)
@@ -274,10 +275,10 @@ module _ (g : Setting) (has : HasRegisters g) (alive : Variable → Type 0) (n :
       code dest begun = call_to g.typed (layout g) index (values_of g.typed (layout g) true (are_quiet row) row) dest begun
 
       -- where the value goes
-      behind_fresh : (P : Out → Type 0) (made : Made Out) → m.callee.callee.result ≡ None → Grows d 0 P made → Follows g (λ v u out e. Ran g alive d s u e) s (evaluated scope (T.Call' ty index p row) active st) (then_make made (λ dest begun. code dest begun))
+      behind_fresh : (P : Out → Type 0) (made : Made Out) → m.callee.callee.result ≡ None → GrowsOr ⊥ d 0 P made → Follows g (λ v u out e. Ran g alive d s u e) s (evaluated scope (T.Call' ty index p row) active st) (then_make made (λ dest begun. code dest begun))
       behind_fresh P Fails is grows = absurd grows
       behind_fresh P (Makes dest begun) is grows =
-          let x : Extended d 0 begun = grows.1 in
+          let x : Extended d 0 begun = from_growth d begun 0 grows.1 in
           let regs = x.regs in
           let same : length begun.code ≡ length d.code = let more = length-append d.code x.more in let none = x.long in omega (arith, ap length x.code, more, none) in
           follows_other g (λ v u out e. Ran g alive begun s u e) (λ v u out e. Ran g alive d s u e) s (evaluated scope (T.Call' ty index p row) active st) (code dest begun)
@@ -292,7 +293,7 @@ module _ (g : Setting) (has : HasRegisters g) (alive : Variable → Type 0) (n :
           sym of_info ∙ m.callee.result info is
 
       by : (o : Option VarInfo) → m.callee.callee.result ≡ o → Follows g (λ v u out e. Ran g alive d s u e) s (evaluated scope (T.Call' ty index p row) active st) (then_make (fresh_for ty.shape ty.elem.bits d) (λ dest begun. code dest begun))
-      by None is = behind_fresh _ (fresh_for ty.shape ty.elem.bits d) is (fresh_grows ty.shape ty.elem.bits d)
+      by None is = behind_fresh _ (fresh_for ty.shape ty.elem.bits d) is (fresh_grows ⊥ ty.shape ty.elem.bits d)
       by (Some info) is =
           subst (λ (o : Option ℕ). Follows g (λ v u out e. Ran g alive d s u e) s (evaluated scope (T.Call' ty index p row) active st) (then_make (fresh_for o ty.elem.bits d) (λ dest begun. code dest begun))) (sym (no_shape info is))
           (follows_other g (Value_of g has alive info.elem true d s) (λ v u out e. Ran g alive d s u e) s (evaluated scope (T.Call' ty index p row) active st) (code (O.Scalar d.regs) (with_reg d))

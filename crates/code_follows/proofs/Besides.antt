@@ -5,7 +5,7 @@ use Rattle.cstar_tree.specs.declared.typed.TExpr.{TExpr}
 use Rattle.cstar_tree.specs.declared.typed.Variable.{Variable}
 use Rattle.cstar_tree.specs.declared.typed.Variable.TheVariants as V
 use Rattle.cstar_tree.specs.Typed.{type_of}
-use Rattle.code_lengths.specs.Ready.{HasCode, IsReady}
+use Rattle.code_lengths.specs.Ready.{HasCode, IsReadyButForFields}
 use Rattle.lower_base.specs.declared.emit.Out.{Out}
 use Rattle.lower_base.specs.declared.emit.Out.TheVariants as O
 use Rattle.lower_base.specs.Drafts.{Draft}
@@ -24,11 +24,11 @@ module _ (g : Setting) (has : HasRegisters g) (scope : Scope) (active : Active) 
   -- Wherever they stand in the function, the code of an effect does what it does in the source, and that of a fold
   -- leaves its number in the register that is to have it.
   pub record ExpressionsFollow : Type 1 where
-    pub effects : (alive : Variable → Type 0) → ((k : ℕ) → alive (V.File k)) → (n : ℕ) → ((d : Draft) → IsReady g.typed g.instance (layout g) n d)
+    pub effects : (alive : Variable → Type 0) → ((k : ℕ) → alive (V.File k)) → (n : ℕ) → ((d : Draft) → IsReadyButForFields g.typed g.instance (layout g) n d)
         → (e : TExpr) → g.may.beside.effects e → ScalarsAmong alive e → HasCode g.typed g.instance n e
         → (d : Draft) (s : CodeState) (st : State) → Begun g d → At g s (length d.code) → Sim g alive st s
         → Follows g (λ v u out f. Ran g alive d s u f) s (evaluated scope e active st) (effect_of g.typed (layout g) e d)
-    pub folds : (alive : Variable → Type 0) → ((k : ℕ) → alive (V.File k)) → (n : ℕ) → ((d : Draft) → IsReady g.typed g.instance (layout g) n d)
+    pub folds : (alive : Variable → Type 0) → ((k : ℕ) → alive (V.File k)) → (n : ℕ) → ((d : Draft) → IsReadyButForFields g.typed g.instance (layout g) n d)
         → (e : TExpr) → g.may.beside.folds e → ScalarsAmong alive e → HasCode g.typed g.instance n e
         → (d : Draft) (s : CodeState) (st : State) (R : Value → State → Out → Draft → Type 0) (r : ℕ) → Begun g d → At g s (length d.code) → Sim g alive st s
         → Dest g has alive (type_of e).elem d s R r → Follows g R s (evaluated scope e active st) (computed_to g.typed (layout g) (O.Scalar r) e d)
@@ -39,7 +39,7 @@ abbrev pub under_held : Setting → Held → ℕ → ℕ → ℕ → Setting
 under_held g held from entries upto = record g { held = held; from = from; entries = entries; upto = upto }
 
 -- its state agrees too at another place, where its memory holds what is to be held
-pub sim_saying : (g : Setting) {held more : Held} {from entries upto first fields last : ℕ} (alive : Variable → Type 0) (st : State) (s : CodeState) (at : ℕ) (m : BitMemory) → more.holds st m
+pub sim_saying : (g : Setting) {held more : Held} {from entries upto first fields last : ℕ} (alive : Variable → Type 0) (st : State) (s : CodeState) (at : ℕ) (m : BitMemory) → more.holds at st m
     → Sim (under_held g held from entries upto) alive st s → Sim (under_held g more first fields last) alive st (record s { at = at; memory = m })
 sim_saying g alive st s at m holds h = record {
   registers = h.registers;

@@ -1,10 +1,10 @@
 -- Code that is made as described, jumps over it, and the words on which they depend.
-use Rattle.std.proofs.Common.{◌≡◌, ◌∙◌, ℕ, ◌+◌, Bool, true, false, not, length, slice_index, refl, sym, ap, if◌then◌else◌}
+use Rattle.std.proofs.Common.{◌≡◌, ◌∙◌, ℕ, ◌+◌, Bool, true, false, not, length, slice_index, refl, sym, ap, if◌then◌else◌, ◌⊎◌, inl, inr}
 use Rattle.cstar_base.specs.declared.elem.Elem.{Elem}
 use Rattle.cstar_tree.specs.declared.typed.TExpr.{TExpr}
 use Rattle.cstar_tree.specs.declared.typed.Typed.{Typed}
 use Rattle.cstar_tree.specs.declared.typed.Variable.{Variable}
-use Rattle.code_lengths.specs.Growth.{Extended, Grows}
+use Rattle.code_lengths.specs.Growth.{GrowsOr}
 use Rattle.code_lengths.specs.Lowerable.{GivesValue}
 use Rattle.code_lengths.specs.Ready.{Arrives as IsAtEnd}
 use Rattle.lower_base.specs.declared.emit.Out.{Out}
@@ -18,6 +18,7 @@ use Rattle.source_meaning.specs.State as Source
 use Rattle.source_meaning.specs.State.{Outcome, State, then_do}
 use Rattle.source_meaning.specs.Values.{Value, nonzero, number}
 use Rattle.code_follows.proofs.Following.{Arrives, Extends, Follows, delayed, finished, finishes_later, keeps_all}
+use Rattle.code_follows.proofs.Growing.{Extended, from_growth}
 use Rattle.code_follows.proofs.Jumping.{moved_to, returns_to, skips}
 use Rattle.code_follows.proofs.Settings.{At, Reaches, Setting, Within, and_one, code_more, earlier, start}
 use Rattle.code_follows.proofs.Numbers.{held_nonzero}
@@ -29,12 +30,12 @@ pub record IsMadeWord (long : ℕ) (d : Draft) (made : Made Out) : Type 0 where
   pub is : made ≡ Makes (O.Scalar register) behind
   pub extended : Extended d long behind
 
-pub made_word : (t : Typed) (e : TExpr) (long : ℕ) (d : Draft) (made : Made Out) → is_kept e ≡ true → GivesValue t e → Grows d long (IsAtEnd t e) made → IsMadeWord long d made
-unfolding Grows IsAtEnd
-made_word t e long d (Makes (O.Scalar r) f) kept gives h = record { register = r; behind = f; is = refl; extended = h.1 }
+pub made_word : (t : Typed) (e : TExpr) (long : ℕ) (d : Draft) (made : Made Out) → is_kept e ≡ true → GivesValue t e → GrowsOr (Unit {0}) d long (IsAtEnd t e) made → IsMadeWord long d made ⊎ (made ≡ Fails)
+unfolding GrowsOr IsAtEnd
+made_word t e long d (Makes (O.Scalar r) f) kept gives h = inl (record { register = r; behind = f; is = refl; extended = from_growth d f long h.1 })
 made_word t e long d (Makes (O.Field f) after) kept gives h = let a = h.0 in cc
 made_word t e long d (Makes O.Nothing after) kept gives h = absurd (h.0 gives)
-made_word t e long d Fails kept gives h = absurd h
+made_word t e long d Fails kept gives h = inr refl
 
 -- does the left operand of `&&` or `||` decide, as one that is not 0 or is
 abbrev pub decides : Bool → Bool → Bool

@@ -3,7 +3,6 @@ use Rattle.std.proofs.Common.{◌≡◌, ◌∙◌, ℕ, suc, ◌+◌, ◌<◌, 
 use Rattle.cstar_base.specs.declared.elem.Elem.{Elem}
 use Rattle.cstar_tree.specs.declared.typed.VarInfo.{VarInfo}
 use Rattle.cstar_tree.specs.declared.typed.Variable.{Variable}
-use Rattle.code_lengths.proofs.Drafting.{extended}
 use Rattle.lower_base.specs.declared.emit.Out.{Out}
 use Rattle.lower_base.specs.declared.emit.Out.TheVariants as O
 use Rattle.lower_base.specs.Drafts.{Draft, Makes, a_register, step as step_of, then_make, with_instr}
@@ -19,6 +18,7 @@ use Rattle.source_meaning.specs.State.{Outcome, State}
 use Rattle.source_meaning.specs.Values.{Scalar, Value}
 use Rattle.code_follows.specs.Agreement.{AreBytes, mark_of}
 use Rattle.code_follows.proofs.Following.{Follows, HasRegisters, IsScalar, Sim, arrives_fresh, held, register_is, register_kept, register_set, variable_kept}
+use Rattle.code_follows.proofs.Growing.{extended}
 use Rattle.code_follows.proofs.Settings.{At, Begun, Reaches, Setting, Within, and_one, at_next, begins_here, ends_now, layout, one, placed_instr, regs_more}
 use Rattle.code_follows.proofs.Stores.{IsPut, below_free, sim_begun}
 use Rattle.code_follows.proofs.Values.{Does, Value_of, and_register, with_reg}
@@ -54,7 +54,7 @@ module _ (g : Setting) (has : HasRegisters g) (alive : Variable → Type 0) wher
     input = refl;
     returns = h.returns;
     few = h.few;
-    memory = g.held.still st (record st { input = more }) s.memory (λ k e p. refl) refl h.memory;
+    memory = g.held.still s.at st (record st { input = more }) s.memory (λ k e p. refl) refl h.memory;
     bytes = more_bytes byte more (subst (λ (xs : List ℕ). AreBytes xs) is h.bytes);
   }
 
@@ -87,7 +87,7 @@ module _ (g : Setting) (has : HasRegisters g) (alive : Variable → Type 0) wher
             turns = sim.turns;
             output = sim.output;
             input = sim.input;
-            memory = g.held.finally st s.memory sim.memory;
+            memory = g.held.finally s.at st s.memory sim.memory;
           }
 
   -- the byte as a value

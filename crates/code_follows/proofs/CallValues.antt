@@ -8,9 +8,9 @@ use Rattle.cstar_tree.specs.declared.typed.Variable.{Variable}
 use Rattle.cstar_tree.specs.declared.typed.Variable.TheVariants as V
 use Rattle.code_lengths.specs.Lowerable.{AreLowerable, IsLowerable}
 use Rattle.code_lengths.specs.Naming.{AllNameVariables, NamesVariables}
-use Rattle.code_lengths.specs.Ready.{HasCode, HaveCode, IsReady}
+use Rattle.code_lengths.specs.Ready.{HasCode, HaveCode, IsReadyButForFields}
 use Rattle.code_lengths.specs.Shaped.{AreShaped, IsShaped}
-use Rattle.code_lengths.proofs.Agreeing.{expressions}
+use Rattle.code_lengths.proofs.Agreeing.{lengths_if_made}
 use Rattle.lower_base.specs.Drafts.{Draft, a_register, fresh_for, then_make}
 use Rattle.lower_expr.specs.Operands.{are_quiet}
 use Rattle.lower_expr.specs.Values.{call_to, values_of, value_of}
@@ -25,7 +25,7 @@ use Rattle.code_follows.proofs.Settings.{Setting, layout}
 use Rattle.code_follows.proofs.Values.{Does, Value_of, extends_grown, fresh_dest, with_reg}
 use Rattle.code_follows.proofs.Fresh.{IsFresh}
 
-module _ (g : Setting) (has : HasRegisters g) (alive : Variable → Type 0) (n : ℕ) (files : (k : ℕ) → alive (V.File k)) (ready : (d : Draft) → IsReady g.typed g.instance (layout g) n d) (scope : Scope) (active : Active) (calls_follow : CallsFollow g scope active) where
+module _ (g : Setting) (has : HasRegisters g) (alive : Variable → Type 0) (n : ℕ) (files : (k : ℕ) → alive (V.File k)) (ready : (d : Draft) → IsReadyButForFields g.typed g.instance (layout g) n d) (scope : Scope) (active : Active) (calls_follow : CallsFollow g scope active) where
   -- a call's arguments have code, one for each parameter
   pub arguments_code : {k : Count} (row : Row_of-TExpr k) → AreShaped row → AreLowerable g.typed row → AllNameVariables g.typed g.instance n row → HaveCode g.typed g.instance n row
   unfolding HaveCode AreShaped AreLowerable AllNameVariables
@@ -37,7 +37,7 @@ module _ (g : Setting) (has : HasRegisters g) (alive : Variable → Type 0) (n :
   call_code ty index p row c = arguments_code row c.shaped c.lowerable.1 c.names
 
   arguments_grown : (own quiet : Bool) {k : Count} (row : Row_of-TExpr k) → HaveCode g.typed g.instance n row → (d : Draft) → Extends g d (values_of g.typed (layout g) own quiet row [] d)
-  arguments_grown own quiet {k} row c d = extends_grown g has alive _ d _ _ ((expressions g.typed g.instance (layout g)).list own quiet n k row d c (ready d))
+  arguments_grown own quiet {k} row c d = extends_grown g has alive _ d _ _ ((lengths_if_made g.typed g.instance (layout g)).list own quiet n k row d c (ready d))
 
   pub fresh_call : (bits : ℕ) (ty : ValueType) (index : ℕ) (p : Vec (Unit {0}) Global) (row : _) → IsScalarType ty → g.may.calls (Some ty.elem) index (elems_of row) → HasCode g.typed g.instance n (T.Call' ty index p row) → (d : Draft) → IsFresh d (value_of g.typed (layout g) bits (T.Call' ty index p row) d)
   unfolding value_of fresh_for a_register then_make

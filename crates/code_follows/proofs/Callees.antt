@@ -20,7 +20,7 @@ use Rattle.code_follows.specs.Agreement.{AreBytes}
 use Rattle.code_follows.specs.Fragment.{AreTaken, IsResult, IsScalarVariable, Takes}
 use Rattle.code_follows.proofs.Besides.{ExpressionsFollow}
 use Rattle.code_follows.proofs.Following.{Finishes, HasNumber, HasRegisters, held, input_of}
-use Rattle.code_follows.proofs.Settings.{CallStands, Reaches, Setting, layout}
+use Rattle.code_follows.proofs.Settings.{CallStands, LastsTo, Reaches, Setting, layout}
 
 module _ (g : Setting) where
   -- A function with scalar parameters, and a scalar result or none. Its code, and that of what it calls, may
@@ -43,8 +43,9 @@ module _ (g : Setting) where
     pub apart_result : touches (result_register (layout g)) → ⊥
     pub apart_constant : (word r : ℕ) → constant_register (layout g) word ≡ Some r → touches r → ⊥
 
-  -- the registers hold the scalar variables of the file and the constants; the rest is as in the source
-  pub record Shared (st : State) (s : CodeState) : Type 0 where
+  -- the registers hold the scalar variables of the file and the constants; the rest is as in the source, and the memory
+  -- has what is held at a place
+  pub record Shared (place : ℕ) (st : State) (s : CodeState) : Type 0 where
     pub registers : length s.registers ≡ g.image.slots
     pub files : (k : ℕ) (info : VarInfo) → slice_get g.typed.vars.items k ≡ Some info → IsScalarVariable info → slice_index s.registers k ≡ held info.elem (st.scalar (V.File k))
     pub small : (k : ℕ) (info : VarInfo) → slice_get g.typed.vars.items k ≡ Some info → IsScalarVariable info → st.scalar (V.File k) < 2 ^ info.elem.bits
@@ -53,7 +54,7 @@ module _ (g : Setting) where
     pub output : s.output ≡ st.output
     pub input : s.input ≡ input_of st
     pub bytes : AreBytes st.input
-    pub memory : g.held.holds st s.memory
+    pub memory : g.held.holds place st s.memory
 
   module _ {index : ℕ} (c : Callee index) where
     -- the register of its result
@@ -66,7 +67,7 @@ module _ (g : Setting) where
       pub go : Reaches g s t
       pub at : t.at ≡ back
       pub returns : t.returns ≡ g.returns
-      pub shared : Shared st t
+      pub shared : Shared back st t
       pub turned : st.turns ≤ before.turns
       pub params_kept : (k : ℕ) → st.scalar (V.Param k) ≡ before.scalar (V.Param k)
       pub locals_kept : (k : ℕ) → st.scalar (V.Local k) ≡ before.scalar (V.Local k)
@@ -86,7 +87,7 @@ module _ (g : Setting) where
     -- the code of its body from its first instruction on, where so many turns are left at most
     unfoldable pub Enters : ℕ → Active → Type 0
     Enters m active =
-        (arguments : List Value) (st : State) (s : CodeState) (back : ℕ) → s.at ≡ start_at g.image index → s.returns ≡ g.returns ++ back ∷ [] → Shared st s → st.turns ≤ m → AreGiven arguments s → ((info : VarInfo) → c.callee.result ≡ Some info → slice_index s.registers given_in ≡ 0)
+        (arguments : List Value) (st : State) (s : CodeState) (back : ℕ) → s.at ≡ start_at g.image index → s.returns ≡ g.returns ++ back ∷ [] → Shared back st s → st.turns ≤ m → AreGiven arguments s → ((info : VarInfo) → c.callee.result ≡ Some info → slice_index s.registers given_in ≡ 0)
         → RunsBody back s st (run_body g.typed (calls g.typed m) (Some c.callee) arguments active st)
 
   -- each function that may be called runs so wherever it is called, with one turn fewer left
@@ -99,10 +100,11 @@ module _ (g : Setting) where
   TakesThese active index given = (m : MayCall active index) × AreTaken m.callee.callee.params.items given
 
   -- Calls follow the source: a call means what the source says of so many turns, and what is called is known. The
-  -- result takes what is returned. And so do the parallel expressions.
+  -- result takes what is returned. So do the parallel expressions, and what is held lasts to where jumps lead.
   pub record CallsFollow (scope : Scope) (active : Active) : Type 1 where
     pub meant : scope.call ≡ calls g.typed g.most
     pub value : (elem : Elem) (index : ℕ) (given : List Elem) → g.may.calls (Some elem) index given → (h : TakesThese active index given) × (HasResult g.typed index × IsResult h.0.callee.callee.result elem)
     pub effect : (index : ℕ) (given : List Elem) → g.may.calls None index given → TakesThese active index given
     pub returns : (elem : Elem) → g.may.returns elem → (info : VarInfo) → g.instance.result ≡ Some info → Takes info.elem elem
     pub beside : (has : HasRegisters g) → ExpressionsFollow g has scope active
+    pub lasts : (target : ℕ) → g.from ≤ target → LastsTo g g.held target

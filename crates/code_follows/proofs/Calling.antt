@@ -7,9 +7,7 @@ use Rattle.cstar_tree.specs.declared.typed.Instance.{Instance}
 use Rattle.cstar_tree.specs.declared.typed.VarInfo.{VarInfo}
 use Rattle.cstar_tree.specs.declared.typed.Variable.{Variable}
 use Rattle.cstar_tree.specs.declared.typed.Variable.TheVariants as V
-use Rattle.code_lengths.specs.Growth.{Extended}
 use Rattle.code_lengths.specs.Naming.{variable_named}
-use Rattle.code_lengths.proofs.Drafting.{extended}
 use Rattle.lower_base.specs.Constants.{first_free}
 use Rattle.lower_base.specs.Drafts.{Draft, Makes, step as step_of, with_instr}
 use Rattle.lower_base.specs.Layouts.{register_of, result_register}
@@ -22,14 +20,15 @@ use Rattle.source_meaning.specs.State.{Outcome, State, spend_turn}
 use Rattle.source_meaning.specs.Values.{Active, Scope, Value}
 use Rattle.code_follows.proofs.Callees.{AreGiven, Callee, CallsFollow, ComesBack, Enters, MayCall, RunsBody, Shared}
 use Rattle.code_follows.proofs.Following.{Follows, HasNumber, HasRegisters, IsKept, IsScalar, Keeps, Sim, apart_set, at_once, finishes_later, held}
+use Rattle.code_follows.proofs.Growing.{Extended, extended}
 use Rattle.code_follows.proofs.Jumping.{behind_turn, sim_spent, spends, stops}
 use Rattle.code_follows.proofs.Settings.{At, Begun, CallStands, Reaches, Setting, Within, and_one, at_next, begins_here, begun_later, code_more, earlier, layout, one, onto, regs_more, stands_here}
 
 module _ (g : Setting) (has : HasRegisters g) (alive : Variable → Type 0) (files_live : (k : ℕ) → alive (V.File k)) (scope : Scope) (active : Active) (calls_follow : CallsFollow g scope active) where
-  -- what the registers share with what is called
-  shared_of : (st : State) (s : CodeState) → Sim g alive st s → Shared g st s
+  -- what the registers share with what is called, and what is held behind the place
+  shared_of : (place : ℕ) (st : State) (s : CodeState) → s.at ≤ place → Sim g alive st s → Shared g place st s
   unfolding register_of variable_named
-  shared_of st s h = record {
+  shared_of place st s behind h = record {
     registers = h.registers;
     files = λ k info is scalar. h.scalars (V.File k) info (files_live k) (is, scalar);
     small = λ k info is scalar. h.small (V.File k) info (files_live k) (is, scalar);
@@ -38,7 +37,7 @@ module _ (g : Setting) (has : HasRegisters g) (alive : Variable → Type 0) (fil
     output = h.output;
     input = h.input;
     bytes = h.bytes;
-    memory = h.memory;
+    memory = g.held.onward s.at place st s.memory behind h.memory;
   }
 
   module _ {index : ℕ} (m : MayCall g active index) where
@@ -105,7 +104,7 @@ module _ (g : Setting) (has : HasRegisters g) (alive : Variable → Type 0) (fil
       output = b.shared.output;
       input = b.shared.input;
       bytes = b.shared.bytes;
-      memory = b.shared.memory;
+      memory = subst (λ (n : ℕ). g.held.holds n u b.t.memory) (sym b.at) b.shared.memory;
       returns = b.returns;
       few = let fewer = b.turned in let few = sim.few in omega (arith, fewer, few);
     }
@@ -159,8 +158,8 @@ module _ (g : Setting) (has : HasRegisters g) (alive : Variable → Type 0) (fil
           sim_turned : Sim g alive begun_body spent
           sim_turned = sim_spent g alive st s left some sim
 
-          shared : Shared g begun_body (enters_in left)
-          shared = let h = shared_of begun_body spent sim_turned in record { registers = h.registers; files = h.files; small = h.small; constants = h.constants; turns = h.turns; output = h.output; input = h.input; bytes = h.bytes; memory = h.memory }
+          shared : Shared g (spent.at + 1) begun_body (enters_in left)
+          shared = let h = shared_of (spent.at + 1) begun_body spent (omega arith) sim_turned in record { registers = h.registers; files = h.files; small = h.small; constants = h.constants; turns = h.turns; output = h.output; input = h.input; bytes = h.bytes; memory = h.memory }
 
           stands : CallStands g index
           stands =

@@ -4,8 +4,6 @@ use Rattle.cstar_base.specs.declared.elem.Elem.{Elem}
 use Rattle.cstar_base.specs.Numbers.{converted}
 use Rattle.cstar_tree.specs.declared.typed.ValueType.{ValueType}
 use Rattle.cstar_tree.specs.declared.typed.Variable.{Variable}
-use Rattle.code_lengths.specs.Growth.{Extended}
-use Rattle.code_lengths.proofs.Drafting.{as_it_was, extended}
 use Rattle.lower_base.specs.declared.emit.Out.{Out}
 use Rattle.lower_base.specs.declared.emit.Out.TheVariants as O
 use Rattle.lower_base.specs.Drafts.{Draft, Makes, Made, Fails, in_register, step as step_of, then_make, with_instr}
@@ -19,6 +17,7 @@ use Rattle.source_meaning.specs.State.{Outcome, State, then_do}
 use Rattle.source_meaning.specs.Values.{Scalar, Value, at as value_at, cast_through, cast_type}
 use Rattle.code_follows.proofs.Fresh.{IsFresh, made_so}
 use Rattle.code_follows.proofs.Following.{Arrives, Extends, Follows, HasRegisters, arrives_fresh, held, keeps_all, then_follows}
+use Rattle.code_follows.proofs.Growing.{Extended, as_it_was, extended}
 use Rattle.code_follows.proofs.Numbers.{rounded_is}
 use Rattle.code_follows.proofs.Settings.{Begun, Setting, Within, and_one, earlier, stay}
 use Rattle.code_follows.proofs.Values.{Does, HasWord, Value_of, extends_in_register, mapped_is, takes_word}

@@ -6,8 +6,7 @@ use Rattle.cstar_base.specs.declared.elem.Elem.{Elem}
 use Rattle.cstar_base.specs.Numbers.{converted}
 use Rattle.cstar_tree.specs.declared.typed.ValueType.{ValueType}
 use Rattle.cstar_tree.specs.declared.typed.Variable.{Variable}
-use Rattle.code_lengths.proofs.Drafting.{as_it_was, extended}
-use Rattle.code_lengths.specs.Growth.{Extended, Grows}
+use Rattle.code_lengths.specs.Growth.{GrowsOr}
 use Rattle.code_lengths.proofs.Pieces.{InField, test_grows, width}
 use Rattle.constant_trees.proofs.Words.{converted_below}
 use Rattle.lower_base.specs.declared.emit.Out.{Out}
@@ -27,6 +26,7 @@ use Rattle.source_meaning.specs.Values.{Scalar, Value, at, cast_through, cast_ty
 use Rattle.code_follows.proofs.Casts.{with_operand}
 use Rattle.code_follows.proofs.Following.{Arrives, Extends, Follows, HasRegisters, extends_made, then_follows}
 use Rattle.code_follows.proofs.Fresh.{IsFresh, made_so}
+use Rattle.code_follows.proofs.Growing.{Extended, as_it_was, extended}
 use Rattle.code_follows.proofs.Settings.{Begun, Setting, and_one, regs_more, stay}
 use Rattle.code_follows.proofs.Values.{Does, Value_of, conversion_is, extends_grown}
 use Rattle.code_follows.proofs.Words.{below_word, held_converted, held_wide}
@@ -37,8 +37,8 @@ unfolding converted_in_place
 in_place_is elem r d wide is = ap (λ (b : Bool). Makes (O.Scalar r) (if b then with_instr (I.FrontConvert r r elem) d else d)) (width elem ∙ ap not is)
 
 -- what stands in a field is no register
-field_fresh : (d e : Draft) (n : ℕ) (made : Made Out) → Grows e n InField made → IsFresh d made
-unfolding Grows IsFresh
+field_fresh : (d e : Draft) (n : ℕ) (made : Made Out) → GrowsOr (Unit {0}) e n InField made → IsFresh d made
+unfolding GrowsOr IsFresh
 field_fresh d e n (Makes (O.Scalar r) f) h = let a = h.0 in cc
 field_fresh d e n (Makes (O.Field field) f) h = tt
 field_fresh d e n (Makes O.Nothing f) h = tt
@@ -57,7 +57,7 @@ module _ (g : Setting) (has : HasRegisters g) (alive : Variable → Type 0) wher
       by : (b c : Bool) → Extends g d (if b then put_test f (with_instr (I.NeZero f) d)
           else (if c then Makes (O.Field f) (with_instr (I.OperateConstant (shifted_back elem.signed) f f (K.Imm (32 - elem.bits))) (with_instr (I.OperateConstant Act.UShiftLeft f f (K.Imm (32 - elem.bits))) d))
           else Makes (O.Field f) d))
-      by true c = extends_made g d (with_instr (I.NeZero f) d) 1 (put_test f (with_instr (I.NeZero f) d)) (and_one g (I.NeZero f) d) (extends_grown g has alive InField (with_instr (I.NeZero f) d) _ _ (test_grows f (with_instr (I.NeZero f) d)))
+      by true c = extends_made g d (with_instr (I.NeZero f) d) 1 (put_test f (with_instr (I.NeZero f) d)) (and_one g (I.NeZero f) d) (extends_grown g has alive InField (with_instr (I.NeZero f) d) _ _ (test_grows (Unit {0}) f (with_instr (I.NeZero f) d)))
       by false true =
           let shifted : Draft = with_instr (I.OperateConstant Act.UShiftLeft f f (K.Imm (32 - elem.bits))) d in
           (1 + 1, extended d shifted _ 1 1 (and_one g (I.OperateConstant Act.UShiftLeft f f (K.Imm (32 - elem.bits))) d) (and_one g (I.OperateConstant (shifted_back elem.signed) f f (K.Imm (32 - elem.bits))) shifted))
@@ -72,7 +72,7 @@ module _ (g : Setting) (has : HasRegisters g) (alive : Variable → Type 0) wher
       field : (f : Field) (e : Draft) (b c : Bool) → IsFresh d (if b then put_test f (with_instr (I.NeZero f) e)
           else (if c then Makes (O.Field f) (with_instr (I.OperateConstant (shifted_back elem.signed) f f (K.Imm (32 - elem.bits))) (with_instr (I.OperateConstant Act.UShiftLeft f f (K.Imm (32 - elem.bits))) e))
           else Makes (O.Field f) e))
-      field f e true c = field_fresh d (with_instr (I.NeZero f) e) _ _ (test_grows f (with_instr (I.NeZero f) e))
+      field f e true c = field_fresh d (with_instr (I.NeZero f) e) _ _ (test_grows (Unit {0}) f (with_instr (I.NeZero f) e))
       field f e false true = tt
       field f e false false = tt
 

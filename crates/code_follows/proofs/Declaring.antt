@@ -8,11 +8,9 @@ use Rattle.cstar_tree.specs.declared.typed.VarInfo.{VarInfo}
 use Rattle.cstar_tree.specs.declared.typed.Variable.{Variable}
 use Rattle.cstar_tree.specs.declared.typed.Variable.TheVariants as V
 use Rattle.cstar_tree.specs.Variables.{variables_of}
-use Rattle.code_lengths.specs.Growth.{Extended}
 use Rattle.code_lengths.specs.Naming.{IsDeclared, variable_named}
 use Rattle.code_lengths.specs.NamingStatements.{StandFrom}
 use Rattle.code_lengths.proofs.Declaring.{at_length, info_of, second_part}
-use Rattle.code_lengths.proofs.Drafting.{as_it_was, extended}
 use Rattle.lower_base.specs.Drafts.{Draft, Made, Makes, step as step_of, then_make, with_instr}
 use Rattle.lower_base.specs.Layouts.{entries_of, register_of}
 use Rattle.lower_stmt.specs.Variables.{all_cleared, begins_constant, cleared, cleared_fields, with_home}
@@ -24,6 +22,7 @@ use Rattle.code_follows.specs.Fragment.{IsScalarLocal, OrAmong}
 use Rattle.code_follows.specs.Agreement.{AreBytes}
 use Rattle.code_follows.proofs.Executing.{ran_from}
 use Rattle.code_follows.proofs.Following.{HasRegisters, IsScalar, Keeps, Ran, Sim, held, input_of, keeps_all, variable_kept}
+use Rattle.code_follows.proofs.Growing.{Extended, as_it_was, extended}
 use Rattle.code_follows.proofs.Settings.{At, Setting, Within, and_one, at_next, begins_here, earlier, layout, one, regs_more, stay}
 use Rattle.code_follows.proofs.Stores.{below_free, same_is, sim_begun, same_itself}
 use Rattle.std.proofs.lemmas.Nat.{pow_pos}
@@ -79,7 +78,7 @@ module _ (g : Setting) where
     returns = h.returns;
     few = subst (λ (k : ℕ). k ≤ g.most) (sym turns) h.few;
     bytes = subst (λ (i : Machine.Rest). AreBytes i.bytes) (sym input) h.bytes;
-    memory = g.held.still u v s.memory fields winner h.memory;
+    memory = g.held.still s.at u v s.memory fields winner h.memory;
   }
 
   -- what holds of more variables holds of fewer
@@ -249,7 +248,7 @@ module _ (g : Setting) (has : HasRegisters g) where
         bytes = sim.bytes;
         returns = sim.returns;
         few = sim.few;
-        memory = g.held.still st (with_scalar (V.Local n) 0 st) s.memory (λ k e p. refl) refl sim.memory;
+        memory = g.held.still s.at st (with_scalar (V.Local n) 0 st) s.memory (λ k e p. refl) refl sim.memory;
       }
         where
           not_it : (x : Variable) → (x ≡ V.Local n → ⊥) → (with_scalar (V.Local n) 0 st).scalar x ≡ st.scalar x

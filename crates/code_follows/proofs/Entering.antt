@@ -26,6 +26,7 @@ use Rattle.paris_code.specs.declared.program.Image.{Image}
 use Rattle.paris_code.specs.declared.program.Unit.{Unit as CodeUnit}
 use Rattle.paris_code.specs.Code.{CodeState, Goes, returned}
 use Rattle.paris_code.specs.Units.{start_at, start_of}
+use Rattle.paris_code.specs.Memory.{BitMemory}
 use Rattle.source_meaning.specs.Programs.{by_owner, calls, entered, left, result_of, run_body, scalar_given, scope_of}
 use Rattle.source_meaning.specs.State as Source
 use Rattle.source_meaning.specs.State.{Outcome, State, is_among, then_do}
@@ -48,7 +49,7 @@ use Rattle.std.proofs.lemmas.Nat.{pow_pos}
 use Rattle.source_meaning.specs.Reductions.{int_type}
 use Rattle.code_follows.proofs.Numbers.{zero_converted}
 use Rattle.code_follows.proofs.Regions.{result_is, same_constants, same_end}
-use Rattle.code_follows.proofs.Settings.{At, CallStands, Held, Setting, called_below, one, onto, start}
+use Rattle.code_follows.proofs.Settings.{At, CallStands, Held, LastsTo, Setting, called_below, one, onto, start}
 use Rattle.code_follows.proofs.Standing.{start_in, unit_there}
 use Rattle.code_follows.proofs.Units.{blank_homes, blank_regs, not_main, other_is, unit_at}
 
@@ -120,18 +121,25 @@ module _ (image : Image) (t : Typed) {beside : Beside} (p : IsProgramBeside besi
   result_given Broke u info found h closed zero_there = absurd closed
   result_given Continued u info found h closed zero_there = absurd closed
 
+-- What a function that is called in a state holds, by what its caller holds behind the call.
+pub record Opens (outer inner : Held) (back : ℕ) (st : State) : Type 0 where
+  pub enters : (at : ℕ) (u : State) (m : BitMemory) → ((k e p : ℕ) → u.parallel (V.File k) e p ≡ st.parallel (V.File k) e p) → u.winner ≡ st.winner → outer.holds back st m → inner.holds at u m
+  pub leaves : (at : ℕ) (u v : State) (m : BitMemory) → ((k e p : ℕ) → v.parallel (V.File k) e p ≡ u.parallel (V.File k) e p) → v.winner ≡ u.winner → inner.holds at u m → outer.holds back v m
+  pub ends : (u : State) (m : BitMemory) → inner.ends u m → outer.ends u m
+
 module _ (t : Typed) (image : Image) {beside : Beside} (p : IsProgramBeside beside t) (codable : IsCodable t) (compiled : IsCompiled t image) where
   -- a function that runs where this is held, and between such places
   abbrev pub running : Held → ℕ → ℕ → ℕ → (number : ℕ) (i : Instance) → slice_get t.instances.items number ≡ Some i → List ℕ → ℕ → Setting
   running held from entries upto number i is opens most = under_held (activation t image p codable compiled held number i is opens most) held from entries upto
 
-  -- where this is known parallel expressions and statements under contexts follow, and it is known of each function that
-  -- is called there
+  -- where this is known parallel expressions and statements under contexts follow, it is known of each function that is
+  -- called there, and what is held lasts to where jumps lead
   pub record AllBeside (Known : Setting → Scope → Active → Type 1) : Type 1 where
     pub follows : (g : Setting) (scope : Scope) (a : Active) → Known g scope a → (has : HasRegisters g) → BesideFollows Known g has scope a
     pub called : (held : Held) (from entries upto : ℕ) (a : Active) (me : ℕ) (i : Instance) (is_me : slice_get t.instances.items me ≡ Some i) (opens : List ℕ) (most : ℕ) → Known (running held from entries upto me i is_me opens most) (scope_of t i (calls t most)) a
         → (number : ℕ) (b : Instance) (is : slice_get t.instances.items number ≡ Some b) (back : List ℕ) (m : ℕ) → CallStands (running held from entries upto me i is_me opens most) number
-        → Known (activation t image p codable compiled held number b is back m) (scope_of t b (calls t m)) a
+        → (place : ℕ) (st : State) → (inside : Held) × (Opens held inside place st × Known (activation t image p codable compiled inside number b is back m) (scope_of t b (calls t m)) a)
+    pub lasts : (g : Setting) (scope : Scope) (a : Active) → Known g scope a → (target : ℕ) → g.from ≤ target → LastsTo g g.held target
 
 module _ (t : Typed) (image : Image) {beside : Beside} (p : IsProgramBeside beside t) (codable : IsCodable t) (compiled : IsCompiled t image) (holding : Held) (from entries upto : ℕ) (me : ℕ) (a : Instance) (is_me : slice_get t.instances.items me ≡ Some a) (back_to : List ℕ) (number : ℕ) (b : Instance) (is : slice_get t.instances.items number ≡ Some b)
     (some : 0 < number) (called : Contains (calls_within a.body) number) (m : ℕ) where
@@ -142,14 +150,14 @@ module _ (t : Typed) (image : Image) {beside : Beside} (p : IsProgramBeside besi
   abbrev called_one : Callee caller number
   called_one = callee_known t image p codable compiled me a is_me back_to (suc m) number b is called holding from entries upto
 
-  module _ (here : CallStands caller number) (active : Active) (arguments : List Value) (st : State) (s : CodeState) (back : ℕ) (starts : s.at ≡ start_at image number) (stacked : s.returns ≡ back_to ++ back ∷ []) (shared : Shared caller st s) (few : st.turns ≤ m) (given : AreGiven caller called_one arguments s)
+  module _ (here : CallStands caller number) (active : Active) (arguments : List Value) (st : State) (s : CodeState) (back : ℕ) (inside : Held) (opens : Opens holding inside back st) (starts : s.at ≡ start_at image number) (stacked : s.returns ≡ back_to ++ back ∷ []) (shared : Shared caller back st s) (few : st.turns ≤ m) (given : AreGiven caller called_one arguments s)
       (zero_there : (info : VarInfo) → b.result ≡ Some info → slice_index s.registers ((layout_of t (words t image p codable compiled) number).base + length b.params.items) ≡ 0) where
     abbrev open_calls : List ℕ
     open_calls = back_to ++ back ∷ []
 
     -- the called function
     abbrev inner : Setting
-    inner = activation t image p codable compiled holding number b is open_calls m
+    inner = activation t image p codable compiled inside number b is open_calls m
 
     abbrev opening_state : State
     opening_state = entered b arguments active st
@@ -186,7 +194,7 @@ module _ (t : Typed) (image : Image) {beside : Beside} (p : IsProgramBeside besi
       returns = stacked;
       few = few;
       bytes = shared.bytes;
-      memory = inner.held.still st opening_state s.memory (λ k e p. refl) refl shared.memory;
+      memory = opens.enters s.at opening_state s.memory (λ k e p. refl) refl shared.memory;
     }
       where
         value : (x : Variable) (info : VarInfo) → OfFileOrParam x → IsScalar inner x info → slice_index s.registers (register_of (layout_of t (words t image p codable compiled) number) x) ≡ held info.elem (opening_state.scalar x)
@@ -203,7 +211,7 @@ module _ (t : Typed) (image : Image) {beside : Beside} (p : IsProgramBeside besi
 
     -- what is said of the inner function's early end is said of the caller's
     ends_early : (early : Source.Early) (u : State) → Finishes inner early u s → Finishes caller early u s
-    ends_early early u f = record { t = f.t; ends = record { steps = f.ends.steps; is = f.ends.is }; turns = f.turns; output = f.output; input = f.input; memory = f.memory }
+    ends_early early u f = record { t = f.t; ends = record { steps = f.ends.steps; is = f.ends.is }; turns = f.turns; output = f.output; input = f.input; memory = opens.ends u f.t.memory f.memory }
 
     goes_back : (leaving : Leaving) (u : State) → u.turns ≤ st.turns → Returns inner OfFileOrParam inner.held s u (given_back leaving) → NoJump (Source.Gives leaving u) → ComesBack caller called_one back s st (result_of b.result leaving) (left st u)
     unfolding left by_owner variable_named register_of callee_known OfFileOrParam
@@ -221,7 +229,7 @@ module _ (t : Typed) (image : Image) {beside : Beside} (p : IsProgramBeside besi
         output = r.sim.output;
         input = r.sim.input;
         bytes = r.sim.bytes;
-        memory = inner.held.still u (left st u) r.t.memory (λ k e p. refl) refl r.sim.memory;
+        memory = opens.leaves r.t.at u (left st u) r.t.memory (λ k e p. refl) refl r.sim.memory;
       };
       turned = less;
       params_kept = λ k. refl;
@@ -238,25 +246,25 @@ module _ (t : Typed) (image : Image) {beside : Beside} (p : IsProgramBeside besi
 
         given_so : (leaving : Leaving) (info : VarInfo) → b.result ≡ Some info → IsGiven inner OfFileOrParam s r.t (given_back leaving) → NoJump (Source.Gives leaving u)
             → HasNumber info.elem (result_of b.result leaving) ((layout_of t (words t image p codable compiled) number).base + length b.params.items) r.t
-        given_so leaving info found h closed = result_given image t p codable compiled holding number b is open_calls m s r.t leaving u info found h closed (zero_there info found)
+        given_so leaving info found h closed = result_given image t p codable compiled inside number b is open_calls m s r.t leaving u info found h closed (zero_there info found)
 
     -- the code of the body, as that of a block whose variables are cleared
-    as_block : (locals : Vec LocalVar Global) (q : Vec (Unit {0}) Global) (row : _) → body_of t (layout_of t (words t image p codable compiled) number) (frame t image p codable compiled holding number b is open_calls m) (S.Block' locals q row) begin
-        ≡ then_make (declared_in t (layout_of t (words t image p codable compiled) number) false locals.items 0 begin) (λ n after. statements_of t (layout_of t (words t image p codable compiled) number) row (frame t image p codable compiled holding number b is open_calls m) [] n after)
+    as_block : (locals : Vec LocalVar Global) (q : Vec (Unit {0}) Global) (row : _) → body_of t (layout_of t (words t image p codable compiled) number) (frame t image p codable compiled inside number b is open_calls m) (S.Block' locals q row) begin
+        ≡ then_make (declared_in t (layout_of t (words t image p codable compiled) number) false locals.items 0 begin) (λ n after. statements_of t (layout_of t (words t image p codable compiled) number) row (frame t image p codable compiled inside number b is open_calls m) [] n after)
     unfolding body_of body_frame
-    as_block locals q row = ap (λ (c : Bool). then_make (declared_in t (layout_of t (words t image p codable compiled) number) c locals.items 0 begin) (λ n after. statements_of t (layout_of t (words t image p codable compiled) number) row (frame t image p codable compiled holding number b is open_calls m) [] n after)) is_other
+    as_block locals q row = ap (λ (c : Bool). then_make (declared_in t (layout_of t (words t image p codable compiled) number) c locals.items 0 begin) (λ n after. statements_of t (layout_of t (words t image p codable compiled) number) row (frame t image p codable compiled inside number b is open_calls m) [] n after)) is_other
 
-    made_here : (body : TStmt) → b.body ≡ body → then_make (body_of t (layout_of t (words t image p codable compiled) number) (frame t image p codable compiled holding number b is open_calls m) body begin) (λ n e. Makes (tt {0}) (ended (number == 0) b.body e)) ≡ Makes (tt {0}) (unit_at t image (scalars t image p codable compiled) codable compiled number b is)
+    made_here : (body : TStmt) → b.body ≡ body → then_make (body_of t (layout_of t (words t image p codable compiled) number) (frame t image p codable compiled inside number b is open_calls m) body begin) (λ n e. Makes (tt {0}) (ended (number == 0) b.body e)) ≡ Makes (tt {0}) (unit_at t image (scalars t image p codable compiled) codable compiled number b is)
     unfolding body_frame
     made_here body body_is =
-        ap (λ (x : TStmt). then_make (body_of t (layout_of t (words t image p codable compiled) number) (frame t image p codable compiled holding number b is open_calls m) x begin) (λ n e. Makes (tt {0}) (ended (number == 0) b.body e))) (sym body_is)
+        ap (λ (x : TStmt). then_make (body_of t (layout_of t (words t image p codable compiled) number) (frame t image p codable compiled inside number b is open_calls m) x begin) (λ n e. Makes (tt {0}) (ended (number == 0) b.body e))) (sym body_is)
         ∙ ap (λ (c : Bool). then_make (body_of t (layout_of t (words t image p codable compiled) number) (body_frame c b) b.body begin) (λ n e. Makes (tt {0}) (ended c b.body e))) is_other
         ∙ other_is t image (scalars t image p codable compiled) codable compiled number b is is_other
 
     -- the body of the function follows, where its own calls do
-    module _ {Known : Setting → Scope → Active → Type 1} (besides : AllBeside t image p codable compiled Known) (known : Known inner (scope t image p codable compiled holding number b is open_calls m) active)
-        (calls_follow : (held : Held) (from entries upto : ℕ) (a : Active) → Known (under_held inner held from entries upto) (scope t image p codable compiled holding number b is open_calls m) a → CallsFollow (under_held inner held from entries upto) (scope t image p codable compiled holding number b is open_calls m) a) where
-      came : (o : Outcome Leaving) → (state_after o).turns ≤ st.turns → NoJump o → RunsFunction t image p codable compiled holding number b is open_calls m s o → RunsBody caller called_one back s st (then_do o (λ leaving after. Source.Gives (result_of b.result leaving) (left st after)))
+    module _ {Known : Setting → Scope → Active → Type 1} (besides : AllBeside t image p codable compiled Known) (known : Known inner (scope t image p codable compiled inside number b is open_calls m) active)
+        (calls_follow : (held : Held) (from entries upto : ℕ) (a : Active) → Known (under_held inner held from entries upto) (scope t image p codable compiled inside number b is open_calls m) a → CallsFollow (under_held inner held from entries upto) (scope t image p codable compiled inside number b is open_calls m) a) where
+      came : (o : Outcome Leaving) → (state_after o).turns ≤ st.turns → NoJump o → RunsFunction t image p codable compiled inside number b is open_calls m s o → RunsBody caller called_one back s st (then_do o (λ leaving after. Source.Gives (result_of b.result leaving) (left st after)))
       unfolding RunsFunction RunsBody then_do state_after left
       came (Source.Gives leaving u) less closed runs = goes_back leaving u less runs closed
       came (Source.Ends early u) less closed runs = ends_early early u runs
@@ -264,35 +272,34 @@ module _ (t : Typed) (image : Image) {beside : Beside} (p : IsProgramBeside besi
       pub body_follows : (body : TStmt) → b.body ≡ body → IsBody inner.may body → RunsBody caller called_one back s st (run_body t (calls t m) (Some b) arguments active st)
       unfolding IsBody IsInStatement OfFileOrParam statement_of run_body scope_of executed entered
       body_follows (S.Block' locals q row) body_is isin =
-          let f = frame t image p codable compiled holding number b is open_calls m in
+          let f = frame t image p codable compiled inside number b is open_calls m in
           let body : TStmt = S.Block' locals q row in
           let c : HasStatementCode t b 0 body = subst (λ (x : TStmt). HasStatementCode t b 0 x) body_is (codable number b is).1 in
-          let h = has t image p codable compiled holding number b is open_calls m in
-          let numbers = numbered t image p codable compiled holding number b is open_calls m in
-          let is_ready = ready t image p codable compiled holding number b is open_calls m in
-          let declared = declares t image p codable compiled holding number b is open_calls m in
-          let where_it_is = scope t image p codable compiled holding number b is open_calls m in
-          let never_rises = falls t image p codable compiled holding number b is open_calls m in
+          let h = has t image p codable compiled inside number b is open_calls m in
+          let numbers = numbered t image p codable compiled inside number b is open_calls m in
+          let is_ready = ready t image p codable compiled inside number b is open_calls m in
+          let where_it_is = scope t image p codable compiled inside number b is open_calls m in
+          let never_rises = falls t image p codable compiled inside number b is open_calls m in
           let around : Around Known inner where_it_is active =
-          record { has = h; numbers = numbers; ready = is_ready; declares = declared; calls = calls_follow; falls = never_rises; known = known } in
+          record { has = h; numbers = numbers; ready = is_ready; calls = calls_follow; falls = never_rises; known = known } in
           let runs : Follows inner (Left inner OfFileOrParam out begin s) s (executed where_it_is body 0 active opening_state) (body_of t (layout_of t (words t image p codable compiled) number) f body begin) =
           subst (λ (made : Made ℕ). Follows inner (Left inner OfFileOrParam out begin s) s (executed where_it_is body 0 active opening_state) made) (sym (as_block locals q row))
           (statement_follows where_it_is (λ g. besides.follows g where_it_is) inner active around [] OfFileOrParam (λ k. tt) 0 before_all body isin.0 out begin s opening_state
-          (framed t image p codable compiled holding number b is open_calls m) (stands_here t image p codable compiled holding number b is open_calls m) (blank_homes t image (scalars t image p codable compiled) codable compiled number b) (record { regs = let regs = blank_regs t image (scalars t image p codable compiled) codable compiled number b in omega (arith, regs); code = omega arith; fields = omega arith }) stands sim c) in
-          let made = body_made t image p codable compiled holding number b is open_calls m (body_of t (layout_of t (words t image p codable compiled) number) f body begin) (made_so body body_is) in
+          (framed t image p codable compiled inside number b is open_calls m) (stands_here t image p codable compiled inside number b is open_calls m ((calls_follow inside inner.from inner.entries inner.upto active known).lasts 0 (omega arith))) (declares t image p codable compiled inside number b is open_calls m begin (blank_homes t image (scalars t image p codable compiled) codable compiled number b)) (record { regs = let regs = blank_regs t image (scalars t image p codable compiled) codable compiled number b in omega (arith, regs); code = omega arith; fields = omega arith }) stands sim c) in
+          let made = body_made t image p codable compiled inside number b is open_calls m (body_of t (layout_of t (words t image p codable compiled) number) f body begin) (made_so body body_is) in
           let never : ends_in_return b.body ≡ true → NeverOnward (executed where_it_is body 0 active opening_state) =
           λ ends. never_second (initialised where_it_is active 0 locals.items _) _ (λ u. body_never where_it_is active locals q row (sym (ap (λ (x : TStmt). ends_in_return x) body_is) ∙ ends) (0 + length locals.items) u) in
           let closed : NoJump (executed where_it_is body 0 active opening_state) = go_closed _ _ (begins_closed where_it_is active 0 locals.items _) (λ u. closed_row where_it_is row isin.1 (0 + length locals.items) active u) in
           subst (λ (x : TStmt). RunsBody caller called_one back s st (then_do (executed where_it_is x 0 active opening_state) (λ leaving after. Source.Gives (result_of b.result leaving) (left st after)))) (sym body_is)
           (came (executed where_it_is body 0 active opening_state) (never_rises active body 0 opening_state) closed
-          (runs_function t image p codable compiled holding number b is open_calls m begin made.e made.n s (executed where_it_is body 0 active opening_state) (ends_by t image p codable compiled holding number b is open_calls m (executed where_it_is body 0 active opening_state) made.e made.unit never) closed
+          (runs_function t image p codable compiled inside number b is open_calls m begin made.e made.n s (executed where_it_is body 0 active opening_state) (ends_by t image p codable compiled inside number b is open_calls m (executed where_it_is body 0 active opening_state) made.e made.unit never) closed
           (subst (λ (x : Made ℕ). Follows inner (Left inner OfFileOrParam out begin s) s (executed where_it_is body 0 active opening_state) x) made.is_made runs)))
         where
           f : Frame
-          f = frame t image p codable compiled holding number b is open_calls m
+          f = frame t image p codable compiled inside number b is open_calls m
 
           out : Exits
-          out = exits t image p codable compiled holding number b is open_calls m
+          out = exits t image p codable compiled inside number b is open_calls m
 
           made_so : (body : TStmt) → b.body ≡ body → then_make (body_of t (layout_of t (words t image p codable compiled) number) f body begin) (λ n e. Makes (tt {0}) (ended (number == 0) b.body e)) ≡ Makes (tt {0}) (unit_at t image (scalars t image p codable compiled) codable compiled number b is)
           made_so body body_is = made_here body body_is
@@ -317,6 +324,7 @@ module _ (t : Typed) (image : Image) {beside : Beside} (p : IsProgramBeside besi
     effect = λ index given h. (may_call index h.0 h.1.0 h.1.1 h.1.2, h.1.4);
     returns = λ elem h. h;
     beside = λ has. (besides.follows (running t image p codable compiled held from entries upto number i is opens most) (scope_of t i (calls t most)) a known has).expressions;
+    lasts = besides.lasts (running t image p codable compiled held from entries upto number i is opens most) (scope_of t i (calls t most)) a known;
   }
     where
       may_call : (index : ℕ) (c : Instance) (is_c : slice_get t.instances.items index ≡ Some c) → 0 < index → Contains (calls_within i.body) index → MayCall (running t image p codable compiled held from entries upto number i is opens most) a index
@@ -328,12 +336,12 @@ module _ (t : Typed) (image : Image) {beside : Beside} (p : IsProgramBeside besi
   pub enters_so : (m me : ℕ) (a : Instance) (is_me : slice_get t.instances.items me ≡ Some a) (back_to : List ℕ) (number : ℕ) (b : Instance) (is : slice_get t.instances.items number ≡ Some b) → 0 < number → (called : Contains (calls_within a.body) number) → EntersThere me a is_me back_to (suc m) number b is called m
   unfolding callee_known Enters
   enters_so zero me a is_me back_to number b is some called held from entries upto active known here arguments st s back starts stacked shared few given zero_there =
-      body_follows t image p codable compiled held from entries upto me a is_me back_to number b is some called zero here active arguments st s back starts stacked shared few given zero_there besides
-      (besides.called held from entries upto active me a is_me back_to (suc zero) known number b is (back_to ++ back ∷ []) zero here)
+      let inside = besides.called held from entries upto active me a is_me back_to (suc zero) known number b is (back_to ++ back ∷ []) zero here back st in
+      body_follows t image p codable compiled held from entries upto me a is_me back_to number b is some called zero here active arguments st s back inside.0 inside.1.0 starts stacked shared few given zero_there besides inside.1.1
       (calls_so zero number b is (back_to ++ back ∷ []) (λ index c is_c some_c called_c m e. absurd (omega (arith, e)))) b.body refl (p.each number b is).body
   enters_so (suc m) me a is_me back_to number b is some called held from entries upto active known here arguments st s back starts stacked shared few given zero_there =
-      body_follows t image p codable compiled held from entries upto me a is_me back_to number b is some called (suc m) here active arguments st s back starts stacked shared few given zero_there besides
-      (besides.called held from entries upto active me a is_me back_to (suc (suc m)) known number b is (back_to ++ back ∷ []) (suc m) here)
+      let inside = besides.called held from entries upto active me a is_me back_to (suc (suc m)) known number b is (back_to ++ back ∷ []) (suc m) here back st in
+      body_follows t image p codable compiled held from entries upto me a is_me back_to number b is some called (suc m) here active arguments st s back inside.0 inside.1.0 starts stacked shared few given zero_there besides inside.1.1
       (calls_so (suc m) number b is (back_to ++ back ∷ []) (λ index c is_c some_c called_c k e.
       subst (λ (n : ℕ). EntersThere number b is (back_to ++ back ∷ []) (suc m) index c is_c called_c n) (fewer m k e) (enters_so m number b is (back_to ++ back ∷ []) index c is_c some_c called_c)))
       b.body refl (p.each number b is).body

@@ -1,16 +1,17 @@
 -- How statements are left, and what one behind another does.
-use Rattle.std.proofs.Common.{◌≡◌, ◌∙◌, ℕ, ◌+◌, Bool, true, false, length, slice_index, refl, sym, ap, subst, Option, Some, None, if◌then◌else◌}
+use Rattle.std.proofs.Common.{◌≡◌, ◌∙◌, ℕ, ◌+◌, Bool, true, false, length, slice_index, refl, sym, ap, subst, Option, Some, None, if◌then◌else◌, ◌≤◌}
 use Rattle.cstar_tree.specs.declared.typed.TExpr.{TExpr}
 use Rattle.cstar_tree.specs.declared.typed.TExpr as T
 use Rattle.cstar_tree.specs.declared.typed.VarInfo.{VarInfo}
 use Rattle.cstar_tree.specs.declared.typed.Variable.TheVariants as V
 use Rattle.cstar_tree.specs.declared.typed.Variable.{Variable}
 use Rattle.cstar_tree.specs.Typed.{type_of}
-use Rattle.code_lengths.specs.Growth.{Extended, Grows}
+use Rattle.code_lengths.specs.Growth.{GrowsOr}
 use Rattle.code_lengths.specs.Lowerable.{GivesValue}
-use Rattle.code_lengths.specs.Ready.{Arrives as IsAtEnd, HasCode, IsReady}
+use Rattle.code_lengths.specs.Ready.{Arrives as IsAtEnd, HasCode, HasDeclared, IsReadyButForFields}
 use Rattle.code_lengths.proofs.Agreeing.{expressions}
-use Rattle.code_lengths.proofs.Drafting.{as_it_was, extended}
+use Rattle.code_lengths.proofs.Homes.{still_declared}
+use Rattle.code_lengths.proofs.Readiness.{ready_before}
 use Rattle.lower_base.specs.declared.emit.Out.{Out}
 use Rattle.lower_base.specs.declared.emit.Out.TheVariants as O
 use Rattle.lower_base.specs.Drafts.{Draft, Fails, Made, Makes, here, in_register, then_make}
@@ -31,6 +32,7 @@ use Rattle.code_follows.specs.Fragment.{IsIn, May, elems_of, naming}
 use Rattle.code_follows.proofs.Expressions.{operand}
 use Rattle.code_follows.proofs.Callees.{CallsFollow}
 use Rattle.code_follows.proofs.Following.{Arrives, Extends, Follows, HasNumber, HasRegisters, Keeps, Ran, Sim, finishes_later, follows_other, keeps_all, keeps_on, then_follows, spared_kept, result_kept, delayed, finished}
+use Rattle.code_follows.proofs.Growing.{Extended, as_it_was, extended, from_growth}
 use Rattle.code_follows.proofs.Settings.{At, Begun, Held, Reaches, Setting, holding, layout, onto, stay}
 use Rattle.code_follows.proofs.Targets.{variable_in}
 use Rattle.code_follows.proofs.Values.{Value_of, extends_in_register}
@@ -189,7 +191,7 @@ module _ (g : Setting) (alive : Variable → Type 0) where
     pub keeps : Keeps g d s t
     pub is : nonzero (slice_index t.registers r) ≡ b
 
-  module _ (has : HasRegisters g) (files : (k : ℕ) → alive (V.File k)) (n : ℕ) (ready : (d : Draft) → IsReady g.typed g.instance (layout g) n d) (scope : Scope) (active : Active) (calls_follow : CallsFollow g scope active) where
+  module _ (has : HasRegisters g) (files : (k : ℕ) → alive (V.File k)) (n : ℕ) (ready : (d : Draft) → IsReadyButForFields g.typed g.instance (layout g) n d) (scope : Scope) (active : Active) (calls_follow : CallsFollow g scope active) where
     pub test_follows : (test : TExpr) → (IsIn (naming g.may alive)) test → HasCode g.typed g.instance n test → (d : Draft) (s : CodeState) (st : State) → Begun g d → At g s (length d.code) → Sim g alive st s
         → Follows g (Tested d s) s (passes scope active test st) (condition_of g.typed (layout g) test d)
     unfolding passes condition_of Extends Follows in_register number
@@ -227,18 +229,19 @@ module _ (g : Setting) (alive : Variable → Type 0) where
     gives _ h = absurd h
 
     -- the code of a condition is made
-    pub record TestMade (test : TExpr) (d : Draft) : Type 0 where
+    pub record TestMade (test : TExpr) (d : Draft) (m : ℕ) : Type 0 where
       pub r : ℕ
       pub e : Draft
       pub is : condition_of g.typed (layout g) test d ≡ Makes r e
       pub extended : Extended d (used_length_of g.typed (layout g) 32 true test) e
+      pub declared : HasDeclared g.typed g.instance (layout g) m e
 
-    pub test_made : (test : TExpr) (d : Draft) → (IsIn (naming g.may alive)) test → HasCode g.typed g.instance n test → TestMade test d
-    unfolding condition_of Grows IsAtEnd then_make in_register
-    test_made test d isin c = by (next_of g.typed (layout g) 32 true test d) refl ((expressions g.typed g.instance (layout g)).operand 32 n true test d c (ready d))
+    pub test_made : (test : TExpr) (d : Draft) → (IsIn (naming g.may alive)) test → HasCode g.typed g.instance n test → (m : ℕ) → n ≤ m → HasDeclared g.typed g.instance (layout g) m d → TestMade test d m
+    unfolding condition_of GrowsOr IsAtEnd then_make in_register
+    test_made test d isin c m less known = by (next_of g.typed (layout g) 32 true test d) refl ((expressions g.typed g.instance (layout g)).operand 32 n true test d c (ready_before ⊥ g.typed g.instance (layout g) n m d less known.ready))
       where
-        by : (m : Made Out) → next_of g.typed (layout g) 32 true test d ≡ m → Grows d (used_length_of g.typed (layout g) 32 true test) (IsAtEnd g.typed test) m → TestMade test d
-        by (Makes (O.Scalar r) e) is h = record { r = r; e = e; is = ap (λ (m : Made Out). then_make m (λ v after. in_register v (λ q. Makes q after))) is; extended = h.1 }
+        by : (made : Made Out) → next_of g.typed (layout g) 32 true test d ≡ made → GrowsOr ⊥ d (used_length_of g.typed (layout g) 32 true test) (IsAtEnd g.typed test) made → TestMade test d m
+        by (Makes (O.Scalar r) e) is h = record { r = r; e = e; is = ap (λ (m : Made Out). then_make m (λ v after. in_register v (λ q. Makes q after))) is; extended = from_growth d e _ h.1; declared = still_declared g.typed g.instance (layout g) m d e _ h.1 known }
         by (Makes (O.Field f) e) is h = absurd (kept_not (naming g.may alive) test isin h.0)
         by (Makes O.Nothing e) is h = absurd (h.0 (gives test isin))
         by Fails is h = absurd h

@@ -1,5 +1,5 @@
 -- The code of every expression of the fragment gives its value, as a value and as an operand.
-use Rattle.std.proofs.Common.{◌≡◌, ◌∙◌, ℕ, ◌<◌, ◌^◌, Bool, true, false, [], ◌∷◌, length, Option, Some, None, refl, sym, ap, subst, if◌then◌else◌, arith, Vec, Global, inl}
+use Rattle.std.proofs.Common.{◌≡◌, ◌∙◌, ℕ, ◌<◌, ◌^◌, Bool, true, false, [], ◌∷◌, length, Option, Some, None, refl, sym, ap, subst, if◌then◌else◌, arith, Vec, Global, inl, ◌⊎◌}
 use Rattle.std.specs.Prelude.{IfSome, is_none, ◌||◌, nat_le}
 use Rattle.cstar_base.specs.declared.elem.Elem.{Elem}
 use Rattle.cstar_base.specs.declared.operators.Op.{Op}
@@ -21,10 +21,9 @@ use Rattle.cstar_tree.specs.declared.syntax.AssignOp.{AssignOp}
 use Rattle.cstar_tree.specs.declared.syntax.StepOp.{StepOp}
 use Rattle.cstar_tree.specs.declared.typed.StepOrder.{StepOrder}
 use Rattle.code_lengths.specs.Naming.{HasVariable, NamesVariables, plain}
-use Rattle.code_lengths.specs.Ready.{HasCode, HaveCode, IsReady}
+use Rattle.code_lengths.specs.Ready.{HasCode, HaveCode, IsReadyButForFields}
 use Rattle.code_lengths.specs.Shaped.{IsShaped}
-use Rattle.code_lengths.proofs.Agreeing.{expressions}
-use Rattle.code_lengths.proofs.Drafting.{as_it_was}
+use Rattle.code_lengths.proofs.Agreeing.{lengths_if_made}
 use Rattle.code_lengths.proofs.OperandPieces.{operand_grows as operand_grown}
 use Rattle.constant_trees.proofs.Words.{converted_below}
 use Rattle.lower_base.specs.declared.emit.Out.{Out}
@@ -62,6 +61,7 @@ use Rattle.code_follows.proofs.Choosing.{Arm_does, IsMadeTo, Lands, arm_follows,
 use Rattle.code_follows.proofs.CallValues.{call_code, call_value, fresh_call}
 use Rattle.code_follows.proofs.Callees.{CallsFollow}
 use Rattle.code_follows.proofs.Following.{Arrives, Extends, Follows, HasRegisters, IsScalar, Sim, follows_same, held, keeps_all, then_gives}
+use Rattle.code_follows.proofs.Growing.{as_it_was}
 use Rattle.code_follows.proofs.Logical.{and_is, joined, logical_follows, or_is}
 use Rattle.code_follows.proofs.Settings.{At, Begun, Setting, layout, stay}
 use Rattle.code_follows.proofs.Values.{Dest, Does, Value_of, binary_follows, constant_follows, conversion_is, extends_grown, fresh_dest, mapped_is, read_is, rewrapped, unary_follows, variable_follows, with_reg}
@@ -111,7 +111,7 @@ unfolding is_unchanged
 unchanged_wide bits elem true is so = eqb-true elem.bits 32 so
 unchanged_wide bits elem false is so = cc
 
-module _ (g : Setting) (has : HasRegisters g) (alive : Variable → Type 0) (n : ℕ) (files : (k : ℕ) → alive (V.File k)) (ready : (d : Draft) → IsReady g.typed g.instance (layout g) n d) (scope : Scope) (active : Active) (calls_follow : CallsFollow g scope active) where
+module _ (g : Setting) (has : HasRegisters g) (alive : Variable → Type 0) (n : ℕ) (files : (k : ℕ) → alive (V.File k)) (ready : (d : Draft) → IsReadyButForFields g.typed g.instance (layout g) n d) (scope : Scope) (active : Active) (calls_follow : CallsFollow g scope active) where
   -- an expression and its code
   abbrev pub Agrees : Bool → ℕ → TExpr → Type 0
   Agrees quiet bits e = Does g has alive (type_of e).elem quiet (λ st. evaluated scope e active st) (λ d. value_of g.typed (layout g) bits e d)
@@ -287,7 +287,7 @@ module _ (g : Setting) (has : HasRegisters g) (alive : Variable → Type 0) (n :
   step_names ty op order p target c = c.names
 
   pub operand_grows : (quiet : Bool) (bits : ℕ) (e : TExpr) → HasCode g.typed g.instance n e → (d : Draft) → Extends g d (operand_by g.typed (layout g) bits (value_of g.typed (layout g) bits e) quiet e d)
-  operand_grows quiet bits e h d = extends_grown g has alive _ d _ _ ((expressions g.typed g.instance (layout g)).operand bits n quiet e d h (ready d))
+  operand_grows quiet bits e h d = extends_grown g has alive _ d _ _ ((lengths_if_made g.typed g.instance (layout g)).operand bits n quiet e d h (ready d))
 
   pub named : (ty : ValueType) (x : Variable) → HasCode g.typed g.instance n (T.Variable ty x) → HasVariable g.typed g.instance n x (plain ty)
   unfolding NamesVariables
@@ -377,7 +377,7 @@ module _ (g : Setting) (has : HasRegisters g) (alive : Variable → Type 0) (n :
 
   -- an assignment and a step as values
   other_grows : (m k : ℕ) (e : TExpr) → HasCode g.typed g.instance n e → (d : Draft) → Extends g d (operand_by g.typed (layout g) m (value_of g.typed (layout g) k e) true e d)
-  other_grows m k e c d = extends_grown g has alive _ d _ _ (operand_grown g.typed g.instance (layout g) n m true e (value_of g.typed (layout g) k e) _ d c (ready d) ((expressions g.typed g.instance (layout g)).value k n e d c (ready d)))
+  other_grows m k e c d = extends_grown g has alive _ d _ _ (operand_grown (Unit {0}) g.typed g.instance (layout g) n m true e (value_of g.typed (layout g) k e) _ d c (ready d) ((lengths_if_made g.typed g.instance (layout g)).value k n e d c (ready d)))
 
   fresh_assign : (bits : ℕ) (ty : ValueType) (place : Place) (op : AssignOp) (p q : Boxed) (target value : TExpr) → TargetIs g alive n target → NamesVariables g.typed g.instance n target → (IsIn (naming g.may alive)) value → HasCode g.typed g.instance n value
       → ((m : ℕ) (d : Draft) → IsFresh d (value_of g.typed (layout g) m value d)) → (d : Draft) → IsFresh d (value_of g.typed (layout g) bits (T.Assign' ty place op p target q value) d)
@@ -420,7 +420,7 @@ module _ (g : Setting) (has : HasRegisters g) (alive : Variable → Type 0) (n :
   fold_fresh ty op p operand bits scalar c d =
       subst (λ (made : Made Out). IsFresh d made) (sym (fold_code ty op p operand bits scalar d))
       (by (message_to g.typed (layout g) (T.Reduce' ty op p operand) (folded op operand) (O.Scalar d.regs) (with_reg d))
-      (extends_grown g has alive _ (with_reg d) _ _ ((expressions g.typed g.instance (layout g)).put_register d.regs n (T.Reduce' ty op p operand) (with_reg d) c (tt, ap is_none scalar) (ready (with_reg d)))))
+      (extends_grown g has alive _ (with_reg d) _ _ ((lengths_if_made g.typed g.instance (layout g)).put_register d.regs n (T.Reduce' ty op p operand) (with_reg d) c (tt, ap is_none scalar) (ready (with_reg d)))))
     where
       by : (made : Made Out) → Extends g (with_reg d) (gone_to (O.Scalar d.regs) made) → IsFresh d (gone_to (O.Scalar d.regs) made)
       by (Makes v e) grows = let regs = grows.1.regs in (omega arith, omega (arith, regs))
@@ -480,8 +480,8 @@ module _ (g : Setting) (has : HasRegisters g) (alive : Variable → Type 0) (n :
   operand_value : (quiet : Bool) (bits : ℕ) (e : TExpr) → (IsIn (naming g.may alive)) e → HasCode g.typed g.instance n e → Agrees quiet bits e → Does g has alive (type_of e).elem quiet (λ st. evaluated scope e active st) (λ d. operand_by g.typed (layout g) bits (value_of g.typed (layout g) bits e) quiet e d)
   operand_value quiet bits e h c agrees = operand_follows quiet bits e (λ d. value_of g.typed (layout g) bits e d) h c.names agrees
 
-  pub word_is_made : (bits : ℕ) (e : TExpr) → (IsIn (naming g.may alive)) e → HasCode g.typed g.instance n e → GivesValue g.typed e → (d : Draft) → IsMadeWord (used_length_of g.typed (layout g) bits true e) d (operand_by g.typed (layout g) bits (value_of g.typed (layout g) bits e) true e d)
-  word_is_made bits e h c gives d = made_word g.typed e _ d _ (kept (naming g.may alive) e h) gives ((expressions g.typed g.instance (layout g)).operand bits n true e d c (ready d))
+  pub word_is_made : (bits : ℕ) (e : TExpr) → (IsIn (naming g.may alive)) e → HasCode g.typed g.instance n e → GivesValue g.typed e → (d : Draft) → IsMadeWord (used_length_of g.typed (layout g) bits true e) d (operand_by g.typed (layout g) bits (value_of g.typed (layout g) bits e) true e d) ⊎ (operand_by g.typed (layout g) bits (value_of g.typed (layout g) bits e) true e d ≡ Fails)
+  word_is_made bits e h c gives d = made_word g.typed e _ d _ (kept (naming g.may alive) e h) gives ((lengths_if_made g.typed g.instance (layout g)).operand bits n true e d c (ready d))
 
   logical_value : (is_or : Bool) (ty : ValueType) (quiet : Bool) (bits : ℕ) (left right : TExpr) (next : Value → State → Outcome Value) → IsWord ty → (IsIn (naming g.may alive)) left → (IsIn (naming g.may alive)) right → AreOperands left right
       → ((v : Value) (st : State) → next v st ≡ joined is_or (λ u. evaluated scope right active u) (nonzero (number v)) st) → Agrees true (bits_of (kind_of left)) left → Agrees true (bits_of (kind_of right)) right
@@ -493,10 +493,10 @@ module _ (g : Setting) (has : HasRegisters g) (alive : Variable → Type 0) (n :
       (word_is_made (bits_of (kind_of left)) left h c.one c.one_gives) (word_is_made (bits_of (kind_of right)) right k c.other c.other_gives) next_is
       bits (condition_of g.typed (layout g) left) (condition_of g.typed (layout g) right) refl refl refl
 
-  arm_is_made : (ty : ValueType) (bits : ℕ) (e : TExpr) → ty.shape ≡ None → (IsIn (naming g.may alive)) e → HasCode g.typed g.instance n e → GivesValue g.typed e → (r : ℕ) (d : Draft) → IsMadeTo r (arm_length_of g.typed (layout g) ty bits e) d (arm_of g.typed (layout g) bits e (O.Scalar r) d)
+  arm_is_made : (ty : ValueType) (bits : ℕ) (e : TExpr) → ty.shape ≡ None → (IsIn (naming g.may alive)) e → HasCode g.typed g.instance n e → GivesValue g.typed e → (r : ℕ) (d : Draft) → IsMadeTo r (arm_length_of g.typed (layout g) ty bits e) d (arm_of g.typed (layout g) bits e (O.Scalar r) d) ⊎ (arm_of g.typed (layout g) bits e (O.Scalar r) d ≡ Fails)
   unfolding arm_length_of arm_of
   arm_is_made ty bits e scalar h c gives r d =
-      subst (λ (o : Option ℕ). IsMadeTo r (arm_length (is_none o) (used_length_of g.typed (layout g) bits true e) e) d (arm_by (next_of g.typed (layout g) bits true e) e (O.Scalar r) d)) (sym scalar)
+      subst (λ (o : Option ℕ). IsMadeTo r (arm_length (is_none o) (used_length_of g.typed (layout g) bits true e) e) d (arm_by (next_of g.typed (layout g) bits true e) e (O.Scalar r) d) ⊎ (arm_by (next_of g.typed (layout g) bits true e) e (O.Scalar r) d ≡ Fails)) (sym scalar)
       (arm_made g r (used_length_of g.typed (layout g) bits true e) (next_of g.typed (layout g) bits true e) e d (word_is_made bits e h c gives d))
 
   arm_does : (elem : Elem) (bits : ℕ) (e : TExpr) → elem.bits ≡ 32 → (type_of e).elem.bits ≡ 32 → (IsIn (naming g.may alive)) e → HasCode g.typed g.instance n e → GivesValue g.typed e → Agrees true bits e → Arm_does g has alive elem (λ st. evaluated scope e active st) (arm_of g.typed (layout g) bits e)

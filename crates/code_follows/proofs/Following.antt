@@ -1,14 +1,12 @@
 -- The code of a unit follows the source: what registers hold, and what one instruction does to that.
-use Rattle.std.proofs.Common.{◌≡◌, ◌∙◌, ℕ, ◌+◌, ◌<◌, ◌≤◌, ◌^◌, Bool, true, length, slice_index, Some, None, refl, arith, ◌⊎◌, inl, inr, subst, sym}
+use Rattle.std.proofs.Common.{◌≡◌, ◌∙◌, ℕ, ◌+◌, ◌<◌, ◌≤◌, ◌^◌, Bool, true, length, slice_index, slice_set, Some, None, refl, arith, ◌⊎◌, inl, inr, subst, sym}
 use Rattle.std.proofs.lemmas.List.{get_or-set_other, get_or-set_same}
 use Rattle.std.proofs.Math.ListN.{length-set}
 use Rattle.cstar_base.specs.declared.elem.Elem.{Elem}
 use Rattle.cstar_base.specs.Numbers.{converted}
 use Rattle.cstar_tree.specs.declared.typed.VarInfo.{VarInfo}
 use Rattle.cstar_tree.specs.declared.typed.Variable.{Variable}
-use Rattle.code_lengths.specs.Growth.{Extended}
 use Rattle.code_lengths.specs.Naming.{variable_named}
-use Rattle.code_lengths.proofs.Drafting.{extended}
 use Rattle.lower_base.specs.declared.emit.Out.{Out}
 use Rattle.lower_base.specs.declared.emit.Out.TheVariants as O
 use Rattle.lower_base.specs.Constants.{constant_register, first_free}
@@ -22,6 +20,7 @@ use Rattle.source_meaning.specs.State.{Early, Outcome, State, then_do}
 use Rattle.source_meaning.specs.Values.{Scalar, Value}
 use Rattle.code_follows.specs.Agreement.{AreBytes, end_of, mark_of}
 use Rattle.code_follows.proofs.ConstantRegisters.{below_values}
+use Rattle.code_follows.proofs.Growing.{Extended, extended}
 use Rattle.code_follows.proofs.Settings.{At, EndsIn, Reaches, Setting, Within, earlier, ends_later, layout}
 
 -- the word that holds a number of a type: the number promoted to 32 bits
@@ -66,7 +65,7 @@ module _ (g : Setting) where
     pub returns : s.returns ≡ g.returns
     pub few : st.turns ≤ g.most
     pub bytes : AreBytes st.input
-    pub memory : g.held.holds st s.memory
+    pub memory : g.held.holds s.at st s.memory
 
   -- a register of a value, one that is spared, or that of the result
   unfoldable pub IsKept : Draft → ℕ → Type 0
@@ -175,10 +174,10 @@ module _ (g : Setting) where
     pub keeps : Keeps d s t
     pub holds : Holds alive elem quiet e st t out v
 
-  -- a register that is no variable's and no constant's takes a number
-  pub apart_set : (alive : Variable → Type 0) (st : State) (s : CodeState) (r v : ℕ) → ((x : Variable) (info : VarInfo) → IsScalar x info → register_of (layout g) x ≡ r → ⊥)
-      → ((word q : ℕ) → constant_register (layout g) word ≡ Some q → q ≡ r → ⊥) → Sim alive st s → Sim alive st (with_register r v s)
-  apart_set alive st s r v variables constants h = record {
+  -- A register that is no variable's and no constant's takes a number, and the code goes on behind the place.
+  apart_at : (alive : Variable → Type 0) (st : State) (s : CodeState) (r v place : ℕ) → s.at ≤ place → ((x : Variable) (info : VarInfo) → IsScalar x info → register_of (layout g) x ≡ r → ⊥)
+      → ((word q : ℕ) → constant_register (layout g) word ≡ Some q → q ≡ r → ⊥) → Sim alive st s → Sim alive st (record s { at = place; registers = slice_set s.registers r v })
+  apart_at alive st s r v place behind variables constants h = record {
     registers = length-set s.registers r v ∙ h.registers;
     scalars = λ x info known scalar. get_or-set_other s.registers r (register_of (layout g) x) v 0 (λ e. variables x info scalar e) ∙ h.scalars x info known scalar;
     small = h.small;
@@ -189,15 +188,23 @@ module _ (g : Setting) where
     bytes = h.bytes;
     returns = h.returns;
     few = h.few;
-    memory = h.memory;
+    memory = g.held.onward s.at place st s.memory behind h.memory;
   }
 
+  -- at the next instruction
+  pub apart_set : (alive : Variable → Type 0) (st : State) (s : CodeState) (r v : ℕ) → ((x : Variable) (info : VarInfo) → IsScalar x info → register_of (layout g) x ≡ r → ⊥)
+      → ((word q : ℕ) → constant_register (layout g) word ≡ Some q → q ≡ r → ⊥) → Sim alive st s → Sim alive st (with_register r v s)
+  apart_set alive st s r v variables constants h = apart_at alive st s r v (s.at + 1) (omega arith) variables constants h
+
   -- a register of values is one
-  pub register_set : (alive : Variable → Type 0) (st : State) (s : CodeState) (r v : ℕ) → HasRegisters g → g.begins ≤ r → Sim alive st s → Sim alive st (with_register r v s)
+  pub register_at : (alive : Variable → Type 0) (st : State) (s : CodeState) (r v place : ℕ) → HasRegisters g → g.begins ≤ r → s.at ≤ place → Sim alive st s → Sim alive st (record s { at = place; registers = slice_set s.registers r v })
   unfolding first_free
-  register_set alive st s r v has low h =
-      apart_set alive st s r v (λ x info scalar e. let b = has.below x info scalar.0 in let free = has.free in omega (arith, e, b, free, low))
+  register_at alive st s r v place has low behind h =
+      apart_at alive st s r v place behind (λ x info scalar e. let b = has.below x info scalar.0 in let free = has.free in omega (arith, e, b, free, low))
       (λ word q is e. let b = below_values (layout g) word q is in let free = has.free in omega (arith, e, b, free, low)) h
+
+  pub register_set : (alive : Variable → Type 0) (st : State) (s : CodeState) (r v : ℕ) → HasRegisters g → g.begins ≤ r → Sim alive st s → Sim alive st (with_register r v s)
+  register_set alive st s r v has low h = register_at alive st s r v (s.at + 1) has low (omega arith) h
 
   pub register_kept : (d : Draft) (s : CodeState) (r v : ℕ) → HasRegisters g → g.begins ≤ d.regs → d.regs ≤ r → r < g.ends → Keeps d s (with_register r v s)
   unfolding IsKept first_free

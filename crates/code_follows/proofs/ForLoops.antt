@@ -1,5 +1,5 @@
 -- `for`, `while` and `do`.
-use Rattle.std.proofs.Common.{◌≡◌, ◌∙◌, ℕ, ◌+◌, ◌≤◌, true, List, [], length, Option, Some, None, refl, sym, ap, subst, arith}
+use Rattle.std.proofs.Common.{◌≡◌, ◌∙◌, ℕ, ◌+◌, ◌≤◌, true, List, length, Option, Some, None, refl, sym, ap, subst, arith}
 use Rattle.std.specs.Prelude.{IfSome}
 use Rattle.cstar_tree.specs.declared.typed.TExpr.{TExpr}
 use Rattle.cstar_tree.specs.declared.typed.TStmt.{TStmt}
@@ -9,18 +9,19 @@ use Rattle.cstar_tree.specs.declared.typed.Variable.TheVariants as V
 use Rattle.cstar_tree.specs.declared.typed.Variable.{Variable}
 use Rattle.cstar_tree.specs.Variables.{variables_of}
 use Rattle.code_lengths.specs.Agreement.{StandsAmong}
-use Rattle.code_lengths.specs.Growth.{Extended, Grows}
+use Rattle.code_lengths.specs.Growth.{GrowsOr}
 use Rattle.code_lengths.specs.Lowerable.{IsLowerable}
 use Rattle.code_lengths.specs.LowerableStatements.{IsLowerableStatement, IsTest}
 use Rattle.code_lengths.specs.Naming.{NamesVariables}
 use Rattle.code_lengths.specs.NamingStatements.{StandFrom, StatementNamesVariables, behind}
-use Rattle.code_lengths.specs.Ready.{HasCode, HasDeclared, HasStatementCode, IsReady, NumbersVariables}
+use Rattle.code_lengths.specs.Ready.{HasCode, HasDeclared, HasStatementCode, IsReadyButForFields, NumbersVariables}
 use Rattle.code_lengths.specs.ShapedStatements.{IsShapedPart, IsShapedStatement}
-use Rattle.code_lengths.proofs.Agreeing.{expressions, places}
+use Rattle.code_lengths.proofs.Agreeing.{expressions}
+use Rattle.code_lengths.proofs.Homes.{still_declared}
+use Rattle.code_lengths.proofs.Readiness.{ready_before}
 use Rattle.code_lengths.proofs.Declaring.{of_for, of_while}
-use Rattle.code_lengths.proofs.Drafting.{as_it_was, extended}
 use Rattle.lower_base.specs.declared.emit.Out.{Out}
-use Rattle.lower_base.specs.Drafts.{Draft, Fails, Made, Makes, here, then_make, with_instr, with_step}
+use Rattle.lower_base.specs.Drafts.{Draft, Fails, Made, Makes, here, then_make, with_instr}
 use Rattle.lower_expr.specs.Effects.{effect_length_of, effect_of}
 use Rattle.lower_expr.specs.Lengths.{used_length_of}
 use Rattle.lower_stmt.specs.declared.statement.Frame.{Frame}
@@ -43,32 +44,34 @@ use Rattle.code_follows.proofs.Choices.{Agrees}
 use Rattle.code_follows.proofs.Executing.{Exits, Left, RanOn, follows_from, in_body}
 use Rattle.code_follows.proofs.Callees.{CallsFollow}
 use Rattle.code_follows.proofs.Following.{Extends, Follows, HasRegisters, Ran, Sim, delayed, keeps_all}
+use Rattle.code_follows.proofs.Growing.{Extended, as_it_was, extended, places, from_growth}
 use Rattle.code_follows.proofs.Jumping.{jumps, moved_to, sim_moved}
 use Rattle.code_follows.proofs.Loops.{do_runs, loop_runs}
 use Rattle.code_follows.proofs.Restoring.{restores_none}
 use Rattle.code_follows.proofs.Rounds.{BackMade, back_made}
 use Rattle.code_follows.proofs.Settings.{At, Begun, Setting, and_one, begun_later, code_more, earlier, layout, regs_more, start, stay}
 use Rattle.code_follows.proofs.Starting.{go_after}
-use Rattle.code_follows.proofs.Statements.{MadeSo, StandsHere, StandsIn, do_body, do_test, statement_made}
+use Rattle.code_follows.proofs.Statements.{MadeSo, StandsHere, StandsIn, do_body, do_test, statement_made, declared_on}
 
-module _ (g : Setting) (has : HasRegisters g) (alive : Variable → Type 0) (files : (k : ℕ) → alive (V.File k)) (numbers : NumbersVariables g.instance (layout g)) (ready : (n : ℕ) (d : Draft) → IsReady g.typed g.instance (layout g) n d)
-    (declares : (n : ℕ) (d : Draft) → d.homes ≡ [] → HasDeclared g.typed g.instance (layout g) n d) (scope : Scope) (active : Active) (calls_follow : CallsFollow g scope active)
+module _ (g : Setting) (has : HasRegisters g) (alive : Variable → Type 0) (files : (k : ℕ) → alive (V.File k)) (numbers : NumbersVariables g.instance (layout g)) (ready : (n : ℕ) (d : Draft) → IsReadyButForFields g.typed g.instance (layout g) n d)
+    (scope : Scope) (active : Active) (calls_follow : CallsFollow g scope active)
     (falls : (s : TStmt) (n : ℕ) (st : State) → (state_after (executed scope s n active st)).turns ≤ st.turns) (contexts : List Field) where
   -- ---- an expression that may be left out
 
   -- its code is made
-  record PartMade (o : Option TExpr) (d : Draft) : Type 0 where
+  record PartMade (m : ℕ) (o : Option TExpr) (d : Draft) : Type 0 where
     pub e : Draft
     pub is : part_of g.typed (layout g) o d ≡ Makes tt e
     pub extended : Extended d (part_length_of g.typed (layout g) o) e
+    pub declared : HasDeclared g.typed g.instance (layout g) m e
 
-  part_made : (n : ℕ) (o : Option TExpr) (d : Draft) → IfSome o (HasCode g.typed g.instance n) → PartMade o d
-  unfolding part_of part_length_of then_make Grows
-  part_made n None d c = record { e = d; is = refl; extended = as_it_was d }
-  part_made n (Some x) d c = by (effect_of g.typed (layout g) x d) refl ((expressions g.typed g.instance (layout g)).effect n x d c (ready n d))
+  part_made : (n m : ℕ) (o : Option TExpr) (d : Draft) → n ≤ m → IfSome o (HasCode g.typed g.instance n) → HasDeclared g.typed g.instance (layout g) m d → PartMade m o d
+  unfolding part_of part_length_of then_make GrowsOr
+  part_made n m None d less c known = record { e = d; is = refl; extended = as_it_was d; declared = known }
+  part_made n m (Some x) d less c known = by (effect_of g.typed (layout g) x d) refl ((expressions g.typed g.instance (layout g)).effect n x d c (ready_before ⊥ g.typed g.instance (layout g) n m d less known.ready))
     where
-      by : (m : Made Out) → effect_of g.typed (layout g) x d ≡ m → Grows d (effect_length_of g.typed (layout g) x) (λ (v : Out). Unit {0}) m → PartMade (Some x) d
-      by (Makes out e) is h = record { e = e; is = ap (λ (m : Made Out). then_make m (λ v after. Makes tt after)) is; extended = h.1 }
+      by : (made : Made Out) → effect_of g.typed (layout g) x d ≡ made → GrowsOr ⊥ d (effect_length_of g.typed (layout g) x) (λ (v : Out). Unit {0}) made → PartMade m (Some x) d
+      by (Makes out e) is h = record { e = e; is = ap (λ (m : Made Out). then_make m (λ v after. Makes tt after)) is; extended = from_growth d e _ h.1; declared = still_declared g.typed g.instance (layout g) m d e _ h.1 known }
       by Fails is h = absurd h
 
   effect_ran : (d : Draft) (s : CodeState) (o : Outcome Value) (made : Made Out) → Follows g (λ v u out e. Ran g alive d s u e) s o made → Follows g (RanOn g alive d s) s (then_do o (λ v after. Source.Gives Onward after)) (then_make made (λ out after. Makes (tt {0}) after))
@@ -112,7 +115,7 @@ module _ (g : Setting) (has : HasRegisters g) (alive : Variable → Type 0) (fil
   tested_code n None shaped lowerable names = tt
   tested_code n (Some e) shaped lowerable names = record { shaped = shaped; lowerable = lowerable.1; names = names }
 
-  module _ (n : ℕ) (first step test : Option TExpr) (p : Boxed) (body : TStmt) (begins : IfSome first (IsEffect (naming g.may alive))) (isin : (IsTested (naming g.may alive)) test) (steps : IfSome step (IsEffect (naming g.may alive))) (agrees : Agrees g has alive files numbers ready declares scope active calls_follow contexts n body) where
+  module _ (n : ℕ) (first step test : Option TExpr) (p : Boxed) (body : TStmt) (begins : IfSome first (IsEffect (naming g.may alive))) (isin : (IsTested (naming g.may alive)) test) (steps : IfSome step (IsEffect (naming g.may alive))) (agrees : Agrees g has alive files numbers ready scope active calls_follow contexts n body) where
     abbrev whole : TStmt
     whole = S.For' first test step p body
 
@@ -132,9 +135,9 @@ module _ (g : Setting) (has : HasRegisters g) (alive : Variable → Type 0) (fil
       body_code = record { shaped = c.shaped.3; lowerable = c.lowerable.3; names = c.names.3; stands = subst (λ (own : List VarInfo). StandFrom (variables_of g.instance.body) n own) (of_for first test step p body) c.stands };
     }
 
-    module _ (f : Exits) (d : Draft) (framed : StandsIn g f.frame) (among : StandsHere g f contexts) (none : d.homes ≡ []) (c : ForCode) where
-      made_first : PartMade first d
-      made_first = part_made n first d c.first_code
+    module _ (f : Exits) (d : Draft) (framed : StandsIn g f.frame) (among : StandsHere g f contexts) (known : HasDeclared g.typed g.instance (layout g) n d) (c : ForCode) where
+      made_first : PartMade n first d
+      made_first = part_made n n first d (omega arith) c.first_code known
 
       abbrev long : ℕ
       long = statement_length_of g.typed (layout g) (has_result f.frame) (at_loop f.frame.saved) body
@@ -168,23 +171,22 @@ module _ (g : Setting) (has : HasRegisters g) (alive : Variable → Type 0) (fil
       unfolding in_loop at_loop
       inner_among = record { loop = omega arith; all = among.among.all }
 
-      inner_here : StandsHere g (in_body inner g.held f) contexts
-      unfolding in_loop at_loop
-      inner_here = record { among = inner_among; loop = restores_none g contexts 0 refl; all = among.all }
+      inner_here : Begun g made_first.e → StandsHere g (in_body inner g.held f) contexts
+      unfolding in_loop at_loop here
+      inner_here free = record { among = inner_among; loop = restores_none g contexts 0 refl; all = among.all; after = calls_follow.lasts after (let low = free.code in omega (arith, low)); next = calls_follow.lasts next (let low = free.code in omega (arith, low)) }
 
-      begin_homes : before_body.homes ≡ []
-      unfolding with_instr with_step
-      begin_homes = made_first.extended.homes ∙ none
+      begin_known : HasDeclared g.typed g.instance (layout g) n before_body
+      begin_known = declared_on g I.FrontTurn n enters (declared_on g (I.FrontJump place) n made_first.e made_first.declared)
 
-      made_body : MadeSo g numbers declares before_body long (behind n body) (statement_of g.typed (layout g) body inner contexts n before_body)
+      made_body : MadeSo g numbers before_body long (behind n body) (statement_of g.typed (layout g) body inner contexts n before_body)
       unfolding in_loop has_result
-      made_body = statement_made g numbers declares body inner contexts n before_body inner_frame inner_among c.body_code begin_homes
+      made_body = statement_made g numbers body inner contexts n before_body inner_frame inner_among c.body_code begin_known
 
-      made_step : PartMade step made_body.e
-      made_step = part_made n step made_body.e c.step_code
+      made_step : PartMade (behind n body) step made_body.e
+      made_step = part_made n (behind n body) step made_body.e (omega arith) c.step_code made_body.declared
 
       made_back : BackMade g alive has files n (ready n) scope active calls_follow test turn made_step.e
-      made_back = back_made g alive has files n (ready n) scope active calls_follow test turn made_step.e isin c.test_code
+      made_back = back_made g alive has files n (ready n) scope active calls_follow test turn made_step.e isin c.test_code (behind n body) (omega arith) made_step.declared
 
       abbrev behind_loop : Draft
       behind_loop = made_back.e
@@ -245,28 +247,28 @@ module _ (g : Setting) (has : HasRegisters g) (alive : Variable → Type 0) (fil
           delayed g (Left g alive f made_first.e t) behind_loop t go_round (Makes (behind n body) behind_loop) (0, as_it_was behind_loop) (λ within.
           loop_runs g alive scope active (passes_or_absent scope active test) body n (behind n body) (tests_fall n test) inner f made_first.e enters made_body.e made_step.e behind_loop turn (λ v. done scope active step v) within so.3 so.0 so.2 long (part_length_of g.typed (layout g) step) (condition_length_of g.typed (layout g) test + 1) made_body.extended made_step.extended made_back.extended (omega (arith, regs1, regs2))
           (falls body n)
-          (λ s v here_s sim_s. subst (λ (m : Made ℕ). Follows g (Left g alive (in_body inner g.held f) before_body s) s (executed scope body n active v) m) made_body.is (agrees (in_body inner g.held f) before_body s v inner_frame inner_here begin_homes begun_body here_s sim_s c.body_code))
+          (λ s v here_s sim_s. subst (λ (m : Made ℕ). Follows g (Left g alive (in_body inner g.held f) before_body s) s (executed scope body n active v) m) made_body.is (agrees (in_body inner g.held f) before_body s v inner_frame (inner_here free) begin_known begun_body here_s sim_s c.body_code))
           (part_falls n step)
           (λ s v here_s sim_s. subst (λ (m : Made (Unit {0})). Follows g (RanOn g alive made_body.e s) s (done scope active step v) m) made_step.is (part_follows n step steps c.step_code made_body.e s v begun_step here_s sim_s))
-          (λ s v here_s sim_s. made_back.leads begun_back within s v here_s sim_s)
+          (λ s v here_s sim_s. made_back.leads begun_back (let low = free.code in let turn_is = so.3 in let a = code_more g (I.FrontJump place) made_first.e in omega (arith, low, turn_is, a)) within s v here_s sim_s)
           (behind n body) steps_in_all t (moved_to g alive (place + start g) t) u all_grown (jumps g alive place made_first.e t (earlier g enters behind_loop (1 + (long + (part_length_of g.typed (layout g) step + (condition_length_of g.typed (layout g) test + 1)))) enters_grown within) at)
-          (keeps_all g made_first.e t) (omega (arith, at_test)) (sim_moved g alive u t (place + start g) sim))
+          (keeps_all g made_first.e t) (omega (arith, at_test)) (sim_moved g alive u t (place + start g) (let turn_is = so.3 in let a = code_more g (I.FrontJump place) made_first.e in omega (arith, at, turn_is, a)) sim))
 
-    pub for_agrees : Agrees g has alive files numbers ready declares scope active calls_follow contexts n whole
+    pub for_agrees : Agrees g has alive files numbers ready scope active calls_follow contexts n whole
     unfolding executed statement_of then_make Extends
-    for_agrees f d s0 st framed among none free at sim code =
+    for_agrees f d s0 st framed among known free at sim code =
         let c = for_code code in
-        let b = made_first f d framed among none c in
+        let b = made_first f d framed among known c in
         let go_round : State → Outcome Leaving = λ u. rounds u.turns (passes_or_absent scope active test) (λ v. executed scope body n active v) (λ v. done scope active step v) u in
-        subst (λ (m : Made (Unit {0})). Follows g (Left g alive f d s0) s0 (then_go (done scope active first st) go_round) (then_make m (λ u begun. loop_code f d framed among none c begun))) (sym b.is)
-        (subst (λ (m : Made ℕ). Follows g (Left g alive f d s0) s0 (then_go (done scope active first st) go_round) m) (sym (loop_is f d framed among none c))
-        (go_after g has alive files ready scope active calls_follow d s0 (Left g alive f d s0) (done scope active first st) go_round tt b.e (Makes (behind n body) (behind_loop f d framed among none c))
+        subst (λ (m : Made (Unit {0})). Follows g (Left g alive f d s0) s0 (then_go (done scope active first st) go_round) (then_make m (λ u begun. loop_code f d framed among known c begun))) (sym b.is)
+        (subst (λ (m : Made ℕ). Follows g (Left g alive f d s0) s0 (then_go (done scope active first st) go_round) m) (sym (loop_is f d framed among known c))
+        (go_after g has alive files ready scope active calls_follow d s0 (Left g alive f d s0) (done scope active first st) go_round tt b.e (Makes (behind n body) (behind_loop f d framed among known c))
         (subst (λ (m : Made (Unit {0})). Follows g (RanOn g alive d s0) s0 (done scope active first st) m) b.is (part_follows n first begins c.first_code d s0 st free at sim))
-        (steps_in_all f d framed among none c, all_grown f d framed among none c)
-        (λ u ran. follows_from g alive f d b.e ran.grown.0 s0 ran.t (go_round u) (Makes (behind n body) (behind_loop f d framed among none c)) ran.grown.1 ran.go ran.keeps (turns_follow f d framed among none c ran.t u (begun_later g d b.e (part_length_of g.typed (layout g) first) b.extended free) ran.at ran.sim))))
+        (steps_in_all f d framed among known c, all_grown f d framed among known c)
+        (λ u ran. follows_from g alive f d b.e ran.grown.0 s0 ran.t (go_round u) (Makes (behind n body) (behind_loop f d framed among known c)) ran.grown.1 ran.go ran.keeps (turns_follow f d framed among known c ran.t u (begun_later g d b.e (part_length_of g.typed (layout g) first) b.extended free) ran.at ran.sim))))
 
   -- `while` is `for` with its condition alone
-  module _ (n : ℕ) (test : TExpr) (p : Boxed) (body : TStmt) (isin : (IsIn (naming g.may alive)) test) (agrees : Agrees g has alive files numbers ready declares scope active calls_follow contexts n body) where
+  module _ (n : ℕ) (test : TExpr) (p : Boxed) (body : TStmt) (isin : (IsIn (naming g.may alive)) test) (agrees : Agrees g has alive files numbers ready scope active calls_follow contexts n body) where
     abbrev as_for : TStmt
     as_for = S.For' None (Some test) None p body
 
@@ -290,15 +292,15 @@ module _ (g : Setting) (has : HasRegisters g) (alive : Variable → Type 0) (fil
         nothing_more : (k : ℕ) → k + 0 ≡ k
         nothing_more k = omega arith
 
-    pub while_agrees : Agrees g has alive files numbers ready declares scope active calls_follow contexts n (S.While' test p body)
+    pub while_agrees : Agrees g has alive files numbers ready scope active calls_follow contexts n (S.While' test p body)
     unfolding executed done passes_or_absent then_go IsTested
-    while_agrees f d s0 st framed among none free at sim c =
+    while_agrees f d s0 st framed among known free at sim c =
         subst (λ (m : Made ℕ). Follows g (Left g alive f d s0) s0 (rounds st.turns (passes scope active test) (λ u. executed scope body n active u) (λ u. Source.Gives Onward u) st) m) (same_code f.frame d)
-        (for_agrees n None None (Some test) p body tt isin tt agrees f d s0 st framed among none free at sim (while_code c))
+        (for_agrees n None None (Some test) p body tt isin tt agrees f d s0 st framed among known free at sim (while_code c))
 
   -- `do`
-  module _ (n : ℕ) (test : TExpr) (p : Boxed) (body : TStmt) (isin : (IsIn (naming g.may alive)) test) (agrees : Agrees g has alive files numbers ready declares scope active calls_follow contexts n body) where
-    module _ (f : Exits) (d : Draft) (framed : StandsIn g f.frame) (among : StandsHere g f contexts) (none : d.homes ≡ []) (c : HasStatementCode g.typed g.instance n (S.Do' p body test)) where
+  module _ (n : ℕ) (test : TExpr) (p : Boxed) (body : TStmt) (isin : (IsIn (naming g.may alive)) test) (agrees : Agrees g has alive files numbers ready scope active calls_follow contexts n body) where
+    module _ (f : Exits) (d : Draft) (framed : StandsIn g f.frame) (among : StandsHere g f contexts) (known : HasDeclared g.typed g.instance (layout g) n d) (c : HasStatementCode g.typed g.instance n (S.Do' p body test)) where
       abbrev do_long : ℕ
       do_long = statement_length_of g.typed (layout g) (has_result f.frame) (at_loop f.frame.saved) body
 
@@ -325,21 +327,20 @@ module _ (g : Setting) (has : HasRegisters g) (alive : Variable → Type 0) (fil
       unfolding in_loop at_loop
       do_among = record { loop = omega arith; all = among.among.all }
 
-      do_here : StandsHere g (in_body do_inner g.held f) contexts
-      unfolding in_loop at_loop
-      do_here = record { among = do_among; loop = restores_none g contexts 0 refl; all = among.all }
+      do_here : Begun g d → StandsHere g (in_body do_inner g.held f) contexts
+      unfolding in_loop at_loop here
+      do_here free = record { among = do_among; loop = restores_none g contexts 0 refl; all = among.all; after = calls_follow.lasts do_after (let low = free.code in omega (arith, low)); next = calls_follow.lasts do_next (let low = free.code in omega (arith, low)) }
 
-      do_homes : do_before.homes ≡ []
-      unfolding with_instr with_step
-      do_homes = none
+      do_known : HasDeclared g.typed g.instance (layout g) n do_before
+      do_known = declared_on g I.FrontTurn n d known
 
-      made_do : MadeSo g numbers declares do_before do_long (behind n body) (statement_of g.typed (layout g) body do_inner contexts n do_before)
+      made_do : MadeSo g numbers do_before do_long (behind n body) (statement_of g.typed (layout g) body do_inner contexts n do_before)
       unfolding in_loop has_result
-      made_do = statement_made g numbers declares body do_inner contexts n do_before do_frame do_among (do_body g numbers declares n p body test c) do_homes
+      made_do = statement_made g numbers body do_inner contexts n do_before do_frame do_among (do_body g numbers n p body test c) do_known
 
       made_while : BackMade g alive has files n (ready n) scope active calls_follow (Some test) do_turn made_do.e
       unfolding IsTested
-      made_while = back_made g alive has files n (ready n) scope active calls_follow (Some test) do_turn made_do.e isin (do_test g numbers declares n p body test c)
+      made_while = back_made g alive has files n (ready n) scope active calls_follow (Some test) do_turn made_do.e isin (do_test g numbers n p body test c) (behind n body) (omega arith) made_do.declared
 
       abbrev behind_do : Draft
       behind_do = made_while.e
@@ -375,14 +376,14 @@ module _ (g : Setting) (has : HasRegisters g) (alive : Variable → Type 0) (fil
           delayed g (Left g alive f d t) behind_do t go_round (Makes (behind n body) behind_do) (0, as_it_was behind_do) (λ within.
           do_runs g alive scope active (passes scope active test) body n (behind n body) (test_falls n test) do_inner f d d made_do.e made_do.e behind_do do_turn (λ v. Source.Gives Onward v) within so.2 so.0 so.1 do_long 0 (used_length_of g.typed (layout g) 32 true test + 1) made_do.extended (as_it_was made_do.e) made_while.extended (omega (arith, regs1))
           (falls body n)
-          (λ s v here_s sim_s. subst (λ (m : Made ℕ). Follows g (Left g alive (in_body do_inner g.held f) do_before s) s (executed scope body n active v) m) made_do.is (agrees (in_body do_inner g.held f) do_before s v do_frame do_here do_homes begun_body here_s sim_s (do_body g numbers declares n p body test c)))
+          (λ s v here_s sim_s. subst (λ (m : Made ℕ). Follows g (Left g alive (in_body do_inner g.held f) do_before s) s (executed scope body n active v) m) made_do.is (agrees (in_body do_inner g.held f) do_before s v do_frame (do_here free) do_known begun_body here_s sim_s (do_body g numbers n p body test c)))
           (λ v. omega arith)
           (λ s v here_s sim_s within_s. (refl, record { grown = (0, as_it_was made_do.e); t = s; go = stay g s; at = here_s; sim = sim_s; keeps = keeps_all g made_do.e s }))
-          (λ s v here_s sim_s. made_while.leads (begun_later g do_before made_do.e do_long made_do.extended begun_body) within s v here_s sim_s)
+          (λ s v here_s sim_s. made_while.leads (begun_later g do_before made_do.e do_long made_do.extended begun_body) (let low = free.code in let turn_is = so.2 in omega (arith, low, turn_is)) within s v here_s sim_s)
           (behind n body) _ t u refl do_grown at sim)
 
-    pub do_agrees : Agrees g has alive files numbers ready declares scope active calls_follow contexts n (S.Do' p body test)
+    pub do_agrees : Agrees g has alive files numbers ready scope active calls_follow contexts n (S.Do' p body test)
     unfolding executed
-    do_agrees f d s0 st framed among none free at sim c =
-        subst (λ (m : Made ℕ). Follows g (Left g alive f d s0) s0 (then_round (spend_turn st (λ v. executed scope body n active v)) (λ s. rounds s.turns (passes scope active test) (λ v. executed scope body n active v) (λ v. Source.Gives Onward v) s)) m) (sym (do_is f d framed among none c))
-        (do_follows f d framed among none c s0 st free at sim)
+    do_agrees f d s0 st framed among known free at sim c =
+        subst (λ (m : Made ℕ). Follows g (Left g alive f d s0) s0 (then_round (spend_turn st (λ v. executed scope body n active v)) (λ s. rounds s.turns (passes scope active test) (λ v. executed scope body n active v) (λ v. Source.Gives Onward v) s)) m) (sym (do_is f d framed among known c))
+        (do_follows f d framed among known c s0 st free at sim)

@@ -6,7 +6,7 @@ use Rattle.cstar_tree.specs.declared.typed.TStmt.{TStmt}
 use Rattle.cstar_tree.specs.declared.typed.Typed.{Typed}
 use Rattle.cstar_tree.specs.declared.typed.VarInfo.{VarInfo}
 use Rattle.code_lengths.specs.Agreement.{StandsAmong}
-use Rattle.code_lengths.specs.Ready.{HasDeclared, IsCodable, IsReady, NumbersVariables}
+use Rattle.code_lengths.specs.Ready.{HasDeclared, IsCodable, IsReadyButForFields, NumbersVariables}
 use Rattle.lower_base.specs.Drafts.{Draft, Fails, Made, Makes, then_make}
 use Rattle.lower_base.specs.Layouts.{Layout, layout_of}
 use Rattle.lower_stmt.specs.declared.statement.Frame.{Frame}
@@ -31,10 +31,10 @@ use Rattle.code_follows.proofs.Closed.{NoJump}
 use Rattle.code_follows.proofs.Endings.{NeverOnward}
 use Rattle.code_follows.proofs.Executing.{Exits, Left, LeftSo, Returns}
 use Rattle.code_follows.proofs.Following.{Finishes, Follows, HasRegisters}
-use Rattle.code_follows.proofs.Regions.{all_declared, all_numbered, all_ready}
+use Rattle.code_follows.proofs.Regions.{first_declared, all_numbered, all_ready}
 use Rattle.code_follows.proofs.Restoring.{restores_none}
 use Rattle.code_follows.proofs.Returning.{end_more, left_at_end}
-use Rattle.code_follows.proofs.Settings.{Held, Setting, Within, earlier}
+use Rattle.code_follows.proofs.Settings.{Held, LastsTo, Setting, Within, earlier}
 use Rattle.code_follows.proofs.Statements.{StandsHere, StandsIn}
 use Rattle.code_follows.proofs.Units.{unit_at, within_all}
 
@@ -64,14 +64,14 @@ module _ (t : Typed) (image : Image) {beside : Beside} (p : IsProgramBeside besi
   abbrev pub scope : Scope
   scope = scope_of t i (calls t most)
 
-  pub ready : (n : ℕ) (d : Draft) → IsReady t i own n d
+  pub ready : (n : ℕ) (d : Draft) → IsReadyButForFields t i own n d
   ready n d = all_ready t (scalars t image p codable compiled) (words t image p codable compiled) number i is n d
 
   pub numbered : NumbersVariables i own
   numbered = all_numbered t (scalars t image p codable compiled) (words t image p codable compiled) number i is
 
-  pub declares : (n : ℕ) (d : Draft) → d.homes ≡ [] → HasDeclared t i own n d
-  declares n d none = all_declared t (scalars t image p codable compiled) (words t image p codable compiled) number i is n d none
+  pub declares : (d : Draft) → d.homes ≡ [] → HasDeclared t i own 0 d
+  declares d none = first_declared t (scalars t image p codable compiled) (words t image p codable compiled) number i is d none
 
   abbrev pub frame : Frame
   frame = body_frame (number == 0) i
@@ -88,9 +88,9 @@ module _ (t : Typed) (image : Image) {beside : Beside} (p : IsProgramBeside besi
   unfolding body_frame
   among = record { loop = omega arith; all = refl }
 
-  pub stands_here : StandsHere g exits []
+  pub stands_here : LastsTo g g.held 0 → StandsHere g exits []
   unfolding body_frame
-  stands_here = record { among = among; loop = restores_none g [] 0 refl; all = restores_none g [] 0 refl }
+  stands_here lasts = record { among = among; loop = restores_none g [] 0 refl; all = restores_none g [] 0 refl; after = lasts; next = lasts }
 
   pub falls : (active : Active) (s : TStmt) (n : ℕ) (st : State) → (state_after (executed scope s n active st)).turns ≤ st.turns
   unfolding scope_of

@@ -13,7 +13,7 @@ use Rattle.cstar_tree.specs.declared.typed.TStmt as S
 use Rattle.cstar_tree.specs.declared.typed.Variable.TheVariants as V
 use Rattle.code_lengths.specs.Agreement.{StandsAmong}
 use Rattle.code_lengths.specs.NamingStatements.{behind}
-use Rattle.code_lengths.specs.Ready.{HasDeclared, HasStatementCode, IsReady, NumbersVariables}
+use Rattle.code_lengths.specs.Ready.{HasDeclared, HasStatementCode, IsReadyButForFields, NumbersVariables}
 use Rattle.code_lengths.proofs.Declaring.{first_part, info_of, row_variables}
 use Rattle.lower_base.specs.Drafts.{Draft}
 use Rattle.lower_stmt.specs.Statements.{statement_of, statements_of}
@@ -54,8 +54,7 @@ the_same s other is = ap (λ (held : Held-TStmt-If-2). elim held as (λ _. TStmt
 pub record Around (Known : Setting → Scope → Active → Type 1) (g : Setting) (scope : Scope) (active : Active) : Type 1 where
   pub has : HasRegisters g
   pub numbers : NumbersVariables g.instance (layout g)
-  pub ready : (n : ℕ) (d : Draft) → IsReady g.typed g.instance (layout g) n d
-  pub declares : (n : ℕ) (d : Draft) → d.homes ≡ [] → HasDeclared g.typed g.instance (layout g) n d
+  pub ready : (n : ℕ) (d : Draft) → IsReadyButForFields g.typed g.instance (layout g) n d
   pub calls : (held : Held) (from entries upto : ℕ) (a : Active) → Known (under_held g held from entries upto) scope a → CallsFollow (under_held g held from entries upto) scope a
   pub falls : (a : Active) (s : TStmt) (n : ℕ) (st : State) → (state_after (executed scope s n a st)).turns ≤ st.turns
   pub known : Known g scope active
@@ -67,63 +66,63 @@ calls_here g active r = r.calls g.held g.from g.entries g.upto active r.known
 -- statements of each form follow, where those in them do
 module _ {Known : Setting → Scope → Active → Type 1} {scope : Scope} (g : Setting) (active : Active) (r : Around Known g scope active) (contexts : List Field) (alive : Variable → Type 0) (files : (k : ℕ) → alive (V.File k)) where
   abbrev Follow : ℕ → TStmt → Type 1
-  Follow n s = Agrees g r.has alive files r.numbers r.ready r.declares scope active (calls_here g active r) contexts n s
+  Follow n s = Agrees g r.has alive files r.numbers r.ready scope active (calls_here g active r) contexts n s
 
   -- statements in a row
   abbrev pub RowAgrees : {k : Count} → ℕ → Row_of-TStmt k → Type 1
   RowAgrees n row =
-      (f : Exits) (d : Draft) (s0 : CodeState) (st : State) → StandsIn g f.frame → StandsHere g f contexts → d.homes ≡ [] → Begun g d → At g s0 (length d.code) → Sim g alive st s0 → RowCode g r.has alive files r.numbers r.ready r.declares scope active (calls_here g active r) (r.falls active) contexts n row
+      (f : Exits) (d : Draft) (s0 : CodeState) (st : State) → StandsIn g f.frame → StandsHere g f contexts → HasDeclared g.typed g.instance (layout g) n d → Begun g d → At g s0 (length d.code) → Sim g alive st s0 → RowCode g r.has alive files r.numbers r.ready scope active (calls_here g active r) (r.falls active) contexts n row
       → Follows g (Left g alive f d s0) s0 (all_executed scope row n active st) (statements_of g.typed (layout g) row f.frame contexts n d)
 
   end_agrees : (n : ℕ) → RowAgrees n end_of-TStmt
   unfolding all_executed statements_of
-  end_agrees n f d s0 st framed stands none free at sim c = stays_here g r.has alive files r.numbers r.ready r.declares scope active (calls_here g active r) (r.falls active) contexts f n d s0 st at sim
+  end_agrees n f d s0 st framed stands known free at sim c = stays_here g r.has alive files r.numbers r.ready scope active (calls_here g active r) (r.falls active) contexts f n d s0 st at sim
 
   more_agrees : {k : Count} (n : ℕ) (s : TStmt) (rest : Row_of-TStmt k) → Follow n s → RowAgrees (behind n s) rest → RowAgrees n (more_of-TStmt s rest)
   unfolding all_executed statements_of declared
-  more_agrees n s rest first others f d s0 st framed stands none free at sim c =
-      row_onward g r.has alive files r.numbers r.ready r.declares scope active (calls_here g active r) (r.falls active) contexts s rest f n d s0 st framed stands.among none free c
-      (first f d s0 st framed stands none free at sim (row_first g r.has alive files r.numbers r.ready r.declares scope active (calls_here g active r) (r.falls active) contexts n s rest c))
-      (λ e t u none_e free_e at_e sim_e. others f e t u framed stands none_e free_e at_e sim_e (row_rest g r.has alive files r.numbers r.ready r.declares scope active (calls_here g active r) (r.falls active) contexts n s rest c))
+  more_agrees n s rest first others f d s0 st framed stands known free at sim c =
+      row_onward g r.has alive files r.numbers r.ready scope active (calls_here g active r) (r.falls active) contexts s rest f n d s0 st framed stands.among known free c
+      (first f d s0 st framed stands known free at sim (row_first g r.has alive files r.numbers r.ready scope active (calls_here g active r) (r.falls active) contexts n s rest c))
+      (λ e t u none_e free_e at_e sim_e. others f e t u framed stands none_e free_e at_e sim_e (row_rest g r.has alive files r.numbers r.ready scope active (calls_here g active r) (r.falls active) contexts n s rest c))
 
   expression_agrees : (n : ℕ) (e : TExpr) → IsEffect (naming g.may alive) e → Follow n (S.Expression e)
   unfolding executed statement_of
-  expression_agrees n e h f d s0 st framed stands none free at sim c = expression_follows g r.has alive files r.numbers r.ready r.declares scope active (calls_here g active r) (r.falls active) contexts e h f n d s0 st free at sim c
+  expression_agrees n e h f d s0 st framed stands known free at sim c = expression_follows g r.has alive files r.numbers r.ready scope active (calls_here g active r) (r.falls active) contexts e h f n d s0 st free at sim c
 
   empty_agrees : (n : ℕ) → Follow n S.Empty
   unfolding executed statement_of
-  empty_agrees n f d s0 st framed stands none free at sim c = stays_here g r.has alive files r.numbers r.ready r.declares scope active (calls_here g active r) (r.falls active) contexts f n d s0 st at sim
+  empty_agrees n f d s0 st framed stands known free at sim c = stays_here g r.has alive files r.numbers r.ready scope active (calls_here g active r) (r.falls active) contexts f n d s0 st at sim
 
   with_agrees : (n shape : ℕ) (p : Boxed) (body : TStmt) → Follow n body → Follow n (S.With' shape p body)
   unfolding executed statement_of
-  with_agrees n shape p body follows f d s0 st framed stands none free at sim c = follows f d s0 st framed stands none free at sim (with_body g r.numbers r.declares n shape p body c)
+  with_agrees n shape p body follows f d s0 st framed stands known free at sim c = follows f d s0 st framed stands known free at sim (with_body g r.numbers n shape p body c)
 
   break_agrees : (n : ℕ) → Follow n S.Break
   unfolding executed statement_of
-  break_agrees n f d s0 st framed stands none free at sim c = breaks g r.has alive files r.numbers r.ready r.declares scope active (calls_here g active r) (r.falls active) contexts f n d s0 st stands free at sim
+  break_agrees n f d s0 st framed stands known free at sim c = breaks g r.has alive files r.numbers r.ready scope active (calls_here g active r) (r.falls active) contexts f n d s0 st stands free at sim
 
   continue_agrees : (n : ℕ) → Follow n S.Continue
   unfolding executed statement_of
-  continue_agrees n f d s0 st framed stands none free at sim c = continues g r.has alive files r.numbers r.ready r.declares scope active (calls_here g active r) (r.falls active) contexts f n d s0 st stands free at sim
+  continue_agrees n f d s0 st framed stands known free at sim c = continues g r.has alive files r.numbers r.ready scope active (calls_here g active r) (r.falls active) contexts f n d s0 st stands free at sim
 
   return_agrees : (n : ℕ) (e : Option TExpr) → IfSome e (λ x. IsIn (naming g.may alive) x × g.may.returns (type_of x).elem) → Follow n (S.Return e)
-  return_agrees n e h f d s0 st framed stands none free at sim c =
-      return_follows g r.has alive files r.ready scope active (calls_here g active r) f contexts stands e h n d s0 st framed free at sim (returned_code g r.numbers r.declares e n c)
+  return_agrees n e h f d s0 st framed stands known free at sim c =
+      return_follows g r.has alive files r.ready scope active (calls_here g active r) f contexts stands e h n d s0 st framed free at sim (returned_code g r.numbers e n c)
 
 module _ {Known : Setting → Scope → Active → Type 1} {scope : Scope} (g : Setting) (active : Active) (r : Around Known g scope active) (contexts : List Field) (alive : Variable → Type 0) (files : (k : ℕ) → alive (V.File k)) where
   -- a block, where its statements follow with its variables
   block_agrees : (n : ℕ) → AreBefore alive n → (locals : Vec LocalVar Global) (p : Vec (Unit {0}) Global) (statements : _) → All IsScalarLocal locals.items → AreInitials (naming g.may alive) n locals.items
       → RowAgrees g active r contexts (λ x. OrAmong alive n (length locals.items) x) (λ k. inl (files k)) (n + length locals.items) statements → Follow g active r contexts alive files n (S.Block' locals p statements)
   unfolding executed statement_of
-  block_agrees n before locals p statements scalars initials follows f d s0 st framed stands none free at sim c =
+  block_agrees n before locals p statements scalars initials follows f d s0 st framed stands known free at sim c =
       let wide : Variable → Type 0 = λ x. OrAmong alive n (length locals.items) x in
       let wide_files : (k : ℕ) → wide (V.File k) = λ k. inl (files k) in
-      let code = block_code g r.has wide wide_files r.numbers r.ready r.declares scope active (calls_here g active r) (r.falls active) contexts n locals p statements c in
+      let code = block_code g r.has wide wide_files r.numbers r.ready scope active (calls_here g active r) (r.falls active) contexts n locals p statements c in
       follows_fewer g wide alive (λ x living. inl living) f d s0 _ _
-      (block_follows g r.has wide wide_files r.numbers r.ready r.declares scope active (calls_here g active r) (r.falls active) contexts alive locals.items statements f n d s0 st scalars
-      (first_part (map info_of locals.items) (row_variables statements) (block_stands g r.has wide wide_files r.numbers r.ready r.declares scope active (calls_here g active r) (r.falls active) contexts n locals p statements c))
+      (block_follows g r.has wide wide_files r.numbers r.ready scope active (calls_here g active r) (r.falls active) contexts alive locals.items statements f n d s0 st scalars
+      (first_part (map info_of locals.items) (row_variables statements) (block_stands g r.has wide wide_files r.numbers r.ready scope active (calls_here g active r) (r.falls active) contexts n locals p statements c))
       (settled_so g r.has wide wide_files r.ready scope active (calls_here g active r) alive locals.items n (λ x living. inl living) (λ x own. inr own) before initials)
-      (block_initials g r.has wide wide_files r.numbers r.ready r.declares scope active (calls_here g active r) (r.falls active) contexts n locals p statements c) code framed stands.among none free at sim (λ x living. living)
+      (block_initials g r.has wide wide_files r.numbers r.ready scope active (calls_here g active r) (r.falls active) contexts n locals p statements c) code framed stands.among known free at sim (λ x living. living)
       (λ e t u none_e free_e at_e sim_e. follows f e t u framed stands none_e free_e at_e sim_e code))
 
 module _ {Known : Setting → Scope → Active → Type 1} (scope : Scope) (besides : (g : Setting) (a : Active) → Known g scope a → (has : HasRegisters g) → BesideFollows Known g has scope a) where
@@ -133,7 +132,6 @@ module _ {Known : Setting → Scope → Active → Type 1} (scope : Scope) (besi
     has = registers_under g held from entries upto r.has;
     numbers = r.numbers;
     ready = r.ready;
-    declares = r.declares;
     calls = r.calls;
     falls = r.falls;
     known = known;
@@ -144,13 +142,13 @@ module _ {Known : Setting → Scope → Active → Type 1} (scope : Scope) (besi
   FollowsWherever g active r alive files n s =
       (held : Held) (from entries upto : ℕ) (a : Active) (known : Known (under_held g held from entries upto) scope a) (inner : List Field)
       → let part = around_part g active r held from entries upto a known in
-      Agrees (under_held g held from entries upto) part.has alive files part.numbers part.ready part.declares scope a (calls_here (under_held g held from entries upto) a part) inner n s
+      Agrees (under_held g held from entries upto) part.has alive files part.numbers part.ready scope a (calls_here (under_held g held from entries upto) a part) inner n s
 
   abbrev ElseFollowsWherever : (g : Setting) (active : Active) → Around Known g scope active → (alive : Variable → Type 0) → ((k : ℕ) → alive (V.File k)) → ℕ → Held-TStmt-If-2 → Type 1
   ElseFollowsWherever g active r alive files n second =
       (held : Held) (from entries upto : ℕ) (a : Active) (known : Known (under_held g held from entries upto) scope a) (inner : List Field) (q : Boxed) (s : TStmt) → second ≡ Some' q s
       → let part = around_part g active r held from entries upto a known in
-      Agrees (under_held g held from entries upto) part.has alive files part.numbers part.ready part.declares scope a (calls_here (under_held g held from entries upto) a part) inner n s
+      Agrees (under_held g held from entries upto) part.has alive files part.numbers part.ready scope a (calls_here (under_held g held from entries upto) a part) inner n s
 
   -- a statement under one context more
   part_follows : (g : Setting) (active : Active) (r : Around Known g scope active) (contexts : List Field) (alive : Variable → Type 0) (files : (k : ℕ) → alive (V.File k)) (n : ℕ) (s : TStmt)
@@ -161,47 +159,49 @@ module _ {Known : Setting → Scope → Active → Type 1} (scope : Scope) (besi
       let deep : StandsAmong (in_context f.frame) inner = deeper f.frame contexts saved stands.among in
       let framed_so : StandsIn g (in_context f.frame) = in_context_too g f.frame framed in
       record {
-        made = λ d none. let made = statement_made g r.numbers r.declares s (in_context f.frame) inner n d framed_so deep c none in (made.e, (made.is, (_, made.extended), made.homes));
-        follows = λ held from entries upto a inside known d t st none free at sim.
+        made = λ d known. let made = statement_made g r.numbers s (in_context f.frame) inner n d framed_so deep c known in (made.e, (made.is, (_, made.extended), made.declared));
+        follows = λ held from entries upto a inside known d t st declared_so free at sim.
             follows held from entries upto a known inner (in_one_more f) d t st (record { outcome = framed_so.outcome; main = framed_so.main; scalar = framed_so.scalar }) (record {
               among = deep;
               loop = restores_inside g saved held from entries upto inside f.loop contexts f.frame.saved.in_loop stands.loop;
+              after = stands.after;
+              next = stands.next;
               all = restores_inside g saved held from entries upto inside f.all contexts f.frame.saved.in_all stands.all;
-            }) none free at sim c;
+            }) declared_so free at sim c;
       }
 
   -- those that set contexts follow where what stands under these does
   everywhere_agrees : (g : Setting) (active : Active) (r : Around Known g scope active) (contexts : List Field) (alive : Variable → Type 0) (files : (k : ℕ) → alive (V.File k)) (n shape : ℕ) (p : Boxed) (body : TStmt) → g.may.beside.widens shape → FollowsWherever g active r alive files n body
-      → Agrees g r.has alive files r.numbers r.ready r.declares scope active (calls_here g active r) contexts n (S.Everywhere' shape p body)
-  everywhere_agrees g active r contexts alive files n shape p body h follows f d s0 st framed stands none free at sim c =
-      (besides g active r.known r.has).widenings alive files n (r.ready n) shape p body h c f contexts (part_follows g active r contexts alive files n body f framed stands (everywhere_body g r.numbers r.declares n shape p body c) follows) d s0 st none free at sim
+      → Agrees g r.has alive files r.numbers r.ready scope active (calls_here g active r) contexts n (S.Everywhere' shape p body)
+  everywhere_agrees g active r contexts alive files n shape p body h follows f d s0 st framed stands known free at sim c =
+      (besides g active r.known r.has).widenings alive files n (r.ready n) shape p body h c f contexts (part_follows g active r contexts alive files n body f framed stands (everywhere_body g r.numbers n shape p body c) follows) d s0 st known free at sim
 
   where_agrees : (g : Setting) (active : Active) (r : Around Known g scope active) (contexts : List Field) (alive : Variable → Type 0) (files : (k : ℕ) → alive (V.File k)) (n shape : ℕ) (test : TExpr) (p : Boxed) (first : TStmt) (second : Held-TStmt-If-2) → g.may.beside.conditions shape test → ScalarsAmong alive test
-      → FollowsWherever g active r alive files n first → ElseFollowsWherever g active r alive files (behind n first) second → Agrees g r.has alive files r.numbers r.ready r.declares scope active (calls_here g active r) contexts n (S.Where' shape test p first second)
-  where_agrees g active r contexts alive files n shape test p first second h among follows others f d s0 st framed stands none free at sim c =
-      (besides g active r.known r.has).wheres alive files n (r.ready n) shape test p first second h among c f contexts (part_follows g active r contexts alive files n first f framed stands (where_first g r.numbers r.declares n shape test p first second c) follows)
-      (λ q s is. part_follows g active r contexts alive files (behind n first) s f framed stands (where_second g r.numbers r.declares n shape test p first q s (subst (λ (other : Held-TStmt-If-2). HasStatementCode g.typed g.instance n (S.Where' shape test p first other)) is c)) (λ held from entries upto a known inner. others held from entries upto a known inner q s is)) d s0 st none free at sim
+      → FollowsWherever g active r alive files n first → ElseFollowsWherever g active r alive files (behind n first) second → Agrees g r.has alive files r.numbers r.ready scope active (calls_here g active r) contexts n (S.Where' shape test p first second)
+  where_agrees g active r contexts alive files n shape test p first second h among follows others f d s0 st framed stands known free at sim c =
+      (besides g active r.known r.has).wheres alive files n (r.ready n) shape test p first second h among c f contexts (part_follows g active r contexts alive files n first f framed stands (where_first g r.numbers n shape test p first second c) follows)
+      (λ q s is. part_follows g active r contexts alive files (behind n first) s f framed stands (where_second g r.numbers n shape test p first q s (subst (λ (other : Held-TStmt-If-2). HasStatementCode g.typed g.instance n (S.Where' shape test p first other)) is c)) (λ held from entries upto a known inner. others held from entries upto a known inner q s is)) d s0 st known free at sim
 
   mutual
     unfolding IsInStatement IsInElse AreInStatements
 
     pub statement_follows : (g : Setting) (active : Active) (r : Around Known g scope active) (contexts : List Field) (alive : Variable → Type 0) (files : (k : ℕ) → alive (V.File k)) (n : ℕ) → AreBefore alive n → (s : TStmt) → IsInStatement (naming g.may alive) n s
-        → Agrees g r.has alive files r.numbers r.ready r.declares scope active (calls_here g active r) contexts n s
+        → Agrees g r.has alive files r.numbers r.ready scope active (calls_here g active r) contexts n s
     statement_follows g active r contexts alive files n before (S.Block' locals p statements) h =
         block_agrees g active r contexts alive files n before locals p statements h.0 h.1 (row_follows g active r contexts (λ x. OrAmong alive n (length locals.items) x) (λ k. inl (files k)) (n + length locals.items) (among_before alive n (length locals.items) before) statements h.2)
     statement_follows g active r contexts alive files n before (S.Expression e) h = expression_agrees g active r contexts alive files n e h
     statement_follows g active r contexts alive files n before S.Empty h = empty_agrees g active r contexts alive files n
     statement_follows g active r contexts alive files n before (S.If' test p first None') h =
-        if_alone g r.has alive files r.numbers r.ready r.declares scope active (calls_here g active r) contexts n test p first h.0 (statement_follows g active r contexts alive files n before first h.1)
+        if_alone g r.has alive files r.numbers r.ready scope active (calls_here g active r) contexts n test p first h.0 (statement_follows g active r contexts alive files n before first h.1)
     statement_follows g active r contexts alive files n before (S.If' test p first (Some' q second)) h =
-        if_else g r.has alive files r.numbers r.ready r.declares scope active (calls_here g active r) contexts n test p first q second h.0 (statement_follows g active r contexts alive files n before first h.1)
+        if_else g r.has alive files r.numbers r.ready scope active (calls_here g active r) contexts n test p first q second h.0 (statement_follows g active r contexts alive files n before first h.1)
         (statement_follows g active r contexts alive files (behind n first) (behind_too alive n first before) second h.2)
     statement_follows g active r contexts alive files n before (S.While' test p body) h =
-        while_agrees g r.has alive files r.numbers r.ready r.declares scope active (calls_here g active r) (r.falls active) contexts n test p body h.0 (statement_follows g active r contexts alive files n before body h.1)
+        while_agrees g r.has alive files r.numbers r.ready scope active (calls_here g active r) (r.falls active) contexts n test p body h.0 (statement_follows g active r contexts alive files n before body h.1)
     statement_follows g active r contexts alive files n before (S.For' first test step p body) h =
-        for_agrees g r.has alive files r.numbers r.ready r.declares scope active (calls_here g active r) (r.falls active) contexts n first step test p body h.0 h.1 h.2 (statement_follows g active r contexts alive files n before body h.3)
+        for_agrees g r.has alive files r.numbers r.ready scope active (calls_here g active r) (r.falls active) contexts n first step test p body h.0 h.1 h.2 (statement_follows g active r contexts alive files n before body h.3)
     statement_follows g active r contexts alive files n before (S.Do' p body test) h =
-        do_agrees g r.has alive files r.numbers r.ready r.declares scope active (calls_here g active r) (r.falls active) contexts n test p body h.1 (statement_follows g active r contexts alive files n before body h.0)
+        do_agrees g r.has alive files r.numbers r.ready scope active (calls_here g active r) (r.falls active) contexts n test p body h.1 (statement_follows g active r contexts alive files n before body h.0)
     statement_follows g active r contexts alive files n before (S.With' shape p body) h = with_agrees g active r contexts alive files n shape p body (statement_follows g active r contexts alive files n before body h)
     statement_follows g active r contexts alive files n before S.Break h = break_agrees g active r contexts alive files n
     statement_follows g active r contexts alive files n before S.Continue h = continue_agrees g active r contexts alive files n
@@ -214,10 +214,10 @@ module _ {Known : Setting → Scope → Active → Type 1} (scope : Scope) (besi
 
     -- the statement behind an `else`, if there is one
     else_follows : (g : Setting) (active : Active) (r : Around Known g scope active) (contexts : List Field) (alive : Variable → Type 0) (files : (k : ℕ) → alive (V.File k)) (n : ℕ) → AreBefore alive n → (second : Held-TStmt-If-2) → IsInElse (naming g.may alive) n second
-        → (q : Boxed) (s : TStmt) → second ≡ Some' q s → Agrees g r.has alive files r.numbers r.ready r.declares scope active (calls_here g active r) contexts n s
+        → (q : Boxed) (s : TStmt) → second ≡ Some' q s → Agrees g r.has alive files r.numbers r.ready scope active (calls_here g active r) contexts n s
     else_follows g active r contexts alive files n before None' h = λ q s is. cc
     else_follows g active r contexts alive files n before (Some' p second) h =
-        λ q s is. subst (λ (x : TStmt). Agrees g r.has alive files r.numbers r.ready r.declares scope active (calls_here g active r) contexts n x) (the_same second s is) (statement_follows g active r contexts alive files n before second h)
+        λ q s is. subst (λ (x : TStmt). Agrees g r.has alive files r.numbers r.ready scope active (calls_here g active r) contexts n x) (the_same second s is) (statement_follows g active r contexts alive files n before second h)
 
     pub row_follows : {k : Count} (g : Setting) (active : Active) (r : Around Known g scope active) (contexts : List Field) (alive : Variable → Type 0) (files : (k : ℕ) → alive (V.File k)) (n : ℕ) → AreBefore alive n → (row : Row_of-TStmt k) → AreInStatements (naming g.may alive) n row
         → RowAgrees g active r contexts alive files n row

@@ -1,18 +1,20 @@
 -- Jumps and turns of the code.
-use Rattle.std.proofs.Common.{◌≡◌, ◌∙◌, ℕ, suc, ◌+◌, ◌-◌, ◌==◌, Bool, true, false, not, List, length, slice_index, refl, ap, if◌then◌else◌, arith}
+use Rattle.std.proofs.Common.{◌≡◌, ◌∙◌, ℕ, suc, ◌+◌, ◌-◌, ◌==◌, ◌≤◌, Bool, true, false, not, List, length, slice_index, refl, ap, subst, if◌then◌else◌, arith}
 use Rattle.std.proofs.lemmas.Bool.Decides.{nat_tests}
 use Rattle.cstar_tree.specs.declared.typed.Variable.{Variable}
 use Rattle.lower_base.specs.Drafts.{Draft, step as step_of, with_instr}
 use Rattle.lower_stmt.specs.Statements.{loaded, restored}
+use Rattle.paris_code.specs.declared.instr.Instr.{Instr}
 use Rattle.paris_code.specs.declared.instr.Instr.TheVariants as I
 use Rattle.paris_code.specs.declared.operands.Field.{Field}
 use Rattle.paris_code.specs.Code as Machine
 use Rattle.paris_code.specs.Code.{CodeState, Ends, Goes, begun, jumped, turned}
+use Rattle.paris_code.specs.Spans.{JumpsTo, StandsAt}
 use Rattle.source_meaning.specs.State as Source
 use Rattle.source_meaning.specs.State.{State}
 use Rattle.source_meaning.specs.Values.{nonzero}
 use Rattle.code_follows.proofs.Following.{Finishes, Sim}
-use Rattle.code_follows.proofs.Settings.{At, Reaches, Setting, Within, begins_here, ends_now, one, start}
+use Rattle.code_follows.proofs.Settings.{At, LastsTo, Reaches, Setting, Within, begins_here, ends_now, one, start}
 
 -- none of those that are saved is loaded
 pub none_restored : (contexts : List Field) (newest : ℕ) (d : Draft) → newest ≡ 0 → restored contexts newest d ≡ d
@@ -24,8 +26,17 @@ module _ (g : Setting) (alive : Variable → Type 0) where
   abbrev pub moved_to : ℕ → CodeState → CodeState
   moved_to place s = record s { at = place }
 
-  pub sim_moved : (st : State) (s : CodeState) (place : ℕ) → Sim g alive st s → Sim g alive st (moved_to place s)
-  sim_moved st s place h = record { registers = h.registers; scalars = h.scalars; small = h.small; constants = h.constants; turns = h.turns; output = h.output; input = h.input; bytes = h.bytes; returns = h.returns; few = h.few; memory = h.memory }
+  -- it agrees there too, if what is held of the memory is held there
+  sim_there : (st : State) (s : CodeState) (place : ℕ) → g.held.holds place st s.memory → Sim g alive st s → Sim g alive st (moved_to place s)
+  sim_there st s place holds h = record { registers = h.registers; scalars = h.scalars; small = h.small; constants = h.constants; turns = h.turns; output = h.output; input = h.input; bytes = h.bytes; returns = h.returns; few = h.few; memory = holds }
+
+  -- as it is behind the place
+  pub sim_moved : (st : State) (s : CodeState) (place : ℕ) → s.at ≤ place → Sim g alive st s → Sim g alive st (moved_to place s)
+  sim_moved st s place behind h = sim_there st s place (g.held.onward s.at place st s.memory behind h.memory) h
+
+  -- and where it lasts to where a jump leads
+  pub sim_landed : (st : State) (s : CodeState) (at target : ℕ) (jump : Instr) → At g s at → StandsAt g.unit at jump → JumpsTo jump target → LastsTo g g.held target → Sim g alive st s → Sim g alive st (moved_to (target + start g) s)
+  sim_landed st s at target jump here stands leads lasts h = sim_there st s (target + start g) (lasts at jump stands leads st s.memory (subst (λ (n : ℕ). g.held.holds n st s.memory) here h.memory)) h
 
   -- a jump
   pub jumps : (target : ℕ) (e : Draft) (s : CodeState) → Within g (with_instr (I.FrontJump target) e) → At g s (length e.code) → Reaches g s (moved_to (target + start g) s)
@@ -60,7 +71,7 @@ module _ (g : Setting) (alive : Variable → Type 0) where
         turns = sim.turns;
         output = sim.output;
         input = sim.input;
-        memory = g.held.finally st s.memory sim.memory;
+        memory = g.held.finally s.at st s.memory sim.memory;
       }
 
   -- the state behind a turn
@@ -76,4 +87,4 @@ module _ (g : Setting) (alive : Variable → Type 0) where
       ∙ ap (λ (n : ℕ). Goes (behind_turn s n)) one_less) refl
 
   pub sim_spent : (st : State) (s : CodeState) (left : ℕ) → st.turns ≡ suc left → Sim g alive st s → Sim g alive (record st { turns = left }) (behind_turn s left)
-  sim_spent st s left some h = record { registers = h.registers; scalars = h.scalars; small = h.small; constants = h.constants; turns = refl; output = h.output; input = h.input; bytes = h.bytes; returns = h.returns; few = let m = h.few in omega (arith, m, some); memory = g.held.still st (record st { turns = left }) s.memory (λ k e p. refl) refl h.memory }
+  sim_spent st s left some h = record { registers = h.registers; scalars = h.scalars; small = h.small; constants = h.constants; turns = refl; output = h.output; input = h.input; bytes = h.bytes; returns = h.returns; few = let m = h.few in omega (arith, m, some); memory = g.held.still (s.at + 1) st (record st { turns = left }) s.memory (λ k e p. refl) refl (g.held.onward s.at (s.at + 1) st s.memory (omega arith) h.memory) }

@@ -27,6 +27,7 @@ pub mod ForLoops
 pub mod Fresh
 pub mod Functions
 pub mod Given
+pub mod Growing
 pub mod Induction
 pub mod Jumping
 pub mod Lists

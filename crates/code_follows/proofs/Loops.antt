@@ -2,7 +2,6 @@
 use Rattle.std.proofs.Common.{◌≡◌, ◌∙◌, ℕ, zero, suc, ◌+◌, ◌≤◌, Bool, true, false, length, refl, sym, ap, subst, arith}
 use Rattle.cstar_tree.specs.declared.typed.TStmt.{TStmt}
 use Rattle.cstar_tree.specs.declared.typed.Variable.{Variable}
-use Rattle.code_lengths.specs.Growth.{Extended}
 use Rattle.lower_base.specs.Drafts.{Draft, Makes, with_instr}
 use Rattle.lower_stmt.specs.declared.statement.Frame.{Frame}
 use Rattle.meaning_laws.proofs.Parts.{behind as state_after}
@@ -14,6 +13,7 @@ use Rattle.source_meaning.specs.Statements.{Broke, Continued, Leaving, Onward, R
 use Rattle.source_meaning.specs.Values.{Active, Scope}
 use Rattle.code_follows.proofs.Executing.{Exits, Jumped, Left, LeftSo, RanOn, Returns, in_body, no_break, no_continue, no_return, returns_from}
 use Rattle.code_follows.proofs.Following.{Finishes, Follows, Keeps, Sim, finishes_later, keeps_all, keeps_less}
+use Rattle.code_follows.proofs.Growing.{Extended}
 use Rattle.code_follows.proofs.Jumping.{behind_turn, sim_spent, spends, stops}
 use Rattle.code_follows.proofs.Rounds.{Leads}
 use Rattle.code_follows.proofs.Settings.{At, Reaches, Setting, Within, code_more, earlier, onto, start}

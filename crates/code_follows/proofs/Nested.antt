@@ -18,8 +18,6 @@ use Rattle.cstar_tree.specs.declared.typed.ValueType.{ValueType}
 use Rattle.cstar_tree.specs.declared.typed.VarInfo.{VarInfo}
 use Rattle.cstar_tree.specs.declared.typed.Variable.{Variable}
 use Rattle.cstar_tree.specs.Typed.{type_of}
-use Rattle.code_lengths.specs.Growth.{Extended}
-use Rattle.code_lengths.proofs.Drafting.{as_it_was, extended}
 use Rattle.lower_base.specs.declared.emit.Out.{Out}
 use Rattle.lower_base.specs.declared.emit.Out.TheVariants as O
 use Rattle.lower_base.specs.Constants.{first_free, word_in}
@@ -44,12 +42,12 @@ use Rattle.source_meaning.specs.Targets.{OfScalar, assigned, step_value, stepped
 use Rattle.source_meaning.specs.Values.{Active, Scalar, Scope, Value, at as value_at, number}
 use Rattle.code_follows.specs.Fragment.{IsGiven, IsWord, Takes}
 use Rattle.code_follows.proofs.Changing.{no_place, only_set, operated_set_is, scalar_type, set_is, stepped_is, stepping}
-use Rattle.code_follows.proofs.Following.{Arrives, Extends, Follows, HasRegisters, IsKept, IsScalar, Keeps, Sim, delayed, extends_then, finishes_later, holds_fresh, held, keeps_all, keeps_on, register_is, register_kept, register_set, then_follows, then_on, keeps_less, value_kept}
+use Rattle.code_follows.proofs.Following.{Arrives, Extends, Follows, HasRegisters, IsKept, IsScalar, Keeps, Sim, delayed, extends_then, finishes_later, holds_fresh, held, keeps_all, keeps_on, register_at, register_is, register_kept, register_set, then_follows, then_on, keeps_less, value_kept}
 use Rattle.code_follows.proofs.Fresh.{IsClear, IsFresh, fresh_register, fresh_then, made_so}
-use Rattle.code_follows.proofs.Settings.{At, Begun, Reaches, Setting, Within, and_one, at_next, begins_here, begun_later, earlier, layout, one, onto, regs_more, stay}
+use Rattle.code_follows.proofs.Growing.{Extended, as_it_was, extended}
+use Rattle.code_follows.proofs.Settings.{At, Begun, Reaches, Setting, Within, ahead, and_one, at_next, begins_here, begun_later, earlier, layout, one, onto, regs_more, stay}
 use Rattle.code_follows.proofs.Stores.{IsPut, variable_dest}
 use Rattle.code_follows.proofs.Values.{Dest, Does, Grows_on, HasWord, Value_of, and_register, extends_in_register, extends_operated, extends_word, operates, register_same, rewrapped, some_word, with_reg, word_follows, put_by, written_at}
-use Rattle.code_follows.proofs.Jumping.{sim_moved}
 use Rattle.code_follows.proofs.Numbers.{fits_held, number_same, rounded_is, takes_fits, takes_same}
 use Rattle.code_follows.proofs.Effects.{promoted_wide, working_wide}
 use Rattle.code_follows.proofs.Given.{given_set, given_word}
@@ -174,7 +172,7 @@ module _ (g : Setting) (has : HasRegisters g) (alive : Variable → Type 0) (x :
 
   computed_dest : (at_type : Elem) (d e1 : Draft) (k : ℕ) (s t1 : CodeState) (r : ℕ) → Begun g d → Extended d k e1 → Reaches g s t1 → Keeps g d s t1 → d.regs ≤ r → r < e1.regs → Dest g has alive at_type e1 t1 (λ v u out e. Computed at_type d e1 s t1 r v u e) r
   computed_dest at_type d e1 k s t1 r free ext go1 keeps1 low high = record {
-    takes = λ e f n m s1 place st w go sim grows keeps longer within there here few.
+    takes = λ e f n m s1 place st w go begins sim grows keeps longer within there here few.
         let t : CodeState = written_at g has alive r (held at_type w) place s1 in
         let regs = longer.regs in
         let more = grows.regs in
@@ -188,7 +186,7 @@ module _ (g : Setting) (has : HasRegisters g) (alive : Variable → Type 0) (x :
           t = t;
           go = onto g s t1 t go1 (onto g t1 s1 t go there);
           at = here;
-          sim = sim_moved g alive st (with_register r (held at_type w) s1) place (register_set g alive st s1 r (held at_type w) has (omega (arith, free, low)) sim);
+          sim = register_at g alive st s1 r (held at_type w) place has (omega (arith, free, low)) (ahead g e f m s1 place longer begins here) sim;
           keeps = keeps_on g d d 0 s t1 t (as_it_was d) keeps1 (keeps_on g d d 0 t1 s1 t (as_it_was d) (keeps_less g d e1 t1 s1 first keeps) (register_kept g d s1 r (held at_type w) has free.regs low (omega (arith, high, more, regs, within.own))));
           there = register_is g s1 r (held at_type w) inside;
           others = λ q kept differs. get_or-set_other s1.registers r q (held at_type w) 0 (λ e. differs (sym e)) ∙ keeps q kept;

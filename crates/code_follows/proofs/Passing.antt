@@ -9,8 +9,6 @@ use Rattle.cstar_tree.specs.declared.typed.TExpr.{Row_of-TExpr}
 use Rattle.cstar_tree.specs.declared.typed.VarInfo.{VarInfo}
 use Rattle.cstar_tree.specs.declared.typed.Variable.{Variable}
 use Rattle.cstar_tree.specs.declared.typed.Variable.TheVariants as V
-use Rattle.code_lengths.specs.Growth.{Extended}
-use Rattle.code_lengths.proofs.Drafting.{as_it_was, extended}
 use Rattle.lower_base.specs.declared.emit.Out.{Out}
 use Rattle.lower_base.specs.declared.emit.Out.TheVariants as O
 use Rattle.lower_base.specs.Drafts.{Draft, Made, Makes, from, in_register, step as step_of, then_make, with_instr}
@@ -30,6 +28,7 @@ use Rattle.code_follows.proofs.Arguments.{AreDone, AreHeld, Given, arguments_fol
 use Rattle.code_follows.proofs.Callees.{AreGiven, Callee, CallsFollow, MayCall}
 use Rattle.code_follows.proofs.Calling.{CameBack, keeps_passed, sim_passed, turn_follows}
 use Rattle.code_follows.proofs.Following.{Extends, Follows, HasRegisters, Keeps, Ran, Sim, at_once, delayed, extends_made, follows_back, held, keeps_all, keeps_on, register_is, then_follows, with_more}
+use Rattle.code_follows.proofs.Growing.{Extended, as_it_was, extended}
 use Rattle.code_follows.proofs.Lists.{all_first, all_rest}
 use Rattle.code_follows.proofs.Numbers.{takes_below, takes_held}
 use Rattle.code_follows.proofs.Standing.{some_same}

@@ -12,12 +12,10 @@ use Rattle.cstar_tree.specs.declared.typed.TExpr as T
 use Rattle.cstar_tree.specs.declared.typed.ValueType.{ValueType}
 use Rattle.cstar_tree.specs.declared.typed.Variable.TheVariants as V
 use Rattle.cstar_tree.specs.declared.typed.Variable.{Variable}
-use Rattle.code_lengths.specs.Growth.{Extended}
 use Rattle.code_lengths.specs.Lowerable.{IsLowerable}
 use Rattle.code_lengths.specs.Naming.{NamesVariables}
 use Rattle.code_lengths.specs.Shaped.{IsShaped}
-use Rattle.code_lengths.specs.Ready.{HasCode, HaveCode, IsReady}
-use Rattle.code_lengths.proofs.Drafting.{as_it_was, extended}
+use Rattle.code_lengths.specs.Ready.{HasCode, HaveCode, IsReadyButForFields}
 use Rattle.lower_base.specs.declared.emit.Out.{Out}
 use Rattle.lower_base.specs.declared.emit.Out.TheVariants as O
 use Rattle.lower_base.specs.Drafts.{Draft, Fails, Made, Makes, Plain, in_register, step as step_of, then_make, with_instr}
@@ -39,11 +37,12 @@ use Rattle.code_follows.proofs.Expressions.{arguments_do}
 use Rattle.code_follows.proofs.Arguments.{AreHeld, Given, arguments_follow}
 use Rattle.code_follows.proofs.Callees.{CallsFollow}
 use Rattle.code_follows.proofs.Following.{Extends, Follows, HasRegisters, Keeps, Ran, Sim, delayed, extends_made, finishes_later, keeps_all, keeps_on, then_follows}
+use Rattle.code_follows.proofs.Growing.{Extended, as_it_was, extended}
 use Rattle.code_follows.proofs.Settings.{At, Begun, Reaches, Setting, and_one, at_next, begins_here, layout, one, onto, placed_instr, stay}
 use Rattle.code_follows.proofs.Values.{extends_in_register}
 use Rattle.code_follows.proofs.Words.{below_word, held_wide}
 
-module _ (g : Setting) (has : HasRegisters g) (alive : Variable → Type 0) (n : ℕ) (files : (k : ℕ) → alive (V.File k)) (ready : (d : Draft) → IsReady g.typed g.instance (layout g) n d) (scope : Scope) (active : Active) (calls_follow : CallsFollow g scope active) where
+module _ (g : Setting) (has : HasRegisters g) (alive : Variable → Type 0) (n : ℕ) (files : (k : ℕ) → alive (V.File k)) (ready : (d : Draft) → IsReadyButForFields g.typed g.instance (layout g) n d) (scope : Scope) (active : Active) (calls_follow : CallsFollow g scope active) where
   -- ---- the pieces
 
   -- the words stand in the registers, whatever is printed
@@ -73,7 +72,7 @@ module _ (g : Setting) (has : HasRegisters g) (alive : Variable → Type 0) (n :
   -- the source and the code print the same
   sim_printed : (bytes : List ℕ) (st : State) (s : CodeState) → Sim g alive st s → Sim g alive (with_output bytes st) (with_printed bytes s)
   unfolding with_output
-  sim_printed bytes st s h = record { registers = h.registers; scalars = h.scalars; small = h.small; constants = h.constants; turns = h.turns; output = ap (λ (o : List ℕ). o ++ bytes) h.output; input = h.input; bytes = h.bytes; returns = h.returns; few = h.few; memory = g.held.still st (with_output bytes st) s.memory (λ k e p. refl) refl h.memory }
+  sim_printed bytes st s h = record { registers = h.registers; scalars = h.scalars; small = h.small; constants = h.constants; turns = h.turns; output = ap (λ (o : List ℕ). o ++ bytes) h.output; input = h.input; bytes = h.bytes; returns = h.returns; few = h.few; memory = g.held.still (s.at + 1) st (with_output bytes st) s.memory (λ k e p. refl) refl (g.held.onward s.at (s.at + 1) st s.memory (omega arith) h.memory) }
 
   printed_on : (one rest : List ℕ) (st : State) → with_output (one ++ rest) st ≡ with_output rest (with_output one st)
   unfolding with_output

@@ -14,7 +14,6 @@ use Rattle.cstar_tree.specs.declared.typed.Typed.{Typed}
 use Rattle.cstar_tree.specs.declared.typed.VarInfo.{VarInfo}
 use Rattle.cstar_tree.specs.declared.typed.Variable.{Variable}
 use Rattle.cstar_tree.specs.declared.typed.Variable.TheVariants as V
-use Rattle.code_lengths.specs.Growth.{Extended}
 use Rattle.code_lengths.specs.Naming.{variable_named}
 use Rattle.code_lengths.specs.Ready.{HasStatementCode, IsCodable}
 use Rattle.code_lengths.proofs.Declaring.{all_at, first_part, info_of, row_variables}
@@ -48,6 +47,7 @@ use Rattle.code_follows.proofs.Entering.{AllBeside, EntersThere, before_all, cal
 use Rattle.code_follows.proofs.Executing.{Left}
 use Rattle.code_follows.proofs.Following.{held, Extends, Follows, Sim}
 use Rattle.code_follows.proofs.Functions.{BodyMade, EndsSo, RunsFunction, among, body_made, declares, ends_by, exits, falls, frame, framed, g, has, numbered, own, ready, runs_function, scope, stands_here}
+use Rattle.code_follows.proofs.Growing.{Extended}
 use Rattle.code_follows.proofs.Openings.{constants_run}
 use Rattle.std.proofs.lemmas.Nat.{pow_pos}
 use Rattle.source_meaning.specs.Reductions.{int_type}
@@ -56,7 +56,7 @@ use Rattle.code_follows.proofs.Numbers.{zero_converted}
 use Rattle.code_follows.proofs.Regions.{IsOwn, base_behind, base_inside, below, local_own, own_behind, param_own}
 use Rattle.code_follows.proofs.Settings.{At, EndsIn, Held, Reaches, Setting, Within, earlier, ends_later, ends_now, onto, start}
 use Rattle.code_follows.proofs.Standing.{start_in}
-use Rattle.code_follows.proofs.Starting.{none_cleared, Now, settled_so}
+use Rattle.code_follows.proofs.Starting.{clears_declare, none_cleared, Now, settled_so}
 use Rattle.code_follows.proofs.Units.{constants_grow, empty_unit, main_is, starts_homes, starts_regs, with_constants, with_starts}
 use Rattle.paris_code.specs.declared.program.Unit.{Unit as CodeUnit}
 
@@ -67,14 +67,14 @@ pub record Comes (holding : Held) (image : Image) (s : CodeState) (run : Run) : 
 
 -- what holds of every memory
 abbrev pub nothing_held : Held
-nothing_held = record { holds = λ st m. Unit {0}; ends = λ st m. Unit {0}; finally = λ st m h. tt; still = λ st u m fields winner h. tt }
+nothing_held = record { holds = λ at st m. Unit {0}; ends = λ st m. Unit {0}; finally = λ at st m h. tt; still = λ at st u m fields winner h. tt; onward = λ at to st m behind h. tt }
 
 pub starts_at_zero : (us : List CodeUnit) → start_in us 0 0 ≡ 0
 unfolding start_in
 starts_at_zero [] = refl
 starts_at_zero (u ∷ us) = refl
 
-module _ (t : Typed) (image : Image) {beside : Beside} (p : IsProgramBeside beside t) (codable : IsCodable t) (compiled : IsCompiled t image) (holding : Held) (memory : BitMemory) (input : List ℕ) (rest : Source.Rest) (turns : ℕ) (winner : Winner) (are : AreBytes input) (begins : holding.holds (start_state t input rest turns winner) memory) {Known : Setting → Scope → Active → Type 1} (besides : AllBeside t image p codable compiled Known) (known : Known (activation t image p codable compiled holding 0 p.main p.is_main [] turns) (scope_of t p.main (calls t turns)) (λ s p. true)) where
+module _ (t : Typed) (image : Image) {beside : Beside} (p : IsProgramBeside beside t) (codable : IsCodable t) (compiled : IsCompiled t image) (holding : Held) (memory : BitMemory) (input : List ℕ) (rest : Source.Rest) (turns : ℕ) (winner : Winner) (are : AreBytes input) (begins : holding.holds 0 (start_state t input rest turns winner) memory) {Known : Setting → Scope → Active → Type 1} (besides : AllBeside t image p codable compiled Known) (known : Known (activation t image p codable compiled holding 0 p.main p.is_main [] turns) (scope_of t p.main (calls t turns)) (λ s p. true)) where
   abbrev main_setting : Setting
   main_setting = g t image p codable compiled holding 0 p.main p.is_main [] turns
 
@@ -189,7 +189,7 @@ module _ (t : Typed) (image : Image) {beside : Beside} (p : IsProgramBeside besi
         returns = same_returns;
         few = omega arith;
         bytes = are;
-        memory = holding.still first_state in_main u.memory (λ k e p. refl) refl (subst (λ (m : BitMemory). holding.holds first_state m) (sym same_memory) begins);
+        memory = holding.still u.at first_state in_main u.memory (λ k e p. refl) refl (subst (λ (m : BitMemory). holding.holds u.at first_state m) (sym same_memory) (holding.onward 0 u.at first_state memory (omega arith) begins));
       }
 
   -- ---- the end
@@ -202,7 +202,7 @@ module _ (t : Typed) (image : Image) {beside : Beside} (p : IsProgramBeside besi
   comes s (Source.Gives leaving u) go r =
       let ends : EndsIn main_setting s Machine.Done r.t = ends_later main_setting s r.t r.t Machine.Done r.go (ends_now main_setting r.t r.t Machine.Done r.leaves) in
       let x = ends_later main_setting opened s r.t Machine.Done go ends in
-      record { to = record { steps = x.steps; last = r.t; ends = x.is; turns = r.sim.turns; output = r.sim.output }; memory = holding.finally (left first_state u) r.t.memory (holding.still u (left first_state u) r.t.memory (λ k e p. refl) refl r.sim.memory) }
+      record { to = record { steps = x.steps; last = r.t; ends = x.is; turns = r.sim.turns; output = r.sim.output }; memory = holding.finally r.t.at (left first_state u) r.t.memory (holding.still r.t.at u (left first_state u) r.t.memory (λ k e p. refl) refl r.sim.memory) }
   comes s (Source.Ends early u) go h =
       let x = ends_later main_setting opened s h.t (end_of early) go h.ends in
       record { to = record { steps = x.steps; last = h.t; ends = x.is; turns = h.turns; output = h.output }; memory = h.memory }
@@ -240,21 +240,21 @@ module _ (t : Typed) (image : Image) {beside : Beside} (p : IsProgramBeside besi
       let has_it = has t image p codable compiled holding 0 p.main p.is_main [] turns in
       let numbers = numbered t image p codable compiled holding 0 p.main p.is_main [] turns in
       let is_ready = ready t image p codable compiled holding 0 p.main p.is_main [] turns in
-      let declared = declares t image p codable compiled holding 0 p.main p.is_main [] turns in
       let here = scope t image p codable compiled holding 0 p.main p.is_main [] turns in
       let never_rises = falls t image p codable compiled holding 0 p.main p.is_main [] turns in
       let framed_so = framed t image p codable compiled holding 0 p.main p.is_main [] turns in
       let among_so = among t image p codable compiled holding 0 p.main p.is_main [] turns in
       let around : Around Known main_setting here active =
-      record { has = has_it; numbers = numbers; ready = is_ready; declares = declared; calls = main_calls; falls = never_rises; known = known } in
+      record { has = has_it; numbers = numbers; ready = is_ready; calls = main_calls; falls = never_rises; known = known } in
       let homes = starts_homes t image (scalars t image p codable compiled) codable compiled p.main in
       let regs = starts_regs t image (scalars t image p codable compiled) codable compiled p.main in
       let c : HasStatementCode t p.main 0 (S.Block' locals q row) = subst (λ (s : TStmt). HasStatementCode t p.main 0 s) is (codable 0 p.main p.is_main).1 in
-      let own_row = block_code main_setting has_it wide one numbers is_ready declared here active calls_in_main (never_rises active) [] 0 locals q row c in
-      let initial = block_initials main_setting has_it wide one numbers is_ready declared here active calls_in_main (never_rises active) [] 0 locals q row c in
+      let own_row = block_code main_setting has_it wide one numbers is_ready here active calls_in_main (never_rises active) [] 0 locals q row c in
+      let initial = block_initials main_setting has_it wide one numbers is_ready here active calls_in_main (never_rises active) [] 0 locals q row c in
       let settled = settled_so main_setting has_it wide one is_ready here active calls_in_main OfFileOrParam locals.items 0 (λ x living. inl living) (λ x own. inr own) before_all h.0.1 in
-      let stand = first_part (map info_of locals.items) (row_variables row) (block_stands main_setting has_it wide one numbers is_ready declared here active calls_in_main (never_rises active) [] 0 locals q row c) in
-      let code : Made ℕ = begun_code main_setting has_it wide one numbers is_ready declared here active calls_in_main (never_rises active) [] locals.items row out 0 begun_there in
+      let stand = first_part (map info_of locals.items) (row_variables row) (block_stands main_setting has_it wide one numbers is_ready here active calls_in_main (never_rises active) [] 0 locals q row c) in
+      let declared = clears_declare main_setting true locals.items 0 begun_there begun_there (none_cleared main_setting has_it wide one is_ready here active calls_in_main locals.items 0 begun_there h.0.0) stand numbers (declares t image p codable compiled holding 0 p.main p.is_main [] turns begun_there homes) in
+      let code : Made ℕ = begun_code main_setting has_it wide one numbers is_ready here active calls_in_main (never_rises active) [] locals.items row out 0 begun_there in
       let code_is : body_of t (own t image p codable compiled holding 0 p.main p.is_main [] turns) f p.main.body begun_there ≡ code =
       ap (λ (b : TStmt). body_of t (own t image p codable compiled holding 0 p.main p.is_main [] turns) f b begun_there) is
       ∙ ap (λ (m : Made (Unit {0})). then_make (then_make m (λ u between. then_make (all_initialised t (own t image p codable compiled holding 0 p.main p.is_main [] turns) locals.items 0 between) (λ v after. Makes (0 + length locals.items) after))) (λ number after. statements_of t (own t image p codable compiled holding 0 p.main p.is_main [] turns) row f [] number after))
@@ -265,7 +265,7 @@ module _ (t : Typed) (image : Image) {beside : Beside} (p : IsProgramBeside besi
       let never : ends_in_return p.main.body ≡ true → NeverOnward whole =
       λ ends. never_second (initialised here active 0 locals.items _) _ (λ u. body_never here active locals q row (sym (ap (λ (x : TStmt). ends_in_return x) is) ∙ ends) (0 + length locals.items) u) in
       let ends : EndsSo t image p codable compiled holding 0 p.main p.is_main [] turns whole made.e = ends_by t image p codable compiled holding 0 p.main p.is_main [] turns whole made.e made.unit never in
-      let grown : (j : ℕ) × Extended begun_there j made.e = subst (λ (m : Made ℕ). Extends main_setting begun_there m) made.is_made (begun_grows main_setting has_it wide one numbers is_ready declared here active calls_in_main (never_rises active) [] locals.items row out 0 begun_there h.0.0 settled initial own_row framed_so among_so homes) in
+      let grown : (j : ℕ) × Extended begun_there j made.e = subst (λ (m : Made ℕ). Extends main_setting begun_there m) made.is_made (begun_grows main_setting has_it wide one numbers is_ready here active calls_in_main (never_rises active) [] locals.items row out 0 begun_there h.0.0 settled initial own_row framed_so among_so declared) in
       let opens = opened_so (earlier main_setting begun_there made.e grown.0 grown.1 ends.inside) in
       let now : Variable → Type 0 = λ x. Now main_setting has_it wide one is_ready here active calls_in_main locals.items 0 x in
       let sim : Sim main_setting now (begun_body locals.items row) opens.there =
@@ -276,21 +276,23 @@ module _ (t : Typed) (image : Image) {beside : Beside} (p : IsProgramBeside besi
       (runs_function t image p codable compiled holding 0 p.main p.is_main [] turns begun_there made.e made.n opens.there whole ends closed
       (subst (λ (m : Made ℕ). Follows main_setting (Left main_setting OfFileOrParam out begun_there opens.there) opens.there whole m) made.is_made
       (follows_fewer main_setting wide OfFileOrParam (λ x living. inl living) out begun_there opens.there whole code
-      (begun_follows main_setting has_it wide one numbers is_ready declared here active calls_in_main (never_rises active) [] locals.items row out 0 begun_there opens.there (begun_body locals.items row) h.0.0 stand settled initial own_row framed_so among_so homes (record { regs = omega (arith, regs); code = omega arith; fields = omega arith }) opens.at sim
-      (λ e there u none free at sim_there. row_follows here (λ g. besides.follows g here) main_setting active around [] wide one (0 + length locals.items) (among_before OfFileOrParam 0 (length locals.items) before_all) row h.0.2 out e there u framed_so (stands_here t image p codable compiled holding 0 p.main p.is_main [] turns) none free at sim_there own_row))))))
+      (begun_follows main_setting has_it wide one numbers is_ready here active calls_in_main (never_rises active) [] locals.items row out 0 begun_there opens.there (begun_body locals.items row) h.0.0 stand settled initial own_row framed_so among_so declared (record { regs = omega (arith, regs); code = omega arith; fields = omega arith }) opens.at sim
+      (λ e there u none free at sim_there. row_follows here (λ g. besides.follows g here) main_setting active around [] wide one (0 + length locals.items) (among_before OfFileOrParam 0 (length locals.items) before_all) row h.0.2 out e there u framed_so (stands_here t image p codable compiled holding 0 p.main p.is_main [] turns (calls_in_main.lasts 0 (omega arith))) none free at sim_there own_row))))))
   runs _ is h = absurd h
 
 -- the code comes to the end of the source's meaning
 pub program_follows : (t : Typed) (image : Image) {beside : Beside} (p : IsProgramBeside beside t) (codable : IsCodable t) (compiled : IsCompiled t image) (holding : Held)
-    {Known : Setting → Scope → Active → Type 1} (memory : BitMemory) (input : List ℕ) (rest : Source.Rest) (turns : ℕ) (winner : Winner) → AreBytes input → holding.holds (start_state t input rest turns winner) memory → AllBeside t image p codable compiled Known → Known (activation t image p codable compiled holding 0 p.main p.is_main [] turns) (scope_of t p.main (calls t turns)) (λ s p. true)
+    {Known : Setting → Scope → Active → Type 1} (memory : BitMemory) (input : List ℕ) (rest : Source.Rest) (turns : ℕ) (winner : Winner) → AreBytes input → holding.holds 0 (start_state t input rest turns winner) memory → AllBeside t image p codable compiled Known → Known (activation t image p codable compiled holding 0 p.main p.is_main [] turns) (scope_of t p.main (calls t turns)) (λ s p. true)
     → Comes holding image (opening image memory turns (record { bytes = input; mark = mark_of rest })) (meaning t input rest turns winner)
 unfolding meaning run_body
 program_follows t image p codable compiled holding memory input rest turns winner are begins besides known =
     subst (λ (o : Option Instance). Comes holding image (opening image memory turns (record { bytes = input; mark = mark_of rest })) (run_of (run_body t (calls t turns) o [] (λ s p. true) (start_state t input rest turns winner)))) (sym p.is_main)
     (runs t image p codable compiled holding memory input rest turns winner are begins besides known p.main.body refl (p.each 0 p.main p.is_main).body)
 
--- a unit of a program that has nothing beside scalars
+-- a unit of a program that has nothing beside scalars, where nothing is held
 record NothingBeside (g : Setting) : Type 1 where
+  pub always : (at : ℕ) (st : State) (m : BitMemory) → g.held.holds at st m
+  pub ends : (st : State) (m : BitMemory) → g.held.ends st m
   pub effects : (e : TExpr) → g.may.beside.effects e → ⊥
   pub folds : (e : TExpr) → g.may.beside.folds e → ⊥
   pub conditions : (shape : ℕ) (e : TExpr) → g.may.beside.conditions shape e → ⊥
@@ -304,8 +306,10 @@ means_source t image p codable compiled memory input rest turns winner are =
         wheres = λ alive files n ready shape test q first second h. absurd (known.conditions shape test h);
         widenings = λ alive files n ready shape q body h. absurd (known.widens shape h);
       };
-      called = λ held from entries upto a me i is_me opens most known number b is back m here. nothing held number b is back m;
-    }) (nothing nothing_held 0 p.main p.is_main [] turns)).to
+      called = λ held from entries upto a me i is_me opens most known number b is back m here place st.
+          (nothing_held, (record { enters = λ at u n files winner h. tt; leaves = λ at u v n files winner h. known.always place v n; ends = λ u n h. known.ends u n }, nothing number b is back m));
+      lasts = λ g scope a known target low place jump stands leads st n h. known.always (target + start g) st n;
+    }) (nothing 0 p.main p.is_main [] turns)).to
   where
-    nothing : (held : Held) (number : ℕ) (i : Instance) (is : slice_get t.instances.items number ≡ Some i) (opens : List ℕ) (most : ℕ) → NothingBeside (activation t image p codable compiled held number i is opens most)
-    nothing held number i is opens most = record { effects = λ e h. h; folds = λ e h. h; conditions = λ shape e h. h; widens = λ shape h. h }
+    nothing : (number : ℕ) (i : Instance) (is : slice_get t.instances.items number ≡ Some i) (opens : List ℕ) (most : ℕ) → NothingBeside (activation t image p codable compiled nothing_held number i is opens most)
+    nothing number i is opens most = record { always = λ at st m. tt; ends = λ st m. tt; effects = λ e h. h; folds = λ e h. h; conditions = λ shape e h. h; widens = λ shape h. h }

@@ -17,8 +17,7 @@ use Rattle.cstar_tree.specs.declared.typed.Variable.TheVariants as V
 use Rattle.cstar_tree.specs.StatementTypes.{variable_info}
 use Rattle.cstar_tree.specs.Typed.{type_of}
 use Rattle.code_lengths.specs.Naming.{HasVariable, plain}
-use Rattle.code_lengths.specs.Ready.{HasCode, IsReady}
-use Rattle.code_lengths.proofs.Drafting.{as_it_was}
+use Rattle.code_lengths.specs.Ready.{HasCode, IsReadyButForFields}
 use Rattle.lower_base.specs.declared.emit.Out.{Out}
 use Rattle.lower_base.specs.declared.emit.Out.TheVariants as O
 use Rattle.lower_base.specs.Drafts.{Draft, Fails, Made, Makes, in_register, step as step_of, then_make, with_instr}
@@ -46,6 +45,7 @@ use Rattle.source_meaning.specs.Targets.{read, variable_target}
 use Rattle.source_meaning.specs.Values.{Active, Scalar, Scope, Value, at, convert_to, unary_of}
 use Rattle.source_meaning.proofs.ConstantLaws.{Boxed, value_means}
 use Rattle.code_follows.specs.Fragment.{AreIn, IsIn, IsOperand, IsWord, elems_of, naming}
+use Rattle.code_follows.proofs.Growing.{as_it_was}
 use Rattle.code_follows.proofs.Passing.{call_follows}
 use Rattle.code_follows.proofs.Choosing.{put_lands}
 use Rattle.code_follows.proofs.CallValues.{call_code}
@@ -62,7 +62,7 @@ use Rattle.paris_code.specs.Scalar.{rounded}
 use Rattle.code_follows.proofs.Numbers.{Fits, fits_wide, rounded_is}
 use Rattle.code_follows.proofs.Words.{below_bits, below_word, constant_below, held_converted, held_wide, kept}
 
-module _ (g : Setting) (has : HasRegisters g) (alive : Variable → Type 0) (n : ℕ) (files : (k : ℕ) → alive (V.File k)) (ready : (d : Draft) → IsReady g.typed g.instance (layout g) n d) (scope : Scope) (active : Active) (calls_follow : CallsFollow g scope active)
+module _ (g : Setting) (has : HasRegisters g) (alive : Variable → Type 0) (n : ℕ) (files : (k : ℕ) → alive (V.File k)) (ready : (d : Draft) → IsReadyButForFields g.typed g.instance (layout g) n d) (scope : Scope) (active : Active) (calls_follow : CallsFollow g scope active)
     (x : Variable) (info : VarInfo) (living : alive x) (scalar : IsScalar g x info) where
   abbrev own : ℕ
   own = register_of (layout g) x

@@ -4,22 +4,21 @@ use Rattle.std.proofs.lemmas.Option.{slice_get_within, slice_get_past}
 use Rattle.std.proofs.lemmas.List.{append-nil}
 use Rattle.std.specs.Cmp.Lexicographic.{pointwise, same_text}
 use Rattle.std.specs.List.{All}
-use Rattle.std.specs.Prelude.{fold, is_none, take}
+use Rattle.std.specs.Prelude.{fold, is_none}
 use Rattle.cstar_tree.specs.declared.typed.Instance.{Instance}
 use Rattle.cstar_tree.specs.declared.typed.Typed.{Typed}
 use Rattle.cstar_tree.specs.declared.typed.VarInfo.{VarInfo}
 use Rattle.cstar_tree.specs.declared.typed.Variable.{Variable}
 use Rattle.cstar_tree.specs.declared.typed.Variable.TheVariants as V
 use Rattle.cstar_tree.specs.Variables.{variables_of}
-use Rattle.code_lengths.specs.Naming.{variable_named}
-use Rattle.code_lengths.specs.Ready.{HasDeclared, IsReady, NumbersVariables}
+use Rattle.code_lengths.specs.Naming.{variable_named, IsDeclared}
+use Rattle.code_lengths.specs.Ready.{HasDeclared, IsMadeOr, IsReadyButForFields, NumbersVariables}
 use Rattle.code_lengths.proofs.Declaring.{all_at, found}
-use Rattle.code_lengths.proofs.Readiness.{made_from}
-use Rattle.lower_base.specs.Drafts.{Draft, IsMade, Made, an_entry, from}
+use Rattle.code_lengths.proofs.Readiness.{made_from, or_lacks}
+use Rattle.lower_base.specs.Drafts.{Draft, Made, an_entry, from}
 use Rattle.paris_code.specs.declared.operands.Field.{Field}
 use Rattle.lower_base.specs.Layouts.{Numbering, Registers, behind, earlier_base, elements_of, entered, entries_of, field_of, first_fields, first_named, layout_of, nothing_numbered, numbered, param_entries, register_of, registers_of, result_register, with_instance, with_local}
 use Rattle.code_follows.specs.Fragment.{IsScalarVariable}
-use Rattle.code_follows.proofs.Lists.{all_first, all_rest}
 use Rattle.code_follows.proofs.Standing.{some_same}
 
 -- an instance whose parameters, result and block variables are scalars
@@ -62,13 +61,6 @@ numbered_length (info ∷ infos) n =
     sums : (k : ℕ) → length (numbered infos (with_local n info)).locals ≡ length (n.locals ++ record { home = n.homes; entries = entries_of info } ∷ []) + k → length (n.locals ++ record { home = n.homes; entries = entries_of info } ∷ []) ≡ length n.locals + 1
         → length (numbered infos (with_local n info)).locals ≡ length n.locals + suc k
     sums k rest one = omega (arith, rest, one)
-
-scalar_homes : (infos : List VarInfo) (k : ℕ) (n : Numbering) → All IsScalarVariable infos → (numbered (take k infos) n).homes ≡ n.homes
-unfolding numbered with_local behind
-scalar_homes infos zero n all = refl
-scalar_homes [] (suc k) n all = refl
-scalar_homes (info ∷ infos) (suc k) n all =
-    scalar_homes infos k (with_local n info) (all_rest IsScalarVariable info infos all) ∙ ap (λ (o : Option ℕ). elim o as (λ _. ℕ) [ None ↦ n.homes | Some s ↦ n.homes + 1 ]) (all_first IsScalarVariable info infos all)
 
 fields_length : (next : ℕ) (infos : List VarInfo) → length (first_fields next infos) ≡ length infos
 unfolding first_fields
@@ -400,13 +392,13 @@ module _ (t : Typed) (p : HasScalarInstances t) (words : List ℕ) where
   scalar_only info scalar parallel = let none : is_none info.shape ≡ true = ap is_none scalar in cc
 
   -- of all variables those of the file alone may be parallel; each unit has entries for their fields
-  file_made : (number k element : ℕ) (info : VarInfo) (d : Draft) → slice_get t.vars.items k ≡ Some info → is_none info.shape ≡ false → IsMade (field_of t (layout_of t words number) (V.File k) element d)
-  unfolding field_of layout_of entered an_entry from IsMade
+  file_made : (number k element : ℕ) (info : VarInfo) (d : Draft) → slice_get t.vars.items k ≡ Some info → is_none info.shape ≡ false → IsMadeOr ⊥ (field_of t (layout_of t words number) (V.File k) element d)
+  unfolding field_of layout_of entered an_entry from IsMadeOr
   file_made number k element info d named parallel =
       let first = found (first_fields 0 t.vars.items) k (let inside = slice_get_within t.vars.items k info named in let long = fields_length 0 t.vars.items in omega (arith, inside, long)) in
-      made_from (slice_get t.vars.items k) _ info named (made_from (slice_get (first_fields 0 t.vars.items) k) _ first.0 first.1 (by info.shape _ parallel (λ set. tt)))
+      made_from ⊥ (slice_get t.vars.items k) _ info named (made_from ⊥ (slice_get (first_fields 0 t.vars.items) k) _ first.0 first.1 (by info.shape _ parallel (λ set. tt)))
     where
-      by : (o : Option ℕ) (next : ℕ → Made Field) → is_none o ≡ false → ((set : ℕ) → IsMade (next set)) → IsMade (from o next)
+      by : (o : Option ℕ) (next : ℕ → Made Field) → is_none o ≡ false → ((set : ℕ) → IsMadeOr ⊥ (next set)) → IsMadeOr ⊥ (from o next)
       by (Some set) next parallel made = made set
       by None next parallel made = cc
 
@@ -416,17 +408,17 @@ module _ (t : Typed) (p : HasScalarInstances t) (words : List ℕ) where
   elements_are number i is (V.Param k) info named parallel = absurd (scalar_only info (all_at IsScalarVariable i.params.items k info (p.each number i is).0 named) parallel)
   elements_are number i is (V.Local k) info named parallel = absurd (scalar_only info (all_at IsScalarVariable (variables_of i.body) k info (p.each number i is).2 named) parallel)
 
-  fields_made : (number : ℕ) (i : Instance) → slice_get t.instances.items number ≡ Some i → (x : Variable) (info : VarInfo) (element : ℕ) (d : Draft) → variable_named t i x ≡ Some info → is_none info.shape ≡ false → IsMade (field_of t (layout_of t words number) x element d)
-  unfolding variable_named
-  fields_made number i is (V.File k) info element d named parallel = file_made number k element info d named parallel
-  fields_made number i is (V.Param k) info element d named parallel = absurd (scalar_only info (all_at IsScalarVariable i.params.items k info (p.each number i is).0 named) parallel)
-  fields_made number i is (V.Local k) info element d named parallel = absurd (scalar_only info (all_at IsScalarVariable (variables_of i.body) k info (p.each number i is).2 named) parallel)
+  first_fields_made : (number : ℕ) (i : Instance) → slice_get t.instances.items number ≡ Some i → (x : Variable) (info : VarInfo) (element : ℕ) (d : Draft) → variable_named t i x ≡ Some info → IsDeclared 0 x → is_none info.shape ≡ false → IsMadeOr ⊥ (field_of t (layout_of t words number) x element d)
+  unfolding variable_named IsDeclared
+  first_fields_made number i is (V.File k) info element d named declared parallel = file_made number k element info d named parallel
+  first_fields_made number i is (V.Param k) info element d named declared parallel = absurd (scalar_only info (all_at IsScalarVariable i.params.items k info (p.each number i is).0 named) parallel)
+  first_fields_made number i is (V.Local k) info element d named declared parallel = absurd (omega (arith, declared))
 
-  pub all_ready : (number : ℕ) (i : Instance) → slice_get t.instances.items number ≡ Some i → (n : ℕ) (d : Draft) → IsReady t i (layout_of t words number) n d
+  pub all_ready : (number : ℕ) (i : Instance) → slice_get t.instances.items number ≡ Some i → (n : ℕ) (d : Draft) → IsReadyButForFields t i (layout_of t words number) n d
   all_ready number i is n d = record {
     elements = λ x info named declared parallel. elements_are number i is x info named parallel;
-    fields = λ x info element named declared parallel inside. fields_made number i is x info element d named parallel;
-    result = λ info given parallel. absurd (scalar_only info ((p.each number i is).1 info given) parallel);
+    fields = λ x info element named declared parallel inside. or_lacks (Unit {0}) _ tt;
+    result = λ info given parallel. or_lacks (Unit {0}) _ tt;
     bases = as_many_bases number;
   }
 
@@ -434,5 +426,15 @@ module _ (t : Typed) (p : HasScalarInstances t) (words : List ℕ) where
   unfolding layout_of entered
   all_numbered number i is = ap (λ (o : Option Instance). (numbered (elim o as (λ _. List VarInfo) [ None ↦ [] | Some instance ↦ variables_of instance.body ]) nothing_numbered).locals) is
 
-  pub all_declared : (number : ℕ) (i : Instance) → slice_get t.instances.items number ≡ Some i → (n : ℕ) (d : Draft) → d.homes ≡ [] → HasDeclared t i (layout_of t words number) n d
-  all_declared number i is n d none = record { ready = all_ready number i is n d; homes = ap length none ∙ sym (scalar_homes (variables_of i.body) n nothing_numbered (p.each number i is).2) }
+  -- where the code of an instance begins no variable of its blocks is declared
+  pub first_declared : (number : ℕ) (i : Instance) → slice_get t.instances.items number ≡ Some i → (d : Draft) → d.homes ≡ [] → HasDeclared t i (layout_of t words number) 0 d
+  unfolding numbered
+  first_declared number i is d none = record {
+    ready = record {
+      elements = λ x info named declared parallel. elements_are number i is x info named parallel;
+      fields = λ x info element named declared parallel inside. first_fields_made number i is x info element d named declared parallel;
+      result = λ info given parallel. absurd (scalar_only info ((p.each number i is).1 info given) parallel);
+      bases = as_many_bases number;
+    };
+    homes = ap length none;
+  }

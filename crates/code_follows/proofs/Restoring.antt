@@ -2,8 +2,6 @@
 use Rattle.std.proofs.Common.{◌≡◌, ◌∙◌, ℕ, suc, ◌+◌, ◌≤◌, List, [], ◌∷◌, ◌++◌, length, reverse, take, sym, ap, subst, arith}
 use Rattle.std.proofs.lemmas.List.{reverse-append}
 use Rattle.cstar_tree.specs.declared.typed.Variable.{Variable}
-use Rattle.code_lengths.specs.Growth.{Extended}
-use Rattle.code_lengths.proofs.Drafting.{as_it_was, extended}
 use Rattle.lower_base.specs.Drafts.{Draft, with_instr}
 use Rattle.lower_stmt.specs.Statements.{loaded, restored}
 use Rattle.paris_code.specs.declared.instr.Instr.TheVariants as I
@@ -13,6 +11,7 @@ use Rattle.source_meaning.specs.State.{State}
 use Rattle.code_follows.proofs.Besides.{sim_saying, under_held}
 use Rattle.code_follows.proofs.Executing.{Jumped}
 use Rattle.code_follows.proofs.Following.{IsKept, Sim, keeps_all, keeps_on}
+use Rattle.code_follows.proofs.Growing.{Extended, as_it_was, extended}
 use Rattle.code_follows.proofs.Jumping.{none_restored}
 use Rattle.code_follows.proofs.Settings.{At, Begun, Held, Setting, Within, and_one, begun_later, earlier, onto, start, stay}
 

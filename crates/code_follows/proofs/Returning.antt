@@ -9,9 +9,7 @@ use Rattle.cstar_tree.specs.declared.typed.VarInfo.{VarInfo}
 use Rattle.cstar_tree.specs.declared.typed.Variable.TheVariants as V
 use Rattle.cstar_tree.specs.declared.typed.Variable.{Variable}
 use Rattle.cstar_tree.specs.Typed.{type_of}
-use Rattle.code_lengths.specs.Growth.{Extended}
-use Rattle.code_lengths.specs.Ready.{HasCode, IsReady}
-use Rattle.code_lengths.proofs.Drafting.{extended}
+use Rattle.code_lengths.specs.Ready.{HasCode, IsReadyButForFields}
 use Rattle.lower_base.specs.declared.emit.Out.{Out}
 use Rattle.lower_base.specs.declared.emit.Out.TheVariants as O
 use Rattle.lower_base.specs.Drafts.{Draft, Fails, Made, Makes, in_register, step as step_of, then_make, with_instr}
@@ -38,6 +36,7 @@ use Rattle.code_follows.proofs.Executing.{Exits, IsGiven, Jumped, Leaves, Left, 
 use Rattle.code_follows.proofs.Expressions.{operand}
 use Rattle.code_follows.proofs.Callees.{CallsFollow}
 use Rattle.code_follows.proofs.Following.{Extends, Follows, HasRegisters, Keeps, Ran, Sim, apart_set, delayed, finished, held, keeps_all, result_kept, spared_kept}
+use Rattle.code_follows.proofs.Growing.{Extended, extended}
 use Rattle.code_follows.proofs.Restoring.{restored_more}
 use Rattle.code_follows.proofs.Settings.{At, Begun, Reaches, Setting, Within, and_one, at_next, begins_here, begun_later, earlier, layout, one, onto}
 use Rattle.code_follows.proofs.Statements.{StandsHere, StandsIn}
@@ -70,7 +69,7 @@ left_at_end g alive d e s u within ran = record {
   given = ran.keeps (result_register (layout g)) (result_kept g d);
 }
 
-module _ (g : Setting) (has : HasRegisters g) (alive : Variable → Type 0) (files : (k : ℕ) → alive (V.File k)) (ready : (n : ℕ) (d : Draft) → IsReady g.typed g.instance (layout g) n d) (scope : Scope) (active : Active) (calls_follow : CallsFollow g scope active) (f : Exits) (contexts : List Field) (stands : StandsHere g f contexts) where
+module _ (g : Setting) (has : HasRegisters g) (alive : Variable → Type 0) (files : (k : ℕ) → alive (V.File k)) (ready : (n : ℕ) (d : Draft) → IsReadyButForFields g.typed g.instance (layout g) n d) (scope : Scope) (active : Active) (calls_follow : CallsFollow g scope active) (f : Exits) (contexts : List Field) (stands : StandsHere g f contexts) where
   -- the saved contexts are loaded behind a draft
   abbrev leaving : Draft → Draft
   leaving after = restored contexts f.frame.saved.in_all after

@@ -5,8 +5,6 @@ use Rattle.cstar_link.specs.Linked.{code_from, moved_by}
 use Rattle.cstar_tree.specs.declared.typed.Instance.{Instance}
 use Rattle.cstar_tree.specs.declared.typed.Typed.{Typed}
 use Rattle.cstar_tree.specs.declared.typed.Variable.TheVariants as V
-use Rattle.code_lengths.specs.Growth.{Extended}
-use Rattle.code_lengths.proofs.Drafting.{and_instr, as_it_was}
 use Rattle.field_alloc.specs.Placed.{IsPlaced, of_set}
 use Rattle.lower_base.specs.Drafts.{Draft, Plain, Step, step as step_of, with_instr, with_step}
 use Rattle.lower_base.specs.Layouts.{Layout, layout_of}
@@ -23,18 +21,21 @@ use Rattle.paris_code.specs.Memory.{BitMemory, field_number}
 use Rattle.paris_code.specs.Moving.{moved_instr}
 use Rattle.paris_code.specs.Proper.{IsUnit}
 use Rattle.paris_code.specs.Shapes.{bits_at, shapes_of}
-use Rattle.paris_code.specs.Spans.{StandsAt}
+use Rattle.paris_code.specs.Spans.{JumpsTo, StandsAt}
 use Rattle.source_meaning.specs.State.{State}
 use Rattle.code_follows.specs.Fragment.{May}
+use Rattle.code_follows.proofs.Growing.{Extended, and_instr, as_it_was}
 use Rattle.code_follows.proofs.Standing.{stands, start_in}
 
--- what a memory holds of the source's state, and what of it still where the run ends; it speaks of the file's parallel
--- variables and of the winner alone
+-- What a memory holds of the source's state where the code stands at a place of the image, and what of it still where the
+-- run ends. It speaks of the file's parallel variables and of the winner alone. What is held at a place is held behind it
+-- too, as an entry that is in use behind it is in use there; a jump may lead back.
 pub record Held : Type 1 where
-  pub holds : State → BitMemory → Type 0
+  pub holds : ℕ → State → BitMemory → Type 0
   pub ends : State → BitMemory → Type 0
-  pub finally : (st : State) (m : BitMemory) → holds st m → ends st m
-  pub still : (st u : State) (m : BitMemory) → ((k e p : ℕ) → u.parallel (V.File k) e p ≡ st.parallel (V.File k) e p) → u.winner ≡ st.winner → holds st m → holds u m
+  pub finally : (at : ℕ) (st : State) (m : BitMemory) → holds at st m → ends st m
+  pub still : (at : ℕ) (st u : State) (m : BitMemory) → ((k e p : ℕ) → u.parallel (V.File k) e p ≡ st.parallel (V.File k) e p) → u.winner ≡ st.winner → holds at st m → holds at u m
+  pub onward : (at to : ℕ) (st : State) (m : BitMemory) → at ≤ to → holds at st m → holds to st m
 
 -- A field stands below the own entries of a unit, above the file's fields and below the flags: so do those of the units
 -- whose calls are open.
@@ -90,6 +91,10 @@ module _ (g : Setting) where
   abbrev pub start : ℕ
   start = start_in g.after.units.items g.number 0
 
+  -- wherever this is held at a jump to a place of the unit, it is held at that place
+  abbrev pub LastsTo : Held → ℕ → Type 0
+  LastsTo held target = (place : ℕ) (jump : Instr) → StandsAt g.unit place jump → JumpsTo jump target → (st : State) (m : BitMemory) → held.holds (start + place) st m → held.holds (target + start) st m
+
   -- the draft is an early state of the unit
   pub record Within (e : Draft) : Type 0 where
     pub more : List Step
@@ -101,7 +106,7 @@ module _ (g : Setting) where
     pub upto : length e.code ≤ g.upto
 
   -- code that goes on is longer
-  pub longer : (d e : Draft) (n : ℕ) → Extended d n e → length d.code ≤ length e.code
+  longer : (d e : Draft) (n : ℕ) → Extended d n e → length d.code ≤ length e.code
   longer d e n x = let both = ap (λ (c : List Step). length c) x.code ∙ length-append d.code x.more in omega (arith, both)
 
   pub earlier : (d e : Draft) (n : ℕ) → Extended d n e → Within e → Within d
@@ -148,6 +153,10 @@ module _ (g : Setting) where
   -- the code stands at a place of the unit
   abbrev pub At : CodeState → ℕ → Type 0
   At s at = s.at ≡ start + at
+
+  -- what stands behind more code is behind the place
+  pub ahead : (e f : Draft) (n : ℕ) (s : CodeState) (place : ℕ) → Extended e n f → At s (length e.code) → place ≡ start + length f.code → s.at ≤ place
+  ahead e f n s place more begins there = let long = longer e f n more in omega (arith, long, begins, there)
 
   -- the code goes on from one state as from the other, and leaves what stands below the unit's entries
   pub record Reaches (s t : CodeState) : Type 0 where

@@ -5,8 +5,6 @@ use Rattle.cstar_base.specs.declared.operators.Op.{Op}
 use Rattle.cstar_base.specs.declared.operators.Place.{Place}
 use Rattle.cstar_tree.specs.declared.typed.VarInfo.{VarInfo}
 use Rattle.cstar_tree.specs.declared.typed.Variable.{Variable}
-use Rattle.code_lengths.specs.Growth.{Extended}
-use Rattle.code_lengths.proofs.Drafting.{extended, as_it_was}
 use Rattle.lower_base.specs.declared.emit.Out.{Out}
 use Rattle.lower_base.specs.declared.emit.Out.TheVariants as O
 use Rattle.lower_base.specs.Drafts.{Draft, Made, Makes, a_register, then_make, with_instr, step as step_of}
@@ -27,6 +25,7 @@ use Rattle.source_meaning.specs.Values.{Active, Scalar, Scope, Value, number}
 use Rattle.code_follows.proofs.Changing.{scalar_type}
 use Rattle.code_follows.proofs.Branching.{then_from}
 use Rattle.code_follows.proofs.Following.{Extends, Follows, HasRegisters, IsScalar, Keeps, Ran, Sim, held, keeps_on, keeps_all, then_silent}
+use Rattle.code_follows.proofs.Growing.{Extended, as_it_was, extended}
 use Rattle.code_follows.proofs.Settings.{At, Begun, Reaches, Setting, and_one, begun_later, layout, onto, stay}
 use Rattle.code_follows.proofs.Stores.{IsPut, variable_dest}
 use Rattle.code_follows.proofs.Values.{and_register, fresh_dest, register_same, some_word, with_reg, Value_of, extends_operated, operates, put_by}

@@ -9,20 +9,20 @@ use Rattle.cstar_tree.specs.declared.typed.Variable.{Variable}
 use Rattle.cstar_tree.specs.declared.typed.Variable.TheVariants as V
 use Rattle.cstar_tree.specs.Typed.{type_of}
 use Rattle.cstar_tree.specs.Variables.{variables_of}
-use Rattle.code_lengths.specs.Growth.{Extended}
+use Rattle.code_lengths.specs.Growth.{GrowsOr, Leads, Stands}
 use Rattle.code_lengths.specs.LowerableStatements.{IsLowerableLocal}
 use Rattle.code_lengths.specs.Naming.{IsDeclared, NamesVariables}
 use Rattle.code_lengths.specs.NamingStatements.{InitialsNameVariables, StandFrom}
-use Rattle.code_lengths.specs.Ready.{HasCode, IsReady}
+use Rattle.code_lengths.specs.Ready.{HasCode, HasDeclared, IsReadyButForFields, NumbersVariables}
 use Rattle.code_lengths.specs.ShapedStatements.{AreShapedLocals, IsShapedInitial}
-use Rattle.code_lengths.proofs.Agreeing.{expressions}
+use Rattle.code_lengths.proofs.Agreeing.{lengths_if_made}
 use Rattle.code_lengths.proofs.Declaring.{info_of}
-use Rattle.code_lengths.proofs.Drafting.{as_it_was}
+use Rattle.code_lengths.proofs.Homes.{all_cleared_lead, clears, still_declared}
 use Rattle.lower_base.specs.declared.emit.Out.{Out}
 use Rattle.lower_base.specs.declared.emit.Out.TheVariants as O
 use Rattle.lower_base.specs.Drafts.{Draft, Fails, Made, Makes, first_bits, step as step_of, then_make, with_instr}
 use Rattle.lower_base.specs.Layouts.{entries_of, field_of, register_of}
-use Rattle.lower_expr.specs.Effects.{computed_to, put_to}
+use Rattle.lower_expr.specs.Effects.{computed_to, put_length, put_to}
 use Rattle.lower_expr.specs.Operands.{standing}
 use Rattle.lower_expr.specs.Steps.{has_word, register_word, word_for, word_put}
 use Rattle.lower_stmt.specs.Variables.{all_cleared, all_initialised, begins_constant, cleared, cleared_fields, initialised as initialised_in, variable_of, with_home}
@@ -39,6 +39,7 @@ use Rattle.source_meaning.specs.Targets.{OfScalar, Target, stored, variable_targ
 use Rattle.source_meaning.specs.Values.{Active, Scalar, Scope, Value, number}
 use Rattle.code_follows.specs.Fragment.{AreInitials, IsIn, IsInitial, IsScalarLocal, OrAmong, Takes, within, naming}
 use Rattle.code_follows.proofs.Declaring.{Started, AreBefore, among_before, itself_among, later_among, one_among, first_is_named, others_stand, sim_fewer, started_before}
+use Rattle.code_follows.proofs.Growing.{Extended, as_it_was}
 use Rattle.code_follows.proofs.Lists.{all_first, all_rest}
 use Rattle.code_follows.proofs.Executing.{RanOn, gives, no_break, no_continue, no_return, ran_from}
 use Rattle.code_follows.proofs.Callees.{CallsFollow}
@@ -100,7 +101,30 @@ declared_itself : (n : ℕ) → IsDeclared (n + 1) (V.Local n)
 unfolding IsDeclared
 declared_itself n = omega arith
 
-module _ (g : Setting) (has : HasRegisters g) (alive : Variable → Type 0) (files : (k : ℕ) → alive (V.File k)) (ready : (n : ℕ) (d : Draft) → IsReady g.typed g.instance (layout g) n d) (scope : Scope) (active : Active) (calls_follow : CallsFollow g scope active) where
+module _ (g : Setting) where
+  -- behind what is made so many variables of blocks are declared
+  unfoldable pub DeclaredBy : {A : Type 0} → ℕ → Made A → Type 0
+  DeclaredBy m (Makes x e) = HasDeclared g.typed g.instance (layout g) m e
+  DeclaredBy m Fails = Unit {0}
+
+  pub declared_grown : {A : Type 0} (lacks : Type 0) (m : ℕ) (P : A → Type 0) (d : Draft) (n : ℕ) (made : Made A) → HasDeclared g.typed g.instance (layout g) m d → GrowsOr lacks d n P made → DeclaredBy m made
+  unfolding DeclaredBy GrowsOr
+  declared_grown lacks m P d n (Makes x e) known h = still_declared g.typed g.instance (layout g) m d e n h.1 known
+  declared_grown lacks m P d n Fails known h = tt
+
+  declared_then : {A B : Type 0} (m : ℕ) (made : Made A) (next : A → Draft → Made B) → DeclaredBy m made → ((x : A) (e : Draft) → HasDeclared g.typed g.instance (layout g) m e → DeclaredBy m (next x e)) → DeclaredBy m (then_make made next)
+  unfolding DeclaredBy then_make
+  declared_then m (Makes x e) next known f = f x e known
+  declared_then m Fails next known f = tt
+
+  -- behind the code that clears the variables of a block these are declared
+  pub clears_declare : (at_start : Bool) (locals : List LocalVar) (n : ℕ) (d e : Draft) → all_cleared (layout g) at_start locals n d ≡ Makes tt e → StandFrom (variables_of g.instance.body) n (map info_of locals) → NumbersVariables g.instance (layout g)
+      → HasDeclared g.typed g.instance (layout g) n d → HasDeclared g.typed g.instance (layout g) (n + length locals) e
+  unfolding Leads
+  clears_declare at_start locals n d e is stand numbers known =
+      (subst (λ (m : Made (Unit {0})). Leads d (clears at_start locals) (λ (x : Unit {0}) (f : Draft). HasDeclared g.typed g.instance (layout g) (n + length locals) f) m) is (all_cleared_lead g.typed g.instance (layout g) at_start locals n d stand numbers known)).0
+
+module _ (g : Setting) (has : HasRegisters g) (alive : Variable → Type 0) (files : (k : ℕ) → alive (V.File k)) (ready : (n : ℕ) (d : Draft) → IsReadyButForFields g.typed g.instance (layout g) n d) (scope : Scope) (active : Active) (calls_follow : CallsFollow g scope active) where
   pub go_after : {B D : Type 0} (d : Draft) (s : CodeState) (Q : Leaving → State → D → Draft → Type 0) (o : Outcome Leaving) (k : State → Outcome Leaving) (y : B) (e : Draft) (made : Made D) → Follows g (RanOn g alive d s) s o (Makes y e) → Extends g e made
       → ((u : State) → Ran g alive d s u e → Follows g Q s (k u) made) → Follows g Q s (then_go o k) made
   unfolding Follows then_go
@@ -196,9 +220,12 @@ module _ (g : Setting) (has : HasRegisters g) (alive : Variable → Type 0) (fil
       ∙ make_twice (put_to g.typed (layout g) (O.Scalar (register_of (layout g) (V.Local n))) e d) next
 
   -- its register holds what is put there
+  put_grows : (n : ℕ) (e : TExpr) (d : Draft) → (IsIn (naming g.may alive)) e → HasCode g.typed g.instance (n + 1) e → GrowsOr (Unit {0}) d (put_length g.typed (layout g) true 32 e) (Stands true) (put_to g.typed (layout g) (O.Scalar (register_of (layout g) (V.Local n))) e d)
+  put_grows n e d h k =
+      (lengths_if_made g.typed g.instance (layout g)).put_register (register_of (layout g) (V.Local n)) (n + 1) e d k (gives g alive has files (n + 1) (ready (n + 1)) scope active calls_follow e h, kept (naming g.may alive) e h) (ready (n + 1) d)
+
   local_grows : (n : ℕ) (e : TExpr) (d : Draft) → (IsIn (naming g.may alive)) e → HasCode g.typed g.instance (n + 1) e → Extends g d (put_to g.typed (layout g) (O.Scalar (register_of (layout g) (V.Local n))) e d)
-  local_grows n e d h k =
-      extends_grown g has alive _ d _ _ ((expressions g.typed g.instance (layout g)).put_register (register_of (layout g) (V.Local n)) (n + 1) e d k (gives g alive has files (n + 1) (ready (n + 1)) scope active calls_follow e h, kept (naming g.may alive) e h) (ready (n + 1) d))
+  local_grows n e d h k = extends_grown g has alive _ d _ _ (put_grows n e d h k)
 
   pub initials_grow : (locals : List LocalVar) (n : ℕ) (d : Draft) → All IsScalarLocal locals → AreSettled n locals → AreCoded n locals → Extends g d (all_initialised g.typed (layout g) locals n d)
   unfolding all_initialised initialised_in AreCoded AreSettled Extends then_make
@@ -211,6 +238,21 @@ module _ (g : Setting) (has : HasRegisters g) (alive : Variable → Type 0) (fil
       by (Some e) h k rest =
           subst (λ (m : Made (Unit {0})). Extends g d m) (sym (put_is local.info n e d (λ u after. all_initialised g.typed (layout g) locals (n + 1) after) (all_first IsScalarLocal local locals isin)))
           (extends_then g d (put_to g.typed (layout g) (O.Scalar (register_of (layout g) (V.Local n))) e d) (λ out after. all_initialised g.typed (layout g) locals (n + 1) after) (local_grows n e d h.0.0 k) (λ out after. rest after))
+
+  -- they declare nothing
+  pub initials_declared : (locals : List LocalVar) (n m : ℕ) (d : Draft) → All IsScalarLocal locals → AreSettled n locals → AreCoded n locals → HasDeclared g.typed g.instance (layout g) m d → DeclaredBy g m (all_initialised g.typed (layout g) locals n d)
+  unfolding all_initialised initialised_in AreCoded AreSettled DeclaredBy then_make
+  initials_declared [] n m d isin settled c known = known
+  initials_declared (local ∷ locals) n m d isin settled c known =
+      by local.initial settled.1 c.0 (λ e known_e. initials_declared locals (n + 1) m e (all_rest IsScalarLocal local locals isin) settled.2 c.1 known_e)
+    where
+      by : (o : Option TExpr) → IfSome o (λ e. Begins local locals n e) → IfSome o (HasCode g.typed g.instance (n + 1)) → ((e : Draft) → HasDeclared g.typed g.instance (layout g) m e → DeclaredBy g m (all_initialised g.typed (layout g) locals (n + 1) e))
+          → DeclaredBy g m (then_make (initial_put local.info n o d) (λ u after. all_initialised g.typed (layout g) locals (n + 1) after))
+      by None h k rest = rest d known
+      by (Some e) h k rest =
+          subst (λ (made : Made (Unit {0})). DeclaredBy g m made) (sym (put_is local.info n e d (λ u after. all_initialised g.typed (layout g) locals (n + 1) after) (all_first IsScalarLocal local locals isin)))
+          (declared_then g m (put_to g.typed (layout g) (O.Scalar (register_of (layout g) (V.Local n))) e d) (λ out after. all_initialised g.typed (layout g) locals (n + 1) after)
+          (declared_grown g (Unit {0}) m _ d _ _ known (put_grows n e d h.0.0 k)) (λ out after. rest after))
 
   -- a value is put in the register of the next variable, which is alive behind it
   abbrev PutOne : LocalVar → List LocalVar → ℕ → Draft → CodeState → Value → State → Draft → Type 0

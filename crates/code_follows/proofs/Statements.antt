@@ -1,5 +1,5 @@
 -- The code of statements follows the source.
-use Rattle.std.proofs.Common.{◌≡◌, ◌∙◌, ℕ, Option, Some, None, List, [], ◌∷◌, ◌++◌, length, length-append, refl, sym, ap, subst, arith}
+use Rattle.std.proofs.Common.{◌≡◌, ◌∙◌, ℕ, Option, Some, None, List, [], ◌∷◌, ◌++◌, length-append, refl, ap, subst, arith}
 use Rattle.std.specs.Prelude.{IfSome}
 use Rattle.cstar_tree.specs.declared.typed.TExpr.{TExpr}
 use Rattle.cstar_tree.specs.declared.typed.TStmt.{TStmt, Row_of-TStmt, end_of-TStmt, more_of-TStmt, Held-TStmt-If-2, None', Some'}
@@ -7,7 +7,9 @@ use Rattle.cstar_tree.specs.declared.typed.TStmt as S
 use Rattle.cstar_tree.specs.declared.typed.VarInfo.{VarInfo}
 use Rattle.cstar_tree.specs.Variables.{variables_of}
 use Rattle.code_lengths.specs.Agreement.{StandsAmong}
-use Rattle.code_lengths.specs.Growth.{Extended, Leads}
+use Rattle.code_lengths.specs.Growth.{Leads}
+use Rattle.code_lengths.proofs.Drafting.{and_instr, as_it_was}
+use Rattle.code_lengths.proofs.Homes.{still_declared}
 use Rattle.code_lengths.specs.NamingStatements.{behind}
 use Rattle.code_lengths.specs.Ready.{Declares, HasCode, HasDeclared, HasStatementCode, NumbersVariables}
 use Rattle.code_lengths.specs.LowerableStatements.{IsLowerableStatement}
@@ -16,17 +18,19 @@ use Rattle.code_lengths.specs.ShapedStatements.{IsShapedPart, IsShapedStatement}
 use Rattle.code_lengths.proofs.Declaring.{else_variables, first_part, of_do, of_everywhere, of_if, of_where, of_with, second_part}
 use Rattle.code_lengths.proofs.StatementLengths.{statements}
 use Rattle.source_meaning.proofs.ConstantLaws.{Boxed}
-use Rattle.lower_base.specs.Drafts.{Draft, Fails, Made, Makes}
+use Rattle.lower_base.specs.Drafts.{Draft, Fails, Made, Makes, with_instr}
 use Rattle.lower_stmt.specs.declared.statement.Frame.{Frame}
 use Rattle.lower_stmt.specs.declared.statement.Outcome.TheVariants as R
 use Rattle.lower_stmt.specs.Frames.{has_result, in_context}
 use Rattle.lower_stmt.specs.Lengths.{one_more, statement_length_of}
 use Rattle.lower_stmt.specs.Programs.{outcome_of}
 use Rattle.lower_stmt.specs.Statements.{statement_of}
+use Rattle.paris_code.specs.declared.instr.Instr.{Instr}
 use Rattle.paris_code.specs.declared.operands.Field.{Field}
 use Rattle.code_follows.proofs.Executing.{Exits}
+use Rattle.code_follows.proofs.Growing.{Extended, from_advanced}
 use Rattle.code_follows.proofs.Restoring.{Restores}
-use Rattle.code_follows.proofs.Settings.{Setting, layout}
+use Rattle.code_follows.proofs.Settings.{LastsTo, Setting, layout}
 
 -- the frame of a statement of the function
 pub record StandsIn (g : Setting) (f : Frame) : Type 0 where
@@ -39,10 +43,13 @@ pub in_context_too : (g : Setting) (f : Frame) → StandsIn g f → StandsIn g (
 unfolding in_context
 in_context_too g f h = record { outcome = h.outcome; main = h.main; scalar = h.scalar }
 
--- a statement among these saved contexts: where those of its loop are loaded, and where all are, this is held
+-- a statement among these saved contexts: where those of its loop are loaded, and where all are, this is held, and the
+-- first lasts to where jumps out of the loop and to its next round lead
 pub record StandsHere (g : Setting) (f : Exits) (contexts : List Field) : Type 1 where
   pub among : StandsAmong f.frame contexts
   pub loop : Restores g f.loop contexts f.frame.saved.in_loop
+  pub after : LastsTo g f.loop f.frame.after
+  pub next : LastsTo g f.loop f.frame.next
   pub all : Restores g f.all contexts f.frame.saved.in_all
 
 -- under one context more
@@ -50,37 +57,33 @@ pub deeper : (f : Frame) (contexts : List Field) (saved : Field) → StandsAmong
 unfolding in_context one_more
 deeper f contexts saved k = let long = length-append contexts (saved ∷ []) in record { loop = omega (arith, k.loop, long); all = omega (arith, k.all, long) }
 
-no_length : {A : Type 0} (xs : List A) → length xs ≡ 0 → xs ≡ []
-no_length [] e = refl
-no_length (x ∷ xs) e = absurd (omega (arith, e))
+-- an instruction declares nothing
+pub declared_on : (g : Setting) (i : Instr) (n : ℕ) (d : Draft) → HasDeclared g.typed g.instance (layout g) n d → HasDeclared g.typed g.instance (layout g) n (with_instr i d)
+declared_on g i n d h = still_declared g.typed g.instance (layout g) n d (with_instr i d) 1 (and_instr i d d 0 (as_it_was d)) h
 
-module _ (g : Setting) (numbers : NumbersVariables g.instance (layout g)) (declared : (n : ℕ) (d : Draft) → d.homes ≡ [] → HasDeclared g.typed g.instance (layout g) n d) where
+module _ (g : Setting) (numbers : NumbersVariables g.instance (layout g)) where
   -- the code of a statement is made, of so many instructions
   pub record MadeSo (d : Draft) (long number : ℕ) (made : Made ℕ) : Type 0 where
     pub e : Draft
     pub is : made ≡ Makes number e
     pub extended : Extended d long e
-    pub homes : e.homes ≡ []
+    pub declared : HasDeclared g.typed g.instance (layout g) number e
 
-  -- where no variable is parallel no home is added
-  pub statement_made : (s : TStmt) (f : Frame) (contexts : List Field) (n : ℕ) (d : Draft) → StandsIn g f → StandsAmong f contexts → HasStatementCode g.typed g.instance n s → d.homes ≡ []
+  -- those of the statement's blocks are declared behind it
+  pub statement_made : (s : TStmt) (f : Frame) (contexts : List Field) (n : ℕ) (d : Draft) → StandsIn g f → StandsAmong f contexts → HasStatementCode g.typed g.instance n s → HasDeclared g.typed g.instance (layout g) n d
       → MadeSo d (statement_length_of g.typed (layout g) (has_result f) f.saved s) (behind n s) (statement_of g.typed (layout g) s f contexts n d)
   unfolding Leads
-  statement_made s f contexts n d framed among c none = by (statement_of g.typed (layout g) s f contexts n d) refl (statements g.typed g.instance (layout g) s f contexts n d numbers framed.outcome among c (declared n d none))
+  statement_made s f contexts n d framed among c known = by (statement_of g.typed (layout g) s f contexts n d) refl (statements g.typed g.instance (layout g) s f contexts n d numbers framed.outcome among c known)
     where
       by : (made : Made ℕ) → statement_of g.typed (layout g) s f contexts n d ≡ made → Leads d (statement_length_of g.typed (layout g) (has_result f) f.saved s) (Declares g.typed g.instance (layout g) (behind n s)) made
           → MadeSo d (statement_length_of g.typed (layout g) (has_result f) f.saved s) (behind n s) (statement_of g.typed (layout g) s f contexts n d)
       by Fails is h = absurd h
       by (Makes m e) is h =
-          let x = h.1.1 in
-          let before : length d.homes ≡ _ = (declared (behind n s) d none).homes in
-          let empty : length e.homes ≡ 0 = h.0.1.homes ∙ sym before ∙ ap length none in
-          let homes : e.homes ≡ [] = no_length e.homes empty in
           record {
             e = e;
             is = is ∙ ap (λ (k : ℕ). Makes k e) h.0.0;
-            extended = record { name = x.name; more = x.more; code = x.code; long = x.long; entries = x.entries; fields = x.fields; regs = x.regs; homes = homes ∙ sym none };
-            homes = homes;
+            extended = from_advanced d e _ h.1;
+            declared = h.0.1;
           }
 
   -- what has code of its parts

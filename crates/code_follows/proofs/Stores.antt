@@ -1,5 +1,5 @@
 -- Values that go to a scalar variable: the last instruction writes its register.
-use Rattle.std.proofs.Common.{◌≡◌, ◌∙◌, ℕ, ◌+◌, ◌<◌, ◌^◌, Bool, true, false, length, slice_index, slice_set, Some, refl, sym, ap, subst, if◌then◌else◌, arith}
+use Rattle.std.proofs.Common.{◌≡◌, ◌∙◌, ℕ, ◌+◌, ◌<◌, ◌≤◌, ◌^◌, Bool, true, false, length, slice_index, slice_set, Some, refl, sym, ap, subst, if◌then◌else◌, arith}
 use Rattle.std.proofs.lemmas.Bool.{eqb-true, eq-eqb}
 use Rattle.std.proofs.lemmas.List.{get_or-set_other, get_or-set_same}
 use Rattle.std.proofs.Math.ListN.{length-set}
@@ -7,9 +7,7 @@ use Rattle.cstar_base.specs.declared.elem.Elem.{Elem}
 use Rattle.cstar_tree.specs.declared.typed.VarInfo.{VarInfo}
 use Rattle.cstar_tree.specs.declared.typed.Variable.{Variable}
 use Rattle.cstar_tree.specs.declared.typed.Variable.TheVariants as V
-use Rattle.code_lengths.specs.Growth.{Extended}
 use Rattle.code_lengths.specs.Naming.{variable_named}
-use Rattle.code_lengths.proofs.Drafting.{extended, as_it_was}
 use Rattle.lower_base.specs.declared.emit.Out.{Out}
 use Rattle.lower_base.specs.Constants.{first_free}
 use Rattle.lower_base.specs.Drafts.{Draft}
@@ -18,9 +16,9 @@ use Rattle.paris_code.specs.Code.{CodeState, with_register}
 use Rattle.source_meaning.specs.State.{State, is_same, with_scalar}
 use Rattle.source_meaning.specs.Values.{Scalar, Value}
 use Rattle.code_follows.proofs.Following.{HasRegisters, IsScalar, Keeps, Sim, held, variable_kept, keeps_on}
-use Rattle.code_follows.proofs.Settings.{At, Begun, Reaches, Setting, layout, onto}
+use Rattle.code_follows.proofs.Growing.{Extended, as_it_was, extended}
+use Rattle.code_follows.proofs.Settings.{At, Begun, Reaches, Setting, layout, ahead, onto}
 use Rattle.code_follows.proofs.Values.{Dest, written_at}
-use Rattle.code_follows.proofs.Jumping.{sim_moved}
 use Rattle.code_follows.proofs.ConstantRegisters.{behind_variables}
 use Rattle.code_follows.proofs.Standing.{some_same}
 use Rattle.constant_trees.proofs.Words.{converted_below}
@@ -58,10 +56,11 @@ module _ (g : Setting) (has : HasRegisters g) (x : Variable) (info : VarInfo) (s
   unfolding first_free
   below_free = let b = has.below x info scalar.0 in let free = has.free in omega (arith, b, free)
 
-  -- the register of the variable takes a number, and from then on the variable may be alive
-  pub sim_begun : (alive later : Variable → Type 0) → ((y : Variable) → later y → is_same x y ≡ false → alive y) → (st : State) (s : CodeState) (w : ℕ) → w < 2 ^ info.elem.bits → own < length s.registers → Sim g alive st s → Sim g later (with_scalar x w st) (with_register own (held info.elem w) s)
+  -- the register of the variable takes a number, from then on the variable may be alive, and the code goes on behind the place
+  sim_at : (alive later : Variable → Type 0) → ((y : Variable) → later y → is_same x y ≡ false → alive y) → (st : State) (s : CodeState) (w place : ℕ) → s.at ≤ place → w < 2 ^ info.elem.bits → own < length s.registers → Sim g alive st s
+      → Sim g later (with_scalar x w st) (record s { at = place; registers = slice_set s.registers own (held info.elem w) })
   unfolding with_scalar
-  sim_begun alive later before st s w few inside h = record {
+  sim_at alive later before st s w place behind few inside h = record {
     registers = length-set s.registers own (held info.elem w) ∙ h.registers;
     scalars = λ y other living known. by_name y other living known (is_same x y) refl;
     small = λ y other living known. small_name y other living known (is_same x y) refl;
@@ -72,7 +71,7 @@ module _ (g : Setting) (has : HasRegisters g) (x : Variable) (info : VarInfo) (s
     bytes = h.bytes;
     returns = h.returns;
     few = h.few;
-    memory = g.held.still st (with_scalar x w st) s.memory (λ k e p. refl) refl h.memory;
+    memory = g.held.still place st (with_scalar x w st) s.memory (λ k e p. refl) refl (g.held.onward s.at place st s.memory behind h.memory);
   }
     where
       infos : (y : Variable) (other : VarInfo) → variable_named g.typed g.instance y ≡ Some other → x ≡ y → info ≡ other
@@ -98,6 +97,10 @@ module _ (g : Setting) (has : HasRegisters g) (x : Variable) (info : VarInfo) (s
           subst (λ (b : Bool). (if b then w else st.scalar y) < 2 ^ other.elem.bits) (sym is) (subst (λ (i : VarInfo). w < 2 ^ i.elem.bits) (infos y other known.0 e) few)
       small_name y other living known false is = subst (λ (b : Bool). (if b then w else st.scalar y) < 2 ^ other.elem.bits) (sym is) (h.small y other (before y living is) known)
 
+  -- at the next instruction
+  pub sim_begun : (alive later : Variable → Type 0) → ((y : Variable) → later y → is_same x y ≡ false → alive y) → (st : State) (s : CodeState) (w : ℕ) → w < 2 ^ info.elem.bits → own < length s.registers → Sim g alive st s → Sim g later (with_scalar x w st) (with_register own (held info.elem w) s)
+  sim_begun alive later before st s w few inside h = sim_at alive later before st s w (s.at + 1) (omega arith) few inside h
+
 module _ (g : Setting) (has : HasRegisters g) (alive : Variable → Type 0) (x : Variable) (info : VarInfo) (lives : alive x) (scalar : IsScalar g x info) where
   abbrev register : ℕ
   register = register_of (layout g) x
@@ -116,7 +119,7 @@ module _ (g : Setting) (has : HasRegisters g) (alive : Variable → Type 0) (x :
 
   pub variable_dest : (elem : Elem) (d : Draft) (s0 : CodeState) → Fits info.elem elem → Begun g d → Dest g has alive elem d s0 (λ v st out e. IsPut elem d s0 v st out e) register
   variable_dest elem d s0 fits free = record {
-    takes = λ e f n k s place st w go sim grows keeps more within there here few.
+    takes = λ e f n k s place st w go begins sim grows keeps more within there here few.
         let low = below_free g has x info scalar in
         let own : ℕ = converted info.elem elem w in
         let inside : register < length s.registers = let taken = grows.regs in let longer = more.regs in omega (arith, low, free, taken, longer, within.regs, sim.registers) in
@@ -127,7 +130,7 @@ module _ (g : Setting) (has : HasRegisters g) (alive : Variable → Type 0) (x :
           t = t;
           go = onto g s0 s t go (subst (λ (word : ℕ). Reaches g s (written_at g has alive register word place s)) words there);
           at = here;
-          sim = sim_moved g alive (with_scalar x own st) (with_register register (held info.elem own) s) place (sim_begun g has x info scalar alive alive (λ y living other. living) st s own (converted_below info.elem elem w) inside sim);
+          sim = sim_at g has x info scalar alive alive (λ y living other. living) st s own place (ahead g e f k s place more begins here) (converted_below info.elem elem w) inside sim;
           keeps = keeps_on g d d 0 s0 s t (as_it_was d) keeps (variable_kept g d s x info (held info.elem own) has scalar.0);
           word = w;
           value = refl;

@@ -8,10 +8,8 @@ use Rattle.cstar_tree.specs.declared.typed.Typed.{Typed}
 use Rattle.cstar_tree.specs.declared.typed.VarInfo.{VarInfo}
 use Rattle.cstar_tree.specs.declared.typed.Variable.{Variable}
 use Rattle.code_lengths.specs.Agreement.{HasUnit, opening_of}
-use Rattle.code_lengths.specs.Growth.{Extended}
 use Rattle.code_lengths.specs.Naming.{variable_named}
 use Rattle.code_lengths.specs.Ready.{IsCodable}
-use Rattle.code_lengths.proofs.Drafting.{and_instr, as_it_was, extended}
 use Rattle.code_lengths.proofs.UnitLengths.{units}
 use Rattle.cstar_compile.specs.Compiled.{IsCompiled}
 use Rattle.lower_base.specs.Constants.{first_free}
@@ -26,6 +24,7 @@ use Rattle.paris_code.specs.declared.program.Unit.{Unit as CodeUnit}
 use Rattle.paris_code.specs.Proper.{IsUnit}
 use Rattle.code_follows.specs.Fragment.{IsScalarVariable, May}
 use Rattle.code_follows.proofs.Beginnings.{start_put, starts_put}
+use Rattle.code_follows.proofs.Growing.{Extended, and_instr, as_it_was, extended}
 use Rattle.code_follows.proofs.Lists.{all_first, all_rest}
 use Rattle.code_follows.proofs.Following.{HasRegisters}
 use Rattle.code_follows.proofs.Regions.{BeginsAsScalar, HasScalarInstances, IsScalarInstance, apart, below, in_order, result_apart, result_below, same_constants, same_end, base_behind}

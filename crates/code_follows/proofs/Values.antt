@@ -15,9 +15,9 @@ use Rattle.cstar_tree.specs.declared.typed.VarInfo.{VarInfo}
 use Rattle.cstar_tree.specs.declared.typed.Variable.{Variable}
 use Rattle.cstar_tree.specs.StatementTypes.{variable_info}
 use Rattle.cstar_tree.specs.Typed.{type_of}
-use Rattle.code_lengths.specs.Growth.{Extended, Grows}
+use Rattle.code_lengths.specs.Growth.{GrowsOr}
 use Rattle.code_lengths.specs.Naming.{HasVariable, plain}
-use Rattle.code_lengths.proofs.Drafting.{append_nothing, as_it_was, extended}
+use Rattle.code_lengths.proofs.Drafting.{append_nothing}
 use Rattle.lower_base.specs.declared.emit.Out.{Out}
 use Rattle.lower_base.specs.declared.emit.Out.TheVariants as O
 use Rattle.lower_base.specs.declared.operators.Machine.{Machine}
@@ -49,10 +49,10 @@ use Rattle.source_meaning.specs.State.{Outcome, State, then_do}
 use Rattle.source_meaning.specs.Targets.{read, variable_target}
 use Rattle.source_meaning.specs.Values.{Active, Scalar, Scope, Value, at, convert_to, each, failing, unary_of, unless}
 use Rattle.code_follows.specs.Fragment.{IsWord}
-use Rattle.code_follows.proofs.Following.{Arrives, Extends, Follows, HasRegisters, IsScalar, Keeps, Sim, extends_then, finishes_later, arrives_fresh, held, keeps_all, keeps_on, knowing, register_is, register_kept, register_set, then_follows, keeps_less}
-use Rattle.code_follows.proofs.Jumping.{sim_moved}
+use Rattle.code_follows.proofs.Following.{Arrives, Extends, Follows, HasRegisters, IsScalar, Keeps, Sim, extends_then, finishes_later, arrives_fresh, held, keeps_all, keeps_on, knowing, register_at, register_is, register_kept, register_set, then_follows, keeps_less}
+use Rattle.code_follows.proofs.Growing.{Extended, as_it_was, extended, from_growth}
 use Rattle.code_follows.proofs.Operators.{by_machine, machine_below, machine_same, minus_same, wide_signed}
-use Rattle.code_follows.proofs.Settings.{At, Begun, Reaches, Setting, Within, and_one, at_next, begins_here, begun_later, earlier, ends_now, layout, one, onto, placed_instr, regs_more, start, stay}
+use Rattle.code_follows.proofs.Settings.{At, Begun, Reaches, Setting, Within, ahead, and_one, at_next, begins_here, begun_later, earlier, ends_now, layout, one, onto, placed_instr, regs_more, start, stay}
 use Rattle.code_follows.proofs.Words.{below_bits, below_word, held_wide}
 
 -- one more register
@@ -60,7 +60,7 @@ abbrev pub with_reg : Draft → Draft
 with_reg d = record d { regs = d.regs + 1 }
 
 pub and_register : (d : Draft) → Extended d 0 (with_reg d)
-and_register d = record { name = refl; more = []; code = append_nothing d.code; long = refl; entries = []; fields = append_nothing d.fields; regs = omega arith; homes = refl }
+and_register d = record { more = []; code = append_nothing d.code; long = refl; entries = []; fields = append_nothing d.fields; regs = omega arith }
 
 pub some_word : (a b : ℕ) → Scalar a ≡ Scalar b → a ≡ b
 unfolding at
@@ -114,7 +114,7 @@ module _ (g : Setting) (has : HasRegisters g) (alive : Variable → Type 0) wher
   -- A register that the end of a value's code writes: behind this draft and from this state on, code that puts a
   -- number of a type there and changes nothing else has this said of it.
   pub record Dest (elem : Elem) (d : Draft) (s0 : CodeState) (R : Value → State → Out → Draft → Type 0) (r : ℕ) : Type 0 where
-    pub takes : (e f : Draft) (n k : ℕ) (s : CodeState) (place : ℕ) (st : State) (w : ℕ) → Reaches g s0 s → Sim g alive st s → Extended d n e → Keeps g d s0 s → Extended e k f → Within g f
+    pub takes : (e f : Draft) (n k : ℕ) (s : CodeState) (place : ℕ) (st : State) (w : ℕ) → Reaches g s0 s → At g s (length e.code) → Sim g alive st s → Extended d n e → Keeps g d s0 s → Extended e k f → Within g f
         → Reaches g s (written_at r (held elem w) place s) → place ≡ start g + length f.code → w < 2 ^ elem.bits → R (Scalar w) st (O.Scalar r) f
 
   module _ {elem : Elem} {d : Draft} {s0 : CodeState} {R : Value → State → Out → Draft → Type 0} {r : ℕ} (dest : Dest elem d s0 R r) where
@@ -122,18 +122,18 @@ module _ (g : Setting) (has : HasRegisters g) (alive : Variable → Type 0) wher
     pub put_by : (e : Draft) (n : ℕ) (i : Instr) (s : CodeState) (st : State) (w : ℕ) → Reaches g s0 s → At g s (length e.code) → Sim g alive st s → Extended d n e → Keeps g d s0 s → Within g (with_instr i e) → step_of i ≡ Plain i
         → begun g.image (placed_instr g i) s ≡ Goes (with_register r (held elem w) s) → w < 2 ^ elem.bits → R (Scalar w) st (O.Scalar r) (with_instr i e)
     put_by e n i s st w go here sim grows keeps within plain does few =
-        dest.takes e (with_instr i e) n 1 s (s.at + 1) st w go sim grows keeps (and_one g i e) within (one g s (with_register r (held elem w) s) (begins_here g i e s within plain here ∙ does) refl) (at_next g i e s (s.at + 1) here refl) few
+        dest.takes e (with_instr i e) n 1 s (s.at + 1) st w go here sim grows keeps (and_one g i e) within (one g s (with_register r (held elem w) s) (begins_here g i e s within plain here ∙ does) refl) (at_next g i e s (s.at + 1) here refl) few
 
   -- a fresh one
   pub fresh_dest : (elem : Elem) (quiet : Bool) (d : Draft) (s0 : CodeState) → Begun g d → Dest elem (with_reg d) s0 (λ v st out e. Arrives g alive elem quiet d s0 v st out e) d.regs
   fresh_dest elem quiet d s0 free = record {
-    takes = λ e f n k s place st w go sim grows keeps more within there here few.
+    takes = λ e f n k s place st w go begins sim grows keeps more within there here few.
         let t : CodeState = written_at d.regs (held elem w) place s in
         let taken = grows.regs in
         let longer = more.regs in
         let inside : d.regs < length s.registers = omega (arith, taken, longer, within.regs, sim.registers) in
         arrives_fresh g alive elem quiet d f s0 t st d.regs w (0 + (n + k), extended d (with_reg d) f 0 (n + k) (and_register d) (extended (with_reg d) e f n k grows more)) (onto g s0 s t go there) here
-        (sim_moved g alive st (with_register d.regs (held elem w) s) place (register_set g alive st s d.regs (held elem w) has (omega (arith, free)) sim))
+        (register_at g alive st s d.regs (held elem w) place has (omega (arith, free)) (ahead g e f k s place more begins here) sim)
         (keeps_on g d d 0 s0 s t (as_it_was d) (keeps_less g d (with_reg d) s0 s (omega arith) keeps) (register_kept g d s d.regs (held elem w) has free.regs (omega arith) (omega (arith, taken, longer, within.own))))
         (omega (arith, free)) (omega (arith, taken, longer)) few (register_is g s d.regs (held elem w) inside);
   }
@@ -199,9 +199,9 @@ module _ (g : Setting) (has : HasRegisters g) (alive : Variable → Type 0) wher
   }
 
   -- what stands in the code of an operator grows
-  pub extends_grown : {A : Type 0} (P : A → Type 0) (d : Draft) (n : ℕ) (made : Made A) → Grows d n P made → Extends g d made
-  unfolding Extends Grows
-  extends_grown P d n (Makes x e) h = (n, h.1)
+  pub extends_grown : {A : Type 0} (P : A → Type 0) (d : Draft) (n : ℕ) (made : Made A) → GrowsOr (Unit {0}) d n P made → Extends g d made
+  unfolding Extends GrowsOr
+  extends_grown P d n (Makes x e) h = (n, from_growth d e n h.1)
   extends_grown P d n Fails h = tt
 
   pub extends_in_register : {A : Type 0} (d : Draft) (v : Out) (next : ℕ → Made A) → ((r : ℕ) → Extends g d (next r)) → Extends g d (in_register v next)
@@ -225,7 +225,7 @@ module _ (g : Setting) (has : HasRegisters g) (alive : Variable → Type 0) wher
 
   -- the next instruction changes no register
   pub sim_onward : (st : State) (s : CodeState) → Sim g alive st s → Sim g alive st (Machine.onward s)
-  sim_onward st s h = record { registers = h.registers; scalars = h.scalars; small = h.small; constants = h.constants; turns = h.turns; output = h.output; input = h.input; bytes = h.bytes; returns = h.returns; few = h.few; memory = h.memory }
+  sim_onward st s h = record { registers = h.registers; scalars = h.scalars; small = h.small; constants = h.constants; turns = h.turns; output = h.output; input = h.input; bytes = h.bytes; returns = h.returns; few = h.few; memory = g.held.onward s.at (s.at + 1) st s.memory (omega arith) h.memory }
 
   -- a scalar operation on the words of two registers
   computes : (elem : Elem) (d e : Draft) (n : ℕ) (s0 s : CodeState) (st : State) (R : Value → State → Out → Draft → Type 0) (m : Machine) (r a b x y : ℕ) → elem.bits ≡ 32 → Dest elem d s0 R r → Reaches g s0 s → At g s (length e.code) → Sim g alive st s → Extended d n e
@@ -286,7 +286,7 @@ module _ (g : Setting) (has : HasRegisters g) (alive : Variable → Type 0) wher
             turns = sim.turns;
             output = sim.output;
             input = sim.input;
-            memory = g.held.finally st s.memory sim.memory;
+            memory = g.held.finally s.at st s.memory sim.memory;
           })
       by true false is_c is_z = λ within.
           let checks : Draft = with_instr (I.FrontCheckDivisor place b) e in

@@ -1,7 +1,7 @@
 -- Units that go on behind statements: what is said of the draft behind is passed on.
 use Rattle.std.proofs.Common.{◌≡◌, ℕ, ◌+◌, List, [], ◌++◌, ap, ◌∙◌, subst, append_assoc}
 use Rattle.lower_base.specs.Drafts.{Draft, Made, Makes, Fails, then_make}
-use Rattle.code_lengths.specs.Growth.{Advanced, Extended, Grows, Leads, with_homes}
+use Rattle.code_lengths.specs.Growth.{Advanced, Extended, Grows, GrowsOr, Leads, with_homes}
 use Rattle.code_lengths.proofs.Drafting.{append_nothing, extended}
 
 -- the same with other homes before and behind
@@ -43,6 +43,6 @@ leads_then P Q d a b Fails next g f = absurd g
 
 -- what grows leads on, where something of the draft before stays true behind it
 pub leads_from : {A : Type 0} (P : A → Type 0) (Q : A → Draft → Type 0) (d : Draft) (n : ℕ) (m : Made A) → ((x : A) (e : Draft) → P x → Extended d n e → Q x e) → Grows d n P m → Leads d n Q m
-unfolding Leads Grows
+unfolding Leads GrowsOr
 leads_from P Q d n (Makes x e) stays g = (stays x e g.0 g.1, advanced d e n g.1)
 leads_from P Q d n Fails stays g = absurd g

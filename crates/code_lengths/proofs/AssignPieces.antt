@@ -34,9 +34,9 @@ use Rattle.lower_expr.specs.Operands.{operand_by, operand_length}
 use Rattle.lower_expr.specs.Spots.{loaded, stored}
 use Rattle.lower_expr.specs.Steps.{is_kept}
 use Rattle.lower_expr.specs.Values.{Code, lowest, spread_by, element_spot, read_to, read_by, set_by, sent_by, field_updated, register_updated, register_folded, updated_by, plainly_set_by, assigned_by, assign_by, stepped_once, stepped_at, stepped_in, step_by}
-use Rattle.code_lengths.specs.Growth.{Grows, Stands, Anything}
+use Rattle.code_lengths.specs.Growth.{GrowsOr, Stands, Anything}
 use Rattle.code_lengths.specs.Naming.{HasItsShape, NamesVariables}
-use Rattle.code_lengths.specs.Ready.{IsReady}
+use Rattle.code_lengths.specs.Ready.{IsReadyOr}
 use Rattle.code_lengths.specs.Shaped.{HasShape}
 use Rattle.code_lengths.proofs.Drafting.{nothing_more, IsAt, at_stands, field_grows, fresh_at, as_it_was, and_instr, register_grows, entry_grows}
 use Rattle.code_lengths.proofs.Basis.{Basis, GrowsOn, standing_as, ready, if_ready, plainly, makes, sized, behind, bind, weaker, in_register_grows, in_field_grows, lowest_grows, fresh_as}
@@ -66,7 +66,7 @@ pub element_spot_grows : {on : Basis} (t : Typed) (l : Layout) (ty : ValueType) 
 unfolding element_spot
 element_spot_grows t l ty place array p index code n d h k c =
     bind InRegister _ d n _ _ _ (c d) (λ v between s. in_register_grows _ between _ v _ s (λ r. sized _ between _ _ _ (and_nothing _)
-    (bind Anything _ between _ 0 _ _ (plainly (index_checked_grows t l array _ place r between (shape_there t ty.shape h k))) (λ _ after _. makes _ (S.Element array r) after after 0 (refl, h) (as_it_was after)))))
+    (bind Anything _ between _ 0 _ _ (plainly (index_checked_grows _ t l array _ place r between (shape_there t ty.shape h k))) (λ _ after _. makes _ (S.Element array r) after after 0 (refl, h) (as_it_was after)))))
   where
     and_nothing : (n : ℕ) → n + 0 ≡ n
     and_nothing n = omega arith
@@ -86,7 +86,7 @@ pub read_by_grows : {on : Basis} (t : Typed) (l : Layout) (e : TExpr) (ty : Valu
     GrowsOn on d (n + load_length t l bits e) (Stands (is_none ty.shape)) (read_by t l e ty bits spot d)
 unfolding read_by
 read_by_grows t l e ty bits spot n d g f c =
-    sized _ d _ _ _ (nothing_more _) (bind (IsAt (is_none ty.shape) bits) _ d 0 _ _ _ (plainly (fresh_at ty.shape bits d)) (λ dest begun s. read_to_grows (is_none ty.shape) bits t l e spot dest n begun g f c s))
+    sized _ d _ _ _ (nothing_more _) (bind (IsAt (is_none ty.shape) bits) _ d 0 _ _ _ (plainly (fresh_at _ ty.shape bits d)) (λ dest begun s. read_to_grows (is_none ty.shape) bits t l e spot dest n begun g f c s))
 
 -- a value that is written stands where it did
 store_grows : {on : Basis} (t : Typed) (l : Layout) (e target : TExpr) (spot : Spot) (v : Out) (d : Draft) → Writes on t l e target → Fits (bare target) spot → Stands (is_single target) v →
@@ -120,7 +120,7 @@ unfolding field_updated
 field_updated_grows t l e target op signed place value dest spare there v d w sh f g h r =
     bind (Stands (is_single target)) _ d _ _ _ _ (f 32 there (O.Field dest) d h (sh, w)) (λ _ begun _.
     bind InField _ begun _ _ _ _ (sized InField begun _ _ _ (ap (λ (k : ℕ). after_length k op value) w) (right_operated_grows op signed place value dest dest v spare begun r)) (λ _ between _.
-    bind InField _ between _ _ _ _ (plainly (in_place_grows false (O.Field dest) (type_of target).elem between (refl, w))) (λ _ after _.
+    bind InField _ between _ _ _ _ (plainly (in_place_grows _ false (O.Field dest) (type_of target).elem between (refl, w))) (λ _ after _.
     store_grows t l e target there (O.Field dest) after g h sh)))
 
 -- to a scalar one, of a scalar value and of a parallel one
@@ -131,7 +131,7 @@ unfolding register_updated
 register_updated_grows t l e target op signed place dest there v d sh f g h s =
     bind (Stands (is_single target)) _ d _ _ _ _ (f 32 there (O.Scalar dest) d h sh) (λ _ between _. in_register_grows _ between _ v _ s (λ r.
     sized _ between _ _ _ (assoc _ _ _) (bind InRegister _ between (operate_length 32 op true + conversion_length true (type_of target).elem) _ _ _
-    (behind InRegister between _ _ _ _ (operated_more 32 op signed place dest dest r between) (plainly (in_place_grows true (O.Scalar dest) (type_of target).elem _ refl))) (λ _ after _.
+    (behind InRegister between _ _ _ _ (operated_more 32 op signed place dest dest r between) (plainly (in_place_grows _ true (O.Scalar dest) (type_of target).elem _ refl))) (λ _ after _.
     store_grows t l e target there (O.Scalar dest) after g h sh))))
   where
     assoc : (a b c : ℕ) → (a + b) + c ≡ a + (b + c)
@@ -142,13 +142,13 @@ Folds on t l e n = (v : Out) (old dest : ℕ) (d : Draft) → InField v → Grow
 
 assign_folds : {on : Basis} (t : Typed) (l : Layout) (ty : ValueType) (place : Place) (op : AssignOp) (p : _) (target : TExpr) (q : _) (value : TExpr) → Folds on t l (T.Assign' ty place op p target q value) (folded_length (assign_op_of op) value)
 unfolding communicated assigned out-TExpr Carrier.out
-assign_folds t l ty place op p target q value v old dest d s = plainly (folded_onto_grows (assign_op_of op) value (type_of target).elem v (O.Scalar old) (O.Scalar dest) d s refl refl)
+assign_folds t l ty place op p target q value v old dest d s = plainly (folded_onto_grows _ (assign_op_of op) value (type_of target).elem v (O.Scalar old) (O.Scalar dest) d s refl refl)
 
 register_folded_grows : {on : Basis} (n : ℕ) (t : Typed) (l : Layout) (e target : TExpr) (dest : ℕ) (there : Spot) (v : Out) (d : Draft) → is_single target ≡ true → Reads on t l target → Writes on t l e target → Folds on t l e n → Fits (bare target) there → InField v →
     GrowsOn on d (load_length t l 32 target + (n + store_length t l target)) (Stands (is_single target)) (register_folded t l e target dest there v d)
 unfolding register_folded
 register_folded_grows n t l e target dest there v d sh r g f h s =
-    sized _ d _ _ _ (nothing_more _) (bind Anything _ d 0 _ _ _ (plainly (register_grows d)) (λ old begun _. bind (Stands (is_single target)) _ begun _ _ _ _ (r 32 there (O.Scalar old) begun h sh) (λ _ between _.
+    sized _ d _ _ _ (nothing_more _) (bind Anything _ d 0 _ _ _ (plainly (register_grows _ d)) (λ old begun _. bind (Stands (is_single target)) _ begun _ _ _ _ (r 32 there (O.Scalar old) begun h sh) (λ _ between _.
     bind InRegister _ between n _ _ _ (f v old dest between s) (λ _ after _. store_grows t l e target there (O.Scalar dest) after g h sh))))
 
 scalar_rest : {on : Basis} (b : Bool) (n : ℕ) (t : Typed) (l : Layout) (e target : TExpr) (op : Op) (signed : Bool) (place : Place) (dest : ℕ) (there : Spot) (v : Out) (d : Draft) → is_single target ≡ true → Reads on t l target → Writes on t l e target → Folds on t l e n → Fits (bare target) there → Stands b v →
@@ -167,7 +167,7 @@ updated_grows : {on : Basis} (t : Typed) (l : Layout) (e target value : TExpr) (
 unfolding updated_by compound_length operator_bits
 updated_grows t l e target value op place (Some set) spot code n m d h f g i a c =
     sized _ d _ _ _ (sum n (before_length m op value) (load_length t l 32 target) (after_length 32 op value) (conversion_length false (type_of target).elem) (store_length t l target) ∙ ap (λ x. (((n + store_length t l target) + load_length t l 32 target) + x) + conversion_length false (type_of target).elem) (right_together 32 m op value))
-    (bind (λ (f : Field). f.len ≡ 32) _ d 0 _ _ _ (plainly (field_grows _ _ d)) (λ dest begun w. bind Anything _ begun 0 _ _ _ (plainly (entry_grows _ _ _ begun)) (λ spare next _.
+    (bind (λ (f : Field). f.len ≡ 32) _ d 0 _ _ _ (plainly (field_grows _ _ _ d)) (λ dest begun w. bind Anything _ begun 0 _ _ _ (plainly (entry_grows _ _ _ _ begun)) (λ spare next _.
     bind (Fits (bare target)) _ next n _ _ _ (a next) (λ there between fits. bind (IsRight op value) _ between _ _ _ _ (right_by_grows (operand_by t l 32 code true value) m op value between c) (λ v after r.
     field_updated_grows t l e target op _ place value dest spare there v after w h f g fits r)))))
   where
@@ -175,7 +175,7 @@ updated_grows t l e target value op place (Some set) spot code n m d h f g i a c
     sum n b load a conversion store = omega arith
 updated_grows t l e target value op place None spot code n m d h f g i a c =
     sized _ d _ _ _ (nothing_more _ ∙ compound_sum (is_kept value) n m (load_length t l 32 target) (store_length t l target) (operate_length 32 op true) (conversion_length true (type_of target).elem) (2 + fold_length op value))
-    (bind Anything _ d 0 _ _ _ (plainly (register_grows d)) (λ dest begun _. bind (Fits (bare target)) _ begun n _ _ _ (a begun) (λ there between fits. bind (Stands (is_kept value)) _ between m _ _ _ (c between) (λ v after s.
+    (bind Anything _ d 0 _ _ _ (plainly (register_grows _ d)) (λ dest begun _. bind (Fits (bare target)) _ begun n _ _ _ (a begun) (λ there between fits. bind (Stands (is_kept value)) _ between m _ _ _ (c between) (λ v after s.
     scalar_rest (is_kept value) _ t l e target op _ place dest there v after h f g i fits s))))
 
 -- a send
@@ -264,7 +264,7 @@ assign_grows Q t l ty bits place op p target q value spot code n m d h k x y r g
 once_grows : {on : Basis} (l : Layout) (k : Bool) (op : StepOp) (old dest : Out) (d : Draft) → Stands k old → Stands k dest → GrowsOn on d (step_once_length l k) (Stands k) (stepped_once l op old dest d)
 unfolding stepped_once step_once_length
 once_grows l true op old (O.Scalar r) d s h =
-    in_register_grows _ d _ old _ s (λ q. bind Anything InRegister d _ 1 _ _ (plainly (word_in_grows l 1 d)) (λ one after _. makes InRegister (O.Scalar r) after _ 1 refl (and_instr _ after after 0 (as_it_was after))))
+    in_register_grows _ d _ old _ s (λ q. bind Anything InRegister d _ 1 _ _ (plainly (word_in_grows _ l 1 d)) (λ one after _. makes InRegister (O.Scalar r) after _ 1 refl (and_instr _ after after 0 (as_it_was after))))
 once_grows l false op old (O.Field f) d s h = in_field_grows _ d 1 old _ s (λ q. makes InField (O.Field f) d _ 1 refl (and_instr _ d d 0 (as_it_was d)))
 once_grows l false op old (O.Scalar r) d s h = cc
 once_grows l true op old (O.Field f) d s h = cc
@@ -276,7 +276,7 @@ unfolding stepped_at
 stepped_at_grows t l e op target there old new d r g fits so sn =
     let k = is_single target in
     bind (Stands k) _ d _ _ _ _ (r 32 there old d fits so) (λ _ begun _. bind (Stands k) _ begun _ _ _ _ (once_grows l k op old new begun (at_stands k 32 old so) (at_stands k 32 new sn)) (λ _ between _.
-    bind (Stands k) _ between _ _ _ _ (plainly (in_place_grows k new (type_of target).elem between sn)) (λ _ after _.
+    bind (Stands k) _ between _ _ _ _ (plainly (in_place_grows _ k new (type_of target).elem between sn)) (λ _ after _.
     weaker (Stands k) Anything after _ _ (λ w _. tt) (store_grows t l e target there new after g fits (at_stands k 32 new sn)))))
 
 stepped_in_grows : {on : Basis} (t : Typed) (l : Layout) (e : TExpr) (op : StepOp) (order : StepOrder) (target : TExpr) (there : Spot) (first second : Out) (d : Draft) → Reads on t l target → Writes on t l e target → Fits (bare target) there → IsAt (is_single target) 32 first → IsAt (is_single target) 32 second →
@@ -301,8 +301,8 @@ step_grows t l ty op order p target bits spot n d h r g a =
     sum n load once conversion store = omega arith
 
 -- located places, read and written in a unit that is ready
-pub reads : (t : Typed) (i : Instance) (l : Layout) (n : ℕ) (target : TExpr) → NamesVariables t i n target → Reads (ready t i l n) t l target
-reads t i l n target v bits spot dest d h s = if_ready (λ r. loaded_grows (is_single target) bits t i l n target spot dest d r v refl h s)
+pub reads : (lacks : Type 0) (t : Typed) (i : Instance) (l : Layout) (n : ℕ) (target : TExpr) → NamesVariables t i n target → Reads (ready lacks t i l n) t l target
+reads lacks t i l n target v bits spot dest d h s = if_ready (λ r. loaded_grows _ (is_single target) bits t i l n target spot dest d r v refl h s)
 
 -- where left indexes lead
 address_kind : (b : TExpr) (at : Out) → IsAddress b at → Stands (is_none (type_of b).shape) at
@@ -319,38 +319,38 @@ one_address (T.LeftIndex' ty place p indexes x of) at s h = by ty.shape s
 one_address _ at s h = absurd h
 
 -- an assignment that is no send stores one value there
-assigned_there : (t : Typed) (i : Instance) (l : Layout) (n : ℕ) (target : TExpr) (op : Option Op) (value : TExpr) (at v : Out) (d : Draft) → IsReady t i l n d → NamesVariables t i n target → IsAddress (bare target) at → InRegister at → InRegister v →
-    Grows d 1 Anything (assigned t l target op value at (v ∷ []) O.Nothing d)
+assigned_there : (lacks : Type 0) (t : Typed) (i : Instance) (l : Layout) (n : ℕ) (target : TExpr) (op : Option Op) (value : TExpr) (at v : Out) (d : Draft) → IsReadyOr lacks t i l n d → NamesVariables t i n target → IsAddress (bare target) at → InRegister at → InRegister v →
+    GrowsOr lacks d 1 Anything (assigned t l target op value at (v ∷ []) O.Nothing d)
 unfolding assigned
-assigned_there t i l n target op value (O.Scalar r) v d ready names a at s = one_part_stored_grows t i l n target (O.Scalar r) r v d ready names a s
-assigned_there t i l n target op value (O.Field f) v d ready names a at s = cc
-assigned_there t i l n target op value O.Nothing v d ready names a at s = absurd at
+assigned_there lacks t i l n target op value (O.Scalar r) v d ready names a at s = one_part_stored_grows _ t i l n target (O.Scalar r) r v d ready names a s
+assigned_there lacks t i l n target op value (O.Field f) v d ready names a at s = cc
+assigned_there lacks t i l n target op value O.Nothing v d ready names a at s = absurd at
 
-pub assign_writes : (t : Typed) (i : Instance) (l : Layout) (n : ℕ) (ty : ValueType) (place : Place) (op : AssignOp) (p : _) (target : TExpr) (q : _) (value : TExpr) → NamesVariables t i n target → is_send target ≡ false →
-    Writes (ready t i l n) t l (T.Assign' ty place op p target q value) target
+pub assign_writes : (lacks : Type 0) (t : Typed) (i : Instance) (l : Layout) (n : ℕ) (ty : ValueType) (place : Place) (op : AssignOp) (p : _) (target : TExpr) (q : _) (value : TExpr) → NamesVariables t i n target → is_send target ≡ false →
+    Writes (ready lacks t i l n) t l (T.Assign' ty place op p target q value) target
 unfolding communicated is_send out-TExpr Carrier.out
-assign_writes t i l n ty place op p target q value names single spot v d h s =
-    if_ready (λ r. stored_grows t i l n (T.Assign' ty place op p target q value) target spot v d r names h s (λ at fits.
+assign_writes lacks t i l n ty place op p target q value names single spot v d h s =
+    if_ready (λ r. stored_grows _ t i l n (T.Assign' ty place op p target q value) target spot v d r names h s (λ at fits.
     let a = is_address (bare target) at fits in
     let one = one_address (bare target) at single fits in
-    assigned_there t i l n target (assign_op_of op) value at v d r names a (standing_as _ true at one (address_kind (bare target) at a)) (standing_as _ true v one s)))
+    assigned_there _ t i l n target (assign_op_of op) value at v d r names a (standing_as _ true at one (address_kind (bare target) at a)) (standing_as _ true v one s)))
 
-stepped_there : (t : Typed) (i : Instance) (l : Layout) (n : ℕ) (target : TExpr) (at v : Out) (d : Draft) → IsReady t i l n d → NamesVariables t i n target → IsAddress (bare target) at → InRegister at → InRegister v →
-    Grows d 1 Anything (in_register at (λ processor. M.stored t l target processor (v ∷ []) d))
+stepped_there : (lacks : Type 0) (t : Typed) (i : Instance) (l : Layout) (n : ℕ) (target : TExpr) (at v : Out) (d : Draft) → IsReadyOr lacks t i l n d → NamesVariables t i n target → IsAddress (bare target) at → InRegister at → InRegister v →
+    GrowsOr lacks d 1 Anything (in_register at (λ processor. M.stored t l target processor (v ∷ []) d))
 unfolding in_register
-stepped_there t i l n target (O.Scalar r) v d ready names a at s = one_part_stored_grows t i l n target (O.Scalar r) r v d ready names a s
-stepped_there t i l n target (O.Field f) v d ready names a at s = cc
-stepped_there t i l n target O.Nothing v d ready names a at s = absurd at
+stepped_there lacks t i l n target (O.Scalar r) v d ready names a at s = one_part_stored_grows _ t i l n target (O.Scalar r) r v d ready names a s
+stepped_there lacks t i l n target (O.Field f) v d ready names a at s = cc
+stepped_there lacks t i l n target O.Nothing v d ready names a at s = absurd at
 
-pub step_writes : (t : Typed) (i : Instance) (l : Layout) (n : ℕ) (ty : ValueType) (op : StepOp) (order : StepOrder) (p : _) (target : TExpr) → NamesVariables t i n target → is_send target ≡ false →
-    Writes (ready t i l n) t l (T.Step' ty op order p target) target
+pub step_writes : (lacks : Type 0) (t : Typed) (i : Instance) (l : Layout) (n : ℕ) (ty : ValueType) (op : StepOp) (order : StepOrder) (p : _) (target : TExpr) → NamesVariables t i n target → is_send target ≡ false →
+    Writes (ready lacks t i l n) t l (T.Step' ty op order p target) target
 unfolding communicated is_send out-TExpr Carrier.out
-step_writes t i l n ty op order p target names single spot v d h s =
-    if_ready (λ r. stored_grows t i l n (T.Step' ty op order p target) target spot v d r names h s (λ at fits.
+step_writes lacks t i l n ty op order p target names single spot v d h s =
+    if_ready (λ r. stored_grows _ t i l n (T.Step' ty op order p target) target spot v d r names h s (λ at fits.
     let a = is_address (bare target) at fits in
     let one = one_address (bare target) at single fits in
-    stepped_there t i l n target at v d r names a (standing_as _ true at one (address_kind (bare target) at a)) (standing_as _ true v one s)))
+    stepped_there _ t i l n target at v d r names a (standing_as _ true at one (address_kind (bare target) at a)) (standing_as _ true v one s)))
 
-pub assign_sends : (t : Typed) (i : Instance) (l : Layout) (n : ℕ) (ty : ValueType) (place : Place) (op : AssignOp) (p : _) (target : TExpr) (q : _) (value : TExpr) → NamesVariables t i n target → Sends (ready t i l n) t l (T.Assign' ty place op p target q value) target (send_length op)
+pub assign_sends : (lacks : Type 0) (t : Typed) (i : Instance) (l : Layout) (n : ℕ) (ty : ValueType) (place : Place) (op : AssignOp) (p : _) (target : TExpr) (q : _) (value : TExpr) → NamesVariables t i n target → Sends (ready lacks t i l n) t l (T.Assign' ty place op p target q value) target (send_length op)
 unfolding communicated assigned out-TExpr Carrier.out
-assign_sends t i l n ty place op p target q value names f v d fits s = if_ready (λ r. sent_grows t i l n target (O.Field f) op _ f v d r names (is_address (bare target) (O.Field f) fits) s)
+assign_sends lacks t i l n ty place op p target q value names f v d fits s = if_ready (λ r. sent_grows _ t i l n target (O.Field f) op _ f v d r names (is_address (bare target) (O.Field f) fits) s)

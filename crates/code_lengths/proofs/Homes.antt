@@ -13,16 +13,16 @@ use Rattle.paris_code.specs.declared.instr.Instr.TheVariants as I
 use Rattle.paris_code.specs.declared.program.Owner.TheVariants as W
 use Rattle.paris_code.specs.declared.program.Virtual.{Virtual}
 use Rattle.lower_base.specs.declared.names.LocalName.{LocalName}
-use Rattle.lower_base.specs.Drafts.{Draft, Made, Makes, then_make, with_instr, with_step, an_entry, IsMade}
+use Rattle.lower_base.specs.Drafts.{Draft, Made, Makes, then_make, with_instr, with_step, an_entry}
 use Rattle.lower_base.specs.Layouts.{Layout, Numbering, elements_of, entries_of, field_of, nothing_numbered, numbered, own_field, register_of, with_local}
 use Rattle.lower_base.specs.Layouts as Y
 use Rattle.lower_base.proofs.Numbering.{numbered_append}
 use Rattle.lower_stmt.specs.Lengths.{clear_length_of}
 use Rattle.lower_stmt.specs.Variables.{all_cleared, cleared, cleared_fields, is_kept_so, with_home}
-use Rattle.code_lengths.specs.Growth.{Extended, Grows, Leads}
+use Rattle.code_lengths.specs.Growth.{Extended, Grows, GrowsOr, Leads}
 use Rattle.code_lengths.specs.Naming.{IsDeclared, variable_named}
 use Rattle.code_lengths.specs.NamingStatements.{StandFrom}
-use Rattle.code_lengths.specs.Ready.{HasDeclared, IsReady, NumbersVariables, homes_of}
+use Rattle.code_lengths.specs.Ready.{IsMadeOr, HasDeclared, IsReady, NumbersVariables, homes_of}
 use Rattle.code_lengths.proofs.Advancing.{advanced, leads, leads_then}
 use Rattle.code_lengths.proofs.Declaring.{at_length, at_number, found, info_of, second_part, taken}
 use Rattle.code_lengths.proofs.Readiness.{made_from, ready_behind, ready_still}
@@ -32,7 +32,7 @@ use Rattle.code_lengths.proofs.Drafting.{and_instr, append_nothing, as_it_was, e
 
 pub still_declared : (t : Typed) (i : Instance) (l : Layout) (n : ℕ) (d e : Draft) (k : ℕ) → Extended d k e → HasDeclared t i l n d → HasDeclared t i l n e
 still_declared t i l n d e k x known = record {
-  ready = ready_behind t i l n k d e x known.ready;
+  ready = ready_behind ⊥ t i l n k d e x known.ready;
   homes = ap length x.homes ∙ known.homes;
 }
 
@@ -60,11 +60,11 @@ and_next t i n next P is old new (V.Local k) info named declared = elim (either 
 
 next_ready : (t : Typed) (i : Instance) (l : Layout) (n : ℕ) (d : Draft) (info : VarInfo) → slice_get (variables_of i.body) n ≡ Some info → IsReady t i l n d →
     (is_none info.shape ≡ false → elements_of t l (V.Local n) ≡ entries_of info) →
-    (is_none info.shape ≡ false → (element : ℕ) → element < entries_of info → IsMade (field_of t l (V.Local n) element d)) → IsReady t i l (n + 1) d
+    (is_none info.shape ≡ false → (element : ℕ) → element < entries_of info → IsMadeOr ⊥ (field_of t l (V.Local n) element d)) → IsReady t i l (n + 1) d
 next_ready t i l n d info is ready elements fields = record {
   elements = and_next t i n info (λ v known. is_none known.shape ≡ false → elements_of t l v ≡ entries_of known) is ready.elements elements;
   fields = λ v known element named declared.
-      and_next t i n info (λ v known. is_none known.shape ≡ false → element < entries_of known → IsMade (field_of t l v element d)) is
+      and_next t i n info (λ v known. is_none known.shape ≡ false → element < entries_of known → IsMadeOr ⊥ (field_of t l v element d)) is
       (λ v known named declared. ready.fields v known element named declared) (λ shape. fields shape element) v known named declared;
   result = ready.result;
   bases = ready.bases;
@@ -123,7 +123,7 @@ entries_sum a b c n h k = omega (arith, h, k)
 
 -- so many entries more, and no home
 cleared_entries : (n set len : ℕ) (d : Draft) → (e : Draft) × (cleared_fields n set len d ≡ Makes tt e) × Extended d n e × (length e.fields ≡ length d.fields + n)
-unfolding cleared_fields then_make an_entry Grows with_instr with_step
+unfolding cleared_fields then_make an_entry GrowsOr with_instr with_step
 cleared_entries zero set len d = (d, refl, as_it_was d, omega arith)
 cleared_entries (suc n) set len d =
     let own : Virtual = record { set = set; len = len; owner = W.Own } in
@@ -132,7 +132,7 @@ cleared_entries (suc n) set len d =
     let rest = cleared_entries n set len next in (
       rest.0,
       rest.1,
-      resized d rest.0 ((0 + 1) + n) (suc n) (one_and n) (extended d next rest.0 (0 + 1) n (and_instr _ d begun 0 (entry_grows set len W.Own d).1) rest.2),
+      resized d rest.0 ((0 + 1) + n) (suc n) (one_and n) (extended d next rest.0 (0 + 1) n (and_instr _ d begun 0 (entry_grows ⊥ set len W.Own d).1) rest.2),
       entries_sum (length rest.0.fields) (length next.fields) (length d.fields) n rest.3 (length-append d.fields (own ∷ [])),
     )
   where
@@ -151,9 +151,9 @@ behind_parallel : (k : ℕ) (info : VarInfo) (set : ℕ) → info.shape ≡ Some
 unfolding Y.behind
 behind_parallel k info set is = ap (λ (o : Option ℕ). elim o as (λ _. ℕ) [ None ↦ k | Some _ ↦ k + 1 ]) is
 
-pub own_at : (index : ℕ) (d : Draft) → index < length d.fields → IsMade (own_field index d)
-unfolding own_field IsMade
-own_at index d less = let entry = found d.fields index less in made_from (slice_get d.fields index) _ entry.0 entry.1 tt
+pub own_at : (index : ℕ) (d : Draft) → index < length d.fields → IsMadeOr ⊥ (own_field index d)
+unfolding own_field IsMadeOr
+own_at index d less = let entry = found d.fields index less in made_from ⊥ (slice_get d.fields index) _ entry.0 entry.1 tt
 
 declared_scalar : (t : Typed) (i : Instance) (l : Layout) (n : ℕ) (d : Draft) (info : VarInfo) (rest : List VarInfo) → StandFrom (variables_of i.body) n (info ∷ rest) → info.shape ≡ None →
     HasDeclared t i l n d → HasDeclared t i l (n + 1) d
@@ -173,9 +173,9 @@ declared_parallel t i l n d e info rest set s numbers parallel known x long =
     ap (λ (homes : List ℕ). slice_get homes (homes_of s.before)) x.homes
     ∙ ap (λ (k : ℕ). slice_get (d.homes ++ length d.fields ∷ []) k) (sym count) ∙ at_length d.homes (length d.fields) [] in
     record {
-      ready = next_ready t i l n e info (at_number info rest s) (ready_still t i l n d e (x.entries, length d.fields ∷ [], x.fields, x.homes) known.ready)
+      ready = next_ready t i l n e info (at_number info rest s) (ready_still ⊥ t i l n d e (x.entries, length d.fields ∷ [], x.fields, x.homes) known.ready)
           (λ shape. ap (λ (o : Option LocalName). elim o as (λ _. ℕ) [ None ↦ 0 | Some name ↦ name.entries ]) named)
-          (λ shape element within. made_from (slice_get l.locals n) _ name named (made_from (slice_get e.homes name.home) _ (length d.fields) home (own_at (length d.fields + element) e (omega (arith, long, within)))));
+          (λ shape element within. made_from ⊥ (slice_get l.locals n) _ name named (made_from ⊥ (slice_get e.homes name.home) _ (length d.fields) home (own_at (length d.fields + element) e (omega (arith, long, within)))));
       homes = ap length x.homes ∙ length-append d.homes (length d.fields ∷ []) ∙ ap (λ (k : ℕ). k + 1) count
           ∙ sym (homes_behind (variables_of i.body) n info rest s ∙ behind_parallel (homes_of s.before) info set parallel);
     }

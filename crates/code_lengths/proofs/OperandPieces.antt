@@ -22,9 +22,9 @@ use Rattle.lower_expr.specs.Steps.{is_kept, register_word}
 use Rattle.source_meaning.specs.Constants as C
 use Rattle.source_meaning.specs.Reductions.{int_type}
 use Rattle.lower_expr.specs.Values.{Code}
-use Rattle.code_lengths.specs.Growth.{Grows, Anything}
+use Rattle.code_lengths.specs.Growth.{GrowsOr, Anything}
 use Rattle.code_lengths.specs.Naming.{HasVariable, NamesVariables, plain}
-use Rattle.code_lengths.specs.Ready.{Arrives, HasCode, IsReady}
+use Rattle.code_lengths.specs.Ready.{Arrives, HasCode, IsReadyOr}
 use Rattle.code_lengths.specs.Shaped.{IsShaped, IsTarget}
 use Rattle.code_lengths.proofs.Drafting.{IsAt, at_stands, as_it_was, makes, bind, weaker}
 use Rattle.code_lengths.proofs.Readiness.{arrives, variable_field_grows}
@@ -73,25 +73,25 @@ own_named t i n bits (T.Convert' ty p operand) h = named_or_none t i n (is_uncha
 own_named t i n bits _ h = tt
 
 -- a place of its own has no code, and as many bits as are wanted
-standing_by : (shape : Option ℕ) (t : Typed) (l : Layout) (bits : ℕ) (x : Variable) (d : Draft) → (is_none shape ≡ false → Grows d 0 Anything (field_of t l x 0 d)) → Grows d 0 (IsAt (is_none shape) bits) (elim shape as (λ _. Made Out) [
+standing_by : (lacks : Type 0) (shape : Option ℕ) (t : Typed) (l : Layout) (bits : ℕ) (x : Variable) (d : Draft) → (is_none shape ≡ false → GrowsOr lacks d 0 Anything (field_of t l x 0 d)) → GrowsOr lacks d 0 (IsAt (is_none shape) bits) (elim shape as (λ _. Made Out) [
   | None ↦ Makes (O.Scalar (register_of l x)) d
   | Some _ ↦ then_make (field_of t l x 0 d) (λ f after. Makes (O.Field (first_bits bits f)) after)
 ])
 unfolding first_bits
-standing_by None t l bits x d g = makes _ _ d d 0 refl (as_it_was d)
-standing_by (Some s) t l bits x d g = bind Anything _ d 0 0 _ _ (g refl) (λ f after _. makes _ (O.Field (first_bits bits f)) after after 0 (refl, refl) (as_it_was after))
+standing_by lacks None t l bits x d g = makes lacks _ _ d d 0 refl (as_it_was d)
+standing_by lacks (Some s) t l bits x d g = bind lacks Anything _ d 0 0 _ _ (g refl) (λ f after _. makes lacks _ (O.Field (first_bits bits f)) after after 0 (refl, refl) (as_it_was after))
 
-pub standing_grows : (k : Bool) (t : Typed) (i : Instance) (l : Layout) (n : ℕ) (bits : ℕ) (own : Own) (d : Draft) → IsReady t i l n d → OwnNamed t i n (Some own) → is_none own.shape ≡ k → Grows d 0 (IsAt k bits) (standing t l bits own d)
+pub standing_grows : (lacks : Type 0) (k : Bool) (t : Typed) (i : Instance) (l : Layout) (n : ℕ) (bits : ℕ) (own : Own) (d : Draft) → IsReadyOr lacks t i l n d → OwnNamed t i n (Some own) → is_none own.shape ≡ k → GrowsOr lacks d 0 (IsAt k bits) (standing t l bits own d)
 unfolding standing
-standing_grows k t i l n bits own d r x h =
-    weaker (IsAt (is_none own.shape) bits) (IsAt k bits) d 0 _ (λ v s. subst (λ (b : Bool). IsAt b bits v) h s)
-    (standing_by own.shape t l bits own.variable d (λ s. variable_field_grows t i l n own.variable (record { elem = x.0; shape = own.shape }) d r x.1 s))
+standing_grows lacks k t i l n bits own d r x h =
+    weaker lacks (IsAt (is_none own.shape) bits) (IsAt k bits) d 0 _ (λ v s. subst (λ (b : Bool). IsAt b bits v) h s)
+    (standing_by lacks own.shape t l bits own.variable d (λ s. variable_field_grows lacks t i l n own.variable (record { elem = x.0; shape = own.shape }) d r x.1 s))
 
-operand_in : (o : Option Own) (t : Typed) (i : Instance) (l : Layout) (n : ℕ) (e : TExpr) (bits : ℕ) (code : Code) (m : ℕ) (d : Draft) → IsReady t i l n d → OwnNamed t i n o → OwnFits o (is_kept e) → Grows d m (Arrives t e) (code d) →
-    Grows d (elim o as (λ _. ℕ) [ Some _ ↦ 0 | None ↦ m ]) (Arrives t e) (elim o as (λ _. Made Out) [ Some own ↦ standing t l bits own d | None ↦ code d ])
-operand_in None t i l n e bits code m d r x h c = c
-operand_in (Some own) t i l n e bits code m d r x h c =
-    weaker (IsAt (is_kept e) bits) (Arrives t e) d 0 _ (λ v s. arrives t e v (at_stands (is_kept e) bits v s)) (standing_grows (is_kept e) t i l n bits own d r x h)
+operand_in : (lacks : Type 0) (o : Option Own) (t : Typed) (i : Instance) (l : Layout) (n : ℕ) (e : TExpr) (bits : ℕ) (code : Code) (m : ℕ) (d : Draft) → IsReadyOr lacks t i l n d → OwnNamed t i n o → OwnFits o (is_kept e) → GrowsOr lacks d m (Arrives t e) (code d) →
+    GrowsOr lacks d (elim o as (λ _. ℕ) [ Some _ ↦ 0 | None ↦ m ]) (Arrives t e) (elim o as (λ _. Made Out) [ Some own ↦ standing t l bits own d | None ↦ code d ])
+operand_in lacks None t i l n e bits code m d r x h c = c
+operand_in lacks (Some own) t i l n e bits code m d r x h c =
+    weaker lacks (IsAt (is_kept e) bits) (Arrives t e) d 0 _ (λ v s. arrives t e v (at_stands (is_kept e) bits v s)) (standing_grows lacks (is_kept e) t i l n bits own d r x h)
 
 -- a constant stands in a register
 first : (a b : Bool) → (a && b) ≡ true → a ≡ true
@@ -139,10 +139,10 @@ pub choice_kept : (ty : ValueType) (p : _) (test : TExpr) (q : _) (one : TExpr) 
 unfolding C.is_constant
 choice_kept ty p test q one r other h = constant_kept test (second _ _ (first _ _ (first _ _ h)))
 
-held_in : (o : Option ℕ) (t : Typed) (e : TExpr) (m : ℕ) (made : Made Out) (d : Draft) → (is_some o ≡ true → is_kept e ≡ true) → Grows d m (Arrives t e) made →
-    Grows d (elim o as (λ _. ℕ) [ Some _ ↦ 0 | None ↦ m ]) (Arrives t e) (elim o as (λ _. Made Out) [ Some r ↦ Makes (O.Scalar r) d | None ↦ made ])
-held_in (Some r) t e m made d h g = makes (Arrives t e) (O.Scalar r) d d 0 (arrives t e (O.Scalar r) (h refl)) (as_it_was d)
-held_in None t e m made d h g = g
+held_in : (lacks : Type 0) (o : Option ℕ) (t : Typed) (e : TExpr) (m : ℕ) (made : Made Out) (d : Draft) → (is_some o ≡ true → is_kept e ≡ true) → GrowsOr lacks d m (Arrives t e) made →
+    GrowsOr lacks d (elim o as (λ _. ℕ) [ Some _ ↦ 0 | None ↦ m ]) (Arrives t e) (elim o as (λ _. Made Out) [ Some r ↦ Makes (O.Scalar r) d | None ↦ made ])
+held_in lacks (Some r) t e m made d h g = makes lacks (Arrives t e) (O.Scalar r) d d 0 (arrives t e (O.Scalar r) (h refl)) (as_it_was d)
+held_in lacks None t e m made d h g = g
 
 place_fits : (bits : ℕ) (quiet : Bool) (e : TExpr) → IsShaped e → OwnFits (in_place bits quiet e) (is_kept e)
 unfolding in_place
@@ -153,9 +153,9 @@ unfolding in_place
 place_named t i n bits quiet e h = named_or_none t i n quiet (own_of bits e) (own_named t i n bits e h)
 
 -- so many bits of an operand whose code is so long
-pub operand_grows : (t : Typed) (i : Instance) (l : Layout) (n bits : ℕ) (quiet : Bool) (e : TExpr) (code : Code) (m : ℕ) (d : Draft) → HasCode t i n e → IsReady t i l n d → Grows d m (Arrives t e) (code d) →
-    Grows d (operand_length l bits m quiet e) (Arrives t e) (operand_by t l bits code quiet e d)
+pub operand_grows : (lacks : Type 0) (t : Typed) (i : Instance) (l : Layout) (n bits : ℕ) (quiet : Bool) (e : TExpr) (code : Code) (m : ℕ) (d : Draft) → HasCode t i n e → IsReadyOr lacks t i l n d → GrowsOr lacks d m (Arrives t e) (code d) →
+    GrowsOr lacks d (operand_length l bits m quiet e) (Arrives t e) (operand_by t l bits code quiet e d)
 unfolding operand_by operand_length
-operand_grows t i l n bits quiet e code m d h r c =
-    held_in (held l e) t e _ _ d (held_kept l e)
-    (operand_in (in_place bits quiet e) t i l n e bits code m d r (place_named t i n bits quiet e h.names) (place_fits bits quiet e h.shaped) c)
+operand_grows lacks t i l n bits quiet e code m d h r c =
+    held_in lacks (held l e) t e _ _ d (held_kept l e)
+    (operand_in lacks (in_place bits quiet e) t i l n e bits code m d r (place_named t i n bits quiet e h.names) (place_fits bits quiet e h.shaped) c)

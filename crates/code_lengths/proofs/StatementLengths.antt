@@ -17,7 +17,7 @@ use Rattle.cstar_tree.specs.Variables.{variables_of}
 use Rattle.paris_code.specs.declared.operands.Field.{Field}
 use Rattle.lower_base.specs.declared.emit.Out.{Out}
 use Rattle.lower_base.specs.declared.emit.Out.TheVariants as O
-use Rattle.lower_base.specs.Drafts.{Draft, Made, Makes, first_bits, then_make, IsMade}
+use Rattle.lower_base.specs.Drafts.{Draft, Made, Makes, first_bits, then_make}
 use Rattle.lower_base.specs.Layouts.{Layout, entries_of, field_of, register_of, result_register}
 use Rattle.lower_expr.specs.Effects.{put_to, put_length, own_bits, effect_length_of}
 use Rattle.lower_expr.specs.Lengths.{tested_length, used_length_of}
@@ -40,7 +40,7 @@ use Rattle.code_lengths.specs.LowerableStatements.{AreLowerableStatements, IsLow
 use Rattle.code_lengths.specs.Naming.{IsDeclared, NamesVariables, variable_named}
 use Rattle.code_lengths.proofs.NamedLater.{initial_later}
 use Rattle.code_lengths.specs.NamingStatements.{ElseNamesVariables, InitialsNameVariables, StandFrom, StatementNamesVariables, StatementsNameVariables, behind}
-use Rattle.code_lengths.specs.Ready.{Arrives, Declares, HasCode, HasDeclared, IsReady, NumbersVariables}
+use Rattle.code_lengths.specs.Ready.{IsMadeOr, Arrives, Declares, HasCode, HasDeclared, IsReady, NumbersVariables}
 use Rattle.code_lengths.specs.ShapedStatements.{IsShapedPart, IsShapedInitial, AreShapedLocals, IsShapedStatement, AreShapedStatements, IsShapedElse}
 use Rattle.code_lengths.proofs.Agreeing.{expressions}
 use Rattle.code_lengths.proofs.Advancing.{advanced, leads, leads_behind, leads_from, leads_sized, leads_then}
@@ -216,66 +216,66 @@ row_more n first second = let all = length-append first second in omega (arith, 
 block_rest : (all : List VarInfo) (n : ℕ) (locals : List LocalVar) (rest : List VarInfo) → StandFrom all n (map info_of locals ++ rest) → StandFrom all (n + length locals) rest
 block_rest all n locals rest z = subst (λ (k : ℕ). StandFrom all (n + k) rest) (length-map locals info_of) (second_part (map info_of locals) rest z)
 
-module _ (t : Typed) (i : Instance) (l : Layout) (numbers : NumbersVariables i l) (codes : ExpressionLengths t i l) where
+module _ (t : Typed) (i : Instance) (l : Layout) (numbers : NumbersVariables i l) (codes : ExpressionLengths ⊥ t i l) where
   -- ---- code that declares nothing
 
   -- parts
   part_grows : (n : ℕ) (e : Option TExpr) (d : Draft) → IfSome e (HasCode t i n) → IsReady t i l n d → Grows d (part_length_of t l e) Anything (part_of t l e d)
   unfolding part_length_of part_of
-  part_grows n None d code ready = makes Anything tt d d 0 tt (as_it_was d)
+  part_grows n None d code ready = makes _ Anything tt d d 0 tt (as_it_was d)
   part_grows n (Some e) d code ready =
-      sized Anything d _ _ _ (and_nothing _) (bind Anything Anything d (effect_length_of t l e) 0 _ _ (codes.effect n e d code ready) (λ v after _. makes Anything tt after after 0 tt (as_it_was after)))
+      sized _ Anything d _ _ _ (and_nothing _) (bind _ Anything Anything d (effect_length_of t l e) 0 _ _ (codes.effect n e d code ready) (λ v after _. makes _ Anything tt after after 0 tt (as_it_was after)))
 
   condition_grows : (n : ℕ) (e : TExpr) (d : Draft) → IsCondition t i n e → IsReady t i l n d → Grows d (used_length_of t l 32 true e) Anything (condition_of t l e d)
   unfolding condition_of
   condition_grows n e d code ready =
-      sized Anything d _ _ _ (and_nothing _) (bind (Arrives t e) Anything d (used_length_of t l 32 true e) 0 _ _ (codes.operand 32 n true e d code.0 ready)
-      (λ v after a. in_register_grows Anything after 0 v _ (subst (λ (kept : Bool). Stands kept v) code.1.1 (arrived t e v code.1.0 a)) (λ r. makes Anything r after after 0 tt (as_it_was after))))
+      sized _ Anything d _ _ _ (and_nothing _) (bind _ (Arrives t e) Anything d (used_length_of t l 32 true e) 0 _ _ (codes.operand 32 n true e d code.0 ready)
+      (λ v after a. in_register_grows _ Anything after 0 v _ (subst (λ (kept : Bool). Stands kept v) code.1.1 (arrived t e v code.1.0 a)) (λ r. makes _ Anything r after after 0 tt (as_it_was after))))
 
   back_grows : (n : ℕ) (e : Option TExpr) (turn : ℕ) (d : Draft) → IfSome e (IsCondition t i n) → IsReady t i l n d → Grows d (condition_length_of t l e + 1) Anything (jump_back_of t l e turn d)
   unfolding condition_length_of jump_back_of
-  back_grows n None turn d code ready = makes Anything tt d _ 1 tt (and_instr _ d d 0 (as_it_was d))
+  back_grows n None turn d code ready = makes _ Anything tt d _ 1 tt (and_instr _ d d 0 (as_it_was d))
   back_grows n (Some e) turn d code ready =
-      bind Anything Anything d (used_length_of t l 32 true e) 1 _ _ (condition_grows n e d code ready) (λ r after _. makes Anything tt after _ 1 tt (and_instr _ after after 0 (as_it_was after)))
+      bind _ Anything Anything d (used_length_of t l 32 true e) 1 _ _ (condition_grows n e d code ready) (λ r after _. makes _ Anything tt after _ 1 tt (and_instr _ after after 0 (as_it_was after)))
 
   -- what is given back
   stored_by : (shape : Option ℕ) (info : VarInfo) (n : ℕ) (e : TExpr) (v : Out) (d : Draft) → info.shape ≡ shape → i.result ≡ Some info → IsValueFor t info.shape e → Arrives t e v → IsReady t i l n d →
       let o = elim shape as (λ _. Outcome) [ None ↦ R.Scalar | Some s ↦ R.Parallel ] in Grows d (result_by o) Anything (stored_result l o v d)
   unfolding stored_result result_by
   stored_by None info n e v d is result value a ready =
-      bind (Stands true) Anything d 1 0 _ _
-      (put_value_grows true true (O.Scalar (result_register l)) v d refl (subst (λ (kept : Bool). Stands kept v) (value.in_register (ap is_none is)) (arrived t e v value.gives a)) (λ _. refl))
-      (λ _ after _. makes Anything tt after after 0 tt (as_it_was after))
+      bind _ (Stands true) Anything d 1 0 _ _
+      (put_value_grows _ true true (O.Scalar (result_register l)) v d refl (subst (λ (kept : Bool). Stands kept v) (value.in_register (ap is_none is)) (arrived t e v value.gives a)) (λ _. refl))
+      (λ _ after _. makes _ Anything tt after after 0 tt (as_it_was after))
   stored_by (Some s) info n e v d is result value a ready =
-      bind Anything Anything d 0 1 _ _ (own_field_grows l.outcome d (ready.result info result (ap is_none is)))
-      (λ dest between _. bind (Stands false) Anything between 1 0 _ _ (put_value_grows false (is_kept e) (O.Field dest) v between refl (arrived t e v value.gives a) (never (is_kept e)))
-      (λ _ after _. makes Anything tt after after 0 tt (as_it_was after)))
+      bind _ Anything Anything d 0 1 _ _ (own_field_grows _ l.outcome d (ready.result info result (ap is_none is)))
+      (λ dest between _. bind _ (Stands false) Anything between 1 0 _ _ (put_value_grows _ false (is_kept e) (O.Field dest) v between refl (arrived t e v value.gives a) (never (is_kept e)))
+      (λ _ after _. makes _ Anything tt after after 0 tt (as_it_was after)))
 
   result_grows : (result : Option VarInfo) (n : ℕ) (e : TExpr) (v : Out) (d : Draft) → i.result ≡ result → IfSome result (λ (info : VarInfo). IsValueFor t info.shape e) → Arrives t e v → IsReady t i l n d →
       Grows d (result_by (outcome_of result)) Anything (stored_result l (outcome_of result) v d)
   unfolding stored_result result_by outcome_of
-  result_grows None n e v d is value a ready = makes Anything tt d d 0 tt (as_it_was d)
+  result_grows None n e v d is value a ready = makes _ Anything tt d d 0 tt (as_it_was d)
   result_grows (Some info) n e v d is value a ready = stored_by info.shape info n e v d refl is value a ready
 
   returned_grows : (n : ℕ) (e : Option TExpr) (d : Draft) → IfSome e (IsResult t i n) → IsReady t i l n d →
       Grows d (returned_length t l e (outcome_of i.result)) Anything (returned t l e (outcome_of i.result) d)
   unfolding returned given_back returned_length
-  returned_grows n None d code ready = makes Anything tt d d 0 tt (as_it_was d)
+  returned_grows n None d code ready = makes _ Anything tt d d 0 tt (as_it_was d)
   returned_grows n (Some e) d code ready =
-      bind_behind (Arrives t e) Anything d (used_length_of t l (type_of e).elem.bits true e) _ _ _ (codes.operand (type_of e).elem.bits n true e d code.0 ready)
-      (λ v after a x. result_grows i.result n e v after refl code.1 a (ready_behind t i l n _ d after x ready))
+      bind_behind _ (Arrives t e) Anything d (used_length_of t l (type_of e).elem.bits true e) _ _ _ (codes.operand (type_of e).elem.bits n true e d code.0 ready)
+      (λ v after a x. result_grows i.result n e v after refl code.1 a (ready_behind _ t i l n _ d after x ready))
 
   -- initialisers
-  place_by : (shape : Option ℕ) (bits n : ℕ) (d : Draft) → (is_none shape ≡ false → IsMade (field_of t l (V.Local n) 0 d)) → Grows d 0 (IsAt (is_none shape) bits) (elim shape as (λ _. Made Out) [
+  place_by : (shape : Option ℕ) (bits n : ℕ) (d : Draft) → (is_none shape ≡ false → IsMadeOr ⊥ (field_of t l (V.Local n) 0 d)) → Grows d 0 (IsAt (is_none shape) bits) (elim shape as (λ _. Made Out) [
     | None ↦ Makes (O.Scalar (register_of l (V.Local n))) d
     | Some _ ↦ then_make (field_of t l (V.Local n) 0 d) (λ f after. Makes (O.Field (first_bits bits f)) after)
   ])
   unfolding first_bits
-  place_by None bits n d made = makes (IsAt true bits) (O.Scalar (register_of l (V.Local n))) d d 0 refl (as_it_was d)
+  place_by None bits n d made = makes _ (IsAt true bits) (O.Scalar (register_of l (V.Local n))) d d 0 refl (as_it_was d)
   place_by (Some s) bits n d made =
-      bind Anything (IsAt false bits) d 0 0 _ _ (made_field_grows t l (V.Local n) 0 d (made refl)) (λ f after _. makes (IsAt false bits) (O.Field (first_bits bits f)) after after 0 (refl, refl) (as_it_was after))
+      bind _ Anything (IsAt false bits) d 0 0 _ _ (made_field_grows _ t l (V.Local n) 0 d (made refl)) (λ f after _. makes _ (IsAt false bits) (O.Field (first_bits bits f)) after after 0 (refl, refl) (as_it_was after))
 
-  place_grows : (info : VarInfo) (n : ℕ) (d : Draft) → (is_none info.shape ≡ false → IsMade (field_of t l (V.Local n) 0 d)) → Grows d 0 (IsAt (is_none info.shape) info.elem.bits) (variable_of t l info n d)
+  place_grows : (info : VarInfo) (n : ℕ) (d : Draft) → (is_none info.shape ≡ false → IsMadeOr ⊥ (field_of t l (V.Local n) 0 d)) → Grows d 0 (IsAt (is_none info.shape) info.elem.bits) (variable_of t l info n d)
   unfolding variable_of standing
   place_grows info n d made = place_by info.shape info.elem.bits n d made
 
@@ -285,37 +285,37 @@ module _ (t : Typed) (i : Instance) (l : Layout) (numbers : NumbersVariables i l
   unfolding own_bits
   initial_put_grows n info (O.Scalar r) e d at code value ready =
       subst (λ (kept : Bool). Grows d (put_length t l kept (if kept then 32 else info.elem.bits) e) Anything (put_to t l (O.Scalar r) e d)) (sym at)
-      (weaker (Stands true) Anything d _ _ (λ _ _. tt) (codes.put_register r n e d code (value.gives, value.in_register at) ready))
+      (weaker _ (Stands true) Anything d _ _ (λ _ _. tt) (codes.put_register r n e d code (value.gives, value.in_register at) ready))
   initial_put_grows n info (O.Field f) e d at code value ready =
       subst (λ (kept : Bool). Grows d (put_length t l kept (if kept then 32 else info.elem.bits) e) Anything (put_to t l (O.Field f) e d)) (sym at.0)
-      (sized Anything d _ _ _ (ap (λ (bits : ℕ). put_length t l false bits e) at.1)
-      (weaker (Stands false) Anything d _ _ (λ _ _. tt) (codes.put_field f n e d code value.gives (value.parallel at.0) ready)))
+      (sized _ Anything d _ _ _ (ap (λ (bits : ℕ). put_length t l false bits e) at.1)
+      (weaker _ (Stands false) Anything d _ _ (λ _ _. tt) (codes.put_field f n e d code value.gives (value.parallel at.0) ready)))
   initial_put_grows n info O.Nothing e d at code value ready = absurd at
 
   initial_by : (e : Option TExpr) (all : ℕ) (info : VarInfo) (n : ℕ) (d : Draft) → IsShapedInitial info e → IfSome e (λ (e : TExpr). (info.array ≡ None) × IsValueFor t info.shape e × IsLowerable t e) →
-      IfSome e (NamesVariables t i all) → (info.array ≡ None → is_none info.shape ≡ false → IsMade (field_of t l (V.Local n) 0 d)) → IsReady t i l all d →
+      IfSome e (NamesVariables t i all) → (info.array ≡ None → is_none info.shape ≡ false → IsMadeOr ⊥ (field_of t l (V.Local n) 0 d)) → IsReady t i l all d →
       Grows d (initial_length_of t l info e) Anything (elim e as (λ _. Made (Unit {0})) [
         | None ↦ Makes tt d
         | Some e ↦ then_make (variable_of t l info n d) (λ dest between. then_make (put_to t l dest e between) (λ _ after. Makes tt after))
       ])
   unfolding initial_length_of IsShapedInitial
-  initial_by None all info n d h w v made ready = makes Anything tt d d 0 tt (as_it_was d)
+  initial_by None all info n d h w v made ready = makes _ Anything tt d d 0 tt (as_it_was d)
   initial_by (Some e) all info n d h w v made ready =
-      sized Anything d _ _ _ (nothing_more _ ∙ and_nothing _) (bind_behind (IsAt (is_none info.shape) info.elem.bits) Anything d 0 _ _ _ (place_grows info n d (made w.0)) (λ dest between at x.
-      bind Anything Anything between _ 0 _ _ (initial_put_grows all info dest e between at (record { shaped = h.1; lowerable = w.2; names = v }) w.1 (ready_behind t i l all _ d between x ready))
-      (λ _ after _. makes Anything tt after after 0 tt (as_it_was after))))
+      sized _ Anything d _ _ _ (nothing_more _ ∙ and_nothing _) (bind_behind _ (IsAt (is_none info.shape) info.elem.bits) Anything d 0 _ _ _ (place_grows info n d (made w.0)) (λ dest between at x.
+      bind _ Anything Anything between _ 0 _ _ (initial_put_grows all info dest e between at (record { shaped = h.1; lowerable = w.2; names = v }) w.1 (ready_behind _ t i l all _ d between x ready))
+      (λ _ after _. makes _ Anything tt after after 0 tt (as_it_was after))))
 
   all_initialised_grow : (all : ℕ) (locals : List LocalVar) (n : ℕ) (d : Draft) → AreShapedLocals locals → All (IsLowerableLocal t) locals → InitialsNameVariables t i n locals →
       StandFrom (variables_of i.body) n (map info_of locals) → n + length locals ≤ all → IsReady t i l all d → Grows d (initials t l locals) Anything (all_initialised t l locals n d)
   unfolding all_initialised initialised initials AreShapedLocals InitialsNameVariables variable_named IsDeclared
-  all_initialised_grow all [] n d h w v z less ready = makes Anything tt d d 0 tt (as_it_was d)
+  all_initialised_grow all [] n d h w v z less ready = makes _ Anything tt d d 0 tt (as_it_was d)
   all_initialised_grow all (local ∷ locals) n d h w v z less ready =
-      bind_behind Anything Anything d _ _ _ _
+      bind_behind _ Anything Anything d _ _ _ _
       (initial_by local.initial all local.info n d h.0 (All-head (IsLowerableLocal t) local locals w) (initial_later t i (n + 1) all local.initial (omega (arith, less)) v.0)
       (λ plain parallel. let one = one_entry_of local.info plain parallel in
       ready.fields (V.Local n) local.info 0 (at_number local.info (map info_of locals) z) (omega (arith, less)) parallel (omega (arith, one))) ready)
       (λ _ after _ x. all_initialised_grow all locals (n + 1) after h.1 (All-tail (IsLowerableLocal t) local locals w) v.1
-      (second_part (local.info ∷ []) (map info_of locals) z) (omega (arith, less)) (ready_behind t i l all _ d after x ready))
+      (second_part (local.info ∷ []) (map info_of locals) z) (omega (arith, less)) (ready_behind _ t i l all _ d after x ready))
 
   -- ---- what stays declared
 
@@ -367,7 +367,7 @@ module _ (t : Typed) (i : Instance) (l : Layout) (numbers : NumbersVariables i l
 
   -- what is behind a loop's body is ready for what is before it
   loop_ready : (n : ℕ) (s : TStmt) (d : Draft) → HasDeclared t i l (behind n s) d → IsReady t i l n d
-  loop_ready n s d y = ready_before t i l n (behind n s) d (omega arith) y.ready
+  loop_ready n s d y = ready_before _ t i l n (behind n s) d (omega arith) y.ready
 
   -- ---- statements
 
@@ -429,7 +429,7 @@ module _ (t : Typed) (i : Instance) (l : Layout) (numbers : NumbersVariables i l
         (statement_lead body f contexts n d h w v (subst (StandFrom (variables_of i.body) n) (of_with shape p body) z) o k y)
     statement_lead (S.Everywhere' shape p body) f contexts n d h w v z o k y =
         recounted _ _ d _ _ (same_more n (S.Everywhere' shape p body) (variables_of body) (of_everywhere shape p body))
-        (leads_sized _ d _ _ _ (everywhere_sum (statement_length_of t l (has_result f) (one_more f.saved) body)) (code_then Anything _ n d 0 _ _ _ y (entry_grows shape 1 _ d) (λ saved begun y.
+        (leads_sized _ d _ _ _ (everywhere_sum (statement_length_of t l (has_result f) (one_more f.saved) body)) (code_then Anything _ n d 0 _ _ _ y (entry_grows _ shape 1 _ d) (λ saved begun y.
         declares_then _ (behind n body) begun _ 1 _ _
         (instr_then _ n begun _ 2 _ _ y (and_instr _ begun _ 1 (and_instr _ begun begun 0 (as_it_was begun)))
         (λ y. statement_lead body (in_context f) (contexts ++ saved ∷ []) n _ h w v (subst (StandFrom (variables_of i.body) n) (of_everywhere shape p body) z) o (deeper f contexts saved k) y))
@@ -438,7 +438,7 @@ module _ (t : Typed) (i : Instance) (l : Layout) (numbers : NumbersVariables i l
         let z' = subst (StandFrom (variables_of i.body) n) (of_where shape test p first second) z in
         recounted _ _ d _ _ (both_more n (S.Where' shape test p first second) (variables_of first) (else_variables second) (of_where shape test p first second))
         (leads_sized _ d _ _ _ (where_sum (tested_length t l test) (kept_length second) (statement_length_of t l (has_result f) (one_more f.saved) first) (else_length_of t l (has_result f) (one_more f.saved) 3 second) (else_length_of t l (has_result f) (one_more f.saved) 4 second) (kept_and_other t l (has_result f) (one_more f.saved) second))
-        (code_then Anything _ n d 0 _ _ _ y (entry_grows shape 1 _ d) (λ saved begun y. code_then Anything _ n begun 0 _ _ _ y (entry_grows shape 1 _ begun) (λ holds ready y.
+        (code_then Anything _ n d 0 _ _ _ y (entry_grows _ shape 1 _ d) (λ saved begun y. code_then Anything _ n begun 0 _ _ _ y (entry_grows _ shape 1 _ begun) (λ holds ready y.
         leads_sized _ ready _ _ _ (add_assoc (tested_length t l test) _ _) (code_then Anything _ n ready _ _ _ _ y (codes.test n test ready (record { shaped = h.0; lowerable = w.1; names = v.0 }) w.0 y.ready) (λ _ known y.
         declares_then _ (behind n first) known _ _ _ _ (declares_then _ (behind n first) known _ 1 _ _
         (instr_then _ n known _ _ _ _ y (narrowed_more second shape saved holds known)

@@ -10,16 +10,16 @@ use Rattle.cstar_tree.specs.declared.typed.Variable.TheVariants as V
 use Rattle.cstar_tree.specs.Variables.{variables_of}
 use Rattle.paris_code.specs.declared.program.Owner.TheVariants as W
 use Rattle.paris_code.specs.declared.program.Virtual.{Virtual}
-use Rattle.lower_base.specs.Drafts.{Draft, Made, Makes, Fails, an_entry, then_make, IsMade}
+use Rattle.lower_base.specs.Drafts.{Draft, Made, Makes, Fails, an_entry, then_make}
 use Rattle.lower_base.specs.Layouts.{Layout, Registers, elements_of, entered, entries_of, earlier_base, field_of, first_fields, layout_of, nothing_numbered, numbered, own_field, param_entries, registers_of, with_instance}
 use Rattle.lower_base.specs.Layouts as Y
 use Rattle.lower_stmt.specs.Frames.{with_end}
 use Rattle.lower_stmt.specs.Programs.{begun, blank, body_frame, constants_put, elements_begun, joined, own_field_of, own_fields_of, own_result_of, scalar_begun, start_value_of, start_values_of, unit_of, units_of}
 use Rattle.lower_stmt.specs.Statements.{body_of, ended, ends_in_return}
 use Rattle.code_lengths.specs.Agreement.{HasUnit, ProgramsHaveCode, StandsAmong, UnitsAreAsLongAsDescribed, end_length, opening_of, whole_length}
-use Rattle.code_lengths.specs.Growth.{Advanced, Anything, Extended, Grows, Leads}
+use Rattle.code_lengths.specs.Growth.{Advanced, Anything, Extended, Grows, GrowsOr, Leads}
 use Rattle.code_lengths.specs.Naming.{IsDeclared, variable_named}
-use Rattle.code_lengths.specs.Ready.{HasDeclared, HasPlainParameters, HasStatementCode, IsCodable, IsReady, NumbersVariables}
+use Rattle.code_lengths.specs.Ready.{IsMadeOr, HasDeclared, HasPlainParameters, HasStatementCode, IsCodable, IsReady, NumbersVariables}
 use Rattle.code_lengths.proofs.Agreeing.{expressions}
 use Rattle.code_lengths.proofs.Advancing.{advanced, leads, leads_then}
 use Rattle.code_lengths.proofs.Declaring.{all_at, at_length}
@@ -48,7 +48,7 @@ first_made m next d is = ap (λ (m : Made (Unit {0})). then_make m next) is
 
 -- what grows, and what leads on, is made
 grown_made : (d : Draft) (n : ℕ) (m : Made (Unit {0})) → Grows d n Anything m → (e : Draft) × (m ≡ Makes tt e) × Extended d n e
-unfolding Grows
+unfolding GrowsOr
 grown_made d n (Makes x e) g = (e, refl, g.1)
 grown_made d n Fails g = absurd g
 
@@ -114,12 +114,12 @@ shape_there (Some set) parallel = (set, refl)
 
 -- a parallel variable of the file gets an entry in every unit
 file_made : (t : Typed) (words : List ℕ) (number k element : ℕ) (info : VarInfo) (d : Draft) → slice_get t.vars.items k ≡ Some info → is_none info.shape ≡ false →
-    IsMade (field_of t (layout_of t words number) (V.File k) element d)
-unfolding field_of layout_of entered an_entry IsMade
+    IsMadeOr ⊥ (field_of t (layout_of t words number) (V.File k) element d)
+unfolding field_of layout_of entered an_entry IsMadeOr
 file_made t words number k element info d is parallel =
     let first = first_field 0 t.vars.items k info is in
     let set = shape_there info.shape parallel in
-    made_from (slice_get t.vars.items k) _ info is (made_from (slice_get (first_fields 0 t.vars.items) k) _ first.0 first.1 (made_from info.shape _ set.0 set.1 tt))
+    made_from _ (slice_get t.vars.items k) _ info is (made_from _ (slice_get (first_fields 0 t.vars.items) k) _ first.0 first.1 (made_from _ info.shape _ set.0 set.1 tt))
 
 -- ---- the entries of parameters and of the result
 
@@ -240,10 +240,10 @@ module _ (t : Typed) (words : List ℕ) (number : ℕ) where
   elements_grow : (k value left element : ℕ) (info : VarInfo) (d : Draft) → slice_get t.vars.items k ≡ Some info → is_none info.shape ≡ false →
       Grows d left Anything (elements_begun t own_layout k value left element d)
   unfolding elements_begun
-  elements_grow k value zero element info d is parallel = makes Anything tt d d 0 tt (as_it_was d)
+  elements_grow k value zero element info d is parallel = makes _ Anything tt d d 0 tt (as_it_was d)
   elements_grow k value (suc left) element info d is parallel =
-      sized Anything d _ _ _ (one_and left) (bind Anything Anything d 0 (1 + left) _ _ (made_field_grows t own_layout (V.File k) element d (file_made t words number k element info d is parallel))
-      (λ dest after _. behind Anything after _ 1 left _ (and_instr _ after after 0 (as_it_was after)) (elements_grow k value left (element + 1) info _ is parallel)))
+      sized _ Anything d _ _ _ (one_and left) (bind _ Anything Anything d 0 (1 + left) _ _ (made_field_grows _ t own_layout (V.File k) element d (file_made t words number k element info d is parallel))
+      (λ dest after _. behind _ Anything after _ 1 left _ (and_instr _ after after 0 (as_it_was after)) (elements_grow k value left (element + 1) info _ is parallel)))
     where
       one_and : (n : ℕ) → 0 + (1 + n) ≡ suc n
       one_and n = omega arith
@@ -256,13 +256,13 @@ module _ (t : Typed) (words : List ℕ) (number : ℕ) where
         | None ↦ Makes tt (scalar_begun own_layout info k d)
         | Some s ↦ elements_begun t own_layout k info.start (entries_of info) 0 d
       ])
-      by true shape same = (0, makes Anything tt d d 0 tt (as_it_was d))
-      by false None same = (2, makes Anything tt d _ 2 tt (and_instr _ d _ 1 (and_instr _ d d 0 (as_it_was d))))
+      by true shape same = (0, makes _ Anything tt d d 0 tt (as_it_was d))
+      by false None same = (2, makes _ Anything tt d _ 2 tt (and_instr _ d _ 1 (and_instr _ d d 0 (as_it_was d))))
       by false (Some s) same = (entries_of info, elements_grow k info.start (entries_of info) 0 info d is (ap is_none same))
 
   start_values_grow : (before infos : List VarInfo) (d : Draft) → t.vars.items ≡ before ++ infos → Begins d (start_values_of t own_layout infos (length before) d)
   unfolding start_values_of
-  start_values_grow before [] d all = (0, makes Anything tt d d 0 tt (as_it_was d))
+  start_values_grow before [] d all = (0, makes _ Anything tt d d 0 tt (as_it_was d))
   start_values_grow before (info ∷ infos) d all =
       let one = start_value_grows info (length before) d (ap (λ (infos : List VarInfo). slice_get infos (length before)) all ∙ at_length before info infos) in
       let first = grown_made d one.0 _ one.1 in
@@ -270,7 +270,7 @@ module _ (t : Typed) (words : List ℕ) (number : ℕ) where
         one.0 + rest.0,
         subst (λ (m : Made (Unit {0})). Grows d (one.0 + rest.0) Anything m)
             (sym (first_made (start_value_of t own_layout info (length before) d) (λ _ after. start_values_of t own_layout infos (length before + 1) after) first.0 first.1))
-            (behind Anything d first.0 one.0 rest.0 _ first.2
+            (behind _ Anything d first.0 one.0 rest.0 _ first.2
             (subst (λ (k : ℕ). Grows first.0 rest.0 Anything (start_values_of t own_layout infos k first.0)) (length-append before (info ∷ [])) rest.1)),
       )
 
@@ -279,20 +279,20 @@ module _ (t : Typed) (words : List ℕ) (number : ℕ) where
   begun_grows true d =
       let constants = constants_more own_layout.constants own_layout.end 0 d d (as_it_was d) in
       let values = start_values_grow [] t.vars.items (constants_put own_layout.constants own_layout.end d) refl in
-      (_, behind Anything d _ _ _ _ constants values.1)
-  begun_grows false d = (0, makes Anything tt d d 0 tt (as_it_was d))
+      (_, behind _ Anything d _ _ _ _ constants values.1)
+  begun_grows false d = (0, makes _ Anything tt d d 0 tt (as_it_was d))
 
   -- ---- a unit is ready for the body
 
   param_ready : (instance : Instance) (k : ℕ) (info : VarInfo) (element : ℕ) (start : Draft) → slice_get t.instances.items number ≡ Some instance → IsBegun instance start →
-      slice_get instance.params.items k ≡ Some info → is_none info.shape ≡ false → IsMade (field_of t own_layout (V.Param k) element start)
+      slice_get instance.params.items k ≡ Some info → is_none info.shape ≡ false → IsMadeOr ⊥ (field_of t own_layout (V.Param k) element start)
   unfolding field_of
   param_ready instance k info element start is begun named parallel =
       let entry = param_entry 0 instance.params.items k info named parallel in
       let there = entry.2 in
       let within = result_least (fold Y.behind 0 instance.params.items) instance.result in
       let entries = begun.entries in
-      made_from (slice_get own_layout.params k) _ entry.0 (ap (λ (params : List ℕ). slice_get params k) (params_are t words number instance is) ∙ entry.1)
+      made_from _ (slice_get own_layout.params k) _ entry.0 (ap (λ (params : List ℕ). slice_get params k) (params_are t words number instance is) ∙ entry.1)
       (own_at entry.0 start (omega (arith, there, within, entries)))
 
   body_ready : (instance : Instance) (start : Draft) → slice_get t.instances.items number ≡ Some instance → HasPlainParameters instance → IsBegun instance start → IsReady t instance own_layout 0 start
@@ -309,12 +309,12 @@ module _ (t : Typed) (words : List ℕ) (number : ℕ) where
       elements (V.Param k) info named declared parallel = sym (one_entry_of info (all_at (λ (info : VarInfo). info.array ≡ None) instance.params.items k info plain named) parallel)
       elements (V.Local k) info named declared parallel = absurd (none_declared k declared)
 
-      fields : (v : Variable) (info : VarInfo) (element : ℕ) → variable_named t instance v ≡ Some info → IsDeclared 0 v → is_none info.shape ≡ false → element < entries_of info → IsMade (field_of t own_layout v element start)
+      fields : (v : Variable) (info : VarInfo) (element : ℕ) → variable_named t instance v ≡ Some info → IsDeclared 0 v → is_none info.shape ≡ false → element < entries_of info → IsMadeOr ⊥ (field_of t own_layout v element start)
       fields (V.File k) info element named declared parallel within = file_made t words number k element info start named parallel
       fields (V.Param k) info element named declared parallel within = param_ready instance k info element start is begun named parallel
       fields (V.Local k) info element named declared parallel within = absurd (none_declared k declared)
 
-      result : (info : VarInfo) → instance.result ≡ Some info → is_none info.shape ≡ false → IsMade (own_field own_layout.outcome start)
+      result : (info : VarInfo) → instance.result ≡ Some info → is_none info.shape ≡ false → IsMadeOr ⊥ (own_field own_layout.outcome start)
       result info given parallel =
           let at : own_layout.outcome ≡ fold Y.behind 0 instance.params.items = outcome_is t words number instance is in
           let entries : with_result (fold Y.behind 0 instance.params.items) (Some info) ≤ length start.fields =

@@ -57,7 +57,7 @@ spread_into_by : {on : Basis} (w : Option ℕ) (code : Code) (n : ℕ) (k : Bool
     GrowsOn on d (elim w [ Some _ ↦ 1 | None ↦ n + (if k then 1 else 0) ]) (λ (f : Field). Unit {0})
     (elim w [ Some word ↦ Makes dest (with_instr (I.MoveConstant dest (K.Imm word)) d) | None ↦ then_make (code d) (λ v after. in_a_field v dest after) ])
 spread_into_by (Some word) code n k dest d h = makes _ dest d _ 1 tt (and_instr _ d d 0 (as_it_was d))
-spread_into_by None code n k dest d h = bind (Stands k) _ d n _ _ _ (h d) (λ v after s. plainly (in_a_field_grows k v dest after s))
+spread_into_by None code n k dest d h = bind (Stands k) _ d n _ _ _ (h d) (λ v after s. plainly (in_a_field_grows _ k v dest after s))
 
 spread_into_grows : {on : Basis} (code : Code) (e : TExpr) (n : ℕ) (dest : Field) (d : Draft) → IsCode on n (is_kept e) code → GrowsOn on d (spread_length n e) (λ (f : Field). Unit {0}) (spread_into code e dest d)
 unfolding spread_into spread_length
@@ -75,7 +75,7 @@ spread_alone n e h = by (word_of e) (is_kept e) n (no_constant true e h) h
 spread_by_kept : {on : Basis} (k : Bool) (code : Code) (e : TExpr) (n set bits : ℕ) (d : Draft) → is_kept e ≡ k → IsCode on n (is_kept e) code →
     GrowsOn on d (spread_length n e) InField (if k then then_make (a_field set bits d) (λ dest between. then_make (spread_into code e dest between) (λ f after. Makes (O.Field f) after)) else code d)
 spread_by_kept true code e n set bits d h c =
-    sized InField d _ _ _ (nothing_more (spread_length n e)) (bind Anything InField d 0 _ _ _ (plainly (entry_grows _ _ _ d)) (λ dest between _.
+    sized InField d _ _ _ (nothing_more (spread_length n e)) (bind Anything InField d 0 _ _ _ (plainly (entry_grows _ _ _ _ d)) (λ dest between _.
     sized InField between _ _ _ (and_nothing (spread_length n e)) (bind (λ (f : Field). Unit {0}) InField between _ 0 _ _ (spread_into_grows code e n dest between c)
     (λ f after _. makes InField (O.Field f) after after 0 refl (as_it_was after)))))
   where
@@ -136,7 +136,7 @@ no_spare bits op = omega arith
 field_operated : {on : Basis} (op : Op) (signed : Bool) (place : Place) (dest left f spare : Field) (d : Draft) →
     GrowsOn on d (operate_length dest.len op false) InField (right_operated op signed place dest left (R.Field f) spare d)
 unfolding right_operated
-field_operated op signed place dest left f spare d = plainly (fields_operated_grows op signed place dest left f d)
+field_operated op signed place dest left f spare d = plainly (fields_operated_grows _ op signed place dest left f d)
 
 pub right_operated_grows : {on : Basis} (op : Op) (signed : Bool) (place : Place) (e : TExpr) (dest left : Field) (right : Right) (spare : Field) (d : Draft) → IsRight op e right →
     GrowsOn on d (after_length dest.len op e) InField (right_operated op signed place dest left right spare d)
@@ -144,10 +144,10 @@ right_operated_grows op signed place e dest left (R.Field f) spare d h =
     sized InField d _ _ _ (no_spare dest.len op ∙ ap (λ b. operate_length dest.len op false + spare_length op b) (sym h.1) ∙ none_taken (word_taken op e) _ _ h.0)
     (field_operated op signed place dest left f spare d)
 right_operated_grows op signed place e dest left (R.Word (K.Imm w)) spare d h =
-    sized InField d _ _ _ (constant_taken (word_taken op e) _ _ h) (plainly (number_grows op signed place dest left w spare d))
+    sized InField d _ _ _ (constant_taken (word_taken op e) _ _ h) (plainly (number_grows _ op signed place dest left w spare d))
 right_operated_grows op signed place e dest left (R.Word (K.Reg r)) spare d h =
     sized InField d _ _ _ (ap (λ b. operate_length dest.len op false + spare_length op b) (sym h.1) ∙ none_taken (word_taken op e) _ _ h.0)
-    (plainly (word_grows op signed place dest left r spare d))
+    (plainly (word_grows _ op signed place dest left r spare d))
 
 pub right_together : (bits n : ℕ) (op : Op) (e : TExpr) → before_length n op e + after_length bits op e ≡ right_length bits n op e
 unfolding right_length
@@ -198,7 +198,7 @@ unfolding spare_for
 spare_for_grows {on} op dest bits d = by (relates op)
   where
     by : (b : Bool) → GrowsOn on d 0 Anything (if b then a_field dest.set bits d else Makes dest d)
-    by true = plainly (entry_grows _ _ _ d)
+    by true = plainly (entry_grows _ _ _ _ d)
     by false = makes Anything dest d d 0 tt (as_it_was d)
 
 parallel_binary_grows : {on : Basis} (set bits : ℕ) (op : Op) (place : Place) (first : Code) (left : TExpr) (n : ℕ) (second : Code) (right : TExpr) (m : ℕ) (d : Draft) →
@@ -206,7 +206,7 @@ parallel_binary_grows : {on : Basis} (set bits : ℕ) (op : Op) (place : Place) 
     GrowsOn on d (spread_length n left + right_length bits m op right) InField (parallel_binary_by set bits op place first left second right d)
 unfolding parallel_binary_by
 parallel_binary_grows set bits op place first left n second right m d a b =
-    sized InField d _ _ _ (nothing_more _ ∙ nothing_more _) (bind (λ (f : Field). f.len ≡ result_bits bits op right) InField d 0 _ _ _ (plainly (field_grows _ _ d)) (λ dest begun h.
+    sized InField d _ _ _ (nothing_more _ ∙ nothing_more _) (bind (λ (f : Field). f.len ≡ result_bits bits op right) InField d 0 _ _ _ (plainly (field_grows _ _ _ d)) (λ dest begun h.
     bind Anything InField begun 0 _ _ _ (spare_for_grows op dest _ begun) (λ spare between _. lowest_grows false bits between _ _
     (sized InField between _ _ _ (ap (λ (x : ℕ). spread_length n left + right_length x m op right) h ∙ ap (λ (x : ℕ). spread_length n left + x) (result_length bits op right m))
     (fields_grow op _ place dest spare first left n second right m between a b)))))
@@ -216,7 +216,7 @@ pub binary_grows : {on : Basis} (shape : Option ℕ) (bits : ℕ) (op : Op) (pla
     GrowsOn on d (binary_length (is_none shape) bits op n left m right) (Stands (is_none shape)) (binary_by shape bits op place first left second right d)
 unfolding binary_by binary_length
 binary_grows None bits op place first left n second right m d lk rk a b =
-    sized InRegister d _ _ _ (nothing_more _) (bind Anything InRegister d 0 _ _ _ (plainly (register_grows d)) (λ r after _. registers_grow bits op _ place r first second n m after (of_code _ true n first (lk refl) a) (of_code _ true m second (rk refl) b)))
+    sized InRegister d _ _ _ (nothing_more _) (bind Anything InRegister d 0 _ _ _ (plainly (register_grows _ d)) (λ r after _. registers_grow bits op _ place r first second n m after (of_code _ true n first (lk refl) a) (of_code _ true m second (rk refl) b)))
 binary_grows (Some set) bits op place first left n second right m d lk rk a b = parallel_binary_grows set bits op place first left n second right m d a b
 
 -- jumps and narrower contexts
@@ -246,7 +246,7 @@ scalar_logical_grows : {on : Basis} (is_or : Bool) (first second : Code) (n m : 
     GrowsOn on d ((n + m) + 4) InRegister (scalar_logical_by is_or first second m d)
 unfolding scalar_logical_by
 scalar_logical_grows is_or first second n m d a b =
-    sized InRegister d _ _ _ (sum n m) (bind InRegister InRegister d 1 (n + (1 + (m + 2))) _ _ (plainly (constant_grows _ d)) (λ out begun so. in_register_grows _ begun _ out _ so (λ dest.
+    sized InRegister d _ _ _ (sum n m) (bind InRegister InRegister d 1 (n + (1 + (m + 2))) _ _ (plainly (constant_grows _ _ d)) (λ out begun so. in_register_grows _ begun _ out _ so (λ dest.
     bind InRegister InRegister begun n _ _ _ (a begun) (λ v between sv. bind (λ (k : ℕ). Unit {0}) InRegister between 1 _ _ _ (decided_grows is_or v m 3 between sv) (λ end next _.
     bind InRegister InRegister next m 2 _ _ (b next) (λ w after sw. logical_ended_grows is_or dest w end after sw))))))
   where
@@ -337,13 +337,13 @@ pub relation_grows : {on : Basis} (set : ℕ) (op : Op) (n m : ℕ) (first secon
 unfolding relation_by
 relation_grows set op n m first second left right r a b d =
     sized _ d _ _ _ (nothing_more _ ∙ ap (λ (x : ℕ). spread_length n left + x) (compared_together m op right))
-    (bind Anything Known d 0 _ _ _ (plainly (entry_grows _ _ _ d)) (λ spare begun _. bind (λ (f : Field). Unit {0}) Known begun _ _ _ _ (spread_into_grows first left n spare begun a) (λ x between _.
+    (bind Anything Known d 0 _ _ _ (plainly (entry_grows _ _ _ _ d)) (λ spare begun _. bind (λ (f : Field). Unit {0}) Known begun _ _ _ _ (spread_into_grows first left n spare begun a) (λ x between _.
     bind (IsRight op right) Known between _ _ _ _ (right_by_grows second m op right between b) (λ y after s. compared_grows op (machine_of op (reads_signed op left right)) right x y spare after r (relation_is op _ r) s))))
 
 -- the test flag as a value
 pub truth_put_grows : {on : Basis} (dest : Field) (test : Test) (n : ℕ) (d : Draft) → IsTest on n test → GrowsOn on d (n + test_put_length dest.len) InField (truth_put dest test d)
 unfolding truth_put
-truth_put_grows dest test n d a = bind Known InField d n _ _ _ (a d) (λ _ after _. plainly (test_grows dest after))
+truth_put_grows dest test n d a = bind Known InField d n _ _ _ (a d) (λ _ after _. plainly (test_grows _ dest after))
 
 -- `&&` and `||` with a parallel operand
 decided_by_grows : {on : Basis} (is_or : Bool) (dest : Field) (first : Code) (second : Test) (n m : ℕ) (d : Draft) → IsCode on n true first → IsTest on m second →
@@ -397,7 +397,7 @@ narrowing_grows : {on : Basis} (is_or : Bool) (dest : Field) (left right : Condi
 unfolding narrowing_by
 narrowing_grows is_or dest left right d a b f =
     sized InField d _ _ _ (sum (is_kept left.operand) (is_kept right.operand) left.long left.tested_long right.long right.tested_long (test_put_length dest.len))
-    (bind Anything InField d 0 _ _ _ (plainly (entry_grows _ _ _ d)) (λ saved next _.
+    (bind Anything InField d 0 _ _ _ (plainly (entry_grows _ _ _ _ d)) (λ saved next _.
     behind InField next _ 1 _ _ (and_instr _ next next 0 (as_it_was next))
     (logical_rest is_or (is_kept left.operand) (is_kept right.operand) dest saved left.code right.code left.test right.test left.long left.tested_long right.long right.tested_long _ a.code a.test b.code b.test f)))
   where
@@ -419,7 +419,7 @@ flag_grows {on} set c d h k = by (is_flag c.operand)
         else then_make (c.test d) (λ _ between. then_make (a_flag set between) (λ f after. Makes f (with_instr (I.StoreTest f) after))))
     by true = sized Anything d _ _ _ (and_nothing c.long) (bind InField Anything d c.long 0 _ _ (of_code _ false c.long c.code k h.code d) (λ v after s.
         in_field_grows Anything after 0 v _ s (λ f. makes Anything f after after 0 tt (as_it_was after))))
-    by false = bind Known Anything d c.tested_long 1 _ _ (h.test k d) (λ _ between _. bind Anything Anything between 0 1 _ _ (plainly (entry_grows _ _ _ between)) (λ f after _.
+    by false = bind Known Anything d c.tested_long 1 _ _ (h.test k d) (λ _ between _. bind Anything Anything between 0 1 _ _ (plainly (entry_grows _ _ _ _ between)) (λ f after _.
         makes Anything f after _ 1 tt (and_instr _ after after 0 (as_it_was after))))
 
 joined_grows : {on : Basis} (is_or : Bool) (dest f g : Field) (d : Draft) → GrowsOn on d (test_put_length dest.len) InField (joined is_or dest f g d)
@@ -466,7 +466,7 @@ unfolding logical_by logical_length
 logical_grows is_or None bits left right d a b lk rk f =
     scalar_logical_grows is_or left.code right.code left.long right.long d (of_code _ true left.long left.code (lk refl) a.code) (of_code _ true right.long right.code (rk refl) b.code)
 logical_grows is_or (Some set) bits left right d a b lk rk f =
-    sized InField d _ _ _ (nothing_more _) (bind (λ (f : Field). f.len ≡ bits) InField d 0 _ _ _ (plainly (field_grows _ _ d)) (λ dest begun h.
+    sized InField d _ _ _ (nothing_more _) (bind (λ (f : Field). f.len ≡ bits) InField d 0 _ _ _ (plainly (field_grows _ _ _ d)) (λ dest begun h.
     sized InField begun _ _ _ (ap (λ (n : ℕ). parallel_logical_length n left.operand right.operand left.long right.long left.tested_long right.tested_long) h)
     (parallel_logical_grows is_or dest left right begun a b (f refl))))
 
@@ -483,7 +483,7 @@ word_put_grows k O.Nothing word d s = absurd s
 arm_in : {on : Basis} (o : Option ℕ) (k ke : Bool) (dest : Out) (n : ℕ) (code : Code) (d : Draft) → IsCode on n ke code → (k ≡ true → ke ≡ true) → Stands k dest →
     GrowsOn on d (if not (is_none o) then 1 else n + 1) (Stands k) (elim o as (λ _. Made Out) [ Some word ↦ word_put dest word d | None ↦ then_make (code d) (λ v after. put_value dest v after) ])
 arm_in (Some w) k ke dest n code d c f s = word_put_grows k dest w d s
-arm_in None k ke dest n code d c f s = bind (Stands ke) (Stands k) d n 1 _ _ (c d) (λ v after g. plainly (put_value_grows k ke dest v after s g f))
+arm_in None k ke dest n code d c f s = bind (Stands ke) (Stands k) d n 1 _ _ (c d) (λ v after g. plainly (put_value_grows _ k ke dest v after s g f))
 
 pub arm_grows : {on : Basis} (k ke : Bool) (e : TExpr) (n : ℕ) (code : Code) → (k ≡ true → ke ≡ true) → IsCode on n ke code → IsArm on (arm_length k n e) k (arm_by code e)
 unfolding arm_by arm_length has_word word_for
@@ -512,7 +512,7 @@ parallel_choice_grows : {on : Basis} (dest : Out) (test : Code) (first second : 
     GrowsOn on d ((i + (n + m)) + 7) InField (parallel_choice_by dest test first second d)
 unfolding parallel_choice_by
 parallel_choice_grows dest test first second i n m d s c a b =
-    in_field_grows _ d _ dest _ s (λ f. sized InField d _ _ _ (sum i n m) (bind Anything InField d 0 _ _ _ (plainly (entry_grows _ _ _ d)) (λ saved begun _.
+    in_field_grows _ d _ dest _ s (λ f. sized InField d _ _ _ (sum i n m) (bind Anything InField d 0 _ _ _ (plainly (entry_grows _ _ _ _ d)) (λ saved begun _.
     bind InField InField begun i _ _ _ (c begun) (λ v next sv. bind (λ (x : Field). Unit {0}) InField next 3 _ _ _ (limited_grows saved v next sv) (λ condition third _.
     bind InField InField third n _ _ _ (a dest third s) (λ _ fourth _. bind InField InField fourth (3 + m) 1 _ _
     (behind InField fourth _ 3 m _ (turned_over_more saved condition fourth) (b dest _ s)) (λ _ last _. makes InField dest last _ 1 s (and_instr _ last last 0 (as_it_was last)))))))))
@@ -532,7 +532,7 @@ pub choice_grows : {on : Basis} (ty : ValueType) (bits : ℕ) (kt : Bool) (test 
     GrowsOn on d ((i + (n + m)) + choice_length kt) (Stands (is_none ty.shape)) (choice_by ty bits kt test first second n m d)
 unfolding choice_by
 choice_grows ty bits kt test first second i n m d f c a b =
-    sized _ d _ _ _ (nothing_more _) (bind (Stands (is_none ty.shape)) _ d 0 _ _ _ (plainly (fresh_grows ty.shape bits d)) (λ dest after s. choice_rest (is_none ty.shape) kt dest test first second i n m after f s c a b))
+    sized _ d _ _ _ (nothing_more _) (bind (Stands (is_none ty.shape)) _ d 0 _ _ _ (plainly (fresh_grows _ ty.shape bits d)) (λ dest after s. choice_rest (is_none ty.shape) kt dest test first second i n m after f s c a b))
 
 -- casts, unary operators, coordinates
 casts_more : (elems : List Elem) (r : ℕ) (d : Draft) → Extended d (length elems) (casts_put elems r d)
@@ -561,14 +561,14 @@ cast_by_grows {on} set bits elem test own whole i n m d a b c = by (elem.bits ==
         (if one then then_make (a_field set bits d) (λ dest begun. truth_put dest test begun)
         else (if less then then_make (a_field set bits d) (λ dest begun. extended elem.signed dest own begun) else whole d))
     by true less =
-        sized InField d _ _ _ (nothing_more _) (bind (λ (f : Field). f.len ≡ bits) InField d 0 _ _ _ (plainly (field_grows set bits d)) (λ dest begun h.
+        sized InField d _ _ _ (nothing_more _) (bind (λ (f : Field). f.len ≡ bits) InField d 0 _ _ _ (plainly (field_grows _ set bits d)) (λ dest begun h.
         sized InField begun _ _ _ (ap (λ (k : ℕ). i + test_put_length k) h) (truth_put_grows dest test i begun a)))
-    by false true = sized InField d _ _ _ (nothing_more _) (bind Anything InField d 0 _ _ _ (plainly (entry_grows _ _ _ d)) (λ dest begun _. extended_grows elem.signed dest own n begun b))
+    by false true = sized InField d _ _ _ (nothing_more _) (bind Anything InField d 0 _ _ _ (plainly (entry_grows _ _ _ _ d)) (λ dest begun _. extended_grows elem.signed dest own n begun b))
     by false false = c d
 
 pub register_cast_grows : {on : Basis} (elem : Elem) (code : Code) (n : ℕ) (d : Draft) → IsCode on n true code → GrowsOn on d (n + conversion_length true elem) InRegister (register_cast_by elem code d)
 unfolding register_cast_by
-register_cast_grows elem code n d c = bind InRegister InRegister d n _ _ _ (c d) (λ v after s. plainly (register_in_place_grows v elem after s))
+register_cast_grows elem code n d c = bind InRegister InRegister d n _ _ _ (c d) (λ v after s. plainly (register_in_place_grows _ v elem after s))
 
 plus_length : (l : Layout) (bits : ℕ) (op : UnaryOp) (k : Bool) (n : ℕ) → is_plus op ≡ true → n ≡ n + unary_length l bits op k
 unfolding is_plus unary_length
@@ -582,7 +582,7 @@ unary_rest : {on : Basis} (b : Bool) (l : Layout) (ty : ValueType) (bits : ℕ) 
 unary_rest true l ty bits op k code operand n m d h e c o = sized _ d _ _ _ (plus_length l bits op k n h) (c d)
 unary_rest false l ty bits op k code operand n m d h e c o =
     sized _ d _ _ _ (nothing_more _) (bind (IsAt k bits) _ d 0 _ _ _ (fresh_as k ty.shape bits d e) (λ dest between s.
-    bind (Stands k) _ between m _ _ _ (o between) (λ v after t. plainly (negated_grows l bits op k dest v after h s t))))
+    bind (Stands k) _ between m _ _ _ (o between) (λ v after t. plainly (negated_grows _ l bits op k dest v after h s t))))
 
 -- the operand of `+` is the value, and that of another operator may stand where it is
 pub unary_grows : {on : Basis} (plus : Bool) (l : Layout) (ty : ValueType) (bits : ℕ) (op : UnaryOp) (k : Bool) (code operand : Code) (n m : ℕ) (d : Draft) → is_plus op ≡ plus → is_none ty.shape ≡ k → IsCode on n k code → IsCode on m k operand →
@@ -593,8 +593,8 @@ unary_grows plus l ty bits op k code operand n m d is h c o =
 
 pub coordinate_grows : {on : Basis} (shape : Option ℕ) (bits axis : ℕ) (d : Draft) → GrowsOn on d 1 InField (coordinate_in shape bits axis d)
 unfolding coordinate_in
-coordinate_grows shape bits axis d = bind Anything InField d 0 1 _ _ (plainly (entry_grows _ _ _ d)) (λ f after _. makes InField (O.Field f) after _ 1 refl (and_instr _ after after 0 (as_it_was after)))
+coordinate_grows shape bits axis d = bind Anything InField d 0 1 _ _ (plainly (entry_grows _ _ _ _ d)) (λ f after _. makes InField (O.Field f) after _ 1 refl (and_instr _ after after 0 (as_it_was after)))
 
 pub byte_grows : {on : Basis} (d : Draft) → GrowsOn on d 1 InRegister (byte_in d)
 unfolding byte_in
-byte_grows d = bind Anything InRegister d 0 1 _ _ (plainly (register_grows d)) (λ r after _. makes InRegister (O.Scalar r) after _ 1 refl (and_instr _ after after 0 (as_it_was after)))
+byte_grows d = bind Anything InRegister d 0 1 _ _ (plainly (register_grows _ d)) (λ r after _. makes InRegister (O.Scalar r) after _ 1 refl (and_instr _ after after 0 (as_it_was after)))

@@ -24,32 +24,32 @@ use Rattle.lower_stmt.specs.Frames.{has_result}
 use Rattle.lower_stmt.specs.Lengths.{body_length_of, statement_length_of}
 use Rattle.lower_stmt.specs.Programs.{begun, blank, body_frame, outcome_of, own_fields_of, own_result_of, unit_of, units_of}
 use Rattle.lower_stmt.specs.Statements.{ends_in_return, statement_of}
-use Rattle.code_lengths.specs.Growth.{Advanced, Extended, Grows, Leads, Stands, Anything}
+use Rattle.code_lengths.specs.Growth.{Advanced, Extended, Grows, GrowsOr, Leads, Stands, Anything}
 use Rattle.code_lengths.specs.Lowerable.{GivesValue, InField, InRegister}
 use Rattle.code_lengths.specs.NamingStatements.{behind}
-use Rattle.code_lengths.specs.Ready.{Arrives, Declares, HasCode, HasDeclared, HasPlainParameters, HasStatementCode, HaveCode, IsCodable, IsPlace, IsReady, NumbersVariables}
+use Rattle.code_lengths.specs.Ready.{Arrives, Declares, HasCode, HasDeclared, HasPlainParameters, HasStatementCode, HaveCode, IsCodable, IsPlace, IsReadyOr, NumbersVariables}
 use Rattle.code_lengths.specs.Shaped.{HasShape}
 
--- The code of an expression that has some, in a unit that is ready for it, however many bits of it are
--- wanted: its value, which stands in a register exactly where it is kept there; the same as an operand,
+-- The code of an expression that has some, in a unit that is ready for it, or where this is so in one that lacks
+-- fields, however many bits of it are wanted: its value, which stands in a register exactly where it is kept there; the same as an operand,
 -- copied or where it stands; the values of a list; what locates a target; its effect, where the value is
 -- not used; its test; and its value put in a register, if it stands in one, or in a field of any length,
 -- if it has a shape.
-pub record ExpressionLengths (t : Typed) (i : Instance) (l : Layout) : Type 0 where
-  pub value : (bits n : ℕ) (e : TExpr) (d : Draft) → HasCode t i n e → IsReady t i l n d → Grows d (length_of t l bits e) (Arrives t e) (value_of t l bits e d)
-  pub operand : (bits n : ℕ) (quiet : Bool) (e : TExpr) (d : Draft) → HasCode t i n e → IsReady t i l n d →
-      Grows d (operand_length l bits (length_of t l bits e) quiet e) (Arrives t e) (operand_by t l bits (value_of t l bits e) quiet e d)
-  pub list : (own quiet : Bool) (n : ℕ) (k : Count) (row : Row_of-TExpr k) (d : Draft) → HaveCode t i n row → IsReady t i l n d →
-      Grows d (lengths_of t l own quiet row) (λ (given : List Out). AllZip (Arrives t) (items-the_row-TExpr k row) given) (values_of t l own quiet row [] d)
-  pub spot : (n : ℕ) (e : TExpr) (d : Draft) → IsPlace t i n e → IsReady t i l n d → Grows d (spot_length_of t l e) (λ (s : Spot). Anything s) (spot_of t l e d)
-  pub effect : (n : ℕ) (e : TExpr) (d : Draft) → HasCode t i n e → IsReady t i l n d → Grows d (effect_length_of t l e) (λ (v : Out). Anything v) (effect_of t l e d)
-  pub test : (n : ℕ) (e : TExpr) (d : Draft) → HasCode t i n e → InField t e → IsReady t i l n d → Grows d (tested_length t l e) (λ (u : Unit {0}). Anything u) (tested t l e d)
-  pub put_register : (r n : ℕ) (e : TExpr) (d : Draft) → HasCode t i n e → InRegister t e → IsReady t i l n d → Grows d (put_length t l true 32 e) (Stands true) (put_to t l (O.Scalar r) e d)
-  pub put_field : (f : Field) (n : ℕ) (e : TExpr) (d : Draft) → HasCode t i n e → GivesValue t e → HasShape (type_of e) → IsReady t i l n d →
-      Grows d (put_length t l false f.len e) (Stands false) (put_to t l (O.Field f) e d)
+pub record ExpressionLengths (lacks : Type 0) (t : Typed) (i : Instance) (l : Layout) : Type 0 where
+  pub value : (bits n : ℕ) (e : TExpr) (d : Draft) → HasCode t i n e → IsReadyOr lacks t i l n d → GrowsOr lacks d (length_of t l bits e) (Arrives t e) (value_of t l bits e d)
+  pub operand : (bits n : ℕ) (quiet : Bool) (e : TExpr) (d : Draft) → HasCode t i n e → IsReadyOr lacks t i l n d →
+      GrowsOr lacks d (operand_length l bits (length_of t l bits e) quiet e) (Arrives t e) (operand_by t l bits (value_of t l bits e) quiet e d)
+  pub list : (own quiet : Bool) (n : ℕ) (k : Count) (row : Row_of-TExpr k) (d : Draft) → HaveCode t i n row → IsReadyOr lacks t i l n d →
+      GrowsOr lacks d (lengths_of t l own quiet row) (λ (given : List Out). AllZip (Arrives t) (items-the_row-TExpr k row) given) (values_of t l own quiet row [] d)
+  pub spot : (n : ℕ) (e : TExpr) (d : Draft) → IsPlace t i n e → IsReadyOr lacks t i l n d → GrowsOr lacks d (spot_length_of t l e) (λ (s : Spot). Anything s) (spot_of t l e d)
+  pub effect : (n : ℕ) (e : TExpr) (d : Draft) → HasCode t i n e → IsReadyOr lacks t i l n d → GrowsOr lacks d (effect_length_of t l e) (λ (v : Out). Anything v) (effect_of t l e d)
+  pub test : (n : ℕ) (e : TExpr) (d : Draft) → HasCode t i n e → InField t e → IsReadyOr lacks t i l n d → GrowsOr lacks d (tested_length t l e) (λ (u : Unit {0}). Anything u) (tested t l e d)
+  pub put_register : (r n : ℕ) (e : TExpr) (d : Draft) → HasCode t i n e → InRegister t e → IsReadyOr lacks t i l n d → GrowsOr lacks d (put_length t l true 32 e) (Stands true) (put_to t l (O.Scalar r) e d)
+  pub put_field : (f : Field) (n : ℕ) (e : TExpr) (d : Draft) → HasCode t i n e → GivesValue t e → HasShape (type_of e) → IsReadyOr lacks t i l n d →
+      GrowsOr lacks d (put_length t l false f.len e) (Stands false) (put_to t l (O.Field f) e d)
 
 abbrev pub ExpressionsAreAsLongAsDescribed : Type 0
-ExpressionsAreAsLongAsDescribed = (t : Typed) (i : Instance) (l : Layout) → ExpressionLengths t i l
+ExpressionsAreAsLongAsDescribed = (t : Typed) (i : Instance) (l : Layout) → ExpressionLengths ⊥ t i l
 
 -- a statement stands among as many saved contexts as its frame says
 pub record StandsAmong (f : Frame) (contexts : List Field) : Type 0 where

@@ -25,10 +25,14 @@ with_homes later d = record d { homes = d.homes ++ later }
 abbrev pub Advanced : Draft → ℕ → Draft → Type 0
 Advanced d n e = (later : List ℕ) × Extended (with_homes later d) n e
 
--- there is code, of so many instructions, behind this draft, and its answer passes
-unfoldable pub Grows : {A : Type 0} → Draft → ℕ → (A → Type 0) → Made A → Type 0
-Grows d n P (Makes x e) = P x × Extended d n e
-Grows d n P Fails = ⊥
+-- the code behind this draft is of so many instructions, and its answer passes; where there is none this is so
+unfoldable pub GrowsOr : {A : Type 0} → Type 0 → Draft → ℕ → (A → Type 0) → Made A → Type 0
+GrowsOr lacks d n P (Makes x e) = P x × Extended d n e
+GrowsOr lacks d n P Fails = lacks
+
+-- there is such code
+abbrev pub Grows : {A : Type 0} → Draft → ℕ → (A → Type 0) → Made A → Type 0
+Grows d n P made = GrowsOr ⊥ d n P made
 
 -- the same of a statement: what passes is said of its answer and of the draft behind it
 unfoldable pub Leads : {A : Type 0} → Draft → ℕ → (A → Draft → Type 0) → Made A → Type 0

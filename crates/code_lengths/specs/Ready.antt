@@ -10,7 +10,7 @@ use Rattle.cstar_tree.specs.declared.typed.VarInfo.{VarInfo}
 use Rattle.cstar_tree.specs.declared.typed.Variable.{Variable}
 use Rattle.lower_base.specs.declared.emit.Out.{Out}
 use Rattle.lower_base.specs.declared.emit.Out.TheVariants as O
-use Rattle.lower_base.specs.Drafts.{Draft, IsMade}
+use Rattle.lower_base.specs.Drafts.{Draft, Fails, Made, Makes}
 use Rattle.lower_base.specs.Layouts.{Layout, elements_of, entries_of, field_of, nothing_numbered, numbered, own_field}
 use Rattle.lower_expr.specs.Steps.{is_kept}
 use Rattle.code_lengths.specs.Growth.{Stands}
@@ -22,14 +22,28 @@ use Rattle.code_lengths.specs.NamingStatements.{StandFrom, StatementNamesVariabl
 use Rattle.code_lengths.specs.Shaped.{IsShaped, IsTarget}
 use Rattle.code_lengths.specs.ShapedStatements.{IsShapedStatement}
 
+-- it is made, or this is so
+unfoldable pub IsMadeOr : {A : Type 0} → Type 0 → Made A → Type 0
+IsMadeOr lacks (Makes x d) = Unit {0}
+IsMadeOr lacks Fails = lacks
+
 -- Where so many variables of an instance's blocks are declared, each parallel variable has as many fields
--- as it has elements, the parallel result has one, and each instance has its registers.
-pub record IsReady (t : Typed) (i : Instance) (l : Layout) (n : ℕ) (d : Draft) : Type 0 where
+-- as it has elements, the parallel result has one, or this is so where they are not there, and each instance has its
+-- registers.
+pub record IsReadyOr (lacks : Type 0) (t : Typed) (i : Instance) (l : Layout) (n : ℕ) (d : Draft) : Type 0 where
   pub elements : (v : Variable) (info : VarInfo) → variable_named t i v ≡ Some info → IsDeclared n v → is_none info.shape ≡ false → elements_of t l v ≡ entries_of info
   pub fields : (v : Variable) (info : VarInfo) (element : ℕ) →
-      variable_named t i v ≡ Some info → IsDeclared n v → is_none info.shape ≡ false → element < entries_of info → IsMade (field_of t l v element d)
-  pub result : (info : VarInfo) → i.result ≡ Some info → is_none info.shape ≡ false → IsMade (own_field l.outcome d)
+      variable_named t i v ≡ Some info → IsDeclared n v → is_none info.shape ≡ false → element < entries_of info → IsMadeOr lacks (field_of t l v element d)
+  pub result : (info : VarInfo) → i.result ≡ Some info → is_none info.shape ≡ false → IsMadeOr lacks (own_field l.outcome d)
   pub bases : length l.bases ≡ length t.instances.items
+
+-- they are all there
+abbrev pub IsReady : Typed → Instance → Layout → ℕ → Draft → Type 0
+IsReady t i l n d = IsReadyOr ⊥ t i l n d
+
+-- some may be missing: then there may be no code
+abbrev pub IsReadyButForFields : Typed → Instance → Layout → ℕ → Draft → Type 0
+IsReadyButForFields t i l n d = IsReadyOr (Unit {0}) t i l n d
 
 -- how many of these variables are parallel
 abbrev pub homes_of : List VarInfo → ℕ

@@ -1,6 +1,6 @@
 -- Assignments to parallel variables and steps of them follow.
-use Rattle.std.proofs.Common.{◌≡◌, ◌∙◌, ℕ, ◌+◌, ◌<◌, ◌≤◌, ◌%◌, ◌^◌, ◌==◌, ◌&&◌, ◌||◌, Bool, true, false, not, List, length, Option, Some, None, refl, sym, ap, subst, arith, inl, inr, if◌then◌else◌, lit<}
-use Rattle.std.specs.Prelude.{IfSome, is_none}
+use Rattle.std.proofs.Common.{◌⊎◌, ◌≡◌, ◌∙◌, ℕ, ◌+◌, ◌<◌, ◌≤◌, ◌%◌, ◌^◌, ◌==◌, ◌&&◌, ◌||◌, Bool, true, false, not, length, Option, Some, None, refl, sym, ap, subst, arith, inl, inr, if◌then◌else◌, lit<}
+use Rattle.std.specs.Prelude.{is_none}
 use Rattle.std.proofs.lemmas.Bool.{eq-eqb}
 use Rattle.std.specs.Int.{from_bool}
 use Rattle.std.proofs.Math.Nat.{mod-eq_of_lt, pow-le-pow_right}
@@ -9,7 +9,8 @@ use Rattle.cstar_base.specs.declared.elem.Elem.{Elem}
 use Rattle.cstar_base.specs.declared.operators.Op.{Op}
 use Rattle.cstar_base.specs.declared.operators.Op.TheVariants as P
 use Rattle.cstar_base.specs.declared.operators.Place.{Place}
-use Rattle.cstar_base.specs.Operators.{outcome}
+use Rattle.cstar_base.specs.declared.faults.RunFault.TheVariants.{DivZero}
+use Rattle.cstar_base.specs.Operators.{divides, outcome}
 use Rattle.cstar_tree.specs.declared.syntax.AssignOp.{AssignOp}
 use Rattle.cstar_tree.specs.declared.syntax.AssignOp.TheVariants as A
 use Rattle.cstar_tree.specs.declared.syntax.StepOp.{StepOp}
@@ -22,12 +23,10 @@ use Rattle.cstar_tree.specs.declared.typed.VarInfo.{VarInfo}
 use Rattle.cstar_tree.specs.declared.typed.Variable.{Variable}
 use Rattle.cstar_tree.specs.declared.typed.Variable.TheVariants as V
 use Rattle.cstar_tree.specs.Typed.{type_of}
-use Rattle.code_lengths.specs.Growth.{Extended}
 use Rattle.code_lengths.specs.Lowerable.{IsLowerable}
 use Rattle.code_lengths.specs.Naming.{NamesVariables}
-use Rattle.code_lengths.specs.Ready.{IsReady}
+use Rattle.code_lengths.specs.Ready.{IsReadyButForFields}
 use Rattle.code_lengths.specs.Shaped.{IsShaped}
-use Rattle.code_lengths.proofs.Drafting.{extended}
 use Rattle.lower_base.specs.declared.emit.Out.{Out}
 use Rattle.lower_base.specs.declared.emit.Out.TheVariants as O
 use Rattle.lower_base.specs.Drafts.{Draft, Made, Makes, an_entry, first_bits, then_make, with_instr}
@@ -47,28 +46,30 @@ use Rattle.paris_code.specs.declared.program.Owner.TheVariants as W
 use Rattle.paris_code.specs.Code.{CodeState}
 use Rattle.paris_code.specs.Memory.{processors}
 use Rattle.paris_code.specs.Writes.{written}
-use Rattle.source_meaning.specs.Expressions.{evaluated}
 use Rattle.source_meaning.specs.Reductions.{promoted, updated}
-use Rattle.source_meaning.specs.State.{Gives, State, with_positions}
-use Rattle.source_meaning.specs.Targets.{step_op}
-use Rattle.source_meaning.specs.Values.{Parallel, Scope, Value}
+use Rattle.source_meaning.specs.State as Source
+use Rattle.source_meaning.specs.State.{Gives, Outcome, State, with_positions}
+use Rattle.source_meaning.specs.Targets.{OfElement, assigned, step_op}
+use Rattle.source_meaning.specs.Values.{Parallel, Value}
 use Rattle.source_meaning.proofs.ConstantLaws.{Boxed}
 use Rattle.cstar_base.proofs.NumberLaws.{kind_bits}
 use Rattle.code_follows.proofs.Following.{HasRegisters, Sim, held}
+use Rattle.code_follows.proofs.Growing.{Extended, extended}
 use Rattle.code_follows.proofs.Settings.{At, Setting, Within, and_one, layout, onto}
 use Rattle.fields_follow.specs.Fragment.{HasOperation, IsOperand, IsOperandOrTruth, IsOperation, IsTarget, IsUpdate, IsWide}
 use Rattle.fields_follow.specs.Fields.{IsElement, file_number}
-use Rattle.fields_follow.proofs.Deciding.{truth_bit, truth_last, truth_means}
-use Rattle.fields_follow.proofs.Forms.{HasItsCode, divisor_never_zero, field_is, operand_shape}
+use Rattle.fields_follow.proofs.Deciding.{truth_bit, truth_last}
+use Rattle.fields_follow.proofs.Dividing.{zero_at, zero_there}
+use Rattle.fields_follow.proofs.Forms.{HasItsCode, field_is, operand_shape}
 use Rattle.fields_follow.proofs.Lengths.{held_first, modular_keeps}
-use Rattle.fields_follow.proofs.Instructions.{Puts, SameExtents, extents, puts_operate_constant, shapes, word_in}
-use Rattle.fields_follow.proofs.Meaning.{DividesByNoZero, promoted_means, value_in, word_at}
+use Rattle.fields_follow.proofs.Instructions.{Puts, extents, puts_operate_constant, shapes, word_in}
+use Rattle.fields_follow.proofs.Meaning.{value_in, word_at}
+use Rattle.fields_follow.proofs.Outcomes.{Ended, meant, outcome_follows}
 use Rattle.fields_follow.proofs.Leaving.{Leaves, PassesTests, UpdateLeaves}
 use Rattle.fields_follow.proofs.Passing.{After, Passes, after_same, code_longer, made_after, passes_all}
 use Rattle.fields_follow.proofs.PassingTests.{tests_passed}
 use Rattle.fields_follow.proofs.Places.{HoldsTheFields, IsFileField, PlacesFields}
-use Rattle.fields_follow.proofs.Pure.{are_grids, pure_means}
-use Rattle.fields_follow.proofs.Updates.{AssignsByNoZero, IsFileTarget, assign_means, file_target, promoted_wide, step_means, updated_is}
+use Rattle.fields_follow.proofs.Updates.{IsFileTarget, assign_ends, assign_means, assigned_divides, assigned_is, divides_as, divides_never, file_target, promoted_wide, step_means, updated_is}
 use Rattle.fields_follow.proofs.Sizes.{operand_small}
 use Rattle.fields_follow.proofs.Values.{and_entry, next_field, one_more, taken, variable_has, with_entry}
 use Rattle.fields_follow.proofs.Writing.{TakesBehind, entry_and_below, entry_ends, few, file_sim, instr_takes, own_stays}
@@ -76,7 +77,7 @@ use Rattle.fields_follow.proofs.Effects.{IsEntryFor, in_place_last, put_last}
 use Rattle.fields_follow.proofs.Expressions.{operand_at}
 use Rattle.code_follows.specs.Fragment.{ScalarsAmong}
 
-module _ (g : Setting) (has : HasRegisters g) (alive : Variable → Type 0) (n : ℕ) (ready : (d : Draft) → IsReady g.typed g.instance (layout g) n d) (places : PlacesFields g) (fields : HoldsTheFields g) where
+module _ (g : Setting) (has : HasRegisters g) (alive : Variable → Type 0) (n : ℕ) (ready : (d : Draft) → IsReadyButForFields g.typed g.instance (layout g) n d) (places : PlacesFields g) (fields : HoldsTheFields g) where
   -- What comes last writes the variable where it is active: with the entry for it before, the code leaves a state that
   -- has what the source stores.
   module _ (set k : ℕ) (info : VarInfo) (is : IsElement g.typed k info set 0) (d : Draft) (s : CodeState) (st : State) where
@@ -170,217 +171,239 @@ module _ (g : Setting) (has : HasRegisters g) (alive : Variable → Type 0) (n :
       by None h = refl
       by (Some x) h = ap (λ (b : Bool). if b then Some mine else None) (within x (h.2, h.3))
 
-  module _ (scope : Scope) (same_extents : SameExtents g scope) where
-    operand_means : (set : ℕ) (e : TExpr) (st : State) → set < length (shapes g) → IsOperand set e → HasItsCode g.typed g.instance alive n e → evaluated scope e fields.active st ≡ Gives (Parallel (λ q. value_in (extents g set) st e q)) st
-    operand_means set e st exists is c = by is ∙ ap (λ (xs : List ℕ). Gives (Parallel (λ q. value_in xs st e q)) st) (same_extents set exists)
-      where
-        by : IsOperand set e → evaluated scope e fields.active st ≡ Gives (Parallel (λ q. value_in (scope.extents set) st e q)) st
-        by (inl h) = pure_means scope fields.active g.typed g.instance n set e st h (are_grids g scope places same_extents set) c.code.names
-        by (inr h) = promoted_means scope fields.active set e st h
+  assigns : (ty : ValueType) (place : Place) (op : AssignOp) (p q : Boxed) (target value : TExpr) (set : ℕ) → ty ≡ type_of target → IsTarget set target → HasOperation op ty.elem value → IsOperandOrTruth set ty.elem.bits op value → NamesVariables g.typed g.instance n target → HasItsCode g.typed g.instance alive n value
+      → (d : Draft) (s : CodeState) (st : State) → At g s (length d.code) → Sim g alive st s
+      → UpdateLeaves g alive fields (T.Assign' ty place op p target q value) d s st
+  unfolding effect_of assignment_effect variable_operated
+  assigns ty place op p q target value set same is_target operates is_value names c d s st here sim =
+      outcome_follows g s o (Parallel w) u (λ out e. Leaves g alive d e s u) (λ v t out e. Leaves g alive d e s t) (effect_of g.typed (layout g) (T.Assign' ty place op p target q value) d) (λ out e said. said)
+      (after_same g Q
+      (ap (λ (o : Option Own). elim o as (λ _. Made Out) [ Some own ↦ then_make (whole_of g.typed (layout g) target own d) (λ dest after. variable_assigned g.typed (layout g) op place target value dest after) | None ↦ value_of g.typed (layout g) ty.elem.bits (T.Assign' ty place op p target q value) d ]) (own_is set h.k op target value h.own (subst (λ (y : ValueType). HasOperation op y.elem value) same operates))
+      ∙ variable_is set h.k h.info h.is d s st target (λ dest after. variable_assigned g.typed (layout g) op place target value dest after) h.elem)
+      (by (assign_op_of op) refl (subst (λ (y : Elem). HasOperation op y value) is_elem operates) (subst (λ (y : Elem). IsOperandOrTruth set y.bits op value) is_elem is_value)))
+    where
+      h : IsFileTarget g.typed set target
+      h = file_target g.typed g.instance n set target is_target names
 
-    value_means : (set bits : ℕ) (op : AssignOp) (e : TExpr) (st : State) → set < length (shapes g) → IsOperandOrTruth set bits op e → HasItsCode g.typed g.instance alive n e → evaluated scope e fields.active st ≡ Gives (Parallel (λ q. value_in (extents g set) st e q)) st
-    value_means set bits op e st exists (inl is) c = operand_means set e st exists is c
-    value_means set bits op e st exists (inr is) c = truth_means g scope places same_extents alive n fields set bits e st is.1 c exists
+      is_elem : ty.elem ≡ h.info.elem
+      is_elem = ap (λ (y : ValueType). y.elem) same ∙ h.elem
 
-    by_no_zero : (set bits : ℕ) (op : AssignOp) (elem : Elem) (value : TExpr) (st : State) → HasOperation op elem value → IsOperandOrTruth set bits op value → AssignsByNoZero op (λ x. value_in (extents g set) st value x)
-    by_no_zero set bits op elem value st operates is = by (assign_op_of op) refl operates is
-      where
-        by : (o : Option Op) → assign_op_of op ≡ o → (elim o as (λ _. Type 0) [ None ↦ (type_of value).elem.bits ≡ elem.bits | Some o ↦ IsOperation o value × ((type_of value).elem.bits ≡ 32) × ((elem.bits == 1) ≡ false) × (operation_bits elem.bits o value ≡ elem.bits) ]) → IsOperandOrTruth set bits op value
-            → IfSome o (λ x. DividesByNoZero x (λ y. value_in (extents g set) st value y))
-        by None same known is = tt
-        by (Some x) same known (inl operand) = divisor_never_zero set x value (extents g set) st known.0 operand
-        by (Some x) same known (inr truth) = absurd (let none = truth.0 in cc)
+      bits : ℕ
+      bits = h.info.elem.bits
 
-    assigns : (ty : ValueType) (place : Place) (op : AssignOp) (p q : Boxed) (target value : TExpr) (set : ℕ) → ty ≡ type_of target → IsTarget set target → HasOperation op ty.elem value → IsOperandOrTruth set ty.elem.bits op value → NamesVariables g.typed g.instance n target → HasItsCode g.typed g.instance alive n value
-        → (d : Draft) (s : CodeState) (st : State) → At g s (length d.code) → Sim g alive st s
-        → UpdateLeaves g alive fields scope (T.Assign' ty place op p target q value) d s st
-    unfolding effect_of assignment_effect variable_operated
-    assigns ty place op p q target value set same is_target operates is_value names c d s st here sim = (
-      Parallel w,
-      (
-        u,
-        (
-          assign_means scope fields.active set ty place op p q target value h.k (λ x. value_in (extents g set) st value x) st (ap (λ (y : ValueType). y.shape) same ∙ h.shape) (by_no_zero set ty.elem.bits op ty.elem value st operates is_value) (h.means scope fields.active st) (value_means set ty.elem.bits op value st (places.exists h.k 0 set h.info h.is) is_value c),
-          (after_same g (λ out e. Leaves g alive d e s u)
-              (ap (λ (o : Option Own). elim o as (λ _. Made Out) [ Some own ↦ then_make (whole_of g.typed (layout g) target own d) (λ dest after. variable_assigned g.typed (layout g) op place target value dest after) | None ↦ value_of g.typed (layout g) ty.elem.bits (T.Assign' ty place op p target q value) d ]) (own_is set h.k op target value h.own (subst (λ (y : ValueType). HasOperation op y.elem value) same operates))
-              ∙ variable_is set h.k h.info h.is d s st target (λ dest after. variable_assigned g.typed (layout g) op place target value dest after) h.elem)
-              (by (assign_op_of op) refl (subst (λ (y : Elem). HasOperation op y value) is_elem operates) (subst (λ (y : Elem). IsOperandOrTruth set y.bits op value) is_elem is_value))),
-        ),
-      ),
-    )
-      where
-        h : IsFileTarget g.typed set target
-        h = file_target g.typed g.instance n set target is_target names
+      most : bits ≤ 32
+      most = (kind_bits h.info.elem.bits h.info.elem.signed h.info.elem.kind).1
 
-        is_elem : ty.elem ≡ h.info.elem
-        is_elem = ap (λ (y : ValueType). y.elem) same ∙ h.elem
+      old : ℕ → ℕ
+      old = λ x. st.parallel (V.File h.k) 0 x
 
-        bits : ℕ
-        bits = h.info.elem.bits
+      number : ℕ → ℕ
+      number = λ x. value_in (extents g set) st value x
 
-        most : bits ≤ 32
-        most = (kind_bits h.info.elem.bits h.info.elem.signed h.info.elem.kind).1
+      w : ℕ → ℕ
+      w = λ x. updated op ty.elem (type_of value).elem (old x) (number x)
 
-        old : ℕ → ℕ
-        old = λ x. st.parallel (V.File h.k) 0 x
+      u : State
+      u = with_positions (V.File h.k) 0 (fields.active set) w st
 
-        number : ℕ → ℕ
-        number = λ x. value_in (extents g set) st value x
+      d1 : Draft
+      d1 = with_entry set bits (W.File (file_number g.typed h.k 0)) d
 
-        w : ℕ → ℕ
-        w = λ x. updated op ty.elem (type_of value).elem (old x) (number x)
+      f : Field
+      f = next_field set bits d
 
-        u : State
-        u = with_positions (V.File h.k) 0 (fields.active set) w st
+      o : Outcome Value
+      o = meant g fields (T.Assign' ty place op p target q value) st
 
-        d1 : Draft
-        d1 = with_entry set bits (W.File (file_number g.typed h.k 0)) d
+      Q : Out → Draft → Type 0
+      Q out e = ((o ≡ Gives (Parallel w) u) × Leaves g alive d e s u) ⊎ Ended g s o
 
-        f : Field
-        f = next_field set bits d
+      -- the value is given in the source
+      IsGiven : Type 0
+      IsGiven = meant g fields value st ≡ Gives (Parallel number) st
 
-        code : Option Op → Made Out
-        code o = elim o as (λ _. Made Out) [ None ↦ put_to g.typed (layout g) (O.Field f) value d1 | Some x ↦ variable_operated g.typed (layout g) x place target value (O.Field f) d1 ]
+      shaped : ty.shape ≡ Some set
+      shaped = ap (λ (y : ValueType). y.shape) same ∙ h.shape
 
-        bit_below : (b : Bool) → from_bool b < 2 ^ bits
-        bit_below b = let least : 2 ^ 1 ≤ 2 ^ bits = pow-le-pow_right (lit< tt) (kind_bits h.info.elem.bits h.info.elem.signed h.info.elem.kind).0 in by b least
-          where
-            by : (b : Bool) → 2 ^ 1 ≤ 2 ^ bits → from_bool b < 2 ^ bits
-            by true least = omega (arith, least)
-            by false least = omega (arith, least)
+      stored_then : IsGiven → o ≡ assigned fields.scope fields.active place op ty (type_of value) (OfElement (V.File h.k) 0 set) (Parallel number) st
+      stored_then given = assign_means fields.scope fields.active set ty place op p q target value h.k number st (h.means fields.scope fields.active st) given
 
-        -- what is stored without an operator
-        plain_stored : assign_op_of op ≡ None → (type_of value).elem.bits ≡ bits → IsOperand set value → (x : ℕ) → x < processors (shapes g) set → w x ≡ word_at (extents g set) st value x % 2 ^ bits
-        plain_stored none long is_operand x below =
-            let small : number x < 2 ^ (type_of value).elem.bits = operand_small g alive n places fields set value st s sim is_operand c x below in
-            plainly op ty.elem (type_of value).elem (old x) (number x) none
-            ∙ sym (held_first (type_of value).elem (number x) bits small (omega (arith, long)) ∙ mod-eq_of_lt (subst (λ (b : ℕ). number x < 2 ^ b) long small))
+      plain_given : assign_op_of op ≡ None → IsGiven → o ≡ Gives (Parallel w) u
+      plain_given none given = stored_then given ∙ assigned_is fields.scope fields.active set h.k place op ty (type_of value) number st shaped (λ x. divides_never op (number x) none)
 
-        by : (o : Option Op) → assign_op_of op ≡ o → (elim o as (λ _. Type 0) [ None ↦ (type_of value).elem.bits ≡ bits | Some o ↦ IsOperation o value × ((type_of value).elem.bits ≡ 32) × ((bits == 1) ≡ false) × (operation_bits bits o value ≡ bits) ]) → IsOperandOrTruth set bits op value
-            → After g (λ out e. Leaves g alive d e s u) (code (assign_op_of op))
-        by None is known (inl is_operand) =
-            after_same g (λ out e. Leaves g alive d e s u) (ap code is)
-            (put_last g has alive n ready places fields set (length d.fields) bits value most is_operand c d1 s st here sim (λ out e. Leaves g alive d e s u)
-            (λ e2 i within passes puts. leaves_value set h.k h.info h.is d s st (λ x. word_at (extents g set) st value x) w (λ x below small. plain_stored is known is_operand x below) e2 i within passes puts))
-        by None is known (inr truth) =
-            let few : (x : ℕ) → number x < 2 ^ bits = λ x. subst (λ (m : ℕ). m < 2 ^ bits) (sym (truth_bit (extents g set) st set bits value x truth.1)) (bit_below (nonzero (number x))) in
-            after_same g (λ out e. Leaves g alive d e s u) (ap code is)
-            (truth_last g has alive n ready places fields set h.k (length d.fields) bits h.info h.is (kind_bits h.info.elem.bits h.info.elem.signed h.info.elem.kind).0 refl d1 s st here sim (entry_for set h.k h.info h.is d s st) (λ out e. Leaves g alive d e s u) value truth.1 c
-            (λ e2 f2 used within passes wanted last. leaves set h.k h.info h.is d s st number w (λ x below small. plainly op ty.elem (type_of value).elem (old x) (number x) is ∙ sym (mod-eq_of_lt (few x))) e2 f2 used within passes wanted last))
-        by (Some x) is known (inl is_operand) =
-            let signed : Bool = assigned_signed x (type_of target).elem (type_of value).elem in
-            let wide : IsWide set (type_of value) = (operand_shape set value is_operand, known.1) in
-            after_same g (λ out e. Leaves g alive d e s u) (ap code is)
-            (in_place_last g has alive n ready places fields set (length d.fields) h.k h.info x signed place value d1 s st h.is (entry_for set h.k h.info h.is d s st) known.0 known.3 is_operand c here sim (λ out e. Leaves g alive d e s u)
-            (λ e2 i within passes puts. leaves_value set h.k h.info h.is d s st (λ y. outcome x 32 (not signed) (held h.info.elem (old y)) (word_at (extents g set) st value y)) w
-            (λ y below small.
-            let is_word : word_at (extents g set) st value y ≡ number y = operand_at g has alive n ready places fields set value st s sim is_operand wide c y below in
-            let few : outcome x 32 (not (assigned_signed x h.info.elem (type_of value).elem)) (held h.info.elem (old y)) (number y) < 2 ^ 32 =
-            subst (λ (m : ℕ). outcome x 32 (not (assigned_signed x h.info.elem (type_of value).elem)) (held h.info.elem (old y)) m < 2 ^ 32) is_word (subst (λ (e : Elem). outcome x 32 (not (assigned_signed x e (type_of value).elem)) (held h.info.elem (old y)) (word_at (extents g set) st value y) < 2 ^ 32) h.elem small) in
-            ap (λ (e : Elem). updated op e (type_of value).elem (old y) (number y)) is_elem
-            ∙ updated_is op x h.info.elem (type_of value).elem (old y) (number y) is known.2 known.1 few
-            ∙ ap (λ (m : ℕ). outcome x 32 (not (assigned_signed x h.info.elem (type_of value).elem)) (held h.info.elem (old y)) m % 2 ^ bits) (sym is_word)
-            ∙ ap (λ (e : Elem). outcome x 32 (not (assigned_signed x e (type_of value).elem)) (held h.info.elem (old y)) (word_at (extents g set) st value y) % 2 ^ bits) (sym h.elem)) e2 i within passes puts))
-        by (Some x) is known (inr truth) = absurd (let none = truth.0 in cc)
+      -- with an operator, where that divides by no 0
+      WithOperator : Op → Type 0
+      WithOperator x = (assign_op_of op ≡ Some x) × ((IsOperation x value × ((type_of value).elem.bits ≡ 32) × ((bits == 1) ≡ false) × (operation_bits bits x value ≡ bits)) × IsOperand set value)
 
-    -- one more, or one less
-    abbrev stepping : StepOp → Op
-    stepping Sp.Increment = P.Add
-    stepping Sp.Decrement = P.Sub
+      by_zero : Option ℕ → Outcome Value
+      by_zero z = elim z as (λ _. Outcome Value) [ None ↦ Gives (Parallel w) u | Some y ↦ Source.Ends (Source.Fault DivZero place (Some y)) st ]
 
-    step_known : (op : StepOp) → relates (stepping op) ≡ false
-    unfolding relates
-    step_known Sp.Increment = refl
-    step_known Sp.Decrement = refl
+      divided_so : (x : Op) → WithOperator x → IsGiven → set < length (shapes g) → divides x ≡ true → o ≡ by_zero (zero_at g fields set (λ y. word_at (extents g set) st value y))
+      divided_so x (is, (known, is_operand)) given there divided =
+          stored_then given
+          ∙ assigned_divides fields.scope fields.active set h.k place op ty (type_of value) number st shaped (λ y. divides_as op x (number y) is ∙ ap (λ (c : Bool). c && number y == 0) divided)
+          ∙ ap by_zero (zero_there g fields set number (λ y. word_at (extents g set) st value y) there (λ y below. operand_at g has alive n ready places fields set value st s sim is_operand (operand_shape set value is_operand, known.1) c y below))
 
-    step_assigns : (op : StepOp) → assign_op_of (step_op op) ≡ Some (stepping op)
-    unfolding assign_op_of
-    step_assigns Sp.Increment = refl
-    step_assigns Sp.Decrement = refl
+      operator_given : (x : Op) → WithOperator x → IsGiven → set < length (shapes g) → (divides x ≡ true → zero_at g fields set (λ y. word_at (extents g set) st value y) ≡ None) → o ≡ Gives (Parallel w) u
+      operator_given x so given there never = by (divides x) refl
+        where
+          by : (b : Bool) → divides x ≡ b → o ≡ Gives (Parallel w) u
+          by true divided = divided_so x so given there divided ∙ ap by_zero (never divided)
+          by false plain = stored_then given ∙ assigned_is fields.scope fields.active set h.k place op ty (type_of value) number st shaped (λ y. divides_as op x (number y) so.0 ∙ ap (λ (c : Bool). c && number y == 0) plain)
 
-    step_operates : (op : StepOp) (signed : Bool) → step_operation op ≡ operation_of (stepping op) signed
-    unfolding step_operation operation_of
-    step_operates Sp.Increment signed = refl
-    step_operates Sp.Decrement signed = refl
+      value_ended : Ended g s (meant g fields value st) → Ended g s o
+      value_ended early = record {
+        early = early.early;
+        state = early.state;
+        is = assign_ends fields.scope fields.active set ty place op p q target value h.k early.early early.state st (h.means fields.scope fields.active st) early.is;
+        finishes = early.finishes;
+      }
 
-    step_modular : (op : StepOp) → is_modular (stepping op) ≡ true
-    unfolding is_modular
-    step_modular Sp.Increment = refl
-    step_modular Sp.Decrement = refl
+      code : Option Op → Made Out
+      code o = elim o as (λ _. Made Out) [ None ↦ put_to g.typed (layout g) (O.Field f) value d1 | Some x ↦ variable_operated g.typed (layout g) x place target value (O.Field f) d1 ]
 
-    stepped_is : (set k : ℕ) (target : TExpr) → own_of 1 target ≡ Some (record { shape = Some set; variable = V.File k }) → ((type_of target).elem.bits == 1) ≡ false → stepped_own target ≡ Some (record { shape = Some set; variable = V.File k })
-    stepped_is set k target own no_truth =
-        ap (λ (o : Option Own). elim o as (λ _. Option Own) [ Some own ↦ if is_none own.shape || not ((type_of target).elem.bits == 1) then Some own else None | None ↦ None ]) own
-        ∙ ap (λ (b : Bool). if not b then Some mine else None) no_truth
-      where
-        mine : Own
-        mine = record { shape = Some set; variable = V.File k }
+      bit_below : (b : Bool) → from_bool b < 2 ^ bits
+      bit_below b = let least : 2 ^ 1 ≤ 2 ^ bits = pow-le-pow_right (lit< tt) (kind_bits h.info.elem.bits h.info.elem.signed h.info.elem.kind).0 in by b least
+        where
+          by : (b : Bool) → 2 ^ 1 ≤ 2 ^ bits → from_bool b < 2 ^ bits
+          by true least = omega (arith, least)
+          by false least = omega (arith, least)
 
-    steps : (ty : ValueType) (op : StepOp) (order : StepOrder) (p : Boxed) (target : TExpr) (set : ℕ) → ty ≡ type_of target → IsTarget set target → (ty.elem.bits == 1) ≡ false → NamesVariables g.typed g.instance n target
-        → (d : Draft) (s : CodeState) (st : State) → At g s (length d.code) → Sim g alive st s
-        → UpdateLeaves g alive fields scope (T.Step' ty op order p target) d s st
-    unfolding effect_of step_effect variable_stepped word_in
-    steps ty op order p target set same is_target no_truth names d s st here sim = (
-      means.0,
-      (
-        u,
-        (
-          means.1,
-          (after_same g (λ out e. Leaves g alive d e s u)
-              (ap (λ (o : Option Own). elim o as (λ _. Made Out) [ Some own ↦ then_make (whole_of g.typed (layout g) target own d) (λ dest after. variable_stepped (layout g) (type_of target).elem op dest after) | None ↦ value_of g.typed (layout g) ty.elem.bits (T.Step' ty op order p target) d ]) (stepped_is set h.k target h.own (ap (λ (y : ValueType). y.elem.bits == 1) (sym same) ∙ no_truth))
-              ∙ variable_is set h.k h.info h.is d s st target (λ dest after. variable_stepped (layout g) (type_of target).elem op dest after) h.elem
-              ∙ ap (λ act. Makes (O.Field f) (with_instr (I.OperateConstant act f f (K.Imm 1)) d1)) (step_operates op signed))
-              (made_after g (λ out e. Leaves g alive d e s u) (O.Field f) (with_instr i d1) (λ within.
-              let file : IsFileField g h.k 0 f = entry_for set h.k h.info h.is d s st (with_instr i d1) 1 (and_one g i d1) within in
-              let numbers = variable_has g has alive n ready places fields set h.k h.info f s st h.is file refl refl sim in
-              leaves_value set h.k h.info h.is d s st (λ x. outcome (stepping op) 32 (not signed) (held elem (old x)) 1) w
-              (λ x below small. ap (λ (e : Elem). updated (step_op op) e (promoted e) (old x) 1) is_elem ∙ updated_is (step_op op) (stepping op) elem (promoted elem) (old x) 1 (step_assigns op) (ap (λ (e : Elem). e.bits == 1) (sym is_elem) ∙ no_truth) (promoted_wide elem) small)
-              d1 i within (passes_all g alive (length d1.fields) d1 s st (Unit {0}) here sim)
-              (puts_operate_constant g elem.bits set (stepping op) signed f f (K.Imm 1) s (λ q. held elem (old q)) (λ divided. refl) (modular_keeps (stepping op) signed elem.bits 1 (step_modular op) (kind_bits elem.bits elem.signed elem.kind).1) refl numbers.0 (omega arith))))),
-        ),
-      ),
-    )
-      where
-        h : IsFileTarget g.typed set target
-        h = file_target g.typed g.instance n set target is_target names
+      -- what is stored without an operator
+      plain_stored : assign_op_of op ≡ None → (type_of value).elem.bits ≡ bits → IsOperand set value → (x : ℕ) → x < processors (shapes g) set → w x ≡ word_at (extents g set) st value x % 2 ^ bits
+      plain_stored none long is_operand x below =
+          let small : number x < 2 ^ (type_of value).elem.bits = operand_small g alive n places fields set value st s sim is_operand c x below in
+          plainly op ty.elem (type_of value).elem (old x) (number x) none
+          ∙ sym (held_first (type_of value).elem (number x) bits small (omega (arith, long)) ∙ mod-eq_of_lt (subst (λ (b : ℕ). number x < 2 ^ b) long small))
 
-        elem : Elem
-        elem = h.info.elem
+      by : (o : Option Op) → assign_op_of op ≡ o → (elim o as (λ _. Type 0) [ None ↦ (type_of value).elem.bits ≡ bits | Some o ↦ IsOperation o value × ((type_of value).elem.bits ≡ 32) × ((bits == 1) ≡ false) × (operation_bits bits o value ≡ bits) ]) → IsOperandOrTruth set bits op value
+          → After g Q (code (assign_op_of op))
+      by None is known (inl is_operand) =
+          after_same g Q (ap code is)
+          (put_last g has alive n ready places fields set (length d.fields) bits value most is_operand c d1 s st here sim Q
+          (λ given e2 i within passes puts. inl (plain_given is given, leaves_value set h.k h.info h.is d s st (λ x. word_at (extents g set) st value x) w (λ x below small. plain_stored is known is_operand x below) e2 i within passes puts)) (λ early out e. inr (value_ended early)))
+      by None is known (inr truth) =
+          let few : (x : ℕ) → number x < 2 ^ bits = λ x. subst (λ (m : ℕ). m < 2 ^ bits) (sym (truth_bit (extents g set) st set bits value x truth.1)) (bit_below (nonzero (number x))) in
+          after_same g Q (ap code is)
+          (truth_last g has alive n ready places fields set h.k (length d.fields) bits h.info h.is (kind_bits h.info.elem.bits h.info.elem.signed h.info.elem.kind).0 refl d1 s st here sim (entry_for set h.k h.info h.is d s st) Q value truth.1 c
+          (λ given e2 f2 used within passes wanted last. inl (plain_given is given, leaves set h.k h.info h.is d s st number w (λ x below small. plainly op ty.elem (type_of value).elem (old x) (number x) is ∙ sym (mod-eq_of_lt (few x))) e2 f2 used within passes wanted last)) (λ early out e. inr (value_ended early)))
+      by (Some x) is known (inl is_operand) =
+          let signed : Bool = assigned_signed x (type_of target).elem (type_of value).elem in
+          let wide : IsWide set (type_of value) = (operand_shape set value is_operand, known.1) in
+          after_same g Q (ap code is)
+          (in_place_last g has alive n ready places fields set (length d.fields) h.k h.info x signed place value d1 s st h.is (entry_for set h.k h.info h.is d s st) known.0 known.3 is_operand c here sim Q
+          (λ given there never e2 i within passes puts. inl (
+            operator_given x (is, (known, is_operand)) given there never,
+            leaves_value set h.k h.info h.is d s st (λ y. outcome x 32 (not signed) (held h.info.elem (old y)) (word_at (extents g set) st value y)) w
+                (λ y below small.
+                let is_word : word_at (extents g set) st value y ≡ number y = operand_at g has alive n ready places fields set value st s sim is_operand wide c y below in
+                let few : outcome x 32 (not (assigned_signed x h.info.elem (type_of value).elem)) (held h.info.elem (old y)) (number y) < 2 ^ 32 =
+                subst (λ (m : ℕ). outcome x 32 (not (assigned_signed x h.info.elem (type_of value).elem)) (held h.info.elem (old y)) m < 2 ^ 32) is_word (subst (λ (e : Elem). outcome x 32 (not (assigned_signed x e (type_of value).elem)) (held h.info.elem (old y)) (word_at (extents g set) st value y) < 2 ^ 32) h.elem small) in
+                ap (λ (e : Elem). updated op e (type_of value).elem (old y) (number y)) is_elem
+                ∙ updated_is op x h.info.elem (type_of value).elem (old y) (number y) is known.2 known.1 few
+                ∙ ap (λ (m : ℕ). outcome x 32 (not (assigned_signed x h.info.elem (type_of value).elem)) (held h.info.elem (old y)) m % 2 ^ bits) (sym is_word)
+                ∙ ap (λ (e : Elem). outcome x 32 (not (assigned_signed x e (type_of value).elem)) (held h.info.elem (old y)) (word_at (extents g set) st value y) % 2 ^ bits) (sym h.elem)) e2 i within passes puts,
+          )) (λ early out e. inr (value_ended early))
+          (λ given there divided y none ends out e. inr (record { early = Source.Fault DivZero place (Some y); state = st; is = divided_so x (is, (known, is_operand)) given there divided ∙ ap by_zero none; finishes = ends })))
+      by (Some x) is known (inr truth) = absurd (let none = truth.0 in cc)
 
-        is_elem : ty.elem ≡ elem
-        is_elem = ap (λ (y : ValueType). y.elem) same ∙ h.elem
+  -- one more, or one less
+  abbrev stepping : StepOp → Op
+  stepping Sp.Increment = P.Add
+  stepping Sp.Decrement = P.Sub
 
-        old : ℕ → ℕ
-        old = λ x. st.parallel (V.File h.k) 0 x
+  step_known : (op : StepOp) → relates (stepping op) ≡ false
+  unfolding relates
+  step_known Sp.Increment = refl
+  step_known Sp.Decrement = refl
 
-        w : ℕ → ℕ
-        w = λ x. updated (step_op op) ty.elem (promoted ty.elem) (old x) 1
+  step_assigns : (op : StepOp) → assign_op_of (step_op op) ≡ Some (stepping op)
+  unfolding assign_op_of
+  step_assigns Sp.Increment = refl
+  step_assigns Sp.Decrement = refl
 
-        u : State
-        u = with_positions (V.File h.k) 0 (fields.active set) w st
+  step_operates : (op : StepOp) (signed : Bool) → step_operation op ≡ operation_of (stepping op) signed
+  unfolding step_operation operation_of
+  step_operates Sp.Increment signed = refl
+  step_operates Sp.Decrement signed = refl
 
-        d1 : Draft
-        d1 = with_entry set elem.bits (W.File (file_number g.typed h.k 0)) d
+  step_modular : (op : StepOp) → is_modular (stepping op) ≡ true
+  unfolding is_modular
+  step_modular Sp.Increment = refl
+  step_modular Sp.Decrement = refl
 
-        f : Field
-        f = next_field set elem.bits d
+  stepped_is : (set k : ℕ) (target : TExpr) → own_of 1 target ≡ Some (record { shape = Some set; variable = V.File k }) → ((type_of target).elem.bits == 1) ≡ false → stepped_own target ≡ Some (record { shape = Some set; variable = V.File k })
+  stepped_is set k target own no_truth =
+      ap (λ (o : Option Own). elim o as (λ _. Option Own) [ Some own ↦ if is_none own.shape || not ((type_of target).elem.bits == 1) then Some own else None | None ↦ None ]) own
+      ∙ ap (λ (b : Bool). if not b then Some mine else None) no_truth
+    where
+      mine : Own
+      mine = record { shape = Some set; variable = V.File k }
 
-        signed : Bool
-        signed = assigned_signed (stepping op) elem (promoted elem)
+  steps : (ty : ValueType) (op : StepOp) (order : StepOrder) (p : Boxed) (target : TExpr) (set : ℕ) → ty ≡ type_of target → IsTarget set target → (ty.elem.bits == 1) ≡ false → NamesVariables g.typed g.instance n target
+      → (d : Draft) (s : CodeState) (st : State) → At g s (length d.code) → Sim g alive st s
+      → UpdateLeaves g alive fields (T.Step' ty op order p target) d s st
+  unfolding effect_of step_effect variable_stepped word_in
+  steps ty op order p target set same is_target no_truth names d s st here sim =
+      outcome_follows g s (meant g fields (T.Step' ty op order p target) st) means.0 u (λ out e. Leaves g alive d e s u) (λ v t out e. Leaves g alive d e s t) (effect_of g.typed (layout g) (T.Step' ty op order p target) d) (λ out e said. said)
+      (after_same g Q
+      (ap (λ (o : Option Own). elim o as (λ _. Made Out) [ Some own ↦ then_make (whole_of g.typed (layout g) target own d) (λ dest after. variable_stepped (layout g) (type_of target).elem op dest after) | None ↦ value_of g.typed (layout g) ty.elem.bits (T.Step' ty op order p target) d ]) (stepped_is set h.k target h.own (ap (λ (y : ValueType). y.elem.bits == 1) (sym same) ∙ no_truth))
+      ∙ variable_is set h.k h.info h.is d s st target (λ dest after. variable_stepped (layout g) (type_of target).elem op dest after) h.elem
+      ∙ ap (λ act. Makes (O.Field f) (with_instr (I.OperateConstant act f f (K.Imm 1)) d1)) (step_operates op signed))
+      (made_after g Q (O.Field f) (with_instr i d1) (λ within.
+      let file : IsFileField g h.k 0 f = entry_for set h.k h.info h.is d s st (with_instr i d1) 1 (and_one g i d1) within in
+      let numbers = variable_has g has alive n ready places fields set h.k h.info f s st h.is file refl refl sim in
+      inl (
+        means.1,
+        leaves_value set h.k h.info h.is d s st (λ x. outcome (stepping op) 32 (not signed) (held elem (old x)) 1) w
+            (λ x below small. ap (λ (e : Elem). updated (step_op op) e (promoted e) (old x) 1) is_elem ∙ updated_is (step_op op) (stepping op) elem (promoted elem) (old x) 1 (step_assigns op) (ap (λ (e : Elem). e.bits == 1) (sym is_elem) ∙ no_truth) (promoted_wide elem) small)
+            d1 i within (passes_all g alive (length d1.fields) d1 s st (Unit {0}) here sim)
+            (puts_operate_constant g elem.bits set (stepping op) signed f f (K.Imm 1) s (λ q. held elem (old q)) (step_known op) (modular_keeps (stepping op) signed elem.bits 1 (step_modular op) (kind_bits elem.bits elem.signed elem.kind).1) refl numbers.0 (omega arith)),
+      ))))
+    where
+      h : IsFileTarget g.typed set target
+      h = file_target g.typed g.instance n set target is_target names
 
-        i : Instr
-        i = I.OperateConstant (operation_of (stepping op) signed) f f (K.Imm 1)
+      elem : Elem
+      elem = h.info.elem
 
-        means : (v : Value) × (evaluated scope (T.Step' ty op order p target) fields.active st ≡ Gives v u)
-        means = step_means scope fields.active set ty op order p target h.k st (ap (λ (y : ValueType). y.shape) same ∙ h.shape) (h.means scope fields.active st)
+      is_elem : ty.elem ≡ elem
+      is_elem = ap (λ (y : ValueType). y.elem) same ∙ h.elem
 
-    -- an update leaves what it leaves in the source
-    pub updates_leave : (e : TExpr) → IsUpdate e → HasItsCode g.typed g.instance alive n e → (d : Draft) (s : CodeState) (st : State) → At g s (length d.code) → Sim g alive st s → UpdateLeaves g alive fields scope e d s st
-    unfolding IsUpdate NamesVariables IsShaped IsLowerable ScalarsAmong
-    updates_leave (T.Assign' ty place op p target q value) is c =
-        assigns ty place op p q target value set_of is.1.0 is.1.1 is.1.2 is.1.3 c.code.names.0 (record { code = record { shaped = c.code.shaped.3; lowerable = c.code.lowerable.3; names = c.code.names.1 }; among = c.among.1 })
-      where
-        set_of : ℕ
-        set_of = is.0
-    updates_leave (T.Step' ty op order p target) is c = steps ty op order p target is.0 is.1.0 is.1.1 is.1.2 c.code.names
-    updates_leave _ is c = absurd is
+      old : ℕ → ℕ
+      old = λ x. st.parallel (V.File h.k) 0 x
+
+      w : ℕ → ℕ
+      w = λ x. updated (step_op op) ty.elem (promoted ty.elem) (old x) 1
+
+      u : State
+      u = with_positions (V.File h.k) 0 (fields.active set) w st
+
+      d1 : Draft
+      d1 = with_entry set elem.bits (W.File (file_number g.typed h.k 0)) d
+
+      f : Field
+      f = next_field set elem.bits d
+
+      signed : Bool
+      signed = assigned_signed (stepping op) elem (promoted elem)
+
+      i : Instr
+      i = I.OperateConstant (operation_of (stepping op) signed) f f (K.Imm 1)
+
+      means : (v : Value) × (meant g fields (T.Step' ty op order p target) st ≡ Gives v u)
+      means = step_means fields.scope fields.active set ty op order p target h.k st (ap (λ (y : ValueType). y.shape) same ∙ h.shape) (h.means fields.scope fields.active st)
+
+      Q : Out → Draft → Type 0
+      Q out e = ((meant g fields (T.Step' ty op order p target) st ≡ Gives means.0 u) × Leaves g alive d e s u) ⊎ Ended g s (meant g fields (T.Step' ty op order p target) st)
+
+  -- an update leaves what it leaves in the source
+  pub updates_leave : (e : TExpr) → IsUpdate e → HasItsCode g.typed g.instance alive n e → (d : Draft) (s : CodeState) (st : State) → At g s (length d.code) → Sim g alive st s → UpdateLeaves g alive fields e d s st
+  unfolding IsUpdate NamesVariables IsShaped IsLowerable ScalarsAmong
+  updates_leave (T.Assign' ty place op p target q value) is c =
+      assigns ty place op p q target value set_of is.1.0 is.1.1 is.1.2 is.1.3 c.code.names.0 (record { code = record { shaped = c.code.shaped.3; lowerable = c.code.lowerable.3; names = c.code.names.1 }; among = c.among.1 })
+    where
+      set_of : ℕ
+      set_of = is.0
+  updates_leave (T.Step' ty op order p target) is c = steps ty op order p target is.0 is.1.0 is.1.1 is.1.2 c.code.names
+  updates_leave _ is c = absurd is

@@ -3,17 +3,17 @@ use Rattle.std.proofs.Common.{ℕ, ◌+◌, ◌≡◌, ◌∙◌, inl, inr, true
 use Rattle.cstar_tree.specs.declared.typed.TExpr.{TExpr}
 use Rattle.cstar_tree.specs.declared.typed.Variable.{Variable}
 use Rattle.cstar_tree.specs.Typed.{type_of}
-use Rattle.code_lengths.specs.Ready.{IsReady}
-use Rattle.code_lengths.proofs.Drafting.{extended}
+use Rattle.code_lengths.specs.Ready.{IsReadyButForFields}
 use Rattle.lower_base.specs.declared.emit.Out.{Out}
 use Rattle.lower_base.specs.declared.emit.Out.TheVariants as O
-use Rattle.lower_base.specs.Drafts.{Draft, Fails, Made, Makes}
+use Rattle.lower_base.specs.Drafts.{Draft}
 use Rattle.lower_expr.specs.Effects.{computed_to, effect_of}
 use Rattle.paris_code.specs.Code.{CodeState}
 use Rattle.source_meaning.specs.Expressions.{evaluated}
-use Rattle.source_meaning.specs.State.{Gives, Outcome, State}
+use Rattle.source_meaning.specs.State.{State}
 use Rattle.source_meaning.specs.Values.{Active, Scalar, Scope, Value}
 use Rattle.code_follows.proofs.Following.{Follows, HasRegisters, IsKept, Ran, Sim}
+use Rattle.code_follows.proofs.Growing.{extended}
 use Rattle.code_follows.proofs.Parts.{BesideFollows}
 use Rattle.code_follows.proofs.Settings.{At, Begun, Reaches, Setting, Within, layout, onto}
 use Rattle.code_follows.proofs.Values.{Dest}
@@ -26,13 +26,15 @@ use Rattle.fields_follow.proofs.FoldingOnto.{onto_leaves}
 use Rattle.fields_follow.proofs.Onto.{LeavesScalars, scalars_stay}
 use Rattle.fields_follow.proofs.Forms.{HasItsCode}
 use Rattle.fields_follow.proofs.Knowing.{KnowsFields, StaysNamed, kept_open, lasts_within, sim_close, sim_open}
-use Rattle.fields_follow.proofs.Leaving.{Leaves, UpdateLeaves, fields_under, places_under, reaches_again, registers_under, under, within_under}
-use Rattle.fields_follow.proofs.Passing.{After, code_longer}
+use Rattle.fields_follow.proofs.Leaving.{Leaves, fields_under, places_under, reaches_again, registers_under, under}
+use Rattle.fields_follow.proofs.Ending.{follows_so}
+use Rattle.fields_follow.proofs.Passing.{code_longer}
+use Rattle.fields_follow.proofs.Places.{HoldsTheFields}
 use Rattle.fields_follow.proofs.Reducing.{GivesNumber, number_to}
 use Rattle.fields_follow.proofs.Reductions.{GivesRegister, OperandsStand, fold_type, folds_give}
 
 module _ (g : Setting) (scope : Scope) (active : Active) (known : KnowsFields g scope active) (has : HasRegisters g) where
-  module _ (alive : Variable → Type 0) (n : ℕ) (ready : (d : Draft) → IsReady g.typed g.instance (layout g) n d) (e : TExpr) (c : HasItsCode g.typed g.instance alive n e) (d : Draft) (s : CodeState) (st : State) (begun : Begun g d) (here : At g s (length d.code)) (sim : Sim g alive st s) where
+  module _ (alive : Variable → Type 0) (n : ℕ) (ready : (d : Draft) → IsReadyButForFields g.typed g.instance (layout g) n d) (e : TExpr) (c : HasItsCode g.typed g.instance alive n e) (d : Draft) (s : CodeState) (st : State) (begun : Begun g d) (here : At g s (length d.code)) (sim : Sim g alive st s) where
     -- what is kept of the memory lasts over code behind the draft
     kept_behind : (f : Draft) (t : CodeState) → Within g f → Reaches (under g active) s t → StaysNamed g (length d.code) (length d.fields) (length f.code) s.memory t.memory → known.kept t.memory
     kept_behind f t within go stays =
@@ -61,31 +63,22 @@ module _ (g : Setting) (scope : Scope) (active : Active) (known : KnowsFields g 
       keeps = λ r kept. l.writes.keeps r kept ∙ ap (λ (registers : List ℕ). slice_index registers r) l.passes.registers;
     }
 
-    -- an effect follows whose code leaves what the unit's code follows
-    leaving_follows : (R : Draft → Type 0) (v : Value) (u : State) → ((f : Draft) → Within g f → R f → Ran g alive d s u f) → evaluated scope e active st ≡ Gives v u → After (under g active) (λ out f. R f) (effect_of g.typed (layout g) e d)
-        → Follows g (λ v u out f. Ran g alive d s u f) s (evaluated scope e active st) (effect_of g.typed (layout g) e d)
-    unfolding After Follows
-    leaving_follows R v u ran means after = subst (λ (o : Outcome Value). Follows g (λ v u out f. Ran g alive d s u f) s o (effect_of g.typed (layout g) e d)) (sym means) (by (effect_of g.typed (layout g) e d) after)
-      where
-        by : (made : Made Out) → After (under g active) (λ out f. R f) made → Follows g (λ v u out f. Ran g alive d s u f) s (Gives v u) made
-        by (Makes out f) h = λ within. ran f within (h (within_under g active within))
-        by Fails h = tt
+    -- the fields of the unit, where these positions are active
+    abbrev there : HoldsTheFields (under g active)
+    there = fields_under g active scope known.same_extents
 
     -- the code of a pure parallel expression leaves its numbers in a field
-    operands_stand : OperandsStand (under g active) alive n
-    operands_stand bits set o most is wide code d0 s0 st0 at_o sim_o =
-        let there : Setting = under g active in
-        whole_after there (registers_under g active has) alive n ready (places_under g active known.places) (fields_under g active) bits set o true most is wide code d0 s0 st0 at_o sim_o
+    operands_stand : OperandsStand (under g active) alive there n
+    operands_stand bits set o most is wide code d0 s0 st0 at_o sim_o = whole_after (under g active) (registers_under g active has) alive n ready (places_under g active known.places) there bits set o true most is wide code d0 s0 st0 at_o sim_o
 
     -- an update, or a fold onto a variable
     effect_follows : IsParallelEffect e → Follows g (λ v u out f. Ran g alive d s u f) s (evaluated scope e active st) (effect_of g.typed (layout g) e d)
     effect_follows (inl is) =
-        let leaves : UpdateLeaves (under g active) alive (fields_under g active) scope e d s st =
-        updates_leave (under g active) (registers_under g active has) alive n ready (places_under g active known.places) (fields_under g active) scope known.same_extents e is c d s st here (sim_open g scope active known alive st s sim) in
-        leaving_follows (λ f. Leaves (under g active) alive d f s leaves.1.0) leaves.0 leaves.1.0 (λ f. leaves_ran f leaves.1.0) leaves.1.1.0 leaves.1.1.1
+        follows_so g scope active known (λ v u out f. Leaves (under g active) alive d f s u) (λ v u out f. Ran g alive d s u f) s (evaluated scope e active st) (effect_of g.typed (layout g) e d) (λ v u out f within leaves. leaves_ran f u within leaves)
+        (updates_leave (under g active) (registers_under g active has) alive n ready (places_under g active known.places) there e is c d s st here (sim_open g scope active known alive st s sim))
     effect_follows (inr is) =
-        let leaves = onto_leaves (under g active) alive n (registers_under g active has) scope (places_under g active known.places) (fields_under g active) operands_stand known.same_extents e is c d s st begun.regs here (sim_open g scope active known alive st s sim) in
-        leaving_follows (λ f. LeavesScalars (under g active) alive d s st leaves.1.0 f) leaves.0 leaves.1.0 (λ f. onto_ran f leaves.1.0) leaves.1.1.0 leaves.1.1.1
+        follows_so g scope active known (λ v u out f. LeavesScalars (under g active) alive d s st u f) (λ v u out f. Ran g alive d s u f) s (evaluated scope e active st) (effect_of g.typed (layout g) e d) (λ v u out f within leaves. onto_ran f u within leaves)
+        (onto_leaves (under g active) alive n (registers_under g active has) (places_under g active known.places) there operands_stand e is c d s st begun.regs here (sim_open g scope active known alive st s sim))
 
     number_again : (r w : ℕ) (f : Draft) → Within g f → GivesNumber (under g active) alive d s st r w f → GivesNumber g alive d s st r w f
     number_again r w f within given =
@@ -107,16 +100,17 @@ module _ (g : Setting) (scope : Scope) (active : Active) (known : KnowsFields g 
 
     -- a fold puts its number where it is to be
     fold_follows : IsFold e → (R : Value → State → Out → Draft → Type 0) (r : ℕ) → Dest g has alive (type_of e).elem d s R r → Follows g R s (evaluated scope e active st) (computed_to g.typed (layout g) (O.Scalar r) e d)
-    unfolding After Follows
     fold_follows is R r dest =
-        let (w, (means, after)) = folds_give (under g active) alive scope (places_under g active known.places) (fields_under g active) n operands_stand known.same_extents e is c d s st r here (sim_open g scope active known alive st s sim) in
-        subst (λ (o : Outcome Value). Follows g R s o (computed_to g.typed (layout g) (O.Scalar r) e d)) (sym means) (by w (computed_to g.typed (layout g) (O.Scalar r) e d) after)
+        follows_so g scope active known Folded R s (evaluated scope e active st) (computed_to g.typed (layout g) (O.Scalar r) e d) by
+        (folds_give (under g active) alive (places_under g active known.places) there n operands_stand e is c d s st r here (sim_open g scope active known alive st s sim))
       where
-        by : (w : ℕ) (made : Made Out) → After (under g active) (GivesRegister (under g active) alive r w d s st) made → Follows g R s (Gives (Scalar w) st) made
-        by w (Makes out f) h = λ within.
-            let given = h (within_under g active within) in
-            subst (λ (o : Out). R (Scalar w) st o f) (sym given.0) (number_to g alive has (type_of e).elem d s st R r w f (fold_type e is) dest (number_again r w f within given.1) within)
-        by w Fails h = tt
+        Folded : Value → State → Out → Draft → Type 0
+        Folded x u out f = (w : ℕ) × ((x ≡ Scalar w) × ((u ≡ st) × GivesRegister (under g active) alive r w d s st out f))
+
+        by : (x : Value) (u : State) (out : Out) (f : Draft) → Within g f → Folded x u out f → R x u out f
+        by x u out f within (w, (number, (same, (place, given)))) =
+            subst (λ (v : Value). R v u out f) (sym number) (subst (λ (t : State). R (Scalar w) t out f) (sym same) (subst (λ (o : Out). R (Scalar w) st o f) (sym place)
+            (number_to g alive has (type_of e).elem d s st R r w f (fold_type e is) dest (number_again r w f within given) within)))
 
 -- every effect, every fold and every context of it follows
 pub besides : (g : Setting) (scope : Scope) (active : Active) → KnowsFields g scope active → (has : HasRegisters g) → BesideFollows KnowsFields g has scope active

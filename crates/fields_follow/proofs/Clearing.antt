@@ -9,8 +9,6 @@ use Rattle.std.specs.Prelude.{nat_le, nat_lt}
 use Rattle.cstar_base.specs.Operators.{outcome}
 use Rattle.cstar_tree.specs.declared.typed.VarInfo.{VarInfo}
 use Rattle.cstar_tree.specs.declared.typed.Variable.{Variable}
-use Rattle.code_lengths.specs.Growth.{Extended}
-use Rattle.code_lengths.proofs.Drafting.{and_instr, extended}
 use Rattle.lower_base.specs.Drafts.{Draft, step as step_of, with_instr}
 use Rattle.lower_expr.specs.Joined.{operation_of}
 use Rattle.paris_code.specs.declared.instr.Instr.{Instr}
@@ -27,6 +25,7 @@ use Rattle.paris_code.specs.Spans.{IsNamedAt, StandsAt}
 use Rattle.paris_code.specs.Writes.{Write, covers, written}
 use Rattle.source_meaning.specs.State.{State}
 use Rattle.source_meaning.specs.Values.{nonzero}
+use Rattle.code_follows.proofs.Growing.{Extended, and_instr, extended}
 use Rattle.code_follows.proofs.Settings.{At, Reaches, Setting, StandsBelow, Within, and_one, at_next, begins_here, code_more, earlier, one_writes, onto, placed_instr}
 use Rattle.constant_trees.proofs.Words.{from_bool_below}
 use Rattle.fields_follow.specs.Fields.{IsElement}
@@ -37,8 +36,8 @@ use Rattle.fields_follow.proofs.Instructions.{number_in, place, shapes, wrote}
 use Rattle.fields_follow.proofs.Leaving.{PassesTests}
 use Rattle.fields_follow.proofs.Passing.{Behind, code_longer, flags_of, names_second, names_third}
 use Rattle.fields_follow.proofs.PassingTests.{tests_on}
-use Rattle.fields_follow.proofs.Places.{HoldsTheFields, IsFileField, IsOwnField, PlacesFields, of_file, stands_here}
-use Rattle.fields_follow.proofs.Truths.{GivesTruth, either_or_both, joined_bits}
+use Rattle.fields_follow.proofs.Places.{HoldsTheFields, IsFileField, PlacesFields, of_file, stands_here}
+use Rattle.fields_follow.proofs.Truths.{GivesTruth, either_or_both, joined_bits, truth_still}
 use Rattle.fields_follow.proofs.Writing.{TakesBehind, entry_and_below, entry_ends, entry_place}
 
 -- ---- two writes are one
@@ -123,8 +122,8 @@ module _ (g : Setting) (places : PlacesFields g) (fields : HoldsTheFields g) (al
   unfolding begun applied after
   join_goes = refl
 
-  -- two bits of own fields are joined in a variable of the file
-  joined_takes : (v w : ℕ → ℕ) → IsFileField g k 0 dest → IsOwnField g a → IsOwnField g b → Within g (joined_behind is_or set offset bits a b e) → At g s (length e.code)
+  -- two bits of fields apart from it are joined in a variable of the file
+  joined_takes : (v w : ℕ → ℕ) → IsFileField g k 0 dest → Apart (place g a) (of_file g k 0) → Apart (place g b) (of_file g k 0) → Within g (joined_behind is_or set offset bits a b e) → At g s (length e.code)
       → ((q : ℕ) → q < processors (shapes g) set → on q ≡ true → number_in g a s q ≡ from_bool (nonzero (v q))) → ((q : ℕ) → q < processors (shapes g) set → on q ≡ true → number_in g b s q ≡ from_bool (nonzero (w q)))
       → TakesBehind g set dest e (joined_behind is_or set offset bits a b e) s (λ q. from_bool (either_or_both is_or (nonzero (v q)) (nonzero (w q))))
   unfolding step_of
@@ -167,9 +166,9 @@ module _ (g : Setting) (places : PlacesFields g) (fields : HoldsTheFields g) (al
       at_join : At g s1 (length (cleared_behind set offset bits e).code)
       at_join = at_next g (clear set offset bits) e s (s.at + 1) here refl
 
-      still : (h : Field) (q : ℕ) → IsOwnField g h → number_in g h s1 q ≡ number_in g h s q
+      still : (h : Field) (q : ℕ) → Apart (place g h) (of_file g k 0) → number_in g h s1 q ≡ number_in g h s q
       still h q own =
-          field_apart clears s.memory (place g h) q (subst (λ (f : Field). Apart f (place g h)) (sym (entry_place g places fields alive set k 0 info dest is word file refl)) (apart_back (place g h) (of_file g k 0) (places.own_file k 0 set info h is own)))
+          field_apart clears s.memory (place g h) q (subst (λ (f : Field). Apart f (place g h)) (sym (entry_place g places fields alive set k 0 info dest is word file refl)) (apart_back (place g h) (of_file g k 0) own))
 
       few : (x : Bool) → from_bool (nonzero (from_bool x)) % 2 ^ bits ≡ from_bool x % 2 ^ bits
       few true = refl
@@ -180,13 +179,13 @@ module _ (g : Setting) (places : PlacesFields g) (fields : HoldsTheFields g) (al
   abbrev behind : Draft
   behind = joined_behind is_or set offset bits a b e2
 
-  pub truths_taken : (one : GivesTruth g alive places fields d s set st v a e1) → GivesTruth g alive places fields e1 one.passes.t set st w b e2 → ((m : ℕ) → Extended d m behind → IsFileField g k 0 (field_at set offset bits)) → Within g behind
+  pub truths_taken : (one : GivesTruth g alive places fields d s set st v a e1) → GivesTruth g alive places fields e1 one.passes.t set st w b e2 → 1 < bits → ((m : ℕ) → Extended d m behind → IsFileField g k 0 (field_at set offset bits)) → Within g behind
       → (p : PassesTests g alive d e2 s st (Unit {0})) × TakesBehind g set (field_at set offset bits) e2 behind p.t (λ q. from_bool (either_or_both is_or (nonzero (v q)) (nonzero (w q))))
   unfolding step_of tests_on
-  truths_taken one two file within = (
+  truths_taken one two several file within = (
     passes,
-    joined_takes g places fields alive set k offset info is bits some word is_or a b e2 two.passes.t v w (file (passes.grown.0 + 2) (extended d e2 behind passes.grown.0 2 passes.grown.1 (joined_more g is_or set offset bits a b e2))) one.own two.own within two.passes.at
-        (λ q below on. still q ∙ one.are q below (active q below ∙ on)) (λ q below on. two.are q below (active q below ∙ on)),
+    joined_takes g places fields alive set k offset info is bits some word is_or a b e2 two.passes.t v w (file (passes.grown.0 + 2) (extended d e2 behind passes.grown.0 2 passes.grown.1 (joined_more g is_or set offset bits a b e2))) (one.apart k info is more) (two.apart k info is more) within two.passes.at
+        (λ q below on. still q below ∙ one.are q below (active q below ∙ on)) (λ q below on. two.are q below (active q below ∙ on)),
   )
     where
       cleared_one : Draft
@@ -213,8 +212,11 @@ module _ (g : Setting) (places : PlacesFields g) (fields : HoldsTheFields g) (al
       passes : PassesTests g alive d e2 s st (Unit {0})
       passes = tests_on g alive d e1 e2 s st (Behind g a e1) (Behind g b e2) (Unit {0}) one.passes two.passes (λ u. early) (λ u. behind_b)
 
-      still : (q : ℕ) → number_in g a two.passes.t q ≡ number_in g a one.passes.t q
-      still q = two.passes.stays behind_b a one.somewhere (length cleared_one.code) q one.older one.own one.ends one.named one.before named_a (omega (arith, long))
+      more : 1 < info.elem.bits
+      more = omega (arith, several, word)
+
+      still : (q : ℕ) → q < processors (shapes g) set → number_in g a two.passes.t q ≡ number_in g a one.passes.t q
+      still q below = truth_still g alive places fields d e1 e2 s set st v a (Behind g b e2) (length cleared_one.code) one two.passes behind_b named_a (omega (arith, long)) q below
 
       active : (q : ℕ) → q < processors (shapes g) set → fields.active set q ≡ is_active (shapes g) two.passes.t.memory set q
       active q below = sym (flags_of g alive places fields st two.passes.t set q two.passes.sim two.exists below)

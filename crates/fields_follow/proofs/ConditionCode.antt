@@ -10,7 +10,6 @@ use Rattle.cstar_tree.specs.declared.typed.TExpr as T
 use Rattle.cstar_tree.specs.declared.typed.UnaryOp.TheVariants as U
 use Rattle.cstar_tree.specs.declared.typed.ValueType.{ValueType}
 use Rattle.cstar_tree.specs.declared.typed.Variable.{Variable}
-use Rattle.code_lengths.proofs.Drafting.{as_it_was, extended}
 use Rattle.lower_base.specs.declared.emit.Out.{Out}
 use Rattle.lower_base.specs.declared.emit.Out.TheVariants as O
 use Rattle.lower_base.specs.declared.operators.Machine.{Machine}
@@ -31,13 +30,15 @@ use Rattle.paris_code.specs.declared.operands.Field.{Field}
 use Rattle.paris_code.specs.declared.program.Owner.TheVariants as W
 use Rattle.paris_code.specs.Code.{CodeState}
 use Rattle.paris_code.specs.Spans.{fields_of}
-use Rattle.source_meaning.specs.State.{State}
-use Rattle.source_meaning.specs.Values.{nonzero}
+use Rattle.source_meaning.specs.State.{Outcome, State}
+use Rattle.source_meaning.specs.Values.{Value, nonzero}
 use Rattle.source_meaning.proofs.ConstantLaws.{Boxed}
-use Rattle.code_follows.proofs.Following.{Extends, extends_then}
+use Rattle.code_follows.proofs.Following.{Extends, Follows, extends_then}
+use Rattle.code_follows.proofs.Growing.{as_it_was, extended}
 use Rattle.code_follows.proofs.Settings.{Setting, Within, and_one, layout}
 use Rattle.fields_follow.proofs.Leaving.{PassesTests}
-use Rattle.fields_follow.proofs.Passing.{after_weaker, After, Behind, after_same, fields_longer, made_after, then_after}
+use Rattle.fields_follow.proofs.Outcomes.{Given, given_through, given_weaker}
+use Rattle.fields_follow.proofs.Passing.{After, Behind, after_same, fields_longer, made_after, then_after}
 use Rattle.fields_follow.proofs.PassingTests.{tests_and_entry, tests_behind_entry, tests_on}
 use Rattle.fields_follow.proofs.Places.{HoldsTheFields, IsOwnField, PlacesFields, names_first, stands_here}
 use Rattle.fields_follow.proofs.Values.{and_entry, next_field, one_more, taken, with_entry}
@@ -144,7 +145,7 @@ module _ (g : Setting) where
       done c = unary_by (layout g) ty 1 (if c then U.Complement else U.Not) (value 1 operand) (operand_at (bits_of (kind_of operand)) operand) d
 
   -- that of a bit is its complement
-  abbrev turned_in : ℕ → Draft → Out → Draft → Made Out
+  abbrev pub turned_in : ℕ → Draft → Out → Draft → Made Out
   turned_in set d v e = in_field v (λ source. Makes (O.Field (next_field set 1 d)) (with_instr (I.Lognot (next_field set 1 d) source) e))
 
   pub bit_not_value : (set : ℕ) (ty : ValueType) (p : Boxed) (operand : TExpr) (d : Draft) → ty.shape ≡ Some set → is_kept operand ≡ false → (bits_of (kind_of operand) == 1) ≡ true
@@ -201,35 +202,36 @@ module _ (g : Setting) (alive : Variable → Type 0) (places : PlacesFields g) (
   abbrev pub AnyBit : Draft → CodeState → ℕ → State → (ℕ → ℕ) → Out → Draft → Type 0
   AnyBit d s set st v out e = (f : Field) × ((out ≡ O.Field f) × GivesBit g alive places fields d s set st v f e)
 
-  pub any_bit : (d : Draft) (s : CodeState) (set : ℕ) (st : State) (v : ℕ → ℕ) (made : Made Out) → After g (Bit d s set st v) made → After g (AnyBit d s set st v) made
-  any_bit d s set st v made h = after_weaker g (Bit d s set st v) (AnyBit d s set st v) made (λ x e (f, (is, gives)). (f, (is, truth_bit g alive places fields d s set st v f e gives))) h
+  pub any_bit : (o : Outcome Value) (m : ℕ → ℕ) (d : Draft) (s : CodeState) (set : ℕ) (st : State) (v : ℕ → ℕ) (made : Made Out) → Follows g (Given g m st (Bit d s set st v)) s o made → Follows g (Given g m st (AnyBit d s set st v)) s o made
+  any_bit o m d s set st v made h = given_weaker g s o m st (Bit d s set st v) (AnyBit d s set st v) made (λ x e (f, (is, gives)). (f, (is, truth_bit g alive places fields d s set st v f e gives))) h
 
   abbrev put : (Field → Instr) → Out → Draft → Made (Unit {0})
   put test x e = in_field x (λ source. Makes tt (with_instr (test source) e))
 
-  -- a test of a field that tells
-  tests_after : (test : Field → Instr) (set : ℕ) (v u : ℕ → ℕ) (made : Made Out) (d : Draft) (s : CodeState) (st : State) → ((a : Field) → step_of (test a) ≡ Plain (test a)) → ((a : Field) → fields_of (test a) ≡ a ∷ []) → ((a : Field) (t : CodeState) → Tells g set a t v → PutsTest g set (test a) t u) → After g (Told d s set st v) made
-      → After g (λ _ f. Tests d s set st u f) (then_make made (put test))
+  -- a test of a field that tells, whatever its value is in the source
+  tests_after : (o : Outcome Value) (m : ℕ → ℕ) (test : Field → Instr) (set : ℕ) (v u : ℕ → ℕ) (made : Made Out) (d : Draft) (s : CodeState) (st : State) → ((a : Field) → step_of (test a) ≡ Plain (test a)) → ((a : Field) → fields_of (test a) ≡ a ∷ []) → ((a : Field) (t : CodeState) → Tells g set a t v → PutsTest g set (test a) t u) → Follows g (Given g m st (Told d s set st v)) s o made
+      → Follows g (Given g m st (λ _ f. Tests d s set st u f)) s o (then_make made (put test))
   unfolding in_field Extends
-  tests_after test set v u made d s st plain names puts told =
-      then_after g (Told d s set st v) (λ _ f. Tests d s set st u f) made (put test) told next_extends (λ x e1 (a, (is, gives)).
+  tests_after o m test set v u made d s st plain names puts told =
+      given_through g s o m st (Told d s set st v) (λ _ f. Tests d s set st u f) made (put test) next_extends (λ part h.
+      then_after g (Told d s set st v) (λ _ f. Tests d s set st u f) part (put test) h next_extends (λ x e1 (a, (is, gives)).
       after_same g (λ _ f. Tests d s set st u f) (ap (λ (o : Out). put test o e1) is)
       (made_after g (λ _ f. Tests d s set st u f) tt (with_instr (test a) e1) (λ within.
       tested_behind g alive fields places set d e1 (test a) s st u (Behind g a e1) gives.passes (length e1.code, (names_first g (test a) a [] (length e1.code) (stands_here g (test a) e1 within (plain a)) (names a), omega arith)) gives.exists within
-      (puts a gives.passes.t gives.tells))))
+      (puts a gives.passes.t gives.tells))))) told
     where
       next_extends : (x : Out) (e1 : Draft) → Extends g e1 (put test x e1)
       next_extends (O.Field f) e1 = (1, and_one g (test f) e1)
       next_extends (O.Scalar r) e1 = tt
       next_extends O.Nothing e1 = tt
 
-  pub nonzero_after : (set : ℕ) (v : ℕ → ℕ) (code : Code) (d : Draft) (s : CodeState) (st : State) → After g (Told d s set st v) (code d) → After g (λ _ f. Tests d s set st v f) (nonzero_tested code d)
+  pub nonzero_after : (o : Outcome Value) (m : ℕ → ℕ) (set : ℕ) (v : ℕ → ℕ) (code : Code) (d : Draft) (s : CodeState) (st : State) → Follows g (Given g m st (Told d s set st v)) s o (code d) → Follows g (Given g m st (λ _ f. Tests d s set st v f)) s o (nonzero_tested code d)
   unfolding nonzero_tested step_of
-  nonzero_after set v code d s st told = tests_after (λ a. I.NeZero a) set v v (code d) d s st (λ a. refl) (λ a. refl) (λ a t tells. puts_nonzero g set a t v tells) told
+  nonzero_after o m set v code d s st told = tests_after o m (λ a. I.NeZero a) set v v (code d) d s st (λ a. refl) (λ a. refl) (λ a t tells. puts_nonzero g set a t v tells) told
 
-  pub zero_after : (set : ℕ) (v : ℕ → ℕ) (code : Code) (d : Draft) (s : CodeState) (st : State) → After g (Told d s set st v) (code d) → After g (λ _ f. Tests d s set st (λ q. from_bool (v q == 0)) f) (zero_tested code d)
+  pub zero_after : (o : Outcome Value) (m : ℕ → ℕ) (set : ℕ) (v : ℕ → ℕ) (code : Code) (d : Draft) (s : CodeState) (st : State) → Follows g (Given g m st (Told d s set st v)) s o (code d) → Follows g (Given g m st (λ _ f. Tests d s set st (λ q. from_bool (v q == 0)) f)) s o (zero_tested code d)
   unfolding zero_tested step_of
-  zero_after set v code d s st told = tests_after (λ a. I.EqZero a) set v (λ q. from_bool (v q == 0)) (code d) d s st (λ a. refl) (λ a. refl) (λ a t tells. puts_zero g set a t v tells) told
+  zero_after o m set v code d s st told = tests_after o m (λ a. I.EqZero a) set v (λ q. from_bool (v q == 0)) (code d) d s st (λ a. refl) (λ a. refl) (λ a t tells. puts_zero g set a t v tells) told
 
   -- the entry that was taken first is the unit's, behind code and one instruction more
   first_entry : (set : ℕ) (d e : Draft) (s : CodeState) (st : State) (used : Type 0) (i : Instr) → PassesTests g alive (with_entry set 1 W.Own d) e s st used → Within g (with_instr i e) → IsOwnField g (next_field set 1 d)
@@ -239,10 +241,11 @@ module _ (g : Setting) (alive : Variable → Type 0) (places : PlacesFields g) (
   first_older set d e s st used p = let first = one_more set 1 W.Own d in let longer = fields_longer (with_entry set 1 W.Own d) e p.grown.0 p.grown.1 in omega (arith, first, longer)
 
   -- the test flags are stored
-  pub stored_after : (set : ℕ) (v : ℕ → ℕ) (d : Draft) (s : CodeState) (st : State) (made : Made (Unit {0})) → After g (λ _ f. Tests (with_entry set 1 W.Own d) s set st v f) made → After g (Bit d s set st v) (then_make made (stored_in set d))
+  pub stored_after : (o : Outcome Value) (m : ℕ → ℕ) (set : ℕ) (v : ℕ → ℕ) (d : Draft) (s : CodeState) (st : State) (made : Made (Unit {0})) → Follows g (Given g m st (λ _ f. Tests (with_entry set 1 W.Own d) s set st v f)) s o made → Follows g (Given g m st (Bit d s set st v)) s o (then_make made (stored_in set d))
   unfolding Extends tests_behind_entry
-  stored_after set v d s st made tests =
-      then_after g (λ _ f. Tests (with_entry set 1 W.Own d) s set st v f) (Bit d s set st v) made (stored_in set d) tests (λ x e. (1, and_one g (I.StoreTest (next_field set 1 d)) e)) (λ x e left.
+  stored_after o m set v d s st made tests =
+      given_through g s o m st (λ _ f. Tests (with_entry set 1 W.Own d) s set st v f) (Bit d s set st v) made (stored_in set d) (λ x e. (1, and_one g (I.StoreTest (next_field set 1 d)) e)) (λ part h.
+      then_after g (λ _ f. Tests (with_entry set 1 W.Own d) s set st v f) (Bit d s set st v) part (stored_in set d) h (λ x e. (1, and_one g (I.StoreTest (next_field set 1 d)) e)) (λ x e left.
       made_after g (Bit d s set st v) (O.Field (next_field set 1 d)) (with_instr (I.StoreTest (next_field set 1 d)) e) (λ within.
       let p : PassesTests g alive (with_entry set 1 W.Own d) e s st (Unit {0}) = left.leaves in (
         next_field set 1 d,
@@ -251,31 +254,35 @@ module _ (g : Setting) (alive : Variable → Type 0) (places : PlacesFields g) (
           truth_stored g alive places fields set d e (next_field set 1 d) s st v (tests_behind_entry g alive set 1 d e s st (Unit {0}) left.leaves) left.flags (omega arith) (first_older set d e s st (Unit {0}) p)
               (first_entry set d e s st (Unit {0}) (I.StoreTest (next_field set 1 d)) p within) refl refl within,
         ),
-      )))
+      )))) tests
 
-  pub flag_after : (set : ℕ) (v : ℕ → ℕ) (d : Draft) (s : CodeState) (st : State) (made : Made (Unit {0})) → After g (λ _ f. Tests d s set st v f) made → After g (Truth d s set st v) (then_make made (stored_behind set))
+  pub flag_after : (o : Outcome Value) (m : ℕ → ℕ) (set : ℕ) (v : ℕ → ℕ) (d : Draft) (s : CodeState) (st : State) (made : Made (Unit {0})) → Follows g (Given g m st (λ _ f. Tests d s set st v f)) s o made → Follows g (Given g m st (Truth d s set st v)) s o (then_make made (stored_behind set))
   unfolding Extends tests_and_entry then_make an_entry
-  flag_after set v d s st made tests =
-      then_after g (λ _ f. Tests d s set st v f) (Truth d s set st v) made (stored_behind set) tests (λ x e. stored_extends g set e) (λ x e left.
+  flag_after o m set v d s st made tests =
+      given_through g s o m st (λ _ f. Tests d s set st v f) (Truth d s set st v) made (stored_behind set) (λ x e. stored_extends g set e) (λ part h.
+      then_after g (λ _ f. Tests d s set st v f) (Truth d s set st v) part (stored_behind set) h (λ x e. stored_extends g set e) (λ x e left.
       made_after g (Truth d s set st v) (next_field set 1 e) (with_instr (I.StoreTest (next_field set 1 e)) (with_entry set 1 W.Own e)) (λ within.
       truth_stored g alive places fields set d (with_entry set 1 W.Own e) (next_field set 1 e) s st v (tests_and_entry g alive set 1 d e s st (Unit {0}) left.leaves) left.flags (fields_longer d e left.leaves.grown.0 left.leaves.grown.1) (let l = one_more set 1 W.Own e in omega (arith, l))
-      (taken g set 1 W.Own e (with_instr (I.StoreTest (next_field set 1 e)) (with_entry set 1 W.Own e)) 1 within (and_one g (I.StoreTest (next_field set 1 e)) (with_entry set 1 W.Own e))) refl refl within))
+      (taken g set 1 W.Own e (with_instr (I.StoreTest (next_field set 1 e)) (with_entry set 1 W.Own e)) 1 within (and_one g (I.StoreTest (next_field set 1 e)) (with_entry set 1 W.Own e))) refl refl within))) tests
 
   -- a bit that there is
   abbrev as_bit : Out → Draft → Made Field
   as_bit v e = in_field v (λ f. Makes f e)
 
-  pub bit_taken : (set : ℕ) (v : ℕ → ℕ) (d : Draft) (s : CodeState) (st : State) (made : Made Out) → After g (Bit d s set st v) made → After g (Truth d s set st v) (then_make made as_bit)
+  pub bit_taken : (o : Outcome Value) (m : ℕ → ℕ) (set : ℕ) (v : ℕ → ℕ) (d : Draft) (s : CodeState) (st : State) (made : Made Out) → Follows g (Given g m st (Bit d s set st v)) s o made → Follows g (Given g m st (Truth d s set st v)) s o (then_make made as_bit)
   unfolding in_field
-  bit_taken set v d s st made bit =
-      then_after g (Bit d s set st v) (Truth d s set st v) made as_bit bit (taken_extends g)
-      (λ x e (a, (is, one)). after_same g (Truth d s set st v) (ap (λ (o : Out). as_bit o e) is) (made_after g (Truth d s set st v) a e (λ within. one)))
+  bit_taken o m set v d s st made bit =
+      given_through g s o m st (Bit d s set st v) (Truth d s set st v) made as_bit (taken_extends g) (λ part h.
+      then_after g (Bit d s set st v) (Truth d s set st v) part as_bit h (taken_extends g)
+      (λ x e (a, (is, one)). after_same g (Truth d s set st v) (ap (λ (o : Out). as_bit o e) is) (made_after g (Truth d s set st v) a e (λ within. one)))) bit
 
   -- a bit's complement
-  pub turned_after : (set : ℕ) (v : ℕ → ℕ) (d : Draft) (s : CodeState) (st : State) (made : Made Out) → After g (AnyBit (with_entry set 1 W.Own d) s set st v) made → After g (Bit d s set st (λ q. from_bool (v q == 0))) (then_make made (turned_in g set d))
+  pub turned_after : (o : Outcome Value) (m : ℕ → ℕ) (set : ℕ) (v : ℕ → ℕ) (d : Draft) (s : CodeState) (st : State) (made : Made Out) → Follows g (Given g m st (AnyBit (with_entry set 1 W.Own d) s set st v)) s o made
+      → Follows g (Given g m st (Bit d s set st (λ q. from_bool (v q == 0)))) s o (then_make made (turned_in g set d))
   unfolding Extends in_field
-  turned_after set v d s st made bit =
-      then_after g (AnyBit (with_entry set 1 W.Own d) s set st v) (Bit d s set st (λ q. from_bool (v q == 0))) made (turned_in g set d) bit next_extends (λ x e (a, (is, one)).
+  turned_after o m set v d s st made bit =
+      given_through g s o m st (AnyBit (with_entry set 1 W.Own d) s set st v) (Bit d s set st (λ q. from_bool (v q == 0))) made (turned_in g set d) next_extends (λ part h.
+      then_after g (AnyBit (with_entry set 1 W.Own d) s set st v) (Bit d s set st (λ q. from_bool (v q == 0))) part (turned_in g set d) h next_extends (λ x e (a, (is, one)).
       after_same g (Bit d s set st (λ q. from_bool (v q == 0))) (ap (λ (o : Out). turned_in g set d o e) is)
       (made_after g (Bit d s set st (λ q. from_bool (v q == 0))) (O.Field (next_field set 1 d)) (with_instr (I.Lognot (next_field set 1 d) a) e) (λ within. (
         next_field set 1 d,
@@ -283,7 +290,7 @@ module _ (g : Setting) (alive : Variable → Type 0) (places : PlacesFields g) (
           refl,
           truth_turned g alive places fields set d e a (next_field set 1 d) s st v one (omega arith) (first_older set d e s st (Behind g a e) one.passes) (first_entry set d e s st (Behind g a e) (I.Lognot (next_field set 1 d) a) one.passes within) refl refl within,
         ),
-      ))))
+      ))))) bit
     where
       next_extends : (x : Out) (e : Draft) → Extends g e (turned_in g set d x e)
       next_extends (O.Field f) e = (1, and_one g (I.Lognot (next_field set 1 d) f) e)

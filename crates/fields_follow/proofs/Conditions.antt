@@ -34,6 +34,7 @@ condition_shape set (T.Unary' ty op p operand) is = is.0.0
 condition_shape set (T.LogicalOr' ty p left q right) is = is.0.0
 condition_shape set (T.LogicalAnd' ty p left q right) is = is.0.0
 condition_shape set (T.Binary' ty place op p left q right) is = is.0.0
+condition_shape set (T.Variable ty x) is = pure_shape set (T.Variable ty x) is.0
 condition_shape set e is = pure_shape set e is.0.0
 
 -- its value stands in a field
@@ -44,6 +45,7 @@ condition_kept set (T.Unary' ty op p operand) is = shaped ty set is.0
 condition_kept set (T.LogicalOr' ty p left q right) is = shaped ty set is.0
 condition_kept set (T.LogicalAnd' ty p left q right) is = shaped ty set is.0
 condition_kept set (T.Binary' ty place op p left q right) is = shaped ty set is.0
+condition_kept set (T.Variable ty x) is = pure_kept set (T.Variable ty x) is.0
 condition_kept set e is = pure_kept set e is.0.0
 
 -- no condition is a constant
@@ -54,6 +56,7 @@ condition_constant set (T.Unary' ty op p operand) is = no_constant ty set (ty.el
 condition_constant set (T.LogicalOr' ty p left q right) is = ap (λ (c : Bool). c && is_constant right) (no_constant ty set (ty.elem.bits == 32) (is_constant left) is.0)
 condition_constant set (T.LogicalAnd' ty p left q right) is = ap (λ (c : Bool). c && is_constant right) (no_constant ty set (ty.elem.bits == 32) (is_constant left) is.0)
 condition_constant set (T.Binary' ty place op p left q right) is = ap (λ (c : Bool). c && is_constant right) (no_constant ty set (ty.elem.bits == 32) (is_constant left) is.0)
+condition_constant set (T.Variable ty x) is = pure_constant set (T.Variable ty x) is.0
 condition_constant set e is = pure_constant set e is.0.0
 
 -- two are joined by one operation where the right one has the same value under every context

@@ -20,9 +20,7 @@ use Rattle.cstar_tree.specs.declared.typed.UnaryOp.TheVariants as U
 use Rattle.cstar_tree.specs.declared.typed.ValueType.{ValueType}
 use Rattle.cstar_tree.specs.declared.typed.VarInfo.{VarInfo}
 use Rattle.cstar_tree.specs.declared.typed.Variable.{Variable}
-use Rattle.code_lengths.specs.Growth.{Extended}
-use Rattle.code_lengths.specs.Ready.{IsReady}
-use Rattle.code_lengths.proofs.Drafting.{extended}
+use Rattle.code_lengths.specs.Ready.{IsReadyButForFields}
 use Rattle.lower_base.specs.declared.emit.Out.{Out}
 use Rattle.lower_base.specs.declared.emit.Out.TheVariants as O
 use Rattle.lower_base.specs.Drafts.{Draft, Fails, Made, Makes, a_field, a_flag, an_entry, first_bits, in_field, step as step_of, then_make, with_instr}
@@ -47,10 +45,12 @@ use Rattle.paris_code.specs.Spans.{IsNamedAt, StandsAt}
 use Rattle.phase_meaning.proofs.Widths.{cut_cut}
 use Rattle.short_values.proofs.NarrowTypes.{bool_unsigned}
 use Rattle.source_meaning.specs.Expressions.{evaluated}
-use Rattle.source_meaning.specs.State.{Gives, Outcome, State, then_do}
-use Rattle.source_meaning.specs.Values.{Parallel, Scope, Value, at, convert_to, each, nonzero, unary_of}
+use Rattle.source_meaning.specs.State as Source
+use Rattle.source_meaning.specs.State.{State}
+use Rattle.source_meaning.specs.Values.{Parallel, nonzero, unary_of}
 use Rattle.source_meaning.proofs.ConstantLaws.{Boxed}
 use Rattle.code_follows.proofs.Following.{Extends, HasRegisters, Sim}
+use Rattle.code_follows.proofs.Growing.{Extended, extended}
 use Rattle.code_follows.proofs.Numbers.{zero_converted}
 use Rattle.code_follows.proofs.Settings.{At, Setting, Within, and_one, layout}
 use Rattle.constant_trees.proofs.Words.{from_bool_below}
@@ -61,14 +61,17 @@ use Rattle.fields_follow.proofs.Clearing.{field_at, joined_behind, joined_more, 
 use Rattle.fields_follow.proofs.Conditions.{HaveTheirCode, and_codes, conditions_join, or_codes}
 use Rattle.fields_follow.proofs.Sizes.{brackets_part, convert_part, unary_part}
 use Rattle.fields_follow.proofs.Places.{HoldsTheFields, IsFileField, PlacesFields, stands_here}
-use Rattle.fields_follow.proofs.Testing.{both_flagged, inner_bit, inner_means, inner_tested, operand_kept}
-use Rattle.fields_follow.proofs.Truths.{either_or_both, joined_bits}
+use Rattle.fields_follow.proofs.Testing.{and_ended, and_given, both_flagged, inner_bit, inner_tested, operand_kept, or_ended, or_given}
+use Rattle.fields_follow.proofs.Expressions.{convert_ended, convert_means, unary_ended}
+use Rattle.fields_follow.proofs.Lengths.{relates_plainly}
+use Rattle.fields_follow.proofs.Outcomes.{Ended, meant, then_known}
+use Rattle.fields_follow.proofs.Truths.{either_or_both, joined_bits, truth_still}
 use Rattle.fields_follow.proofs.ConditionCode.{AnyBit, Truth, flag_after, put_in, relation_put, stored_behind, zero_put}
 use Rattle.fields_follow.proofs.Forms.{HasItsCode}
-use Rattle.fields_follow.proofs.Instructions.{Puts, SameExtents, extents, number_in, place, shapes}
-use Rattle.fields_follow.proofs.Meaning.{as_shaped, value_in}
+use Rattle.fields_follow.proofs.Instructions.{Puts, extents, number_in, place, shapes}
+use Rattle.fields_follow.proofs.Meaning.{unary_means, value_in}
 use Rattle.fields_follow.proofs.Leaving.{PassesTests}
-use Rattle.fields_follow.proofs.Passing.{After, Behind, after_same, code_longer, flags_of, made_after, names_second, names_third, then_after}
+use Rattle.fields_follow.proofs.Passing.{After, Behind, after_same, code_longer, flags_of, made_after, names_second, names_third}
 use Rattle.fields_follow.proofs.PassingTests.{tests_on}
 use Rattle.fields_follow.proofs.Writing.{TakesBehind, entry_and_below, instr_takes}
 use Rattle.fields_follow.proofs.TestFlags.{LeavesTests, is_truth, truth_is}
@@ -277,19 +280,6 @@ module _ (g : Setting) where
 
   -- ---- what it means, and what its code leaves
 
-  pub truth_means : (scope : Scope) (places : PlacesFields g) → SameExtents g scope → (alive : Variable → Type 0) (n : ℕ) (fields : HoldsTheFields g) (set bits : ℕ) (e : TExpr) (st : State) → IsTruth set bits e → HasItsCode g.typed g.instance alive n e → set < length (shapes g)
-      → evaluated scope e fields.active st ≡ Gives (Parallel (λ q. value_in (extents g set) st e q)) st
-  unfolding IsTruth IsInnerCondition evaluated value_in then_do convert_to each at
-  truth_means scope places same alive n fields set bits (T.Brackets' ty p inner) st is c exists = truth_means scope places same alive n fields set bits inner st is.1 (brackets_part g alive n places fields ty p inner c) exists
-  truth_means scope places same alive n fields set bits (T.Convert' ty p inner) st is c exists =
-      ap (λ (o : Outcome Value). then_do o (λ v after. Gives (convert_to ty (type_of inner).elem v) after)) (truth_means scope places same alive n fields set bits inner st is.2 (convert_part g alive n places fields ty p inner c) exists)
-      ∙ ap (λ (y : ValueType). Gives (convert_to y (type_of inner).elem (Parallel (λ q. value_in (extents g set) st inner q))) st) (as_shaped ty set is.0)
-  truth_means scope places same alive n fields set bits (T.Unary' ty op p operand) st is c exists = inner_means g scope places same alive n fields.active set (T.Unary' ty op p operand) st (is.0, inl (is.1, is.2)) c exists
-  truth_means scope places same alive n fields set bits (T.LogicalOr' ty p left q right) st is c exists = inner_means g scope places same alive n fields.active set (T.LogicalOr' ty p left q right) st is c exists
-  truth_means scope places same alive n fields set bits (T.LogicalAnd' ty p left q right) st is c exists = inner_means g scope places same alive n fields.active set (T.LogicalAnd' ty p left q right) st is c exists
-  truth_means scope places same alive n fields set bits (T.Binary' ty place op p left q right) st is c exists = inner_means g scope places same alive n fields.active set (T.Binary' ty place op p left q right) st is.1 c exists
-  truth_means scope places same alive n fields set bits _ st is c exists = absurd is
-
   -- a bit that is moved to a field
   puts_bit : (set : ℕ) (f kept : Field) (s : CodeState) (v : ℕ → ℕ) → kept.len ≡ 1 → ((q : ℕ) → q < processors (shapes g) set → is_active (shapes g) s.memory set q ≡ true → number_in g kept s q ≡ from_bool (nonzero (v q))) → ((q : ℕ) → v q ≡ from_bool (nonzero (v q)))
       → Puts g set (I.Move false f kept) f s v
@@ -373,7 +363,7 @@ module _ (g : Setting) where
       bit_of true = refl
       bit_of false = refl
 
-  module _ (has : HasRegisters g) (alive : Variable → Type 0) (n : ℕ) (ready : (d : Draft) → IsReady g.typed g.instance (layout g) n d) (places : PlacesFields g) (fields : HoldsTheFields g) where
+  module _ (has : HasRegisters g) (alive : Variable → Type 0) (n : ℕ) (ready : (d : Draft) → IsReadyButForFields g.typed g.instance (layout g) n d) (places : PlacesFields g) (fields : HoldsTheFields g) where
     -- What is said where a truth value goes to a variable of the file, behind code of conditions, is said of its code.
     module _ (set k offset bits : ℕ) (info : VarInfo) (is_element : IsElement g.typed k info set 0) (some : 0 < bits) (word : info.elem.bits ≡ bits) (d : Draft) (s : CodeState) (st : State) (here : At g s (length d.code)) (sim : Sim g alive st s)
         (entry : (f : Draft) (m : ℕ) → Extended d m f → Within g f → IsFileField g k 0 (field_at set offset bits)) (Q : Out → Draft → Type 0) where
@@ -383,8 +373,16 @@ module _ (g : Setting) where
       abbrev words_of : TExpr → ℕ → ℕ
       words_of e = λ q. value_in (extents g set) st e q
 
+      -- the source gives them
+      abbrev IsGiven : TExpr → Type 0
+      IsGiven e = meant g fields e st ≡ Source.Gives (Parallel (words_of e)) st
+
       abbrev Last : TExpr → Type 1
-      Last e = (e2 f2 : Draft) (used : Type 0) → Within g f2 → (p : PassesTests g alive d e2 s st used) → used → TakesBehind g set f e2 f2 p.t (words_of e) → Q (O.Field f) f2
+      Last e = IsGiven e → (e2 f2 : Draft) (used : Type 0) → Within g f2 → (p : PassesTests g alive d e2 s st used) → used → TakesBehind g set f e2 f2 p.t (words_of e) → Q (O.Field f) f2
+
+      -- and what is said where it ends early
+      abbrev Ends : TExpr → Type 0
+      Ends e = Ended g s (meant g fields e st) → (x : Out) (e2 : Draft) → Q x e2
 
       -- by an instruction behind such code
       takes_behind : (len : ℕ) → len ≡ bits → (i : Instr) (e2 : Draft) (v : ℕ → ℕ) (used : Type 0) (p : PassesTests g alive d e2 s st used) → Within g (with_instr i e2) → Puts g set i (field_at set offset len) p.t v → TakesBehind g set f e2 (with_instr i e2) p.t v
@@ -394,9 +392,9 @@ module _ (g : Setting) where
 
       -- by its test, and a bit that is moved, or the flags
       by_test : (e : TExpr) → IsInnerCondition set e → has_truth e ≡ true → HasItsCode g.typed g.instance alive n e → ((q : ℕ) → words_of e q ≡ from_bool (nonzero (words_of e q)))
-          → computed_to g.typed (layout g) (O.Field f) e d ≡ then_make (truth_of g.typed (layout g) e d) (put_in f) → Last e → After g Q (computed_to g.typed (layout g) (O.Field f) e d)
+          → computed_to g.typed (layout g) (O.Field f) e d ≡ then_make (truth_of g.typed (layout g) e d) (put_in f) → Last e → Ends e → After g Q (computed_to g.typed (layout g) (O.Field f) e d)
       unfolding step_of Extends tested_by
-      by_test e is told c truth code last = after_same g Q (code ∙ sym (ap (λ (b : Bool). then_make (tested_by b (truth_of g.typed (layout g) e) (next_of g.typed (layout g) (bits_of (kind_of e)) true e) d) (put_in f)) told)) (by (bits == 1) refl)
+      by_test e is told c truth code last ended = after_same g Q (code ∙ sym (ap (λ (b : Bool). then_make (tested_by b (truth_of g.typed (layout g) e) (next_of g.typed (layout g) (bits_of (kind_of e)) true e) d) (put_in f)) told)) (by (bits == 1) refl)
         where
           tests : Made (Unit {0})
           tests = tested g.typed (layout g) e d
@@ -404,41 +402,41 @@ module _ (g : Setting) where
           bit_put : (len : ℕ) → len ≡ bits → len ≡ 1 → After g Q (then_make tests (put_in (field_at set offset len)))
           bit_put len same one =
               after_same g Q (ap (λ (n : ℕ). then_make tests (put_in (field_at set offset n))) one ∙ at_once set offset tests)
-              (then_after g (λ _ x. LeavesTests g alive fields d s set st (words_of e) x) Q tests (flag_stored (field_at set offset 1)) (inner_tested g has alive n ready places fields set e is c d s st here sim) (λ x e2. (1, and_one g (I.StoreTest (field_at set offset 1)) e2))
-              (λ x e2 left. made_after g Q (O.Field (field_at set offset 1)) (with_instr (I.StoreTest (field_at set offset 1)) e2) (λ within.
+              (then_known g s (meant g fields e st) (words_of e) st (λ _ x. LeavesTests g alive fields d s set st (words_of e) x) Q tests (flag_stored (field_at set offset 1)) (inner_tested g has alive n ready places fields set e is c d s st here sim) (λ x e2. (1, and_one g (I.StoreTest (field_at set offset 1)) e2))
+              (λ given x e2 left. made_after g Q (O.Field (field_at set offset 1)) (with_instr (I.StoreTest (field_at set offset 1)) e2) (λ within.
               let is_one : bits ≡ 1 = sym same ∙ one in
               let puts : Puts g set (I.StoreTest (field_at set offset 1)) (field_at set offset 1) left.leaves.t (words_of e) =
               puts_flags set offset left.leaves.t (words_of e)
               (λ q below on. left.flags q below (sym (flags_of g alive places fields st left.leaves.t set q left.leaves.sim (subst (λ (m : ℕ). m < length (shapes g)) refl (places.exists k 0 set info is_element)) below) ∙ on)) truth in
               subst (λ (m : ℕ). Q (O.Field (field_at set offset m)) (with_instr (I.StoreTest (field_at set offset 1)) e2)) is_one
-              (last e2 (with_instr (I.StoreTest (field_at set offset 1)) e2) (Unit {0}) within left.leaves tt (takes_behind 1 (sym is_one) (I.StoreTest (field_at set offset 1)) e2 (words_of e) (Unit {0}) left.leaves within puts)))))
+              (last given e2 (with_instr (I.StoreTest (field_at set offset 1)) e2) (Unit {0}) within left.leaves tt (takes_behind 1 (sym is_one) (I.StoreTest (field_at set offset 1)) e2 (words_of e) (Unit {0}) left.leaves within puts)))) ended)
 
           by : (b : Bool) → (bits == 1) ≡ b → After g Q (then_make tests (put_in f))
           by true one = bit_put bits refl (eqb-true bits 1 one)
           by false several =
               after_same g Q (through_bit set offset bits tests several)
-              (then_after g (Truth g alive places fields d s set st (words_of e)) Q (then_make tests (stored_behind set)) (bit_moved f) (flag_after g alive places fields set (words_of e) d s st tests (inner_tested g has alive n ready places fields set e is c d s st here sim))
+              (then_known g s (meant g fields e st) (words_of e) st (Truth g alive places fields d s set st (words_of e)) Q (then_make tests (stored_behind set)) (bit_moved f) (flag_after g alive places fields (meant g fields e st) (words_of e) set (words_of e) d s st tests (inner_tested g has alive n ready places fields set e is c d s st here sim))
               (λ kept e2. (1, and_one g (I.Move false f kept) e2))
-              (λ kept e2 bit. made_after g Q (O.Field f) (with_instr (I.Move false f kept) e2) (λ within.
-              last e2 (with_instr (I.Move false f kept) e2) (Behind g kept e2) within bit.passes (length e2.code, (names_second g (I.Move false f kept) f kept [] (length e2.code) (stands_here g (I.Move false f kept) e2 within refl) refl, omega arith))
+              (λ given kept e2 bit. made_after g Q (O.Field f) (with_instr (I.Move false f kept) e2) (λ within.
+              last given e2 (with_instr (I.Move false f kept) e2) (Behind g kept e2) within bit.passes (length e2.code, (names_second g (I.Move false f kept) f kept [] (length e2.code) (stands_here g (I.Move false f kept) e2 within refl) refl, omega arith))
               (takes_behind bits refl (I.Move false f kept) e2 (words_of e) (Behind g kept e2) bit.passes within
-              (puts_bit set f kept bit.passes.t (words_of e) bit.len (λ q below on. bit.are q below (sym (flags_of g alive places fields st bit.passes.t set q bit.passes.sim bit.exists below) ∙ on)) truth)))))
+              (puts_bit set f kept bit.passes.t (words_of e) bit.len (λ q below on. bit.are q below (sym (flags_of g alive places fields st bit.passes.t set q bit.passes.sim bit.exists below) ∙ on)) truth)))) ended)
 
       -- by the complement of a bit
       by_complement : (e operand : TExpr) → IsCondition set operand → (bits_of (kind_of operand) == 1) ≡ true → HasItsCode g.typed g.instance alive n operand → ◌≡◌ {A = ℕ → ℕ} (λ q. from_bool (words_of operand q == 0)) (words_of e)
-          → computed_to g.typed (layout g) (O.Field (field_at set offset 1)) e d ≡ then_make (next_of g.typed (layout g) 1 true operand d) (bit_turned set offset) → bits ≡ 1 → Last e → After g Q (computed_to g.typed (layout g) (O.Field f) e d)
+          → computed_to g.typed (layout g) (O.Field (field_at set offset 1)) e d ≡ then_make (next_of g.typed (layout g) 1 true operand d) (bit_turned set offset) → bits ≡ 1 → (IsGiven operand → IsGiven e) → (Ended g s (meant g fields operand st) → Ended g s (meant g fields e st)) → Last e → Ends e → After g Q (computed_to g.typed (layout g) (O.Field f) e d)
       unfolding Extends step_of in_field
-      by_complement e operand is one c value code is_one last =
+      by_complement e operand is one c value code is_one gives ends last ended =
           after_same g Q (ap (λ (m : ℕ). computed_to g.typed (layout g) (O.Field (field_at set offset m)) e d) is_one ∙ code)
-          (then_after g (AnyBit g alive places fields d s set st (words_of operand)) Q (next_of g.typed (layout g) 1 true operand d) (bit_turned set offset) (inner_bit g has alive n ready places fields set operand is one c d s st here sim) grows
-          (λ x e2 (a, (same, bit)). after_same g Q (ap (λ (o : Out). bit_turned set offset o e2) same)
+          (then_known g s (meant g fields operand st) (words_of operand) st (AnyBit g alive places fields d s set st (words_of operand)) Q (next_of g.typed (layout g) 1 true operand d) (bit_turned set offset) (inner_bit g has alive n ready places fields set operand is one c d s st here sim) grows
+          (λ given x e2 (a, (same, bit)). after_same g Q (ap (λ (o : Out). bit_turned set offset o e2) same)
           (made_after g Q (O.Field (field_at set offset 1)) (with_instr (I.Lognot (field_at set offset 1) a) e2) (λ within.
           let i : Instr = I.Lognot (field_at set offset 1) a in
           let puts : Puts g set i (field_at set offset 1) bit.passes.t (words_of e) =
           subst (λ (v : ℕ → ℕ). Puts g set i (field_at set offset 1) bit.passes.t v) value
           (puts_turned set offset a bit.passes.t (words_of operand) (λ q below on. bit.are q below (sym (flags_of g alive places fields st bit.passes.t set q bit.passes.sim bit.exists below) ∙ on))) in
           subst (λ (m : ℕ). Q (O.Field (field_at set offset m)) (with_instr i e2)) is_one
-          (last e2 (with_instr i e2) (Behind g a e2) within bit.passes (length e2.code, (names_second g i _ a [] (length e2.code) (stands_here g i e2 within refl) refl, omega arith)) (takes_behind 1 (sym is_one) i e2 (words_of e) (Behind g a e2) bit.passes within puts))))))
+          (last (gives given) e2 (with_instr i e2) (Behind g a e2) within bit.passes (length e2.code, (names_second g i _ a [] (length e2.code) (stands_here g i e2 within refl) refl, omega arith)) (takes_behind 1 (sym is_one) i e2 (words_of e) (Behind g a e2) bit.passes within puts))))) (λ early. ended (ends early)))
         where
           grows : (x : Out) (e2 : Draft) → Extends g e2 (bit_turned set offset x e2)
           grows (O.Field a) e2 = (1, and_one g (I.Lognot (field_at set offset 1) a) e2)
@@ -447,9 +445,9 @@ module _ (g : Setting) where
 
       -- by the operation on two bits
       by_operation : (is_or : Bool) (e left right : TExpr) → IsInnerCondition set left → IsInnerCondition set right → ignores_context right ≡ true → HaveTheirCode g.typed g.instance alive n left right
-          → ◌≡◌ {A = ℕ → ℕ} (λ q. from_bool (either_or_both is_or (nonzero (words_of left q)) (nonzero (words_of right q)))) (words_of e) → Last e → After g Q (logical_to g.typed (layout g) (O.Field f) e is_or left right d)
+          → ◌≡◌ {A = ℕ → ℕ} (λ q. from_bool (either_or_both is_or (nonzero (words_of left q)) (nonzero (words_of right q)))) (words_of e) → (IsGiven left → set < length (shapes g) → IsGiven e) → (Ended g s (meant g fields left st) → Ended g s (meant g fields e st)) → Last e → Ends e → After g Q (logical_to g.typed (layout g) (O.Field f) e is_or left right d)
       unfolding Extends step_of tests_on
-      by_operation is_or e left right is also same codes value last = by (bits == 1) refl
+      by_operation is_or e left right is also same codes value gives ends last ended = by (bits == 1) refl
         where
           join : joins left right ≡ true
           join = conditions_join set left right is also same
@@ -457,8 +455,8 @@ module _ (g : Setting) where
           bit_put : (len : ℕ) → len ≡ bits → len ≡ 1 → After g Q (logical_to g.typed (layout g) (O.Field (field_at set offset len)) e is_or left right d)
           bit_put len len_is one =
               after_same g Q (ap (λ (m : ℕ). logical_to g.typed (layout g) (O.Field (field_at set offset m)) e is_or left right d) one ∙ joined_bit_code is_or set offset e left right d join)
-              (both_flagged g has alive n ready places fields set left right is also codes d s st here sim Q (λ a b e2. bit_joined is_or set offset a b e2) (λ a b e2. (1, and_one g (I.Operate (operation_of is_or) (field_at set offset 1) a b) e2))
-              (λ a b e1 e2 left_bit right_bit. made_after g Q (O.Field (field_at set offset 1)) (with_instr (I.Operate (operation_of is_or) (field_at set offset 1) a b) e2) (λ within.
+              (both_flagged g has alive n ready places fields set left right is also same codes d s st here sim Q (λ a b e2. bit_joined is_or set offset a b e2) (λ a b e2. (1, and_one g (I.Operate (operation_of is_or) (field_at set offset 1) a b) e2))
+              (λ given exists a b e1 e2 left_bit right_bit. made_after g Q (O.Field (field_at set offset 1)) (with_instr (I.Operate (operation_of is_or) (field_at set offset 1) a b) e2) (λ within.
               let i : Instr = I.Operate (operation_of is_or) (field_at set offset 1) a b in
               let is_one : bits ≡ 1 = sym len_is ∙ one in
               let there : StandsAt g.unit (length e2.code) i = stands_here g i e2 within refl in
@@ -467,42 +465,42 @@ module _ (g : Setting) where
               let longer = code_longer e1 e2 right_bit.passes.grown.0 right_bit.passes.grown.1 in
               let early : Behind g a e1 = (length e2.code, (named_a, longer)) in
               let passes : PassesTests g alive d e2 s st (Unit {0}) = tests_on g alive d e1 e2 s st (Behind g a e1) (Behind g b e2) (Unit {0}) left_bit.passes right_bit.passes (λ u. early) (λ u. behind_b) in
-              let still : (q : ℕ) → number_in g a right_bit.passes.t q ≡ number_in g a left_bit.passes.t q = λ q. right_bit.passes.stays behind_b a left_bit.somewhere (length e2.code) q left_bit.older left_bit.own left_bit.ends left_bit.named left_bit.before named_a (omega arith) in
+              let still : (q : ℕ) → q < processors (shapes g) set → number_in g a right_bit.passes.t q ≡ number_in g a left_bit.passes.t q = λ q below. truth_still g alive places fields d e1 e2 s set st (words_of left) a (Behind g b e2) (length e2.code) left_bit right_bit.passes behind_b named_a (omega arith) q below in
               let on : (q : ℕ) → q < processors (shapes g) set → is_active (shapes g) right_bit.passes.t.memory set q ≡ true → fields.active set q ≡ true = λ q below active. sym (flags_of g alive places fields st right_bit.passes.t set q right_bit.passes.sim right_bit.exists below) ∙ active in
               let puts : Puts g set i (field_at set offset 1) right_bit.passes.t (words_of e) =
               subst (λ (v : ℕ → ℕ). Puts g set i (field_at set offset 1) right_bit.passes.t v) value
-              (puts_joined is_or set offset a b right_bit.passes.t (words_of left) (words_of right) (λ q below active. still q ∙ left_bit.are q below (on q below active)) (λ q below active. right_bit.are q below (on q below active))) in
+              (puts_joined is_or set offset a b right_bit.passes.t (words_of left) (words_of right) (λ q below active. still q below ∙ left_bit.are q below (on q below active)) (λ q below active. right_bit.are q below (on q below active))) in
               subst (λ (m : ℕ). Q (O.Field (field_at set offset m)) (with_instr i e2)) is_one
-              (last e2 (with_instr i e2) (Unit {0}) within passes tt (takes_behind 1 (sym is_one) i e2 (words_of e) (Unit {0}) passes within puts)))))
+              (last (gives given exists) e2 (with_instr i e2) (Unit {0}) within passes tt (takes_behind 1 (sym is_one) i e2 (words_of e) (Unit {0}) passes within puts)))) (λ early. ended (ends early)))
 
           by : (b : Bool) → (bits == 1) ≡ b → After g Q (logical_to g.typed (layout g) (O.Field f) e is_or left right d)
           by true one = bit_put bits refl (eqb-true bits 1 one)
           by false several =
               after_same g Q (joined_code is_or set offset bits e left right d join several)
-              (both_flagged g has alive n ready places fields set left right is also codes d s st here sim Q (λ a b e2. joined_last is_or set offset bits a b e2) (λ a b e2. (2, joined_more g is_or set offset bits a b e2)) (λ a b e1 e2 one two. made_after g Q (O.Field f) (joined_behind is_or set offset bits a b e2) (λ within.
-              let (passes, takes) = truths_taken g places fields alive set k offset info is_element bits some word is_or a b d e1 e2 s st (words_of left) (words_of right) one two (λ m longer. entry (joined_behind is_or set offset bits a b e2) m longer within) within in
-              last e2 (joined_behind is_or set offset bits a b e2) (Unit {0}) within passes tt (subst (λ (v : ℕ → ℕ). TakesBehind g set f e2 (joined_behind is_or set offset bits a b e2) passes.t v) value takes))))
+              (both_flagged g has alive n ready places fields set left right is also same codes d s st here sim Q (λ a b e2. joined_last is_or set offset bits a b e2) (λ a b e2. (2, joined_more g is_or set offset bits a b e2)) (λ given exists a b e1 e2 one two. made_after g Q (O.Field f) (joined_behind is_or set offset bits a b e2) (λ within.
+              let (passes, takes) = truths_taken g places fields alive set k offset info is_element bits some word is_or a b d e1 e2 s st (words_of left) (words_of right) one two (let some_bits = some in grind (arith, nat_tests, several, some_bits)) (λ m longer. entry (joined_behind is_or set offset bits a b e2) m longer within) within in
+              last (gives given exists) e2 (joined_behind is_or set offset bits a b e2) (Unit {0}) within passes tt (subst (λ (v : ℕ → ℕ). TakesBehind g set f e2 (joined_behind is_or set offset bits a b e2) passes.t v) value takes))) (λ early. ended (ends early)))
 
-      truth_computed : (e : TExpr) → IsTruth set bits e → HasItsCode g.typed g.instance alive n e → Last e → After g Q (computed_to g.typed (layout g) (O.Field f) e d)
-      unfolding IsTruth IsInnerCondition computed_to value_in has_truth goes_unchanged keeps_bits negates unary_of
-      truth_computed (T.Brackets' ty p inner) is c last = truth_computed inner is.1 (brackets_part g alive n places fields ty p inner c) last
-      truth_computed (T.Convert' ty p inner) is c last =
+      truth_computed : (e : TExpr) → IsTruth set bits e → HasItsCode g.typed g.instance alive n e → Last e → Ends e → After g Q (computed_to g.typed (layout g) (O.Field f) e d)
+      unfolding IsTruth IsInnerCondition computed_to value_in has_truth goes_unchanged keeps_bits negates unary_of evaluated
+      truth_computed (T.Brackets' ty p inner) is c last ended = truth_computed inner is.1 (brackets_part g alive n places fields ty p inner c) last ended
+      truth_computed (T.Convert' ty p inner) is c last ended =
           after_same g Q (ap (λ (b : Bool). if b then computed_to g.typed (layout g) (O.Field f) inner d else converted_to g.typed (layout g) (O.Field f) (T.Convert' ty p inner) ty.elem inner d) (kept (nat_le bits ty.elem.bits) (let long = is.1 in grind (arith, nat_tests, long)) (not (ty.elem.bits == 1)) (bits_of (kind_of inner) == 1) (truth_flag set bits inner is.2)))
           (truth_computed inner is.2 (convert_part g alive n places fields ty p inner c)
-          (λ e2 f2 used within p wanted takes. last e2 f2 used within p wanted (subst (λ (v : ℕ → ℕ). TakesBehind g set f e2 f2 p.t v) (λ j q. sym (truth_converted (extents g set) st set bits ty.elem inner q is.2) j) takes)))
+          (λ given e2 f2 used within passes wanted takes. last (convert_means g has alive n ready places fields set ty p inner st is.0 given) e2 f2 used within passes wanted (subst (λ (v : ℕ → ℕ). TakesBehind g set f e2 f2 passes.t v) (λ j q. sym (truth_converted (extents g set) st set bits ty.elem inner q is.2) j) takes)) (λ early. ended (convert_ended g has alive n ready places fields ty p inner s st early)))
         where
           kept : (a : Bool) → a ≡ true → (b c : Bool) → c ≡ true → (a && (b || c)) ≡ true
           kept true e true c h = refl
           kept true e false true h = refl
           kept true e false false h = cc
           kept false e b c h = cc
-      truth_computed (T.Unary' ty op p operand) is c last = by (bits == 1) (bits_of (kind_of operand) == 1) refl refl
+      truth_computed (T.Unary' ty op p operand) is c last ended = by (bits == 1) (bits_of (kind_of operand) == 1) refl refl
         where
           whole : TExpr
           whole = T.Unary' ty op p operand
 
           tests : (bits == 1 && bits_of (kind_of operand) == 1) ≡ false → After g Q (computed_to g.typed (layout g) (O.Field f) whole d)
-          tests no_bit = by_test whole (is.0, inl (is.1, is.2)) is.1 c (λ q. truth_bit (extents g set) st set bits whole q is) (not_code set offset bits ty p op operand d is.1 no_bit (operand_kept g has alive n ready places fields set operand is.2)) last
+          tests no_bit = by_test whole (is.0, inl (is.1, is.2)) is.1 c (λ q. truth_bit (extents g set) st set bits whole q is) (not_code set offset bits ty p op operand d is.1 no_bit (operand_kept g has alive n ready places fields set operand is.2)) last ended
 
           value : (o : UnaryOp) → negates o ≡ true → ◌≡◌ {A = ℕ → ℕ} (λ q. from_bool (words_of operand q == 0)) (λ q. unary_of o (words_of operand q))
           value U.Not e = refl
@@ -512,17 +510,18 @@ module _ (g : Setting) where
 
           by : (a b : Bool) → (bits == 1) ≡ a → (bits_of (kind_of operand) == 1) ≡ b → After g Q (computed_to g.typed (layout g) (O.Field f) whole d)
           by true true one bit =
-              by_complement whole operand is.2 bit (unary_part g alive n places fields ty op p operand c) (value op is.1) (bit_not_code set offset ty p op operand d is.1 bit (operand_kept g has alive n ready places fields set operand is.2)) (eqb-true bits 1 one) last
+              by_complement whole operand is.2 bit (unary_part g alive n places fields ty op p operand c) (value op is.1) (bit_not_code set offset ty p op operand d is.1 bit (operand_kept g has alive n ready places fields set operand is.2)) (eqb-true bits 1 one)
+              (λ given. unary_means fields.scope fields.active set ty op p operand (words_of operand) st is.0.0 given) (λ early. unary_ended g has alive n ready places fields ty op p operand s st early) last ended
           by true false one bit = tests (ap (λ (b : Bool). bits == 1 && b) bit ∙ ap (λ (b : Bool). b && false) one)
           by false b one bit = tests (ap (λ (a : Bool). a && bits_of (kind_of operand) == 1) one)
-      truth_computed (T.LogicalOr' ty p left q right) is c last = by_operation true (T.LogicalOr' ty p left q right) left right is.1 is.2 is.3 (or_codes g.typed g.instance alive n set ty p q left right is.2 c) refl last
-      truth_computed (T.LogicalAnd' ty p left q right) is c last = by_operation false (T.LogicalAnd' ty p left q right) left right is.1 is.2 is.3 (and_codes g.typed g.instance alive n set ty p q left right is.2 c) refl last
-      truth_computed (T.Binary' ty place op p left q right) is c last =
-          by_test (T.Binary' ty place op p left q right) is.1 is.0 c (λ x. truth_bit (extents g set) st set bits (T.Binary' ty place op p left q right) x is) (relation_code set offset bits ty place op p q left right d is.1.0.0 is.0 is.1.1) last
-      truth_computed _ is c last = absurd is
+      truth_computed (T.LogicalOr' ty p left q right) is c last ended = by_operation true (T.LogicalOr' ty p left q right) left right is.1 is.2 is.3 (or_codes g.typed g.instance alive n set ty p q left right is.2 c) refl (λ given exists. or_given g has alive n ready places fields set ty p q left right st is.1 is.2 is.3 given exists) (λ early. or_ended g has alive n ready places fields ty p q left right s st early) last ended
+      truth_computed (T.LogicalAnd' ty p left q right) is c last ended = by_operation false (T.LogicalAnd' ty p left q right) left right is.1 is.2 is.3 (and_codes g.typed g.instance alive n set ty p q left right is.2 c) refl (λ given exists. and_given g has alive n ready places fields set ty p q left right st is.1 is.2 is.3 given exists) (λ early. and_ended g has alive n ready places fields ty p q left right s st early) last ended
+      truth_computed (T.Binary' ty place op p left q right) is c last ended =
+          by_test (T.Binary' ty place op p left q right) is.1 is.0 c (λ x. truth_bit (extents g set) st set bits (T.Binary' ty place op p left q right) x is) (relation_code set offset bits ty place op p q left right d is.1.0.0 is.0 (relates_plainly op is.0)) last ended
+      truth_computed _ is c last ended = absurd is
 
-      pub truth_last : (e : TExpr) → IsTruth set bits e → HasItsCode g.typed g.instance alive n e → Last e → After g Q (put_to g.typed (layout g) (O.Field f) e d)
+      pub truth_last : (e : TExpr) → IsTruth set bits e → HasItsCode g.typed g.instance alive n e → Last e → Ends e → After g Q (put_to g.typed (layout g) (O.Field f) e d)
       unfolding put_to word_for
-      truth_last e is c last =
+      truth_last e is c last ended =
           after_same g Q (ap (λ (o : Option ℕ). elim o as (λ _. Made Out) [ Some word ↦ word_put (O.Field f) word d | None ↦ computed_to g.typed (layout g) (O.Field f) e d ]) (truth_word set bits e is))
-          (truth_computed e is c last)
+          (truth_computed e is c last ended)

@@ -1,9 +1,10 @@
 -- The code of an assignment to a parallel variable, or of a step of one, follows: its last instruction writes the
 -- variable itself.
-use Rattle.std.proofs.Common.{◌≡◌, ◌∙◌, ℕ, ◌<◌, ◌≤◌, ◌^◌, ◌==◌, ◌||◌, Bool, true, false, not, length, Option, Some, None, refl, sym, ap, subst, arith, ◌⊎◌, inl, inr, if◌then◌else◌, ◌&&◌}
+use Rattle.std.proofs.Common.{[], ◌≡◌, ◌∙◌, ℕ, ◌<◌, ◌≤◌, ◌^◌, ◌==◌, ◌||◌, Bool, true, false, not, length, Option, Some, None, refl, sym, ap, subst, arith, ◌⊎◌, inl, inr, if◌then◌else◌, ◌&&◌}
 use Rattle.cstar_base.specs.declared.operators.Op.{Op}
 use Rattle.cstar_base.specs.declared.operators.Place.{Place}
-use Rattle.cstar_base.specs.Operators.{outcome}
+use Rattle.cstar_base.specs.declared.faults.RunFault.TheVariants.{DivZero}
+use Rattle.cstar_base.specs.Operators.{divides, outcome}
 use Rattle.cstar_tree.specs.declared.typed.TExpr.{TExpr, Row_of-TExpr}
 use Rattle.cstar_tree.specs.declared.typed.TExpr as T
 use Rattle.cstar_tree.specs.declared.typed.UnaryOp.{UnaryOp}
@@ -14,9 +15,8 @@ use Rattle.cstar_tree.specs.declared.typed.Variable.{Variable}
 use Rattle.cstar_tree.specs.declared.typed.Variable.TheVariants as V
 use Rattle.cstar_tree.specs.StatementTypes.{variable_info}
 use Rattle.cstar_tree.specs.Typed.{type_of}
-use Rattle.code_lengths.specs.Growth.{Extended}
 use Rattle.code_lengths.specs.Naming.{HasVariable, NamesVariables, plain}
-use Rattle.code_lengths.specs.Ready.{IsReady}
+use Rattle.code_lengths.specs.Ready.{IsReadyButForFields}
 use Rattle.lower_base.specs.declared.emit.Out.{Out}
 use Rattle.lower_base.specs.declared.emit.Out.TheVariants as O
 use Rattle.lower_base.specs.Drafts.{Draft, Fails, Made, Makes, a_field, an_entry, in_field, step as step_of, then_make, with_instr}
@@ -36,60 +36,71 @@ use Rattle.paris_code.specs.declared.operands.Konst.TheVariants as K
 use Rattle.paris_code.specs.declared.program.Owner.{Owner}
 use Rattle.paris_code.specs.declared.program.Owner.TheVariants as W
 use Rattle.paris_code.specs.Code.{CodeState}
+use Rattle.source_meaning.specs.Expressions.{evaluated}
+use Rattle.source_meaning.specs.State as Source
 use Rattle.source_meaning.specs.State.{State}
+use Rattle.source_meaning.specs.Values.{Value}
 use Rattle.source_meaning.proofs.ConstantLaws.{Boxed}
 use Rattle.vp_sets.specs.Positions.{coordinate}
-use Rattle.code_follows.proofs.Following.{Extends, HasRegisters, Sim, extends_then, held}
+use Rattle.code_follows.proofs.Following.{Extends, Finishes, HasRegisters, Sim, extends_then, held}
+use Rattle.code_follows.proofs.Growing.{Extended}
 use Rattle.code_follows.proofs.Words.{held_wide}
 use Rattle.code_follows.proofs.Settings.{At, Setting, Within, and_one, layout}
 use Rattle.fields_follow.specs.Fragment.{AreWrapping, IsOperand, IsOperation, IsPromoted, IsPure, IsWide}
 use Rattle.fields_follow.proofs.Extents.{get_names}
 use Rattle.fields_follow.specs.Fields.{IsElement, file_number}
-use Rattle.fields_follow.proofs.Forms.{HasItsCode, HasItsWord, StandsInRegister, element_is, field_is, promoted_stands, pure_kept, pure_word, word_never_zero}
+use Rattle.fields_follow.proofs.Forms.{HasItsCode, HasItsWord, StandsInRegister, element_is, field_is, promoted_stands, pure_kept, pure_word}
+use Rattle.fields_follow.proofs.Dividing.{zero_at}
+use Rattle.fields_follow.proofs.Outcomes.{Ended, ended_back, meant, then_known}
+use Rattle.fields_follow.proofs.Pure.{get_gives}
 use Rattle.fields_follow.proofs.Hops.{puts_same}
-use Rattle.fields_follow.proofs.Instructions.{AreAlike, Puts, alike_same, extents, puts_alike, puts_constant, puts_coordinate, puts_extended, puts_move, word_in}
-use Rattle.fields_follow.proofs.Lengths.{Keeps}
-use Rattle.fields_follow.proofs.Meaning.{as_shaped, right_of, value_in, word_at}
+use Rattle.fields_follow.proofs.Instructions.{AreAlike, Puts, alike_same, extents, shapes, puts_alike, puts_constant, puts_coordinate, puts_extended, puts_move, word_in}
+use Rattle.fields_follow.proofs.Lengths.{Keeps, divides_wide}
+use Rattle.fields_follow.proofs.Meaning.{as_shaped, promoted_means, read_is, right_of, unary_means, value_in, word_at}
 use Rattle.fields_follow.proofs.News.{get_last}
-use Rattle.fields_follow.proofs.Operands.{GivesRight, Takes, fields_after, operated_after, operated_extends, register_has, register_is, right_extends, right_taken}
+use Rattle.fields_follow.proofs.Operands.{GivesRight, Takes, fields_after, operated_after, operated_extends, register_has, register_is, right_after, right_extends}
 use Rattle.fields_follow.proofs.Passing.{After, Behind, GivesField, Passes, after_same, fields_longer, made_after, passes_all, passes_from, then_after}
-use Rattle.fields_follow.proofs.Places.{HoldsTheFields, IsFileField, PlacesFields}
+use Rattle.fields_follow.proofs.Places.{HoldsTheFields, IsFileField, PlacesFields, stands_here}
 use Rattle.fields_follow.proofs.Sizes.{binary_parts, brackets_part, convert_part, coordinates_small, unary_part}
 use Rattle.fields_follow.proofs.Totals.{held_below}
 use Rattle.fields_follow.proofs.Values.{and_entry, next_field, one_more, operand_of, taken, variable_has, with_entry}
-use Rattle.fields_follow.proofs.Expressions.{binary_at, convert_alike, extended_after, from_operand, negated_after, operand_grows, operands_keep, plus_alike, pure_after, signed_as, unary_at, wide_operands}
+use Rattle.fields_follow.proofs.Expressions.{IsMeant, binary_at, convert_alike, convert_ended, convert_means, coordinate_means, operand_at, unary_ended, extended_after, from_operand, negated_after, operand_grows, operands_keep, plus_alike, pure_after, signed_as, unary_at, wide_operands}
 use Rattle.lower_expr.specs.Joined.{is_flag}
 use Rattle.cstar_base.proofs.NumberLaws.{kind_bits}
 use Rattle.std.proofs.lemmas.Bool.{eqb-true}
 use Rattle.std.proofs.lemmas.Bool.Decides.{nat_tests}
 use Rattle.std.specs.Prelude.{nat_le}
 
-module _ (g : Setting) (has : HasRegisters g) (alive : Variable → Type 0) (n : ℕ) (ready : (d : Draft) → IsReady g.typed g.instance (layout g) n d) (places : PlacesFields g) (fields : HoldsTheFields g) where
+module _ (g : Setting) (has : HasRegisters g) (alive : Variable → Type 0) (n : ℕ) (ready : (d : Draft) → IsReadyButForFields g.typed g.instance (layout g) n d) (places : PlacesFields g) (fields : HoldsTheFields g) where
   abbrev operand : ℕ → Bool → TExpr → Draft → Made Out
   operand bits quiet e d = operand_of g has alive n ready places fields bits quiet e d
 
-  -- The code puts the lowest bits of these words in a field by its last instruction: what is said where an instruction
-  -- does, behind code that leaves all as it was, is said of it.
-  abbrev pub PutsLast : ℕ → Field → (State → ℕ → ℕ) → (Draft → Made Out) → Type 1
-  PutsLast set f v made =
-      (d : Draft) (s : CodeState) (st : State) → At g s (length d.code) → Sim g alive st s → (Q : Out → Draft → Type 0)
-      → ((e2 : Draft) (i : Instr) → Within g (with_instr i e2) → (p : Passes g alive (length d.fields) d e2 s st (Unit {0})) → Puts g set i f p.t (v st) → Q (O.Field f) (with_instr i e2))
-      → After g Q (made d)
-
+  -- The code puts the lowest bits of the words of an expression in a field by its last instruction: what is said where an
+  -- instruction does, behind code that leaves all as it was, is said of it, and what is said where it ends early.
   abbrev words_of : ℕ → TExpr → State → ℕ → ℕ
   words_of set e st q = word_at (extents g set) st e q
+
+  -- the expression gives its numbers in the source
+  abbrev IsGiven : ℕ → TExpr → State → Type 0
+  IsGiven set e st = IsMeant g has alive n ready places fields set e st
+
+  abbrev pub PutsLast : ℕ → Field → TExpr → (Draft → Made Out) → Type 1
+  PutsLast set f e made =
+      (d : Draft) (s : CodeState) (st : State) → At g s (length d.code) → Sim g alive st s → (Q : Out → Draft → Type 0)
+      → (IsGiven set e st → (e2 : Draft) (i : Instr) → Within g (with_instr i e2) → (p : Passes g alive (length d.fields) d e2 s st (Unit {0})) → Puts g set i f p.t (words_of set e st) → Q (O.Field f) (with_instr i e2))
+      → (Ended g s (meant g fields e st) → (x : Out) (after : Draft) → Q x after) → After g Q (made d)
 
   abbrev field_at : ℕ → ℕ → ℕ → Field
   field_at set offset bits = record { set = set; offset = offset; len = bits }
 
   -- so it is of the code of an expression that becomes the value of the field
   abbrev PutsWords : ℕ → ℕ → ℕ → TExpr → Type 1
-  PutsWords set offset bits e = PutsLast set (field_at set offset bits) (words_of set e) (λ d. computed_to g.typed (layout g) (O.Field (field_at set offset bits)) e d)
+  PutsWords set offset bits e = PutsLast set (field_at set offset bits) e (λ d. computed_to g.typed (layout g) (O.Field (field_at set offset bits)) e d)
 
   -- a copy of a variable, cut or extended
   copied_last : (set k offset bits : ℕ) (ty : ValueType) → bits ≤ 32 → ty.shape ≡ Some set → HasVariable g.typed g.instance n (V.File k) (plain ty) → PutsWords set offset bits (T.Variable ty (V.File k))
-  unfolding computed_to read_to spot_of variable_spot loaded in_field field_loaded then_make an_entry passes_from value_in
-  copied_last set k offset bits ty most shaped v d s st here sim Q last =
+  unfolding computed_to read_to spot_of variable_spot loaded in_field field_loaded then_make an_entry passes_from value_in evaluated
+  copied_last set k offset bits ty most shaped v d s st here sim Q last ended =
       let f : Field = field_at set offset bits in
       let info : VarInfo = variable_info v.word (plain ty) v.start in
       let is : IsElement g.typed k info set 0 = element_is g.typed g.instance n k set ty shaped v in
@@ -103,33 +114,35 @@ module _ (g : Setting) (has : HasRegisters g) (alive : Variable → Type 0) (n :
       (made_after g Q (O.Field f) (with_instr i d2) (λ within.
       let file : IsFileField g k 0 source = taken g set info.elem.bits owner d (with_instr i d2) 1 within (and_one g i d2) in
       let numbers = variable_has g has alive n ready places fields set k info source s st is file refl refl sim in
-      last d2 i within (passes_from g alive (length d.fields) d d2 d2 s st (Unit {0}) (and_entry set info.elem.bits owner d) (passes_all g alive (length d.fields) d2 s st (Unit {0}) here sim))
+      last (ap (λ (x : Value). Source.Gives x st) (read_is fields.scope fields.active ty set k st shaped)) d2 i within (passes_from g alive (length d.fields) d d2 d2 s st (Unit {0}) (and_entry set info.elem.bits owner d) (passes_all g alive (length d.fields) d2 s st (Unit {0}) here sim))
       (puts_extended g info.elem set f source s (λ q. held info.elem (st.parallel (V.File k) 0 q)) most (λ q below on. numbers.1 q below) numbers.0)))
 
   -- what is put for one expression is put for another with the same words
-  puts_like : (set offset bits : ℕ) (made : Draft → Made Out) (v w : State → ℕ → ℕ) → ((st : State) (s : CodeState) → Sim g alive st s → AreAlike g bits set (v st) (w st)) → PutsLast set (field_at set offset bits) v made → PutsLast set (field_at set offset bits) w made
-  puts_like set offset bits made v w alike whole d s st here sim Q last =
-      whole d s st here sim Q (λ e2 i within passes puts. last e2 i within passes (puts_alike g set i (field_at set offset bits) passes.t (v st) (w st) (alike st passes.t passes.sim) puts))
+  puts_like : (set offset bits : ℕ) (made : Draft → Made Out) (e other : TExpr) → ((st : State) → IsGiven set e st → IsGiven set other st) → ((s : CodeState) (st : State) → Ended g s (meant g fields e st) → Ended g s (meant g fields other st))
+      → ((st : State) (s : CodeState) → Sim g alive st s → AreAlike g bits set (words_of set e st) (words_of set other st)) → PutsLast set (field_at set offset bits) e made → PutsLast set (field_at set offset bits) other made
+  puts_like set offset bits made e other gives ends alike whole d s st here sim Q last ended =
+      whole d s st here sim Q (λ is e2 i within passes puts. last (gives st is) e2 i within passes (puts_alike g set i (field_at set offset bits) passes.t (words_of set e st) (words_of set other st) (alike st passes.t passes.sim) puts)) (λ early. ended (ends s st early))
 
   -- a unary operator
   negated_last : (set offset bits : ℕ) (ty : ValueType) (op : UnaryOp) (p : Boxed) (inner : TExpr) → bits ≤ 32 → IsPure set (T.Unary' ty op p inner) → HasItsCode g.typed g.instance alive n (T.Unary' ty op p inner) → PutsWords set offset bits inner → PutsWords set offset bits (T.Unary' ty op p inner)
-  unfolding computed_to is_plus negates unary_bits bits_for done_as IsPure
-  negated_last set offset bits ty U.Plus p inner most is c whole d s st here sim Q last =
-      puts_like set offset bits (λ d. computed_to g.typed (layout g) (O.Field (field_at set offset bits)) inner d) (words_of set inner) (words_of set (T.Unary' ty U.Plus p inner)) (λ st s sim. plus_alike g has alive n ready places fields bits set ty p inner st s sim is c) whole d s st here sim Q last
-  negated_last set offset bits ty U.Minus p inner most is c whole d s st here sim Q last =
-      negated_after g has alive n ready places fields bits set U.Minus (field_at set offset bits) inner (length d.fields) d s st most (refl, refl) refl is.2 is.3 (unary_part g alive n places fields ty U.Minus p inner c) (pure_after g has alive n ready places fields bits set inner most is.2 (unary_part g alive n places fields ty U.Minus p inner c)) (omega arith) here sim Q
-      (λ e1 i within passes puts. last e1 i within passes (puts_same g set i (field_at set offset bits) passes.t _ (words_of set (T.Unary' ty U.Minus p inner) st) (λ q below. unary_at g has alive n ready places fields set ty U.Minus p inner st passes.t passes.sim is c q below) puts))
-  negated_last set offset bits ty U.Complement p inner most is c whole d s st here sim Q last =
-      negated_after g has alive n ready places fields bits set U.Complement (field_at set offset bits) inner (length d.fields) d s st most (refl, refl) refl is.2 is.3 (unary_part g alive n places fields ty U.Complement p inner c) (pure_after g has alive n ready places fields bits set inner most is.2 (unary_part g alive n places fields ty U.Complement p inner c)) (omega arith) here sim Q
-      (λ e1 i within passes puts. last e1 i within passes (puts_same g set i (field_at set offset bits) passes.t _ (words_of set (T.Unary' ty U.Complement p inner) st) (λ q below. unary_at g has alive n ready places fields set ty U.Complement p inner st passes.t passes.sim is c q below) puts))
-  negated_last set offset bits ty U.Not p inner most is c whole d s st here sim Q last = let wrong = is.1 in cc
+  unfolding computed_to is_plus negates unary_bits bits_for done_as IsPure value_in
+  negated_last set offset bits ty U.Plus p inner most is c whole d s st here sim Q last ended =
+      puts_like set offset bits (λ d. computed_to g.typed (layout g) (O.Field (field_at set offset bits)) inner d) inner (T.Unary' ty U.Plus p inner)
+      (λ st given. unary_means fields.scope fields.active set ty U.Plus p inner (λ q. value_in (extents g set) st inner q) st is.0.0 given) (λ s st early. unary_ended g has alive n ready places fields ty U.Plus p inner s st early) (λ st s sim. plus_alike g has alive n ready places fields bits set ty p inner st s sim is c) whole d s st here sim Q last ended
+  negated_last set offset bits ty U.Minus p inner most is c whole d s st here sim Q last ended =
+      negated_after g has alive n ready places fields bits set ty U.Minus p (field_at set offset bits) inner (length d.fields) d s st is.0.0 most (refl, refl) refl is.2 is.3 (unary_part g alive n places fields ty U.Minus p inner c) (pure_after g has alive n ready places fields bits set inner most is.2 (unary_part g alive n places fields ty U.Minus p inner c)) (omega arith) here sim Q
+      (λ given e1 i within passes puts. last given e1 i within passes (puts_same g set i (field_at set offset bits) passes.t _ (words_of set (T.Unary' ty U.Minus p inner) st) (λ q below. unary_at g has alive n ready places fields set ty U.Minus p inner st passes.t passes.sim is c q below) puts)) ended
+  negated_last set offset bits ty U.Complement p inner most is c whole d s st here sim Q last ended =
+      negated_after g has alive n ready places fields bits set ty U.Complement p (field_at set offset bits) inner (length d.fields) d s st is.0.0 most (refl, refl) refl is.2 is.3 (unary_part g alive n places fields ty U.Complement p inner c) (pure_after g has alive n ready places fields bits set inner most is.2 (unary_part g alive n places fields ty U.Complement p inner c)) (omega arith) here sim Q
+      (λ given e1 i within passes puts. last given e1 i within passes (puts_same g set i (field_at set offset bits) passes.t _ (words_of set (T.Unary' ty U.Complement p inner) st) (λ q below. unary_at g has alive n ready places fields set ty U.Complement p inner st passes.t passes.sim is c q below) puts)) ended
+  negated_last set offset bits ty U.Not p inner most is c whole d s st here sim Q last ended = let wrong = is.1 in cc
 
   -- a value of as many bits that is moved
-  moved_last : (set offset bits : ℕ) (e : TExpr) → bits ≤ 32 → IsPure set e → HasItsCode g.typed g.instance alive n e → PutsLast set (field_at set offset bits) (words_of set e) (λ d. moved g.typed (layout g) (O.Field (field_at set offset bits)) e d)
+  moved_last : (set offset bits : ℕ) (e : TExpr) → bits ≤ 32 → IsPure set e → HasItsCode g.typed g.instance alive n e → PutsLast set (field_at set offset bits) e (λ d. moved g.typed (layout g) (O.Field (field_at set offset bits)) e d)
   unfolding moved bits_for put_value put_in_field Extends step_of
-  moved_last set offset bits e most pure c d s st here sim Q last =
+  moved_last set offset bits e most pure c d s st here sim Q last ended =
       from_operand g has alive n ready places fields bits set e f (λ a. I.Move true f a) (λ v after. put_value (O.Field f) v after) (length d.fields) d s st (words_of set e st) (λ a. refl) (λ a. refl) grows (λ a after. refl)
-      (λ a t numbers sim_there. puts_move g bits set true f a t (words_of set e st) refl numbers) pure c (pure_after g has alive n ready places fields bits set e most pure c) (omega arith) here sim Q last
+      (λ a t numbers sim_there. puts_move g bits set true f a t (words_of set e st) refl numbers) pure c (pure_after g has alive n ready places fields bits set e most pure c) (omega arith) here sim Q last ended
     where
       f : Field
       f = field_at set offset bits
@@ -142,7 +155,7 @@ module _ (g : Setting) (has : HasRegisters g) (alive : Variable → Type 0) (n :
   -- a binary operator
   operated_last : (set offset bits : ℕ) (ty : ValueType) (place : Place) (op : Op) (p q : Boxed) (left right : TExpr) → bits ≤ 32 → IsPure set (T.Binary' ty place op p left q right) → HasItsCode g.typed g.instance alive n (T.Binary' ty place op p left q right) → PutsWords set offset bits (T.Binary' ty place op p left q right)
   unfolding computed_to binary_to field_binary_to field_binary_of then_make an_entry passes_from IsPure fits_field
-  operated_last set offset bits ty place op p q left right most is c d s st here sim Q last = by (operation_bits bits op right == bits) refl
+  operated_last set offset bits ty place op p q left right most is c d s st here sim Q last ended = by (operation_bits bits op right == bits) refl
     where
       f : Field
       f = field_at set offset bits
@@ -166,19 +179,21 @@ module _ (g : Setting) (has : HasRegisters g) (alive : Variable → Type 0) (n :
           (chosen true fits
           ∙ ap (λ (k : ℕ). then_make (a_field set k d) (λ spare after. fields_by op (reads_signed op left right) place f spare (operand_by g.typed (layout g) k (value_of g.typed (layout g) k left) (is_quiet right) left) left (operand_by g.typed (layout g) k (value_of g.typed (layout g) k right) true right) right after)) (wide_operands bits op left right is.1.0 ∙ works)
           ∙ ap (λ (signed : Bool). fields_by op signed place f (next_field set bits d) (operand bits (is_quiet right) left) left (operand bits true right) right (with_entry set bits W.Own d)) (signed_as op left right is.1.0 is.3.1))
-          (fields_after g has alive n ready places fields bits set op (type_of left).elem.signed place f left right d s st is.1 (λ x. subst (λ (k : ℕ). Keeps op (type_of left).elem.signed k (word_at (extents g set) st right x)) works (operands_keep g has alive n ready places fields bits set op (type_of left).elem.signed right st most is.1 (right_of set left right is.2) parts.1 x)) refl is.2 parts.0 parts.1
+          (fields_after g has alive n ready places fields bits set ty place op p q f left right d s st is.0.0 is.1 (λ divided. sym works ∙ divides_wide bits op right divided) (λ x. subst (λ (k : ℕ). Keeps op (type_of left).elem.signed k (word_at (extents g set) st right x)) works (operands_keep g has alive n ready places fields bits set op (type_of left).elem.signed right st most is.1 (right_of set left right is.2) parts.1 x))
+          (λ x below. operand_at g has alive n ready places fields set right st s sim (right_of set left right is.2) is.4 parts.1 x below) refl is.2 parts.0 parts.1
           (λ pure. pure_after g has alive n ready places fields bits set left most pure parts.0) (λ pure. pure_after g has alive n ready places fields bits set right most pure parts.1)
           (operand_grows g has alive n ready places fields bits left parts.0) (operand_grows g has alive n ready places fields bits right parts.1) here sim Q
-          (λ e2 i within passes puts. last e2 i within (passes_from g alive (length d.fields) d (with_entry set bits W.Own d) e2 s st (Unit {0}) (and_entry set bits W.Own d) passes)
-          (puts_same g set i f passes.t _ (words_of set whole st) (λ x below. binary_at g has alive n ready places fields set ty place op p q left right st passes.t passes.sim is c x below) puts)))
-      by false other = after_same g Q (chosen false other) (moved_last set offset bits whole most is c d s st here sim Q last)
+          (λ given e2 i within passes puts. last given e2 i within (passes_from g alive (length d.fields) d (with_entry set bits W.Own d) e2 s st (Unit {0}) (and_entry set bits W.Own d) passes)
+          (puts_same g set i f passes.t _ (words_of set whole st) (λ x below. binary_at g has alive n ready places fields set ty place op p q left right st passes.t passes.sim is c x below) puts)) ended)
+      by false other = after_same g Q (chosen false other) (moved_last set offset bits whole most is c d s st here sim Q last ended)
 
   -- the own coordinates
   coordinate_last : (set offset bits axis : ℕ) (ty : ValueType) → IsWide set ty → PutsWords set offset bits (T.Pcoord ty axis)
-  unfolding computed_to in_field value_in
-  coordinate_last set offset bits axis ty wide d s st here sim Q last =
+  unfolding computed_to in_field value_in step_of
+  coordinate_last set offset bits axis ty wide d s st here sim Q last ended =
       made_after g Q (O.Field f) (with_instr (I.MyNewsCoordinate f axis) d) (λ within.
-      last d (I.MyNewsCoordinate f axis) within (passes_all g alive (length d.fields) d s st (Unit {0}) here sim)
+      last (coordinate_means g has alive n ready places fields set axis ty st wide.0 (places.ends (length d.code) (I.MyNewsCoordinate f axis) f [] (stands_here g (I.MyNewsCoordinate f axis) d within refl) refl tt refl).0) d (I.MyNewsCoordinate f axis) within
+      (passes_all g alive (length d.fields) d s st (Unit {0}) here sim)
       (puts_same g set (I.MyNewsCoordinate f axis) f s (λ q. coordinate (extents g set) q axis) (words_of set (T.Pcoord ty axis) st) (λ q below. sym (held_wide ty.elem (coordinate (extents g set) q axis) wide.1 (coordinates_small g alive n places fields set axis q below)))
       (puts_coordinate g set axis f s refl (λ p below. coordinates_small g alive n places fields set axis p below))))
     where
@@ -188,7 +203,7 @@ module _ (g : Setting) (has : HasRegisters g) (alive : Variable → Type 0) (n :
   -- a conversion
   converted_last : (set offset bits : ℕ) (ty : ValueType) (p : Boxed) (inner : TExpr) → bits ≤ 32 → IsPure set (T.Convert' ty p inner) → HasItsCode g.typed g.instance alive n (T.Convert' ty p inner) → PutsWords set offset bits inner → PutsWords set offset bits (T.Convert' ty p inner)
   unfolding computed_to goes_unchanged keeps_bits converted_to cast_to IsPure
-  converted_last set offset bits ty p inner most is c whole d s st here sim Q last = by (nat_le bits ty.elem.bits) refl
+  converted_last set offset bits ty p inner most is c whole d s st here sim Q last ended = by (nat_le bits ty.elem.bits) refl
     where
       f : Field
       f = field_at set offset bits
@@ -212,13 +227,13 @@ module _ (g : Setting) (has : HasRegisters g) (alive : Variable → Type 0) (n :
       by : (b : Bool) → nat_le bits ty.elem.bits ≡ b → After g Q (computed_to g.typed (layout g) (O.Field f) e d)
       by true enough =
           after_same g Q (ap (λ (b : Bool). if b then computed_to g.typed (layout g) (O.Field f) inner d else converted_to g.typed (layout g) (O.Field f) e ty.elem inner d) (kept true enough))
-          (puts_like set offset bits (λ d. computed_to g.typed (layout g) (O.Field f) inner d) (words_of set inner) (words_of set e) (λ st s sim. convert_alike g has alive n ready places fields bits set ty p inner st is.1 (grind (arith, nat_tests, enough))) whole d s st here sim Q last)
+          (puts_like set offset bits (λ d. computed_to g.typed (layout g) (O.Field f) inner d) inner e (λ st given. convert_means g has alive n ready places fields set ty p inner st is.0 given) (λ s st early. convert_ended g has alive n ready places fields ty p inner s st early) (λ st s sim. convert_alike g has alive n ready places fields bits set ty p inner st is.1 (grind (arith, nat_tests, enough))) whole d s st here sim Q last ended)
       by false less =
           after_same g Q
           (ap (λ (b : Bool). if b then computed_to g.typed (layout g) (O.Field f) inner d else converted_to g.typed (layout g) (O.Field f) e ty.elem inner d) (kept false less)
           ∙ ap (λ (b : Bool). if b then moved g.typed (layout g) (O.Field f) e d else if ty.elem.bits == 1 then truth_put f (tested g.typed (layout g) inner) d else extended ty.elem.signed f (next_of g.typed (layout g) ty.elem.bits true inner) d) fresh
           ∙ ap (λ (b : Bool). if b then truth_put f (tested g.typed (layout g) inner) d else extended ty.elem.signed f (next_of g.typed (layout g) ty.elem.bits true inner) d) is.1)
-          (extended_after g has alive n ready places fields set ty p inner f (length d.fields) d s st is.1 most is.2 part (pure_after g has alive n ready places fields ty.elem.bits set inner (kind_bits ty.elem.bits ty.elem.signed ty.elem.kind).1 is.2 part) (omega arith) here sim Q last)
+          (extended_after g has alive n ready places fields set ty p inner f (length d.fields) d s st is.0 is.1 most is.2 part (pure_after g has alive n ready places fields ty.elem.bits set inner (kind_bits ty.elem.bits ty.elem.signed ty.elem.kind).1 is.2 part) (omega arith) here sim Q last ended)
 
   -- a get from neighbours
   gone_same : (dest : Out) (Q : Out → Draft → Type 0) (made : Made Out) → After g (λ out e. Q dest e) made → After g Q (gone_to dest made)
@@ -229,15 +244,16 @@ module _ (g : Setting) (has : HasRegisters g) (alive : Variable → Type 0) (n :
   get_computed : (set offset bits : ℕ) (ty : ValueType) (place : Place) (p : _) (indexes : Row_of-TExpr _) (k of : ℕ) → bits ≤ 32 → ty.shape ≡ Some set → of ≡ set → AreWrapping set 0 indexes → HasItsCode g.typed g.instance alive n (T.LeftIndex' ty place p indexes (V.File k) of)
       → PutsWords set offset bits (T.LeftIndex' ty place p indexes (V.File k) of)
   unfolding computed_to NamesVariables
-  get_computed set offset bits ty place p indexes k of most shaped same are c d s st here sim Q last =
+  get_computed set offset bits ty place p indexes k of most shaped same are c d s st here sim Q last ended =
       gone_same (O.Field (field_at set offset bits)) Q _
-      (get_last g alive n places fields ty place p indexes k of set offset bits (λ after. spot_of g.typed (layout g) (T.LeftIndex' ty place p indexes (V.File k) of) after) (length d.fields) d s st most shaped same are c.code.names.0 (get_names g.typed g.instance n of set indexes same are c.code.names.1 c.code.names.2) (omega arith) here sim (λ out e. Q (O.Field (field_at set offset bits)) e) last)
+      (get_last g alive n places fields ty place p indexes k of set offset bits (λ after. spot_of g.typed (layout g) (T.LeftIndex' ty place p indexes (V.File k) of) after) (length d.fields) d s st most shaped same are c.code.names.0 (get_names g.typed g.instance n of set indexes same are c.code.names.1 c.code.names.2) (omega arith) here sim (λ out e. Q (O.Field (field_at set offset bits)) e)
+      (last (get_gives g places fields n ty place p indexes k of set st shaped same are c.code.names.0 (get_names g.typed g.instance n of set indexes same are c.code.names.1 c.code.names.2))))
 
   computed_last : (set offset bits : ℕ) (e : TExpr) → bits ≤ 32 → IsPure set e → HasItsCode g.typed g.instance alive n e → PutsWords set offset bits e
-  unfolding IsPure computed_to value_in NamesVariables
+  unfolding IsPure computed_to value_in NamesVariables evaluated
   computed_last set offset bits (T.Variable ty (V.File k)) most is c = copied_last set k offset bits ty most is c.code.names
   computed_last set offset bits (T.Brackets' ty p inner) most is c =
-      puts_like set offset bits (λ d. computed_to g.typed (layout g) (O.Field (field_at set offset bits)) inner d) (words_of set inner) (words_of set (T.Brackets' ty p inner)) (λ st s sim. alike_same g bits set _ _ (λ q below few. ap (λ (y : ValueType). held y.elem (value_in (extents g set) st inner q)) is.0))
+      puts_like set offset bits (λ d. computed_to g.typed (layout g) (O.Field (field_at set offset bits)) inner d) inner (T.Brackets' ty p inner) (λ st given. given) (λ s st early. early) (λ st s sim. alike_same g bits set _ _ (λ q below few. ap (λ (y : ValueType). held y.elem (value_in (extents g set) st inner q)) is.0))
       (computed_last set offset bits inner most is.1 (brackets_part g alive n places fields ty p inner c))
   computed_last set offset bits (T.Unary' ty op p inner) most is c = negated_last set offset bits ty op p inner most is c (computed_last set offset bits inner most is.2 (unary_part g alive n places fields ty op p inner c))
   computed_last set offset bits (T.Binary' ty place op p left q right) most is c = operated_last set offset bits ty place op p q left right most is c
@@ -266,30 +282,33 @@ module _ (g : Setting) (has : HasRegisters g) (alive : Variable → Type 0) (n :
   register_code set offset bits _ is h d = absurd is
 
   -- any operand
-  pub put_last : (set offset bits : ℕ) (e : TExpr) → bits ≤ 32 → IsOperand set e → HasItsCode g.typed g.instance alive n e → PutsLast set (field_at set offset bits) (words_of set e) (λ d. put_to g.typed (layout g) (O.Field (field_at set offset bits)) e d)
+  pub put_last : (set offset bits : ℕ) (e : TExpr) → bits ≤ 32 → IsOperand set e → HasItsCode g.typed g.instance alive n e → PutsLast set (field_at set offset bits) e (λ d. put_to g.typed (layout g) (O.Field (field_at set offset bits)) e d)
   unfolding put_to word_for word_put word_in
-  put_last set offset bits e most (inl pure) c d s st here sim Q last =
+  put_last set offset bits e most (inl pure) c d s st here sim Q last ended =
       let f : Field = field_at set offset bits in
       after_same g Q (ap (λ (o : Option ℕ). elim o as (λ _. Made Out) [ Some word ↦ word_put (O.Field f) word d | None ↦ computed_to g.typed (layout g) (O.Field f) e d ]) (pure_word set e pure))
-      (computed_last set offset bits e most pure c d s st here sim Q last)
-  put_last set offset bits e most (inr promoted) c d s st here sim Q last = by (promoted_stands g.typed g.instance alive n set e promoted c.code.names c.among)
+      (computed_last set offset bits e most pure c d s st here sim Q last ended)
+  put_last set offset bits e most (inr promoted) c d s st here sim Q last ended = by (promoted_stands g.typed g.instance alive n set e promoted c.code.names c.among)
     where
       f : Field
       f = field_at set offset bits
+
+      is_given : IsGiven set e st
+      is_given = promoted_means fields.scope fields.active set (extents g set) e st promoted
 
       by : HasItsWord e ⊎ StandsInRegister g.typed g.instance alive e → After g Q (put_to g.typed (layout g) (O.Field f) e d)
       by (inl h) =
           let same_all : (λ (q : ℕ). h.word) ≡ words_of set e st = λ j q. sym (h.value (extents g set) st q) j in
           after_same g Q (ap (λ (o : Option ℕ). elim o as (λ _. Made Out) [ Some word ↦ word_put (O.Field f) word d | None ↦ computed_to g.typed (layout g) (O.Field f) e d ]) h.is)
           (made_after g Q (O.Field f) (with_instr (I.MoveConstant f (K.Imm h.word)) d) (λ within.
-          last d (I.MoveConstant f (K.Imm h.word)) within (passes_all g alive (length d.fields) d s st (Unit {0}) here sim) (subst (λ (v : ℕ → ℕ). Puts g set (I.MoveConstant f (K.Imm h.word)) f s v) same_all (puts_constant g set f (K.Imm h.word) s h.small))))
+          last is_given d (I.MoveConstant f (K.Imm h.word)) within (passes_all g alive (length d.fields) d s st (Unit {0}) here sim) (subst (λ (v : ℕ → ℕ). Puts g set (I.MoveConstant f (K.Imm h.word)) f s v) same_all (puts_constant g set f (K.Imm h.word) s h.small))))
       by (inr h) =
           let k : Konst = K.Reg (register_of (layout g) h.x) in
           let holds = register_has g has alive n ready places fields e h st s sim in
           let same_all : (λ (q : ℕ). word_in g k s) ≡ words_of set e st = λ j q. (holds.0 ∙ sym (h.value (extents g set) st q)) j in
           after_same g Q (ap (λ (o : Option ℕ). elim o as (λ _. Made Out) [ Some word ↦ word_put (O.Field f) word d | None ↦ computed_to g.typed (layout g) (O.Field f) e d ]) h.no_word ∙ register_code set offset bits e promoted h d)
           (made_after g Q (O.Field f) (with_instr (I.MoveConstant f k) d) (λ within.
-          last d (I.MoveConstant f k) within (passes_all g alive (length d.fields) d s st (Unit {0}) here sim) (subst (λ (v : ℕ → ℕ). Puts g set (I.MoveConstant f k) f s v) same_all (puts_constant g set f k s (subst (λ (w : ℕ). w < 2 ^ 32) (sym holds.0) holds.1)))))
+          last is_given d (I.MoveConstant f k) within (passes_all g alive (length d.fields) d s st (Unit {0}) here sim) (subst (λ (v : ℕ → ℕ). Puts g set (I.MoveConstant f k) f s v) same_all (puts_constant g set f k s (subst (λ (w : ℕ). w < 2 ^ 32) (sym holds.0) holds.1)))))
 
   -- An operator on the field of a variable and a value. The field is an entry for the variable wherever the draft is
   -- within the unit.
@@ -298,23 +317,26 @@ module _ (g : Setting) (has : HasRegisters g) (alive : Variable → Type 0) (n :
 
   pub in_place_last : (set offset k : ℕ) (info : VarInfo) (op : Op) (signed : Bool) (place : Place) (value : TExpr) (d : Draft) (s : CodeState) (st : State) → IsElement g.typed k info set 0 → IsEntryFor k (field_at set offset info.elem.bits) d
       → IsOperation op value → operation_bits info.elem.bits op value ≡ info.elem.bits → IsOperand set value → HasItsCode g.typed g.instance alive n value → At g s (length d.code) → Sim g alive st s → (Q : Out → Draft → Type 0)
-      → ((e2 : Draft) (i : Instr) → Within g (with_instr i e2) → (p : Passes g alive (length d.fields) d e2 s st (Unit {0})) → Puts g set i (field_at set offset info.elem.bits) p.t (λ q. outcome op 32 (not signed) (held info.elem (st.parallel (V.File k) 0 q)) (words_of set value st q)) → Q (O.Field (field_at set offset info.elem.bits)) (with_instr i e2))
+      → (IsGiven set value st → set < length (shapes g) → (divides op ≡ true → zero_at g fields set (words_of set value st) ≡ None) → (e2 : Draft) (i : Instr) → Within g (with_instr i e2) → (p : Passes g alive (length d.fields) d e2 s st (Unit {0})) → Puts g set i (field_at set offset info.elem.bits) p.t (λ q. outcome op 32 (not signed) (held info.elem (st.parallel (V.File k) 0 q)) (words_of set value st q)) → Q (O.Field (field_at set offset info.elem.bits)) (with_instr i e2))
+      → (Ended g s (meant g fields value st) → (x : Out) (after : Draft) → Q x after)
+      → (IsGiven set value st → set < length (shapes g) → divides op ≡ true → (q : ℕ) → zero_at g fields set (words_of set value st) ≡ Some q → Finishes g (Source.Fault DivZero place (Some q)) st s → (x : Out) (after : Draft) → Q x after)
       → After g Q (field_operated g.typed (layout g) op signed place (field_at set offset info.elem.bits) value d)
   unfolding field_operated then_make an_entry passes_from
-  in_place_last set offset k info op signed place value d s st is entry known works isin c here sim Q last =
-      then_after g (GivesField g alive bits (length d.fields) d1 s set st v) Q (Makes f d1) (λ a begun. then_make (right_by (operand bits true value) op value begun) (λ right after. right_operated op signed place f a right spare after))
-      (made_after g (GivesField g alive bits (length d.fields) d1 s set st v) f d1 (λ within. record {
-        passes = passes_all g alive (length d.fields) d1 s st (Behind g f d1) here sim;
+  in_place_last set offset k info op signed place value d s st is entry known works isin c here sim Q last ended fault =
+      then_after g (GivesField g alive bits (length d1.fields) d1 s set st v) Q (Makes f d1) (λ a begun. then_make (right_by (operand bits true value) op value begun) (λ right after. right_operated op signed place f a right spare after))
+      (made_after g (GivesField g alive bits (length d1.fields) d1 s set st v) f d1 (λ within. record {
+        passes = passes_all g alive (length d1.fields) d1 s st (Behind g f d1) here sim;
         stands = inr (record { k = k; info = info; is = is; file = entry d1 0 (and_entry set bits W.Own d) within; of_set = refl; len = refl; fits = omega arith; same = λ q below. (refl, held_below info.elem (st.parallel (V.File k) 0 q)) });
       }))
       (λ a begun. extends_then g begun (right_by (operand bits true value) op value begun) (λ right after. right_operated op signed place f a right spare after) (right_extends g (operand bits true value) op value (λ after. operand_grows g has alive n ready places fields bits value c true after) begun) (λ right after. operated_extends g op signed place f a spare right after known.0))
-      (λ a e1 one. then_after g (λ right e. Takes op right × GivesRight g has alive n ready places fields bits (length e1.fields) e1 one.passes.t set st w right e) Q (right_by (operand bits true value) op value e1) (λ right after. right_operated op signed place f a right spare after)
-      (right_taken g has alive n ready places fields bits set op value known isin c (λ pure. pure_after g has alive n ready places fields bits set value most pure c) e1 one.passes.t st one.passes.at one.passes.sim)
+      (λ a e1 one. then_known g one.passes.t (meant g fields value st) (λ q. value_in (extents g set) st value q) st (λ right e. Takes op right × GivesRight g has alive n ready places fields bits (length e1.fields) e1 one.passes.t set st w right e) Q (right_by (operand bits true value) op value e1) (λ right after. right_operated op signed place f a right spare after)
+      (right_after g has alive n ready places fields bits set op value known.1 isin c (λ pure. pure_after g has alive n ready places fields bits set value most pure c) e1 one.passes.t st one.passes.at one.passes.sim)
       (λ right after. operated_extends g op signed place f a spare right after known.0)
-      (λ right e2 two. operated_after g has alive n ready places fields bits (length d.fields) set op signed place f spare a v w d1 e1 e2 s st known.0 (word_never_zero set op value (extents g set) st known isin)
-      (λ q. subst (λ (x : ℕ). Keeps op signed x (w q)) works (operands_keep g has alive n ready places fields bits set op signed value st most known isin c q)) refl
-      (let more = fields_longer d1 e1 one.passes.grown.0 one.passes.grown.1 in let first = one_more set bits W.Own d in omega (arith, more, first)) one right two.0 two.1 Q
-      (λ i within p puts. last e2 i within (passes_from g alive (length d.fields) d d1 e2 s st (Unit {0}) (and_entry set bits W.Own d) p) puts)))
+      (λ given right e2 two. operated_after g has alive n ready places fields bits (length d1.fields) set op signed place f a v w d e1 e2 s st known.0 (λ divided. sym works ∙ divides_wide bits op value divided)
+      (λ q. subst (λ (x : ℕ). Keeps op signed x (w q)) works (operands_keep g has alive n ready places fields bits set op signed value st most known isin c q)) refl (let first = one_more set bits W.Own d in omega (arith, first)) (fields_longer d1 e1 one.passes.grown.0 one.passes.grown.1) one right
+      (λ x same. omega arith) two.0 two.1 Q
+      (λ there never e3 i within p puts. last given there never e3 i within (passes_from g alive (length d.fields) d d1 e3 s st (Unit {0}) (and_entry set bits W.Own d) p) puts) (λ there divided q none ends. fault given there divided q none ends))
+      (λ early. ended (ended_back g s one.passes.t (meant g fields value st) one.passes.go early)))
     where
       bits : ℕ
       bits = info.elem.bits

@@ -1,5 +1,5 @@
 -- The code of a pure parallel expression follows.
-use Rattle.std.proofs.Common.{◌≡◌, ◌∙◌, ℕ, ◌+◌, ◌<◌, ◌≤◌, Bool, ◌==◌, ◌&&◌, true, false, not, [], ◌∷◌, length, Option, Some, None, refl, sym, ap, subst, arith, ◌⊎◌, inl, inr, if◌then◌else◌}
+use Rattle.std.proofs.Common.{List, ◌≡◌, ◌∙◌, ℕ, ◌+◌, ◌<◌, ◌≤◌, Bool, ◌==◌, ◌&&◌, true, false, not, [], ◌∷◌, length, Option, Some, None, refl, sym, ap, subst, arith, ◌⊎◌, inl, inr, if◌then◌else◌}
 use Rattle.cstar_base.specs.declared.operators.Op.{Op}
 use Rattle.cstar_base.specs.declared.operators.Place.{Place}
 use Rattle.cstar_base.specs.Operators.{outcome}
@@ -11,11 +11,9 @@ use Rattle.cstar_tree.specs.declared.typed.ValueType.{ValueType}
 use Rattle.cstar_tree.specs.declared.typed.Variable.{Variable}
 use Rattle.cstar_tree.specs.declared.typed.Variable.TheVariants as V
 use Rattle.cstar_tree.specs.Typed.{type_of}
-use Rattle.code_lengths.specs.Growth.{Extended}
 use Rattle.code_lengths.specs.Naming.{HasVariable, NamesVariables, plain}
-use Rattle.code_lengths.specs.Ready.{IsReady}
-use Rattle.code_lengths.proofs.Agreeing.{expressions}
-use Rattle.code_lengths.proofs.Drafting.{extended as extended_on}
+use Rattle.code_lengths.specs.Ready.{IsReadyButForFields}
+use Rattle.code_lengths.proofs.Agreeing.{lengths_if_made}
 use Rattle.lower_base.specs.declared.emit.Out.{Out}
 use Rattle.lower_base.specs.declared.emit.Out.TheVariants as O
 use Rattle.lower_base.specs.Drafts.{Draft, Made, Makes, Plain, a_field, an_entry, fresh_for, in_field, step as step_of, then_make, with_instr}
@@ -33,12 +31,15 @@ use Rattle.paris_code.specs.declared.program.Owner.TheVariants as W
 use Rattle.paris_code.specs.Code.{CodeState}
 use Rattle.paris_code.specs.Spans.{StandsAt, fields_of}
 use Rattle.paris_code.specs.Memory.{processors}
-use Rattle.source_meaning.specs.State.{State}
-use Rattle.source_meaning.specs.Values.{unary_of}
+use Rattle.source_meaning.specs.Expressions.{evaluated, mapped}
+use Rattle.source_meaning.specs.State as Source
+use Rattle.source_meaning.specs.State.{Outcome, State, then_do}
+use Rattle.source_meaning.specs.Values.{Parallel, Value, at, convert_to, each, own_coordinate, unary_of}
 use Rattle.source_meaning.proofs.ConstantLaws.{Boxed}
 use Rattle.vp_sets.specs.Positions.{coordinate}
 use Rattle.constant_trees.proofs.Words.{converted_below}
-use Rattle.code_follows.proofs.Following.{Extends, HasRegisters, Sim, held}
+use Rattle.code_follows.proofs.Following.{Extends, Follows, HasRegisters, Sim, follows_same, held}
+use Rattle.code_follows.proofs.Growing.{Extended, extended as extended_on}
 use Rattle.code_follows.proofs.Operators.{wide_signed}
 use Rattle.code_follows.proofs.Settings.{At, Setting, Within, and_one, layout}
 use Rattle.code_follows.proofs.Standing.{some_same}
@@ -46,14 +47,16 @@ use Rattle.code_follows.proofs.Values.{extends_grown}
 use Rattle.code_follows.proofs.Words.{below_word, held_wide}
 use Rattle.fields_follow.specs.Fragment.{AreWrapping, IsOperation, IsPromoted, IsPure, IsWide}
 use Rattle.fields_follow.proofs.Extents.{get_names}
-use Rattle.fields_follow.proofs.Forms.{HasItsCode, HasItsWord, StandsInRegister, promoted_stands, pure_kept, pure_word, word_never_zero}
+use Rattle.fields_follow.proofs.Forms.{HasItsCode, HasItsWord, StandsInRegister, promoted_stands, pure_kept, pure_word}
 use Rattle.fields_follow.proofs.Hops.{puts_same}
 use Rattle.fields_follow.proofs.Instructions.{AreAlike, HasNumbers, Puts, alike_same, extents, has_alike, puts_coordinate, puts_extended, puts_lognot, puts_negate, shapes, whole_keeps}
-use Rattle.fields_follow.proofs.Lengths.{Keeps, converted_first, held_has, operation_keeps, operation_most}
-use Rattle.fields_follow.proofs.Meaning.{left_of, right_of, value_in, word_at}
+use Rattle.fields_follow.proofs.Lengths.{Keeps, converted_first, divides_wide, held_has, operation_keeps, operation_most}
+use Rattle.fields_follow.proofs.Meaning.{as_shaped, left_of, right_of, unary_means, value_in, word_at}
 use Rattle.fields_follow.proofs.News.{get_last}
 use Rattle.fields_follow.proofs.Operands.{fields_after}
-use Rattle.fields_follow.proofs.Passing.{After, Behind, Passes, after_same, after_weaker, fields_longer, gives_alike, gives_from, gives_numbers, gives_on, made_after, names_second, passes_all, puts_own, then_after}
+use Rattle.fields_follow.proofs.Outcomes.{Ended, Given, Known, ended_on, follows_like, given_follows, given_weaker, known_follows, meant, then_known}
+use Rattle.fields_follow.proofs.Pure.{get_gives}
+use Rattle.fields_follow.proofs.Passing.{After, Behind, Passes, after_same, fields_longer, gives_alike, gives_from, gives_numbers, gives_on, made_after, names_second, passes_all, puts_own}
 use Rattle.fields_follow.proofs.Places.{HoldsTheFields, PlacesFields, stands_here}
 use Rattle.fields_follow.proofs.Sizes.{binary_parts, brackets_part, convert_part, coordinates_small, promoted_small, pure_at, unary_part}
 use Rattle.fields_follow.proofs.Totals.{held_below}
@@ -78,7 +81,7 @@ unfolding reads_signed
 signed_as op left right operates wide =
     ap (λ (c : Bool). if c then elim (relation_kind left right) [ None ↦ is_signed (type_of left).elem | Some kind ↦ kind.signed ] else is_signed (type_of left).elem) operates ∙ wide_signed (type_of left).elem wide
 
-module _ (g : Setting) (has : HasRegisters g) (alive : Variable → Type 0) (n : ℕ) (ready : (d : Draft) → IsReady g.typed g.instance (layout g) n d) (places : PlacesFields g) (fields : HoldsTheFields g) where
+module _ (g : Setting) (has : HasRegisters g) (alive : Variable → Type 0) (n : ℕ) (ready : (d : Draft) → IsReadyButForFields g.typed g.instance (layout g) n d) (places : PlacesFields g) (fields : HoldsTheFields g) where
   abbrev code : ℕ → TExpr → Draft → Made Out
   code bits e d = code_of g has alive n ready places fields bits e d
 
@@ -88,11 +91,22 @@ module _ (g : Setting) (has : HasRegisters g) (alive : Variable → Type 0) (n :
   abbrev Answers : ℕ → ℕ → Draft → CodeState → ℕ → State → (ℕ → ℕ) → Out → Draft → Type 0
   Answers bits bound d s set st v out e = Gives g has alive n ready places fields bits bound d s set st v out e
 
-  abbrev Follows : ℕ → ℕ → TExpr → Type 0
-  Follows bits set e = Valued g has alive n ready places fields bits set e (code bits e)
+  abbrev IsValued : ℕ → ℕ → TExpr → Type 0
+  IsValued bits set e = Valued g has alive n ready places fields bits set e (code bits e)
+
+  -- its value, and it is known or the code ends
+  abbrev number : ℕ → TExpr → State → ℕ → ℕ
+  number set e st = λ q. value_in (extents g set) st e q
+
+  abbrev Knows : ℕ → Draft → CodeState → ℕ → State → TExpr → Out → Draft → Type 0
+  Knows bits d s set st e out f = Known g s (meant g fields e st) (number set e st) st (Answers bits (length d.fields) d s set st (λ q. word_at (extents g set) st e q)) out f
+
+  -- in the source it gives that value
+  abbrev pub IsMeant : ℕ → TExpr → State → Type 0
+  IsMeant set e st = meant g fields e st ≡ Source.Gives (Parallel (number set e st)) st
 
   pub operand_grows : (bits : ℕ) (e : TExpr) → HasItsCode g.typed g.instance alive n e → (quiet : Bool) (d : Draft) → Extends g d (operand bits quiet e d)
-  operand_grows bits e c quiet d = extends_grown g has alive _ d _ _ ((expressions g.typed g.instance (layout g)).operand bits n quiet e d c.code (ready d))
+  operand_grows bits e c quiet d = extends_grown g has alive _ d _ _ ((lengths_if_made g.typed g.instance (layout g)).operand bits n quiet e d c.code (ready d))
 
   -- what the last instruction writes to the entry that was taken first is the value
   own_result : (bits set : ℕ) (d e2 : Draft) (s : CodeState) (st : State) (v : ℕ → ℕ) (i : Instr) → Within g (with_instr i e2) → (p : Passes g alive (length d.fields) (with_entry set bits W.Own d) e2 s st (Unit {0})) → Puts g set i (next_field set bits d) p.t v
@@ -157,17 +171,17 @@ module _ (g : Setting) (has : HasRegisters g) (alive : Variable → Type 0) (n :
   pub from_operand : (bits set : ℕ) (inner : TExpr) (dest : Field) (i : Field → Instr) (next : Out → Draft → Made Out) (bound : ℕ) (d : Draft) (s : CodeState) (st : State) (w : ℕ → ℕ) → ((a : Field) → step_of (i a) ≡ Plain (i a)) → ((a : Field) → fields_of (i a) ≡ dest ∷ a ∷ [])
       → ((x : Out) (after : Draft) → Extends g after (next x after)) → ((a : Field) (after : Draft) → next (O.Field a) after ≡ Makes (O.Field dest) (with_instr (i a) after))
       → ((a : Field) (t : CodeState) → HasNumbers g bits set a t (λ q. word_at (extents g set) st inner q) → Sim g alive st t → Puts g set (i a) dest t w)
-      → IsPure set inner → HasItsCode g.typed g.instance alive n inner → Follows bits set inner → bound ≤ length d.fields → At g s (length d.code) → Sim g alive st s → (Q : Out → Draft → Type 0)
-      → ((e1 : Draft) (i : Instr) → Within g (with_instr i e1) → (p : Passes g alive bound d e1 s st (Unit {0})) → Puts g set i dest p.t w → Q (O.Field dest) (with_instr i e1))
+      → IsPure set inner → HasItsCode g.typed g.instance alive n inner → IsValued bits set inner → bound ≤ length d.fields → At g s (length d.code) → Sim g alive st s → (Q : Out → Draft → Type 0)
+      → (IsMeant set inner st → (e1 : Draft) (i : Instr) → Within g (with_instr i e1) → (p : Passes g alive bound d e1 s st (Unit {0})) → Puts g set i dest p.t w → Q (O.Field dest) (with_instr i e1)) → (Ended g s (meant g fields inner st) → (x : Out) (f : Draft) → Q x f)
       → After g Q (then_make (operand bits true inner d) (λ v after. next v after))
   unfolding step_of
-  from_operand bits set inner dest i next bound d s st w plain both grows is_next puts pure c whole less here sim Q last =
-      then_after g (Answers bits (length d.fields) d s set st v) Q (operand bits true inner d) (λ x after. next x after)
+  from_operand bits set inner dest i next bound d s st w plain both grows is_next puts pure c whole less here sim Q last ended =
+      then_known g s (meant g fields inner st) (number set inner st) st (Answers bits (length d.fields) d s set st v) Q (operand bits true inner d) (λ x after. next x after)
       (operand_after g has alive n ready places fields bits set inner true pure c.code.names whole d s st here sim) grows
-      (λ x e1 (a, (is, gives)). after_same g Q (ap (λ (o : Out). next o e1) is ∙ is_next a e1) (made_after g Q (O.Field dest) (with_instr (i a) e1) (λ within.
+      (λ is_meant x e1 (a, (is, gives)). after_same g Q (ap (λ (o : Out). next o e1) is ∙ is_next a e1) (made_after g Q (O.Field dest) (with_instr (i a) e1) (λ within.
       let there : StandsAt g.unit (length e1.code) (i a) = stands_here g (i a) e1 within (plain a) in
       let behind : Behind g a e1 = (length e1.code, (names_second g (i a) dest a [] (length e1.code) there (both a), omega arith)) in
-      last e1 (i a) within (record {
+      last is_meant e1 (i a) within (record {
         grown = gives.passes.grown;
         t = gives.passes.t;
         go = gives.passes.go;
@@ -175,22 +189,28 @@ module _ (g : Setting) (has : HasRegisters g) (alive : Variable → Type 0) (n :
         registers = gives.passes.registers;
         sim = gives.passes.sim;
         stays = λ u h first later p below. gives.passes.stays behind h first later p (omega (arith, below, less));
-      }) (puts a gives.passes.t (gives_numbers g alive places fields bits (length d.fields) d s set st v a e1 gives) gives.passes.sim))))
+      }) (puts a gives.passes.t (gives_numbers g alive places fields bits (length d.fields) d s set st v a e1 gives) gives.passes.sim)))) ended
     where
       v : ℕ → ℕ
       v = λ q. word_at (extents g set) st inner q
 
-  pub negated_after : (bits set : ℕ) (op : UnaryOp) (dest : Field) (inner : TExpr) (bound : ℕ) (d : Draft) (s : CodeState) (st : State) → bits ≤ 32 → IsSign op → dest.len ≡ bits → IsPure set inner → IsWide set (type_of inner) → HasItsCode g.typed g.instance alive n inner → Follows bits set inner
+  -- a unary operator ends where its operand does
+  pub unary_ended : (ty : ValueType) (op : UnaryOp) (p : Boxed) (inner : TExpr) (s : CodeState) (st : State) → Ended g s (meant g fields inner st) → Ended g s (meant g fields (T.Unary' ty op p inner) st)
+  unfolding evaluated
+  unary_ended ty op p inner s st early = ended_on g s (meant g fields inner st) (λ v after. Source.Gives (mapped ty (unary_of op) v) after) early
+
+  pub negated_after : (bits set : ℕ) (ty : ValueType) (op : UnaryOp) (p : Boxed) (dest : Field) (inner : TExpr) (bound : ℕ) (d : Draft) (s : CodeState) (st : State) → ty.shape ≡ Some set → bits ≤ 32 → IsSign op → dest.len ≡ bits → IsPure set inner → IsWide set (type_of inner) → HasItsCode g.typed g.instance alive n inner → IsValued bits set inner
       → bound ≤ length d.fields → At g s (length d.code) → Sim g alive st s → (Q : Out → Draft → Type 0)
-      → ((e1 : Draft) (i : Instr) → Within g (with_instr i e1) → (p : Passes g alive bound d e1 s st (Unit {0})) → Puts g set i dest p.t (λ q. unary_of op (value_in (extents g set) st inner q)) → Q (O.Field dest) (with_instr i e1))
+      → (IsMeant set (T.Unary' ty op p inner) st → (e1 : Draft) (i : Instr) → Within g (with_instr i e1) → (p : Passes g alive bound d e1 s st (Unit {0})) → Puts g set i dest p.t (λ q. unary_of op (value_in (extents g set) st inner q)) → Q (O.Field dest) (with_instr i e1))
+      → (Ended g s (meant g fields (T.Unary' ty op p inner) st) → (x : Out) (f : Draft) → Q x f)
       → After g Q (then_make (operand bits true inner d) (λ v after. negated (layout g) op (O.Field dest) v after))
-  unfolding negated in_field Extends step_of
-  negated_after bits set op dest inner bound d s st most sign long pure wide c whole less here sim Q last =
+  unfolding negated in_field Extends step_of value_in
+  negated_after bits set ty op p dest inner bound d s st shaped most sign long pure wide c whole less here sim Q last ended =
       from_operand bits set inner dest (λ a. negating op dest a) (λ v after. negated (layout g) op (O.Field dest) v after) bound d s st (λ q. unary_of op (value_in (extents g set) st inner q)) (λ a. plain op a sign) (λ a. both op a sign) grows (λ a after. negated_is op dest a after sign)
       (λ a t numbers sim_there.
       puts_negating bits set op dest a t (λ q. value_in (extents g set) st inner q) most sign long
       (has_alike g bits set a t (λ q. word_at (extents g set) st inner q) (λ q. value_in (extents g set) st inner q) (alike_same g bits set _ _ (λ q below few. sym (pure_at g alive n places fields set inner st t sim_there pure wide c q below))) numbers))
-      pure c whole less here sim Q last
+      pure c whole less here sim Q (λ is. last (unary_means fields.scope fields.active set ty op p inner (number set inner st) st shaped is)) (λ early. ended (unary_ended ty op p inner s st early))
     where
       one_more_instr : (op : UnaryOp) (f : Field) (after : Draft) → IsSign op → Extends g after (field_negated op dest f after)
       one_more_instr op f after sign = subst (λ (m : Made Out). Extends g after m) (sym (negated_is op dest f after sign)) (1, and_one g (negating op dest f) after)
@@ -223,16 +243,17 @@ module _ (g : Setting) (has : HasRegisters g) (alive : Variable → Type 0) (n :
   unfolding done_as
   done_as_it_is bits op operand plain = ap (λ (b : Bool). if b && (bits == 1 && (not (is_kept operand) && bits_of (kind_of operand) == 1)) then U.Complement else op) plain
 
-  signed_after : (bits set : ℕ) (ty : ValueType) (op : UnaryOp) (p : Boxed) (inner : TExpr) → bits ≤ 32 → IsSign op → IsPure set (T.Unary' ty op p inner) → HasItsCode g.typed g.instance alive n (T.Unary' ty op p inner) → Follows bits set inner → Follows bits set (T.Unary' ty op p inner)
+  signed_after : (bits set : ℕ) (ty : ValueType) (op : UnaryOp) (p : Boxed) (inner : TExpr) → bits ≤ 32 → IsSign op → IsPure set (T.Unary' ty op p inner) → HasItsCode g.typed g.instance alive n (T.Unary' ty op p inner) → IsValued bits set inner → IsValued bits set (T.Unary' ty op p inner)
   unfolding value_of unary_by unary_bits fresh_for then_make an_entry IsPure
   signed_after bits set ty op p inner most sign is c whole d s st here sim =
-      after_same g (Answers bits (length d.fields) d s set st v)
+      known_follows g s (meant g fields (T.Unary' ty op p inner) st) (number set (T.Unary' ty op p inner) st) st (Answers bits (length d.fields) d s set st v) (code bits (T.Unary' ty op p inner) d)
+      (after_same g (Knows bits d s set st (T.Unary' ty op p inner))
       (ap (λ (o : UnaryOp). if is_plus o then code bits inner d else then_make (fresh_for ty.shape bits d) (λ dest between. then_make (operand_by g.typed (layout g) (unary_bits bits op inner) (value_of g.typed (layout g) (unary_bits bits op inner) inner) true inner between) (λ x after. negated (layout g) o dest x after))) (done_as_it_is bits op inner sign.1)
       ∙ ap (λ (b : Bool). if b then code bits inner d else then_make (fresh_for ty.shape bits d) (λ dest between. then_make (operand_by g.typed (layout g) (unary_bits bits op inner) (value_of g.typed (layout g) (unary_bits bits op inner) inner) true inner between) (λ x after. negated (layout g) op dest x after))) sign.0
       ∙ ap (λ (b : Bool). then_make (fresh_for ty.shape bits d) (λ dest between. then_make (operand_by g.typed (layout g) (if b then bits_of (kind_of inner) else bits) (value_of g.typed (layout g) (if b then bits_of (kind_of inner) else bits) inner) true inner between) (λ x after. negated (layout g) op dest x after))) sign.1
       ∙ ap (λ (o : Option ℕ). then_make (fresh_for o bits d) (λ dest between. then_make (operand bits true inner between) (λ x after. negated (layout g) op dest x after))) is.0.0)
-      (negated_after bits set op (next_field set bits d) inner (length d.fields) (with_entry set bits W.Own d) s st most sign refl is.2 is.3 (unary_part g alive n places fields ty op p inner c) whole (let one = one_more set bits W.Own d in omega (arith, one)) here sim (Answers bits (length d.fields) d s set st v)
-      (λ e1 i within passes puts. own_result bits set d e1 s st v i within passes (puts_same g set i (next_field set bits d) passes.t _ v (λ q below. unary_at set ty op p inner st passes.t passes.sim is c q below) puts)))
+      (negated_after bits set ty op p (next_field set bits d) inner (length d.fields) (with_entry set bits W.Own d) s st is.0.0 most sign refl is.2 is.3 (unary_part g alive n places fields ty op p inner c) whole (let one = one_more set bits W.Own d in omega (arith, one)) here sim (Knows bits d s set st (T.Unary' ty op p inner))
+      (λ is_meant e1 i within passes puts. inl (is_meant, own_result bits set d e1 s st v i within passes (puts_same g set i (next_field set bits d) passes.t _ v (λ q below. unary_at set ty op p inner st passes.t passes.sim is c q below) puts))) (λ early x f. inr early)))
     where
       v : ℕ → ℕ
       v = λ q. word_at (extents g set) st (T.Unary' ty op p inner) q
@@ -247,14 +268,16 @@ module _ (g : Setting) (has : HasRegisters g) (alive : Variable → Type 0) (n :
       ∙ sym (pure_at g alive n places fields set inner st s sim is.2 is.3 (unary_part g alive n places fields ty U.Plus p inner c) q below))
 
   -- words that are alike are given alike
-  pub answers_alike : (bits bound : ℕ) (d : Draft) (s : CodeState) (set : ℕ) (st : State) (v w : ℕ → ℕ) (made : Made Out) → AreAlike g bits set v w → After g (Answers bits bound d s set st v) made → After g (Answers bits bound d s set st w) made
-  answers_alike bits bound d s set st v w made alike h =
-      after_weaker g (Answers bits bound d s set st v) (Answers bits bound d s set st w) made (λ out e (f, (is, gives)). (f, (is, gives_alike g alive places fields bits bound d s set st v w f e alike gives))) h
+  pub answers_alike : (bits bound : ℕ) (d : Draft) (s : CodeState) (set : ℕ) (st : State) (v w : ℕ → ℕ) → AreAlike g bits set v w → (out : Out) (e : Draft) → Answers bits bound d s set st v out e → Answers bits bound d s set st w out e
+  answers_alike bits bound d s set st v w alike out e (f, (is, gives)) = (f, (is, gives_alike g alive places fields bits bound d s set st v w f e alike gives))
 
-  unary_after : (bits set : ℕ) (ty : ValueType) (op : UnaryOp) (p : Boxed) (inner : TExpr) → bits ≤ 32 → IsPure set (T.Unary' ty op p inner) → HasItsCode g.typed g.instance alive n (T.Unary' ty op p inner) → Follows bits set inner → Follows bits set (T.Unary' ty op p inner)
-  unfolding value_of unary_by is_plus negates done_as IsPure
+  unary_after : (bits set : ℕ) (ty : ValueType) (op : UnaryOp) (p : Boxed) (inner : TExpr) → bits ≤ 32 → IsPure set (T.Unary' ty op p inner) → HasItsCode g.typed g.instance alive n (T.Unary' ty op p inner) → IsValued bits set inner → IsValued bits set (T.Unary' ty op p inner)
+  unfolding value_of unary_by is_plus negates done_as IsPure value_in
   unary_after bits set ty U.Plus p inner most is c whole d s st here sim =
-      answers_alike bits (length d.fields) d s set st (λ q. word_at (extents g set) st inner q) (λ q. word_at (extents g set) st (T.Unary' ty U.Plus p inner) q) (code bits inner d) (plus_alike bits set ty p inner st s sim is c) (whole d s st here sim)
+      follows_like g s (meant g fields inner st) (meant g fields (T.Unary' ty U.Plus p inner) st) (number set inner st) (number set (T.Unary' ty U.Plus p inner) st) st (Answers bits (length d.fields) d s set st (λ q. word_at (extents g set) st inner q))
+      (Answers bits (length d.fields) d s set st (λ q. word_at (extents g set) st (T.Unary' ty U.Plus p inner) q)) (code bits inner d)
+      (λ is_meant. unary_means fields.scope fields.active set ty U.Plus p inner (number set inner st) st is.0.0 is_meant) (λ early. unary_ended ty U.Plus p inner s st early)
+      (answers_alike bits (length d.fields) d s set st (λ q. word_at (extents g set) st inner q) (λ q. word_at (extents g set) st (T.Unary' ty U.Plus p inner) q) (plus_alike bits set ty p inner st s sim is c)) (whole d s st here sim)
   unary_after bits set ty U.Minus p inner most is c whole d s st here sim = signed_after bits set ty U.Minus p inner most (refl, refl) is c whole d s st here sim
   unary_after bits set ty U.Complement p inner most is c whole d s st here sim = signed_after bits set ty U.Complement p inner most (refl, refl) is c whole d s st here sim
   unary_after bits set ty U.Not p inner most is c whole d s st here sim = let wrong = is.1 in cc
@@ -277,7 +300,7 @@ module _ (g : Setting) (has : HasRegisters g) (alive : Variable → Type 0) (n :
   pub operands_keep : (bits set : ℕ) (op : Op) (signed : Bool) (right : TExpr) (st : State) → bits ≤ 32 → IsOperation op right → IsPure set right ⊎ IsPromoted set right → HasItsCode g.typed g.instance alive n right → (q : ℕ) → Keeps op signed (operation_bits bits op right) (word_at (extents g set) st right q)
   operands_keep bits set op signed right st most is operand c q =
       operation_keeps bits op signed right (word_at (extents g set) st right q) most (λ word is_word. constant_at set right st operand c q word is_word)
-      (whole_keeps op signed (word_at (extents g set) st right q) is.0 (λ divided. word_never_zero set op right (extents g set) st is operand divided q))
+      (whole_keeps op signed (word_at (extents g set) st right q) is.0)
 
   pub binary_at : (set : ℕ) (ty : ValueType) (place : Place) (op : Op) (p q : Boxed) (left right : TExpr) (st : State) (s : CodeState) → Sim g alive st s → IsPure set (T.Binary' ty place op p left q right) → HasItsCode g.typed g.instance alive n (T.Binary' ty place op p left q right) → (x : ℕ) → x < processors (shapes g) set
       → outcome op 32 (not (type_of left).elem.signed) (word_at (extents g set) st left x) (word_at (extents g set) st right x) ≡ word_at (extents g set) st (T.Binary' ty place op p left q right) x
@@ -289,15 +312,20 @@ module _ (g : Setting) (has : HasRegisters g) (alive : Variable → Type 0) (n :
       ∙ sym (pure_at g alive n places fields set (T.Binary' ty place op p left q right) st s sim is is.0 c x below)
 
   binary_after : (bits set : ℕ) (ty : ValueType) (place : Place) (op : Op) (p q : Boxed) (left right : TExpr) → bits ≤ 32 → IsPure set (T.Binary' ty place op p left q right) → HasItsCode g.typed g.instance alive n (T.Binary' ty place op p left q right)
-      → (IsPure set left → Follows (operation_bits bits op right) set left) → (IsPure set right → Follows (operation_bits bits op right) set right) → Follows bits set (T.Binary' ty place op p left q right)
+      → (IsPure set left → IsValued (operation_bits bits op right) set left) → (IsPure set right → IsValued (operation_bits bits op right) set right) → IsValued bits set (T.Binary' ty place op p left q right)
   unfolding IsPure
   binary_after bits set ty place op p q left right most is c whole_left whole_right d s st here sim =
-      after_same g (Answers bits (length d.fields) d s set st v) (binary_code bits set ty place op p q left right d is.0.0 is.1.0 is.3.1)
-      (first_given g has alive n ready places fields works bits (length d.fields) d s set st v made (operation_most bits op right most).0
-      (fields_after g has alive n ready places fields works set op (type_of left).elem.signed place (next_field set works d) left right d s st is.1 (λ x. operands_keep bits set op (type_of left).elem.signed right st most is.1 (right_of set left right is.2) parts.1 x) refl is.2 parts.0 parts.1 whole_left whole_right
-      (operand_grows works left parts.0) (operand_grows works right parts.1) here sim (Answers works (length d.fields) d s set st v)
-      (λ e2 i within passes puts. own_result works set d e2 s st v i within passes (puts_same g set i (next_field set works d) passes.t _ v (λ x below. binary_at set ty place op p q left right st passes.t passes.sim is c x below) puts))))
+      known_follows g s (meant g fields whole st) (number set whole st) st (Answers bits (length d.fields) d s set st v) (code bits whole d)
+      (after_same g (Knows bits d s set st whole) (binary_code bits set ty place op p q left right d is.0.0 is.1.0 is.3.1)
+      (first_given g has alive n ready places fields works bits (length d.fields) d s set st v (IsMeant set whole st) (Ended g s (meant g fields whole st)) made (operation_most bits op right most).0
+      (fields_after g has alive n ready places fields works set ty place op p q (next_field set works d) left right d s st is.0.0 is.1 (divides_wide bits op right) (λ x. operands_keep bits set op (type_of left).elem.signed right st most is.1 (right_of set left right is.2) parts.1 x)
+      (λ x below. operand_at set right st s sim (right_of set left right is.2) is.4 parts.1 x below) refl is.2 parts.0 parts.1 whole_left whole_right (operand_grows works left parts.0) (operand_grows works right parts.1) here sim (Knows works d s set st whole)
+      (λ is_meant e2 i within passes puts. inl (is_meant, own_result works set d e2 s st v i within passes (puts_same g set i (next_field set works d) passes.t _ v (λ x below. binary_at set ty place op p q left right st passes.t passes.sim is c x below) puts)))
+      (λ early x f. inr early))))
     where
+      whole : TExpr
+      whole = T.Binary' ty place op p left q right
+
       works : ℕ
       works = operation_bits bits op right
 
@@ -310,13 +338,20 @@ module _ (g : Setting) (has : HasRegisters g) (alive : Variable → Type 0) (n :
       made : Made Out
       made = fields_by op (type_of left).elem.signed place (next_field set works d) (next_field set works d) (operand works (is_quiet right) left) left (operand works true right) right (with_entry set works W.Own d)
 
-  coordinate_after : (bits set axis : ℕ) (ty : ValueType) → IsWide set ty → Follows bits set (T.Pcoord ty axis)
+  -- the own coordinates, of a shape of the image
+  pub coordinate_means : (set axis : ℕ) (ty : ValueType) (st : State) → ty.shape ≡ Some set → set < length (shapes g) → IsMeant set (T.Pcoord ty axis) st
+  unfolding evaluated own_coordinate value_in
+  coordinate_means set axis ty st shaped exists = ap (λ (o : Option ℕ). Source.Gives (own_coordinate fields.scope o axis) st) shaped ∙ ap (λ (xs : List ℕ). Source.Gives (Parallel (λ q. coordinate xs q axis)) st) (fields.same_extents set exists)
+
+  coordinate_after : (bits set axis : ℕ) (ty : ValueType) → IsWide set ty → IsValued bits set (T.Pcoord ty axis)
   unfolding value_of coordinate_in then_make an_entry value_in
   coordinate_after bits set axis ty wide d s st here sim =
-      after_same g (Answers bits (length d.fields) d s set st v) (ap (λ (o : Option ℕ). coordinate_in o bits axis d) wide.0)
-      (made_after g (Answers bits (length d.fields) d s set st v) (O.Field dest) (with_instr i d1) (λ within.
-      own_result bits set d d1 s st v i within (passes_all g alive (length d.fields) d1 s st (Unit {0}) here sim)
-      (puts_same g set i dest s (λ q. coordinate (extents g set) q axis) v (λ q below. sym (held_wide ty.elem (coordinate (extents g set) q axis) wide.1 (coordinates_small g alive n places fields set axis q below))) (puts_coordinate g set axis dest s refl (λ p below. coordinates_small g alive n places fields set axis p below)))))
+      known_follows g s (meant g fields (T.Pcoord ty axis) st) (number set (T.Pcoord ty axis) st) st (Answers bits (length d.fields) d s set st v) (code bits (T.Pcoord ty axis) d)
+      (after_same g (Knows bits d s set st (T.Pcoord ty axis)) (ap (λ (o : Option ℕ). coordinate_in o bits axis d) wide.0)
+      (made_after g (Knows bits d s set st (T.Pcoord ty axis)) (O.Field dest) (with_instr i d1) (λ within.
+      let given = own_result bits set d d1 s st v i within (passes_all g alive (length d.fields) d1 s st (Unit {0}) here sim)
+      (puts_same g set i dest s (λ q. coordinate (extents g set) q axis) v (λ q below. sym (held_wide ty.elem (coordinate (extents g set) q axis) wide.1 (coordinates_small g alive n places fields set axis q below))) (puts_coordinate g set axis dest s refl (λ p below. coordinates_small g alive n places fields set axis p below))) in
+      inl (coordinate_means set axis ty st wide.0 (gives_numbers g alive places fields bits (length d.fields) d s set st v given.0 (with_instr i d1) given.1.1).exists, given))))
     where
       d1 : Draft
       d1 = with_entry set bits W.Own d
@@ -356,18 +391,30 @@ module _ (g : Setting) (has : HasRegisters g) (alive : Variable → Type 0) (n :
   unfolding value_in
   convert_alike bits set ty p inner st no_truth less q below few = (converted_first ty.elem (type_of inner).elem (value_in (extents g set) st inner q) bits no_truth less, held_below ty.elem (converted ty.elem (type_of inner).elem (value_in (extents g set) st inner q)))
 
+  -- what a conversion means
+  pub convert_means : (set : ℕ) (ty : ValueType) (p : Boxed) (inner : TExpr) (st : State) → ty.shape ≡ Some set → IsMeant set inner st → IsMeant set (T.Convert' ty p inner) st
+  unfolding evaluated then_do convert_to each at value_in
+  convert_means set ty p inner st shaped is =
+      ap (λ (o : Outcome Value). then_do o (λ v after. Source.Gives (convert_to ty (type_of inner).elem v) after)) is
+      ∙ ap (λ (y : ValueType). Source.Gives (convert_to y (type_of inner).elem (Parallel (number set inner st))) st) (as_shaped ty set shaped)
+
+  pub convert_ended : (ty : ValueType) (p : Boxed) (inner : TExpr) (s : CodeState) (st : State) → Ended g s (meant g fields inner st) → Ended g s (meant g fields (T.Convert' ty p inner) st)
+  unfolding evaluated
+  convert_ended ty p inner s st early = ended_on g s (meant g fields inner st) (λ v after. Source.Gives (convert_to ty (type_of inner).elem v) after) early
+
   -- a field of as many bits as the type has is extended
-  pub extended_after : (set : ℕ) (ty : ValueType) (p : Boxed) (inner : TExpr) (dest : Field) (bound : ℕ) (d : Draft) (s : CodeState) (st : State) → (ty.elem.bits == 1) ≡ false → dest.len ≤ 32 → IsPure set inner → HasItsCode g.typed g.instance alive n inner → Follows ty.elem.bits set inner
+  pub extended_after : (set : ℕ) (ty : ValueType) (p : Boxed) (inner : TExpr) (dest : Field) (bound : ℕ) (d : Draft) (s : CodeState) (st : State) → ty.shape ≡ Some set → (ty.elem.bits == 1) ≡ false → dest.len ≤ 32 → IsPure set inner → HasItsCode g.typed g.instance alive n inner → IsValued ty.elem.bits set inner
       → bound ≤ length d.fields → At g s (length d.code) → Sim g alive st s → (Q : Out → Draft → Type 0)
-      → ((e1 : Draft) (i : Instr) → Within g (with_instr i e1) → (passes : Passes g alive bound d e1 s st (Unit {0})) → Puts g set i dest passes.t (λ q. word_at (extents g set) st (T.Convert' ty p inner) q) → Q (O.Field dest) (with_instr i e1))
+      → (IsMeant set (T.Convert' ty p inner) st → (e1 : Draft) (i : Instr) → Within g (with_instr i e1) → (passes : Passes g alive bound d e1 s st (Unit {0})) → Puts g set i dest passes.t (λ q. word_at (extents g set) st (T.Convert' ty p inner) q) → Q (O.Field dest) (with_instr i e1))
+      → (Ended g s (meant g fields (T.Convert' ty p inner) st) → (x : Out) (f : Draft) → Q x f)
       → After g Q (extended ty.elem.signed dest (operand ty.elem.bits true inner) d)
   unfolding extended in_field Extends step_of value_in
-  extended_after set ty p inner dest bound d s st no_truth most pure c whole less here sim Q last =
+  extended_after set ty p inner dest bound d s st shaped no_truth most pure c whole less here sim Q last ended =
       from_operand ty.elem.bits set inner dest (λ a. I.Move ty.elem.signed dest a) (λ v after. in_field v (λ source. Makes (O.Field dest) (with_instr (I.Move ty.elem.signed dest source) after))) bound d s st w (λ a. refl) (λ a. refl) grows (λ a after. refl)
       (λ a t numbers sim_there.
       puts_extended g ty.elem set dest a t w most (λ q below on. held_has ty.elem (converted ty.elem (type_of inner).elem (value_in (extents g set) st inner q)) (converted_below ty.elem (type_of inner).elem (value_in (extents g set) st inner q)))
       (has_alike g ty.elem.bits set a t (λ q. word_at (extents g set) st inner q) w (convert_alike ty.elem.bits set ty p inner st no_truth (omega arith)) numbers))
-      pure c whole less here sim Q last
+      pure c whole less here sim Q (λ is. last (convert_means set ty p inner st shaped is)) (λ early. ended (convert_ended ty p inner s st early))
     where
       w : ℕ → ℕ
       w = λ q. word_at (extents g set) st (T.Convert' ty p inner) q
@@ -377,38 +424,47 @@ module _ (g : Setting) (has : HasRegisters g) (alive : Variable → Type 0) (n :
       grows (O.Field f) after = (1, and_one g (I.Move ty.elem.signed dest f) after)
       grows O.Nothing after = tt
 
-  convert_after : (bits set : ℕ) (ty : ValueType) (p : Boxed) (inner : TExpr) → bits ≤ 32 → IsPure set (T.Convert' ty p inner) → HasItsCode g.typed g.instance alive n (T.Convert' ty p inner) → ((k : ℕ) → k ≤ 32 → Follows k set inner) → Follows bits set (T.Convert' ty p inner)
+  convert_after : (bits set : ℕ) (ty : ValueType) (p : Boxed) (inner : TExpr) → bits ≤ 32 → IsPure set (T.Convert' ty p inner) → HasItsCode g.typed g.instance alive n (T.Convert' ty p inner) → ((k : ℕ) → k ≤ 32 → IsValued k set inner) → IsValued bits set (T.Convert' ty p inner)
   unfolding IsPure an_entry then_make
-  convert_after bits set ty p inner most is c whole d s st here sim = after_same g Q (convert_code bits ty p inner d is.1 (pure_kept set inner is.2)) (by (nat_lt ty.elem.bits bits) refl)
+  convert_after bits set ty p inner most is c whole d s st here sim = follows_same g R s refl (convert_code bits ty p inner d is.1 (pure_kept set inner is.2)) (by (nat_lt ty.elem.bits bits) refl)
     where
-      w : ℕ → ℕ
-      w = λ q. word_at (extents g set) st (T.Convert' ty p inner) q
+      e : TExpr
+      e = T.Convert' ty p inner
 
-      Q : Out → Draft → Type 0
-      Q = Answers bits (length d.fields) d s set st w
+      w : ℕ → ℕ
+      w = λ q. word_at (extents g set) st e q
+
+      R : Value → State → Out → Draft → Type 0
+      R = Given g (number set e st) st (Answers bits (length d.fields) d s set st w)
 
       part : HasItsCode g.typed g.instance alive n inner
       part = convert_part g alive n places fields ty p inner c
 
-      by : (b : Bool) → nat_lt ty.elem.bits bits ≡ b → After g Q (if nat_lt ty.elem.bits bits then then_make (a_field (unwrap_or ty.shape 0) bits d) (λ dest begun. extended ty.elem.signed dest (operand ty.elem.bits true inner) begun) else code bits inner d)
+      made : Bool → Made Out
+      made b = if b then then_make (a_field (unwrap_or ty.shape 0) bits d) (λ dest begun. extended ty.elem.signed dest (operand ty.elem.bits true inner) begun) else code bits inner d
+
+      by : (b : Bool) → nat_lt ty.elem.bits bits ≡ b → Follows g R s (meant g fields e st) (made (nat_lt ty.elem.bits bits))
       by true more =
-          after_same g Q
-          (ap (λ (b : Bool). if b then then_make (a_field (unwrap_or ty.shape 0) bits d) (λ dest begun. extended ty.elem.signed dest (operand ty.elem.bits true inner) begun) else code bits inner d) more
-          ∙ ap (λ (o : Option ℕ). then_make (a_field (unwrap_or o 0) bits d) (λ dest begun. extended ty.elem.signed dest (operand ty.elem.bits true inner) begun)) is.0)
-          (extended_after set ty p inner (next_field set bits d) (length d.fields) (with_entry set bits W.Own d) s st is.1 most is.2 part (whole ty.elem.bits (kind_bits ty.elem.bits ty.elem.signed ty.elem.kind).1) (let one = one_more set bits W.Own d in omega (arith, one)) here sim Q
-          (λ e1 i within passes puts. own_result bits set d e1 s st w i within passes puts))
+          known_follows g s (meant g fields e st) (number set e st) st (Answers bits (length d.fields) d s set st w) (made (nat_lt ty.elem.bits bits))
+          (after_same g (Knows bits d s set st e) (ap made more ∙ ap (λ (o : Option ℕ). then_make (a_field (unwrap_or o 0) bits d) (λ dest begun. extended ty.elem.signed dest (operand ty.elem.bits true inner) begun)) is.0)
+          (extended_after set ty p inner (next_field set bits d) (length d.fields) (with_entry set bits W.Own d) s st is.0 is.1 most is.2 part (whole ty.elem.bits (kind_bits ty.elem.bits ty.elem.signed ty.elem.kind).1) (let one = one_more set bits W.Own d in omega (arith, one)) here sim (Knows bits d s set st e)
+          (λ is_meant e1 i within passes puts. inl (is_meant, own_result bits set d e1 s st w i within passes puts)) (λ early x f. inr early)))
       by false enough =
-          after_same g Q (ap (λ (b : Bool). if b then then_make (a_field (unwrap_or ty.shape 0) bits d) (λ dest begun. extended ty.elem.signed dest (operand ty.elem.bits true inner) begun) else code bits inner d) enough)
-          (answers_alike bits (length d.fields) d s set st (λ q. word_at (extents g set) st inner q) w (code bits inner d) (convert_alike bits set ty p inner st is.1 (grind (arith, nat_tests, enough))) (whole bits most d s st here sim))
+          follows_same g R s refl (ap made enough)
+          (follows_like g s (meant g fields inner st) (meant g fields e st) (number set inner st) (number set e st) st (Answers bits (length d.fields) d s set st (λ q. word_at (extents g set) st inner q)) (Answers bits (length d.fields) d s set st w) (code bits inner d)
+          (λ is_meant. convert_means set ty p inner st is.0 is_meant) (λ early. convert_ended ty p inner s st early)
+          (answers_alike bits (length d.fields) d s set st (λ q. word_at (extents g set) st inner q) w (convert_alike bits set ty p inner st is.1 (grind (arith, nat_tests, enough)))) (whole bits most d s st here sim))
 
   -- a get from neighbours
   get_after : (bits set : ℕ) (ty : ValueType) (place : Place) (p : _) (indexes : Row_of-TExpr _) (k of : ℕ) → bits ≤ 32 → ty.shape ≡ Some set → of ≡ set → AreWrapping set 0 indexes → HasItsCode g.typed g.instance alive n (T.LeftIndex' ty place p indexes (V.File k) of)
-      → Follows bits set (T.LeftIndex' ty place p indexes (V.File k) of)
+      → IsValued bits set (T.LeftIndex' ty place p indexes (V.File k) of)
   unfolding value_of index_read_by fresh_for then_make an_entry NamesVariables
   get_after bits set ty place p indexes k of most shaped same are c d s st here sim =
-      after_same g (Answers bits (length d.fields) d s set st v) (ap (λ (o : Option ℕ). then_make (fresh_for o bits d) (λ dest begun. index_read_to g.typed (layout g) e spot dest begun)) shaped)
+      given_follows g s (meant g fields e st) (number set e st) st (Answers bits (length d.fields) d s set st v) (code bits e d)
+      (get_gives g places fields n ty place p indexes k of set st shaped same are c.code.names.0 (get_names g.typed g.instance n of set indexes same are c.code.names.1 c.code.names.2))
+      (after_same g (Answers bits (length d.fields) d s set st v) (ap (λ (o : Option ℕ). then_make (fresh_for o bits d) (λ dest begun. index_read_to g.typed (layout g) e spot dest begun)) shaped)
       (get_last g alive n places fields ty place p indexes k of set (length d.fields) bits spot (length d.fields) (with_entry set bits W.Own d) s st most shaped same are c.code.names.0 (get_names g.typed g.instance n of set indexes same are c.code.names.1 c.code.names.2) (let one = one_more set bits W.Own d in omega (arith, one)) here sim
-      (Answers bits (length d.fields) d s set st v) (λ e2 i within passes puts. own_result bits set d e2 s st v i within passes puts))
+      (Answers bits (length d.fields) d s set st v) (λ e2 i within passes puts. own_result bits set d e2 s st v i within passes puts)))
     where
       e : TExpr
       e = T.LeftIndex' ty place p indexes (V.File k) of
@@ -420,13 +476,13 @@ module _ (g : Setting) (has : HasRegisters g) (alive : Variable → Type 0) (n :
       v = λ q. word_at (extents g set) st e q
 
   -- the code of so many bits of a pure expression leaves the lowest bits of its words in a field
-  pub pure_after : (bits set : ℕ) (e : TExpr) → bits ≤ 32 → IsPure set e → HasItsCode g.typed g.instance alive n e → Follows bits set e
-  unfolding IsPure value_of value_in
+  pub pure_after : (bits set : ℕ) (e : TExpr) → bits ≤ 32 → IsPure set e → HasItsCode g.typed g.instance alive n e → IsValued bits set e
+  unfolding IsPure value_of value_in evaluated
   pure_after bits set (T.Variable ty (V.File k)) most is c = variable_after g has alive n ready places fields bits set k ty most is (named ty k c)
   pure_after bits set (T.Brackets' ty p inner) most is c = λ d s st here sim.
-      after_same g (Answers bits (length d.fields) d s set st (λ q. word_at (extents g set) st (T.Brackets' ty p inner) q)) refl
-      (answers_alike bits (length d.fields) d s set st (λ q. word_at (extents g set) st inner q) (λ q. word_at (extents g set) st (T.Brackets' ty p inner) q) (code bits inner d) (alike_same g bits set _ _ (λ q below few. ap (λ (y : ValueType). held y.elem (value_in (extents g set) st inner q)) is.0))
-      (pure_after bits set inner most is.1 (brackets_part g alive n places fields ty p inner c) d s st here sim))
+      given_weaker g s (meant g fields inner st) (number set inner st) st (Answers bits (length d.fields) d s set st (λ q. word_at (extents g set) st inner q)) (Answers bits (length d.fields) d s set st (λ q. word_at (extents g set) st (T.Brackets' ty p inner) q)) (code bits inner d)
+      (answers_alike bits (length d.fields) d s set st (λ q. word_at (extents g set) st inner q) (λ q. word_at (extents g set) st (T.Brackets' ty p inner) q) (alike_same g bits set _ _ (λ q below few. ap (λ (y : ValueType). held y.elem (value_in (extents g set) st inner q)) is.0)))
+      (pure_after bits set inner most is.1 (brackets_part g alive n places fields ty p inner c) d s st here sim)
   pure_after bits set (T.Unary' ty op p operand) most is c = unary_after bits set ty op p operand most is c (pure_after bits set operand most is.2 (unary_part g alive n places fields ty op p operand c))
   pure_after bits set (T.Binary' ty place op p left q right) most is c =
       let parts = binary_parts g alive n places fields ty place op p q left right c in
@@ -439,7 +495,8 @@ module _ (g : Setting) (has : HasRegisters g) (alive : Variable → Type 0) (n :
 
   -- an operand of 32 bits has its numbers
   pub whole_after : (bits set : ℕ) (e : TExpr) (quiet : Bool) → bits ≤ 32 → IsPure set e → IsWide set (type_of e) → HasItsCode g.typed g.instance alive n e → (d : Draft) (s : CodeState) (st : State) → At g s (length d.code) → Sim g alive st s
-      → After g (Answers bits (length d.fields) d s set st (λ q. value_in (extents g set) st e q)) (operand bits quiet e d)
+      → Follows g (Given g (number set e st) st (Answers bits (length d.fields) d s set st (λ q. value_in (extents g set) st e q))) s (meant g fields e st) (operand bits quiet e d)
   whole_after bits set e quiet most pure wide c d s st here sim =
-      answers_alike bits (length d.fields) d s set st (λ q. word_at (extents g set) st e q) (λ q. value_in (extents g set) st e q) (operand bits quiet e d) (alike_same g bits set _ _ (λ q below few. sym (pure_at g alive n places fields set e st s sim pure wide c q below)))
+      given_weaker g s (meant g fields e st) (number set e st) st (Answers bits (length d.fields) d s set st (λ q. word_at (extents g set) st e q)) (Answers bits (length d.fields) d s set st (λ q. value_in (extents g set) st e q)) (operand bits quiet e d)
+      (answers_alike bits (length d.fields) d s set st (λ q. word_at (extents g set) st e q) (λ q. value_in (extents g set) st e q) (alike_same g bits set _ _ (λ q below few. sym (pure_at g alive n places fields set e st s sim pure wide c q below))))
       (operand_after g has alive n ready places fields bits set e quiet pure c.code.names (pure_after bits set e most pure c) d s st here sim)

@@ -35,7 +35,6 @@ use Rattle.lower_expr.specs.Values.{assign_by, assigned_by, lowest, next_of, reg
 use Rattle.paris_code.specs.declared.instr.Instr.TheVariants as I
 use Rattle.paris_code.specs.declared.operands.Field.{Field}
 use Rattle.paris_code.specs.Code.{CodeState}
-use Rattle.source_meaning.specs.Expressions.{evaluated}
 use Rattle.source_meaning.specs.Reductions.{folded_into}
 use Rattle.source_meaning.specs.State as Source
 use Rattle.source_meaning.specs.State.{Outcome, State, then_do, with_scalar}
@@ -45,7 +44,7 @@ use Rattle.source_meaning.proofs.ConstantLaws.{Boxed}
 use Rattle.vp_sets.specs.Positions.{position_count}
 use Rattle.code_follows.specs.Fragment.{IsVariable, ScalarsAmong, naming}
 use Rattle.code_follows.proofs.Changing.{scalar_type}
-use Rattle.code_follows.proofs.Following.{Extends, HasRegisters, Sim}
+use Rattle.code_follows.proofs.Following.{Extends, Follows, HasRegisters, Sim, follows_same}
 use Rattle.code_follows.proofs.Operators.{wide_signed}
 use Rattle.code_follows.proofs.Settings.{At, Setting, layout}
 use Rattle.code_follows.proofs.Targets.{TargetIs, assign_code, assign_means, bare_target, variable_in}
@@ -53,11 +52,11 @@ use Rattle.code_follows.proofs.Values.{and_register, with_reg}
 use Rattle.fields_follow.specs.Fragment.{IsFoldOnto, IsFolded, IsScalarTarget, assignment_of}
 use Rattle.fields_follow.proofs.Folds.{folding}
 use Rattle.fields_follow.proofs.Forms.{HasItsCode, pure_kept}
-use Rattle.fields_follow.proofs.Instructions.{SameExtents, extents}
+use Rattle.fields_follow.proofs.Instructions.{extents}
 use Rattle.fields_follow.proofs.Meaning.{as_shaped, value_in}
-use Rattle.fields_follow.proofs.Pure.{are_grids, pure_means}
+use Rattle.fields_follow.proofs.Outcomes.{Ended, Given, ended_on, given_through, meant, outcome_like}
 use Rattle.fields_follow.proofs.Onto.{LeavesScalars, folds_onto, stored_in as stored_behind, stored_more}
-use Rattle.fields_follow.proofs.Passing.{After, after_same, gives_from, made_after, then_after}
+use Rattle.fields_follow.proofs.Passing.{after_same, gives_from, made_after, then_after}
 use Rattle.fields_follow.proofs.Places.{HoldsTheFields, PlacesFields}
 use Rattle.fields_follow.proofs.Reductions.{GivesPure, OperandsStand, folded_most, folds_so}
 use Rattle.fields_follow.proofs.Totals.{never_by_zero, operator_is}
@@ -171,52 +170,58 @@ module _ (g : Setting) (alive : Variable → Type 0) (n : ℕ) where
       behind_grows (O.Scalar r) e = tt
       behind_grows O.Nothing e = tt
 
-      module _ (scope : Scope) (places : PlacesFields g) (fields : HoldsTheFields g) (stand : OperandsStand g alive n) (same_extents : SameExtents g scope) (st : State) where
+      module _ (places : PlacesFields g) (fields : HoldsTheFields g) (stand : OperandsStand g alive fields n) (st : State) where
         -- what the variable has then, over these extents
         abbrev stored_over : List ℕ → ℕ
-        stored_over xs = folded_into (assignment_of reduction) (type_of target).elem (type_of value).elem (st.scalar v.variable) (fields.active set) (λ x. value_in xs st value x) (position_count xs)
+        stored_over xs = folded_into (assignment_of reduction) (type_of target).elem (type_of value).elem (st.scalar v.variable) (fields.active set) (λ x. value_in (extents g set) st value x) (position_count xs)
 
         abbrev left : State
-        left = with_scalar v.variable (stored_over (scope.extents set)) st
+        left = with_scalar v.variable (stored_over (fields.scope.extents set)) st
 
-        leaves_it : HasItsCode g.typed g.instance alive n value → (s : CodeState) → At g s (length d.code) → Sim g alive st s → After g (λ out f. LeavesScalars g alive d s st left f) (effect_of g.typed (layout g) whole d)
-        leaves_it c s here sim =
-            after_same g R (code_is d)
-            (then_after g (GivesPure g alive bits set value (with_reg d) s st) R (next_of g.typed (layout g) bits true value (with_reg d)) (λ out after. behind d out after) (stand bits set value (folded_most g alive scope places fields n stand same_extents (fold_by (reduce_op_of reduction) value) set value is.0) is.0.0 is.1 c (with_reg d) s st here sim) behind_grows
+        means_it : ty ≡ type_of target → meant g fields value st ≡ Source.Gives (Parallel (λ x. value_in (extents g set) st value x)) st → meant g fields whole st ≡ Source.Gives (Scalar (stored_over (fields.scope.extents set))) left
+        unfolding then_do positions
+        means_it same given =
+            assign_means g alive n target v ty place (assignment_of reduction) p q value same fields.scope fields.active st
+            ∙ ap (λ (o : Outcome Value). then_do o (λ w after. assigned fields.scope fields.active place (assignment_of reduction) (scalar_type (type_of target).elem) (type_of value) (OfScalar v.variable) w after)) given
+            ∙ onto_means fields.scope fields.active place reduction (type_of target).elem (type_of value) set v.variable (λ x. value_in (extents g set) st value x) st is.1.0
+
+        ends_it : ty ≡ type_of target → (s : CodeState) → Ended g s (meant g fields value st) → Ended g s (meant g fields whole st)
+        ends_it same s early =
+            let behind_it : Ended g s (then_do (meant g fields value st) (λ w after. assigned fields.scope fields.active place (assignment_of reduction) (scalar_type (type_of target).elem) (type_of value) (OfScalar v.variable) w after)) =
+            ended_on g s (meant g fields value st) (λ w after. assigned fields.scope fields.active place (assignment_of reduction) (scalar_type (type_of target).elem) (type_of value) (OfScalar v.variable) w after) early in
+            record {
+              early = behind_it.early;
+              state = behind_it.state;
+              is = assign_means g alive n target v ty place (assignment_of reduction) p q value same fields.scope fields.active st ∙ behind_it.is;
+              finishes = behind_it.finishes;
+            }
+
+        leaves_it : ty ≡ type_of target → HasItsCode g.typed g.instance alive n value → (s : CodeState) → At g s (length d.code) → Sim g alive st s → Follows g (λ x u out f. LeavesScalars g alive d s st u f) s (meant g fields whole st) (effect_of g.typed (layout g) whole d)
+        leaves_it same c s here sim =
+            outcome_like g s (meant g fields value st) (λ x. value_in (extents g set) st value x) st (meant g fields whole st) (Scalar (stored_over (fields.scope.extents set))) left R (λ x u out f. LeavesScalars g alive d s st u f) (effect_of g.typed (layout g) whole d)
+            (λ given. means_it same given) (λ early. ends_it same s early) (λ out f said. said)
+            (follows_same g (Given g (λ x. value_in (extents g set) st value x) st R) s refl (code_is d)
+            (given_through g s (meant g fields value st) (λ x. value_in (extents g set) st value x) st (GivesPure g alive bits set value (with_reg d) s st) R (next_of g.typed (layout g) bits true value (with_reg d)) (λ out after. behind d out after) behind_grows
+            (λ part h. then_after g (GivesPure g alive bits set value (with_reg d) s st) R part (λ out after. behind d out after) h behind_grows
             (λ out e h. after_same g R (ap (λ (o : Out). behind d o e) h.1.0 ∙ field_made h.0 e) (made_after g R (O.Scalar d.regs) (stored_in h.0 e) (λ within.
             let gives = h.1.1 in
             let regs = gives.passes.grown.1.regs in
-            folds_onto g alive has d free v.variable info v.living (known.named, v.scalar) reduction (type_of value).elem is.1.1 d.regs h.0 sign places fields set (λ x. value_in (extents g set) st value x) bits (folds_so g alive scope places fields n stand same_extents reduction value set is c s st sim) e s st (stored_over (scope.extents set))
-            (λ exists. ap stored_over (sym (same_extents set exists))) (omega arith) (omega (arith, regs)) (gives_from g alive bits (length d.fields) d (with_reg d) e s set st (λ x. value_in (extents g set) st value x) h.0 (and_register d) gives) within))))
+            folds_onto g alive has d free v.variable info v.living (known.named, v.scalar) reduction (type_of value).elem is.1.1 d.regs h.0 sign places fields set (λ x. value_in (extents g set) st value x) bits (folds_so g alive places fields n stand reduction value set is c s st sim) e s st (stored_over (fields.scope.extents set))
+            (λ exists. ap stored_over (sym (fields.same_extents set exists))) (omega arith) (omega (arith, regs)) (gives_from g alive bits (length d.fields) d (with_reg d) e s set st (λ x. value_in (extents g set) st value x) h.0 (and_register d) gives) within))))
+            (stand bits set value (folded_most g alive places fields n stand (fold_by (reduce_op_of reduction) value) set value is.0) is.0.0 is.1 c (with_reg d) s st here sim)))
           where
             R : Out → Draft → Type 0
             R out f = LeavesScalars g alive d s st left f
 
-        means_it : ty ≡ type_of target → HasItsCode g.typed g.instance alive n value → evaluated scope whole fields.active st ≡ Source.Gives (Scalar (stored_over (scope.extents set))) left
-        unfolding then_do positions
-        means_it same c =
-            assign_means g alive n target v ty place (assignment_of reduction) p q value same scope fields.active st
-            ∙ ap (λ (o : Outcome Value). then_do o (λ w after. assigned scope fields.active place (assignment_of reduction) (scalar_type (type_of target).elem) (type_of value) (OfScalar v.variable) w after)) (pure_means scope fields.active g.typed g.instance n set value st is.0.0 (are_grids g scope places same_extents set) c.code.names)
-            ∙ onto_means scope fields.active place reduction (type_of target).elem (type_of value) set v.variable (λ x. value_in (scope.extents set) st value x) st is.1.0
-
-  module _ (has : HasRegisters g) (scope : Scope) (places : PlacesFields g) (fields : HoldsTheFields g) (stand : OperandsStand g alive n) (same_extents : SameExtents g scope) where
-    -- it gives something in the source, and its code leaves the state behind it
+  module _ (has : HasRegisters g) (places : PlacesFields g) (fields : HoldsTheFields g) (stand : OperandsStand g alive fields n) where
+    -- its code leaves the state that it gives in the source
     abbrev OntoLeaves : TExpr → Draft → CodeState → State → Type 0
-    OntoLeaves e d s st = (v : Value) × ((u : State) × ((evaluated scope e fields.active st ≡ Source.Gives v u) × After g (λ out f. LeavesScalars g alive d s st u f) (effect_of g.typed (layout g) e d)))
+    OntoLeaves e d s st = Follows g (λ x u out f. LeavesScalars g alive d s st u f) s (meant g fields e st) (effect_of g.typed (layout g) e d)
 
     pub onto_leaves : (e : TExpr) → IsFoldOnto e → HasItsCode g.typed g.instance alive n e → (d : Draft) (s : CodeState) (st : State) → g.begins ≤ d.regs → At g s (length d.code) → Sim g alive st s → OntoLeaves e d s st
     unfolding IsFoldOnto NamesVariables IsShaped IsLowerable ScalarsAmong
     onto_leaves (T.Assign' ty place op p target q value) is c d s st free here sim =
-        subst (λ (o : AssignOp). OntoLeaves (T.Assign' ty place o p target q value) d s st) (sym is.2.1.0) (
-          Scalar (stored_over target v ty place is.2.0 p q value is.2.1.1.0 is.2.1.1.1 has names d free scope places fields stand same_extents st (scope.extents is.2.1.1.0)),
-          (
-            left target v ty place is.2.0 p q value is.2.1.1.0 is.2.1.1.1 has names d free scope places fields stand same_extents st,
-            (
-              means_it target v ty place is.2.0 p q value is.2.1.1.0 is.2.1.1.1 has names d free scope places fields stand same_extents st is.0 value_code,
-              leaves_it target v ty place is.2.0 p q value is.2.1.1.0 is.2.1.1.1 has names d free scope places fields stand same_extents st value_code s here sim,
-            ),
-          ),
-        )
+        subst (λ (o : AssignOp). OntoLeaves (T.Assign' ty place o p target q value) d s st) (sym is.2.1.0) (leaves_it target v ty place is.2.0 p q value is.2.1.1.0 is.2.1.1.1 has names d free places fields stand st is.0 value_code s here sim)
       where
         names : NamesVariables g.typed g.instance n target
         names = c.code.names.0

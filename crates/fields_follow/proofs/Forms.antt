@@ -3,9 +3,7 @@ use Rattle.std.proofs.Common.{◌≡◌, ◌∙◌, ℕ, ◌+◌, ◌<◌, ◌�
 use Rattle.std.specs.Prelude.{is_none, nat_le}
 use Rattle.std.proofs.lemmas.Bool.Decides.{nat_tests}
 use Rattle.constant_trees.proofs.Bringing.{right_false}
-use Rattle.cstar_base.specs.declared.operators.Op.{Op}
 use Rattle.cstar_base.specs.Numbers.{converted}
-use Rattle.cstar_base.specs.Operators.{divides}
 use Rattle.cstar_tree.specs.declared.typed.Instance.{Instance}
 use Rattle.cstar_tree.specs.declared.typed.TExpr.{TExpr}
 use Rattle.cstar_tree.specs.declared.typed.TExpr as T
@@ -25,17 +23,21 @@ use Rattle.lower_expr.specs.Steps.{is_kept, register_word, word_of}
 use Rattle.paris_code.specs.declared.program.Owner.TheVariants as W
 use Rattle.source_meaning.specs.Constants.{is_constant, then_value}
 use Rattle.source_meaning.specs.Reductions.{int_type}
-use Rattle.source_meaning.specs.State.{State}
+use Rattle.source_meaning.specs.Expressions.{evaluated}
+use Rattle.source_meaning.specs.State.{Gives, Outcome, State, then_do}
+use Rattle.source_meaning.specs.Values.{Active, Parallel, Scope, Value, at, convert_to, each}
 use Rattle.code_follows.specs.Fragment.{ScalarsAmong}
 use Rattle.code_follows.proofs.Settings.{Setting, layout}
+use Rattle.code_follows.proofs.Standing.{some_same}
+use Rattle.std.proofs.lemmas.Bool.{eqb-true}
 use Rattle.code_follows.proofs.Following.{held as word_of_type}
 use Rattle.code_follows.proofs.Numbers.{held_zero}
 use Rattle.code_follows.proofs.Words.{held_converted, held_wide}
 use Rattle.fields_follow.proofs.Totals.{held_below}
-use Rattle.fields_follow.specs.Fragment.{IsConstant, IsDivisor, IsOperation, IsPromoted, IsPure, IsScalarName}
+use Rattle.fields_follow.specs.Fragment.{IsConstant, IsDivisor, IsPromoted, IsPure, IsScalarName}
 use Rattle.fields_follow.specs.Fields.{IsElement, file_number}
 use Rattle.fields_follow.proofs.FileFields.{first_there}
-use Rattle.fields_follow.proofs.Meaning.{DividesByNoZero, divides_nothing, no_constant, scalar_in, value_in, variable_in, word_at}
+use Rattle.fields_follow.proofs.Meaning.{as_shaped, no_constant, read_is, scalar_constant, scalar_in, value_in, variable_in, word_at}
 use Rattle.fields_follow.proofs.Lengths.{converted_first}
 use Rattle.lower_expr.specs.Kinds.{is_unchanged}
 use Rattle.cstar_base.specs.declared.elem.Elem.{Elem}
@@ -130,7 +132,7 @@ pure_word set (T.Pcoord ty axis) is = refl
 pure_word set (T.LeftIndex' ty place p indexes (V.File k) of) is = refl
 pure_word set _ is = absurd is
 
--- the variable of the file in whose field so many bits of the value stand
+-- the variable of the file in whose field so many bits of the value stand, which never fails
 pub record StandsInFile (t : Typed) (bits set : ℕ) (e : TExpr) : Type 0 where
   pub k : ℕ
   pub info : VarInfo
@@ -138,6 +140,7 @@ pub record StandsInFile (t : Typed) (bits set : ℕ) (e : TExpr) : Type 0 where
   pub is : IsElement t k info set 0
   pub fits : bits ≤ info.elem.bits
   pub value : (extents : List ℕ) (st : State) (q : ℕ) → word_at extents st e q % 2 ^ bits ≡ word_of_type info.elem (st.parallel (V.File k) 0 q) % 2 ^ bits
+  pub means : (scope : Scope) (active : Active) (extents : List ℕ) (st : State) → evaluated scope e active st ≡ Gives (Parallel (λ q. value_in extents st e q)) st
 
 -- a parallel variable of the file, by its name
 pub element_is : (t : Typed) (i : Instance) (n k set : ℕ) (ty : ValueType) → ty.shape ≡ Some set → (v : HasVariable t i n (V.File k) (plain ty)) → IsElement t k (variable_info v.word (plain ty) v.start) set 0
@@ -164,7 +167,7 @@ name_kept (T.Convert' ty p operand) is none = name_kept operand is.2 is.1.0
 name_kept _ is none = absurd is
 
 pub pure_own : (t : Typed) (i : Instance) (n bits set : ℕ) (e : TExpr) → IsPure set e → NamesVariables t i n e → StandsInFile t bits set e ⊎ (own_of bits e ≡ None)
-unfolding IsPure own_of NamesVariables value_in is_unchanged
+unfolding IsPure own_of NamesVariables value_in is_unchanged evaluated then_do convert_to each at
 pure_own t i n bits set (T.Variable ty (V.File k)) is v = by (nat_le bits ty.elem.bits) refl
   where
     own : Own
@@ -178,12 +181,13 @@ pure_own t i n bits set (T.Variable ty (V.File k)) is v = by (nat_le bits ty.ele
       is = element_is t i n k set ty is v;
       fits = grind (arith, nat_tests, enough);
       value = λ extents st q. refl;
+      means = λ scope active extents st. ap (λ (v : Value). Gives v st) (read_is scope active ty set k st is);
     })
     by false less = inr (ap (λ (b : Bool). if b || nat_le bits ty.elem.bits then Some own else None) (shaped ty.shape set is) ∙ ap (λ (b : Bool). if b then Some own else None) less)
 pure_own t i n bits set (T.Brackets' ty p inner) is v = by (pure_own t i n bits set inner is.1 v)
   where
     by : StandsInFile t bits set inner ⊎ (own_of bits inner ≡ None) → StandsInFile t bits set (T.Brackets' ty p inner) ⊎ (own_of bits inner ≡ None)
-    by (inl h) = inl (record { k = h.k; info = h.info; own = h.own; is = h.is; fits = h.fits; value = λ extents st q. ap (λ (y : ValueType). word_of_type y.elem (value_in extents st inner q) % 2 ^ bits) is.0 ∙ h.value extents st q })
+    by (inl h) = inl (record { k = h.k; info = h.info; own = h.own; is = h.is; fits = h.fits; value = λ extents st q. ap (λ (y : ValueType). word_of_type y.elem (value_in extents st inner q) % 2 ^ bits) is.0 ∙ h.value extents st q; means = h.means })
     by (inr h) = inr h
 pure_own t i n bits set (T.Unary' ty op p operand) is v = inr refl
 pure_own t i n bits set (T.Binary' ty place op p left q right) is v = inr refl
@@ -204,6 +208,9 @@ pure_own t i n bits set (T.Convert' ty p operand) is v = by (is_unchanged bits t
           is = h.is;
           fits = h.fits;
           value = λ extents st q. converted_first ty.elem (type_of operand).elem (value_in extents st operand q) bits so.1 so.0 ∙ h.value extents st q;
+          means = λ scope active extents st.
+              ap (λ (o : Outcome Value). then_do o (λ v after. Gives (convert_to ty (type_of operand).elem v) after)) (h.means scope active extents st)
+              ∙ ap (λ (y : ValueType). Gives (convert_to y (type_of operand).elem (Parallel (λ q. value_in extents st operand q))) st) (as_shaped ty set is.0);
         })
     by true e (inr h) = inr (ap (λ (c : Bool). if c then own_of bits operand else None) e ∙ h)
     by false e any = inr (ap (λ (c : Bool). if c then own_of bits operand else None) e)
@@ -230,45 +237,22 @@ constant_word set ty p operand same constant = (
   refl,
 )
 
--- a divisor is such a constant
-pub divisor_word : (set : ℕ) (e : TExpr) → IsPromoted set e → IsDivisor e → (h : HasItsWord e) × ((h.word == 0) ≡ false)
-unfolding IsPromoted IsDivisor word_of value_in
-divisor_word set (T.Promote' ty p operand) is divisor =
-    let h = constant_word set ty p operand is.1 divisor.0 in (h.0, ap (λ (w : ℕ). w == 0) h.1 ∙ held_zero (type_of operand).elem divisor.0.0 divisor.0.2 ∙ (let more = divisor.1 in grind (arith, nat_tests, more)))
-divisor_word set (T.Brackets' ty p inner) is divisor =
-    let h = divisor_word set inner is.1 divisor in (record { word = h.0.word; is = h.0.is; small = h.0.small; value = λ extents st q. ap (λ (y : ValueType). word_of_type y.elem (value_in extents st inner q)) is.0 ∙ h.0.value extents st q }, h.1)
-divisor_word set _ is divisor = absurd divisor
-
--- and its number is not 0
-divisor_number : (set : ℕ) (e : TExpr) (extents : List ℕ) (st : State) (q : ℕ) → IsPromoted set e → IsDivisor e → (value_in extents st e q == 0) ≡ false
-unfolding IsPromoted IsDivisor value_in scalar_in
-divisor_number set (T.Promote' ty p operand) extents st q is divisor =
-    ap (λ (o : Option ℕ). (elim o [ Some word ↦ word | None ↦ variable_in st operand ]) == 0) divisor.0.1 ∙ (let more = divisor.1 in grind (arith, nat_tests, more))
-divisor_number set (T.Brackets' ty p inner) extents st q is divisor = divisor_number set inner extents st q is.1 divisor
-divisor_number set _ extents st q is divisor = absurd divisor
-
-pub no_pure_divisor : (set : ℕ) (e : TExpr) → IsPure set e → IsDivisor e → ⊥
-unfolding IsPure IsDivisor
-no_pure_divisor set (T.Promote' ty p operand) is divisor = is
-no_pure_divisor set (T.Brackets' ty p inner) is divisor = no_pure_divisor set inner is.1 divisor
-no_pure_divisor set _ is divisor = divisor
-
--- an operator divides by no 0
-pub divisor_never_zero : (set : ℕ) (op : Op) (right : TExpr) (extents : List ℕ) (st : State) → IsOperation op right → IsPure set right ⊎ IsPromoted set right → DividesByNoZero op (λ q. value_in extents st right q)
-divisor_never_zero set op right extents st is operand = by is.1 operand
+-- that of a divisor is not 0
+pub divisor_word : (set : ℕ) (e : TExpr) (word : ℕ) → IsPromoted set e → IsDivisor e → word_of e ≡ Some word → (word == 0) ≡ false
+unfolding IsPromoted IsDivisor word_of register_word
+divisor_word set (T.Promote' ty p operand) word is divisor is_word = by is.2.1
   where
-    by : (divides op ≡ false) ⊎ IsDivisor right → IsPure set right ⊎ IsPromoted set right → DividesByNoZero op (λ q. value_in extents st right q)
-    by (inl no_check) any = divides_nothing op (λ q. value_in extents st right q) no_check
-    by (inr divisor) (inl pure) = absurd (no_pure_divisor set right pure divisor)
-    by (inr divisor) (inr promoted) = λ divided q. divisor_number set right extents st q promoted divisor
-
-pub word_never_zero : (set : ℕ) (op : Op) (right : TExpr) (extents : List ℕ) (st : State) → IsOperation op right → IsPure set right ⊎ IsPromoted set right → DividesByNoZero op (λ q. word_at extents st right q)
-word_never_zero set op right extents st is operand = by is.1 operand
-  where
-    by : (divides op ≡ false) ⊎ IsDivisor right → IsPure set right ⊎ IsPromoted set right → DividesByNoZero op (λ q. word_at extents st right q)
-    by (inl no_check) any = divides_nothing op (λ q. word_at extents st right q) no_check
-    by (inr divisor) (inl pure) = absurd (no_pure_divisor set right pure divisor)
-    by (inr divisor) (inr promoted) = λ divided q. let h = divisor_word set right promoted divisor in ap (λ (w : ℕ). w == 0) (h.0.value extents st q) ∙ h.1
+    by : IsConstant operand ⊎ IsScalarName operand → (word == 0) ≡ false
+    by (inl constant) =
+        let same : word_of_type (type_of operand).elem constant.0 ≡ word = some_same (word_of_type (type_of operand).elem constant.0) word (sym (ap (λ (o : Option ℕ). then_value o (λ v. Some (converted int_type (type_of operand).elem v))) constant.1) ∙ is_word) in
+        ap (λ (w : ℕ). w == 0) (sym same) ∙ held_zero (type_of operand).elem constant.0 constant.2 ∙ unless (constant.0 == 0) refl
+      where
+        unless : (z : Bool) → (constant.0 == 0) ≡ z → (constant.0 == 0) ≡ false
+        unless true none = absurd (divisor (constant.1 ∙ ap Some (eqb-true constant.0 0 none)))
+        unless false some = some
+    by (inr variable) = let none = sym (ap (λ (o : Option ℕ). then_value o (λ v. Some (converted int_type (type_of operand).elem v))) (no_constant operand (scalar_constant operand variable))) ∙ is_word in cc
+divisor_word set (T.Brackets' ty p inner) word is divisor is_word = divisor_word set inner word is.1 divisor is_word
+divisor_word set _ word is divisor is_word = absurd is
 
 pub record StandsInRegister (t : Typed) (i : Instance) (alive : Variable → Type 0) (e : TExpr) : Type 0 where
   pub x : Variable

@@ -4,8 +4,6 @@ use Rattle.std.proofs.lemmas.Bool.Decides.{nat_tests}
 use Rattle.cstar_base.specs.declared.elem.Elem.{Elem}
 use Rattle.cstar_base.specs.Numbers.{number_of}
 use Rattle.cstar_tree.specs.declared.typed.Variable.{Variable}
-use Rattle.code_lengths.specs.Growth.{Extended}
-use Rattle.code_lengths.proofs.Drafting.{extended}
 use Rattle.lower_base.specs.Drafts.{Draft, Plain, step as step_of, with_instr}
 use Rattle.lower_comm.specs.declared.gets.Hop.{Hop}
 use Rattle.lower_expr.specs.Kinds.{has_number}
@@ -29,6 +27,7 @@ use Rattle.phase_meaning.proofs.Widths.{cut_cut}
 use Rattle.source_meaning.specs.State.{State}
 use Rattle.vp_sets.specs.Positions.{are_positive, shifted}
 use Rattle.code_follows.proofs.Following.{Sim}
+use Rattle.code_follows.proofs.Growing.{Extended, extended}
 use Rattle.code_follows.proofs.Settings.{At, Setting, Within, and_one, at_next, begins_here, code_more, earlier, one_writes, placed_instr}
 use Rattle.fields_follow.proofs.Bits.{active_apart, bits_written, field_apart, field_written}
 use Rattle.fields_follow.proofs.Fields.{HoldsFields}
@@ -176,7 +175,7 @@ module _ (g : Setting) where
         ends = places.ends (length e.code) i d (a ∷ []) there (hop_plain axis k d a) tt refl
 
         was : HoldsFields g.typed g.image fields.active st s.memory
-        was = fields.opens st s.memory sim.memory
+        was = fields.opens s.at st s.memory sim.memory
 
     -- a fresh field of the set
     abbrev IsFresh : ℕ → ℕ → ℕ → Field → Type 0

@@ -4,11 +4,12 @@ use Rattle.std.specs.Prelude.{pos, neg_ℤ, unwrap_or}
 use Rattle.std.specs.List.{slice_index_or}
 use Rattle.std.proofs.lemmas.Nat.{mod_below, pow_pos}
 use Rattle.std.proofs.Math.Nat.{mod-eq_of_lt}
+use Rattle.std.proofs.lemmas.Bool.{eqb-true}
 use Rattle.cstar_base.specs.declared.elem.Elem.{Elem}
 use Rattle.cstar_base.specs.declared.operators.Op.{Op}
 use Rattle.cstar_base.specs.declared.operators.Op.TheVariants as P
 use Rattle.cstar_base.specs.Numbers.{number_of, residue}
-use Rattle.cstar_base.specs.Operators.{divides, operate, outcome}
+use Rattle.cstar_base.specs.Operators.{divides, modulus_of, operate, outcome, quotient_of, remainder_of}
 use Rattle.cstar_base.proofs.NumberLaws.{residue_of_number}
 use Rattle.cstar_tree.specs.declared.typed.UnaryOp.TheVariants as U
 use Rattle.constant_trees.proofs.Words.{unary_below}
@@ -39,7 +40,6 @@ use Rattle.vp_sets.specs.Positions.{coordinate}
 use Rattle.code_follows.proofs.Operators.{by_machine, machine_below, machine_same}
 use Rattle.code_follows.proofs.Settings.{Setting, placed_instr}
 use Rattle.fields_follow.proofs.Lengths.{Keeps}
-use Rattle.fields_follow.proofs.Meaning.{DividesByNoZero}
 use Rattle.fields_follow.proofs.Named.{NamesFields}
 
 -- an operator that is no relation is one of the machine's operations
@@ -81,22 +81,52 @@ by_operation P.Mod true a b e some = divided _ (b == 0) (some refl)
 by_operation P.Mod false a b e some = divided _ (b == 0) (some refl)
 by_operation _ signed a b e some = cc
 
-pub operation_same : (op : Op) (signed : Bool) (a b : ℕ) → relates op ≡ false → (divides op ≡ true → (b == 0) ≡ false) → a < 2 ^ 32 → b < 2 ^ 32 →
-    outcome (operator_of (operation_of op signed)).0 32 (operator_of (operation_of op signed)).1 a b ≡ outcome op 32 (not signed) a b
-operation_same op signed a b operates some few small = by_operation op signed a b operates some ∙ machine_same a b few small op signed some
+-- by 0 all give 0
+by_zero : (op : Op) (signed : Bool) (a : ℕ) → divides op ≡ true → (outcome (operator_of (operation_of op signed)).0 32 (operator_of (operation_of op signed)).1 a 0 ≡ 0) × (outcome op 32 (not signed) a 0 ≡ 0)
+unfolding operation_of divides outcome quotient_of remainder_of modulus_of
+by_zero P.Div true a e = (refl, refl)
+by_zero P.Div false a e = (refl, refl)
+by_zero P.Rem true a e = (refl, refl)
+by_zero P.Rem false a e = (refl, refl)
+by_zero P.Mod true a e = (refl, refl)
+by_zero P.Mod false a e = (refl, refl)
+by_zero _ signed a e = cc
 
-pub operation_below : (op : Op) (signed : Bool) (a b : ℕ) → (divides op ≡ true → (b == 0) ≡ false) → a < 2 ^ 32 → b < 2 ^ 32 → outcome op 32 (not signed) a b < 2 ^ 32
-operation_below op signed a b some few small = subst (λ (n : ℕ). n < 2 ^ 32) (machine_same a b few small op signed some) (machine_below a b few small (machine_of op signed))
+-- so both give the same of all words, and a word
+operation_so : (op : Op) (signed : Bool) (a b : ℕ) → relates op ≡ false → a < 2 ^ 32 → b < 2 ^ 32 →
+    (outcome (operator_of (operation_of op signed)).0 32 (operator_of (operation_of op signed)).1 a b ≡ outcome op 32 (not signed) a b) × (outcome op 32 (not signed) a b < 2 ^ 32)
+operation_so op signed a b operates few small = by (divides op) (b == 0) refl refl
+  where
+    unless_zero : (divides op ≡ true → (b == 0) ≡ false)
+        → (outcome (operator_of (operation_of op signed)).0 32 (operator_of (operation_of op signed)).1 a b ≡ outcome op 32 (not signed) a b) × (outcome op 32 (not signed) a b < 2 ^ 32)
+    unless_zero some = (
+      by_operation op signed a b operates some ∙ machine_same a b few small op signed some,
+      subst (λ (n : ℕ). n < 2 ^ 32) (machine_same a b few small op signed some) (machine_below a b few small (machine_of op signed)),
+    )
+
+    by : (c z : Bool) → divides op ≡ c → (b == 0) ≡ z → (outcome (operator_of (operation_of op signed)).0 32 (operator_of (operation_of op signed)).1 a b ≡ outcome op 32 (not signed) a b) × (outcome op 32 (not signed) a b < 2 ^ 32)
+    by true true divided none =
+        let zero_so = by_zero op signed a divided in
+        subst (λ (n : ℕ). (outcome (operator_of (operation_of op signed)).0 32 (operator_of (operation_of op signed)).1 a n ≡ outcome op 32 (not signed) a n) × (outcome op 32 (not signed) a n < 2 ^ 32)) (sym (eqb-true b 0 none))
+        (zero_so.0 ∙ sym zero_so.1, subst (λ (n : ℕ). n < 2 ^ 32) (sym zero_so.1) (omega arith))
+    by true false divided some = unless_zero (λ h. some)
+    by false z plain any = unless_zero (λ h. cc)
+
+pub operation_same : (op : Op) (signed : Bool) (a b : ℕ) → relates op ≡ false → a < 2 ^ 32 → b < 2 ^ 32 → outcome (operator_of (operation_of op signed)).0 32 (operator_of (operation_of op signed)).1 a b ≡ outcome op 32 (not signed) a b
+operation_same op signed a b operates few small = (operation_so op signed a b operates few small).0
+
+pub operation_below : (op : Op) (signed : Bool) (a b : ℕ) → relates op ≡ false → a < 2 ^ 32 → b < 2 ^ 32 → outcome op 32 (not signed) a b < 2 ^ 32
+operation_below op signed a b operates few small = (operation_so op signed a b operates few small).1
 
 pub whole : (n : ℕ) → n < 2 ^ 32 → n % 2 ^ 32 ≡ n
 whole n few = mod-eq_of_lt {n = n} {m = 2 ^ 32} few
 
 -- at 32 bits it keeps the words
-pub whole_keeps : (op : Op) (signed : Bool) (y : ℕ) → relates op ≡ false → (divides op ≡ true → (y == 0) ≡ false) → Keeps op signed 32 y
-whole_keeps op signed y operates some m n x few small p q =
+pub whole_keeps : (op : Op) (signed : Bool) (y : ℕ) → relates op ≡ false → Keeps op signed 32 y
+whole_keeps op signed y operates m n x few small p q =
     ap (λ (k : ℕ). outcome (operator_of (operation_of op signed)).0 32 (operator_of (operation_of op signed)).1 k n) (p ∙ whole x few)
     ∙ ap (λ (k : ℕ). outcome (operator_of (operation_of op signed)).0 32 (operator_of (operation_of op signed)).1 x k) (q ∙ whole y small)
-    ∙ operation_same op signed x y operates some few small ∙ sym (whole (outcome op 32 (not signed) x y) (operation_below op signed x y some few small))
+    ∙ operation_same op signed x y operates few small ∙ sym (whole (outcome op 32 (not signed) x y) (operation_below op signed x y operates few small))
 
 module _ (g : Setting) where
   abbrev pub shapes : List SetShape
@@ -251,10 +281,10 @@ module _ (g : Setting) where
       ∙ ap (λ (w : ℕ). w % 2 ^ bits) (keeps m n x few small e f) ∙ cut_cut (outcome op 32 (not signed) x y) bits bits (omega arith)
       ∙ ap (λ (b : ℕ). outcome op 32 (not signed) x y % 2 ^ b) (sym long)
 
-  pub puts_operate : (bits set : ℕ) (op : Op) (signed : Bool) (d a b : Field) (s : CodeState) (v w : ℕ → ℕ) → DividesByNoZero op w → ((p : ℕ) → Keeps op signed bits (w p)) → d.len ≡ bits → HasNumbers bits set a s v → HasNumbers bits set b s w
+  pub puts_operate : (bits set : ℕ) (op : Op) (signed : Bool) (d a b : Field) (s : CodeState) (v w : ℕ → ℕ) → relates op ≡ false → ((p : ℕ) → Keeps op signed bits (w p)) → d.len ≡ bits → HasNumbers bits set a s v → HasNumbers bits set b s w
       → Puts set (I.Operate (operation_of op signed) d a b) d s (λ p. outcome op 32 (not signed) (v p) (w p))
   unfolding begun applied after step_of
-  puts_operate bits set op signed d a b s v w never keeps long one other = record {
+  puts_operate bits set op signed d a b s v w operates keeps long one other = record {
     plain = refl;
     simple = tt;
     others = _;
@@ -263,14 +293,14 @@ module _ (g : Setting) where
     run = refl;
     writes = λ p. refl;
     value = λ p below on. done op signed bits d.len (number_in a s p) (number_in b s p) (v p) (w p) long (keeps p) (one.small p below on) (other.small p below on) (one.are p below on) (other.are p below on);
-    small = λ p below on. operation_below op signed (v p) (w p) (λ divided. never divided p) (one.small p below on) (other.small p below on);
+    small = λ p below on. operation_below op signed (v p) (w p) operates (one.small p below on) (other.small p below on);
     goes = refl;
   }
 
-  pub puts_operate_constant : (bits set : ℕ) (op : Op) (signed : Bool) (d a : Field) (k : Konst) (s : CodeState) (v : ℕ → ℕ) → (divides op ≡ true → (word_in k s == 0) ≡ false) → Keeps op signed bits (word_in k s) → d.len ≡ bits → HasNumbers bits set a s v → word_in k s < 2 ^ 32
+  pub puts_operate_constant : (bits set : ℕ) (op : Op) (signed : Bool) (d a : Field) (k : Konst) (s : CodeState) (v : ℕ → ℕ) → relates op ≡ false → Keeps op signed bits (word_in k s) → d.len ≡ bits → HasNumbers bits set a s v → word_in k s < 2 ^ 32
       → Puts set (I.OperateConstant (operation_of op signed) d a k) d s (λ p. outcome op 32 (not signed) (v p) (word_in k s))
   unfolding begun applied after step_of word_in
-  puts_operate_constant bits set op signed d a (K.Imm w) s v some keeps long one few = record {
+  puts_operate_constant bits set op signed d a (K.Imm w) s v operates keeps long one few = record {
     plain = refl;
     simple = tt;
     others = _;
@@ -279,10 +309,10 @@ module _ (g : Setting) where
     run = refl;
     writes = λ p. refl;
     value = λ p below on. done op signed bits d.len (number_in a s p) (w % 2 ^ d.len) (v p) w long keeps (one.small p below on) few (one.are p below on) (ap (λ (n : ℕ). w % 2 ^ n) long);
-    small = λ p below on. operation_below op signed (v p) w some (one.small p below on) few;
+    small = λ p below on. operation_below op signed (v p) w operates (one.small p below on) few;
     goes = refl;
   }
-  puts_operate_constant bits set op signed d a (K.Reg r) s v some keeps long one few = record {
+  puts_operate_constant bits set op signed d a (K.Reg r) s v operates keeps long one few = record {
     plain = refl;
     simple = tt;
     others = _;
@@ -293,7 +323,7 @@ module _ (g : Setting) where
     value = λ p below on.
         let w : ℕ = slice_index s.registers r in
         done op signed bits d.len (number_in a s p) (w % 2 ^ d.len) (v p) w long keeps (one.small p below on) few (one.are p below on) (ap (λ (n : ℕ). w % 2 ^ n) long);
-    small = λ p below on. operation_below op signed (v p) (slice_index s.registers r) some (one.small p below on) few;
+    small = λ p below on. operation_below op signed (v p) (slice_index s.registers r) operates (one.small p below on) few;
     goes = refl;
   }
 

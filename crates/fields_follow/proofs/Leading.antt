@@ -2,8 +2,6 @@
 use Rattle.std.proofs.Common.{◌≡◌, ◌∙◌, ℕ, ◌+◌, ◌<◌, ◌≤◌, Bool, true, not, List, [], ◌∷◌, length, slice_index, refl, sym, ap, arith}
 use Rattle.std.specs.Int.{from_bool}
 use Rattle.cstar_tree.specs.declared.typed.Variable.{Variable}
-use Rattle.code_lengths.specs.Growth.{Extended}
-use Rattle.code_lengths.proofs.Drafting.{as_it_was, extended}
 use Rattle.lower_base.specs.Drafts.{Draft, Plain, step as step_of, with_instr}
 use Rattle.paris_code.specs.declared.instr.Instr.{Instr}
 use Rattle.paris_code.specs.declared.instr.Instr.TheVariants as I
@@ -15,6 +13,7 @@ use Rattle.paris_code.specs.Spans.{IsNamedAt, fields_of}
 use Rattle.source_meaning.specs.State.{State}
 use Rattle.source_meaning.specs.Values.{Active, Scope, nonzero}
 use Rattle.code_follows.proofs.Following.{Keeps, Ran, Sim, keeps_all}
+use Rattle.code_follows.proofs.Growing.{Extended, as_it_was, extended}
 use Rattle.code_follows.proofs.Settings.{At, Reaches, Setting, Within, and_one, onto, stay}
 use Rattle.fields_follow.proofs.Flags.{Stored, Turned, load_context, load_test, narrow_context, set_context, store_context, store_test, turn_context}
 use Rattle.fields_follow.proofs.Instructions.{shapes}

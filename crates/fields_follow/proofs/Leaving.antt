@@ -2,7 +2,6 @@
 use Rattle.std.proofs.Common.{◌≡◌, ℕ, ◌+◌, ◌<◌, ◌≤◌, length}
 use Rattle.cstar_tree.specs.declared.typed.TExpr.{TExpr}
 use Rattle.cstar_tree.specs.declared.typed.Variable.{Variable}
-use Rattle.code_lengths.specs.Growth.{Extended}
 use Rattle.lower_base.specs.Drafts.{Draft}
 use Rattle.lower_expr.specs.Effects.{effect_of}
 use Rattle.paris_code.specs.declared.operands.Field.{Field}
@@ -10,14 +9,14 @@ use Rattle.paris_code.specs.Code.{CodeState}
 use Rattle.paris_code.specs.Shapes.{bits_at}
 use Rattle.paris_code.specs.Spans.{IsNamedAt}
 use Rattle.source_meaning.specs.Expressions.{evaluated}
-use Rattle.source_meaning.specs.State.{Gives, State}
-use Rattle.source_meaning.specs.Values.{Active, Scope, Value}
+use Rattle.source_meaning.specs.State.{State}
+use Rattle.source_meaning.specs.Values.{Active, Scope}
 use Rattle.code_follows.proofs.Besides.{registers_under as registers_there}
-use Rattle.code_follows.proofs.Following.{HasRegisters, Sim}
+use Rattle.code_follows.proofs.Following.{Follows, HasRegisters, Sim}
+use Rattle.code_follows.proofs.Growing.{Extended}
 use Rattle.code_follows.proofs.Settings.{At, Reaches, Setting, Within, layout}
 use Rattle.fields_follow.proofs.Fields.{fields_held}
-use Rattle.fields_follow.proofs.Instructions.{number_in, place, shapes}
-use Rattle.fields_follow.proofs.Passing.{After}
+use Rattle.fields_follow.proofs.Instructions.{SameExtents, number_in, place, shapes}
 use Rattle.fields_follow.proofs.Places.{HoldsTheFields, IsOwnField, PlacesFields}
 
 module _ (g : Setting) where
@@ -42,10 +41,9 @@ module _ (g : Setting) where
     Leaves d e s u = PassesTests d e s u (Unit {0})
 
     module _ (fields : HoldsTheFields g) where
-      -- an update gives something in the source, and its code leaves the state behind it
-      abbrev pub UpdateLeaves : Scope → TExpr → Draft → CodeState → State → Type 0
-      UpdateLeaves scope e d s st =
-          (v : Value) × ((u : State) × ((evaluated scope e fields.active st ≡ Gives v u) × After g (λ out f. Leaves d f s u) (effect_of g.typed (layout g) e d)))
+      -- the code of an update leaves the state that it gives in the source
+      abbrev pub UpdateLeaves : TExpr → Draft → CodeState → State → Type 0
+      UpdateLeaves e d s st = Follows g (λ v u out f. Leaves d f s u) s (evaluated fields.scope e fields.active st) (effect_of g.typed (layout g) e d)
 
   -- the same unit where these positions are active
   abbrev pub under : Active → Setting
@@ -55,8 +53,8 @@ module _ (g : Setting) where
   places_under a p = record { ends = p.ends; exists = p.exists; files_end = p.files_end; file = p.file; files_apart = p.files_apart; own_file = p.own_file; owns_apart = p.owns_apart; own_and_below = p.own_and_below; file_and_below = p.file_and_below; own_below_called = p.own_below_called; few = p.few; grids = p.grids }
 
   -- what the memory holds of it is the fields' numbers
-  abbrev pub fields_under : (a : Active) → HoldsTheFields (under a)
-  fields_under a = record { active = a; opens = λ st m h. h; closes = λ st m h. h }
+  abbrev pub fields_under : (a : Active) (scope : Scope) → SameExtents g scope → HoldsTheFields (under a)
+  fields_under a scope same = record { scope = scope; same_extents = same; active = a; opens = λ at st m h. h; closes = λ at st m h. h }
 
   pub within_under : {d : Draft} (a : Active) → Within g d → Within (under a) d
   within_under a w = record { more = w.more; code = w.code; entries = w.entries; fields = w.fields; regs = w.regs; own = w.own; upto = w.upto }

@@ -9,11 +9,11 @@ use Rattle.cstar_base.specs.declared.elem.Elem.{Elem}
 use Rattle.cstar_base.specs.declared.operators.Op.{Op}
 use Rattle.cstar_base.specs.declared.operators.Op.TheVariants as P
 use Rattle.cstar_base.specs.Numbers.{converted, number_of, residue, truth_of}
-use Rattle.cstar_base.specs.Operators.{outcome}
+use Rattle.cstar_base.specs.Operators.{divides, outcome}
 use Rattle.cstar_base.proofs.NumberLaws.{kind_bits, residue_below, residue_of_number}
 use Rattle.source_meaning.specs.Reductions.{int_type}
 use Rattle.lower_base.specs.Kinds.{is_bitwise}
-use Rattle.lower_base.specs.Operators.{operation_of}
+use Rattle.lower_base.specs.Operators.{operation_of, relates}
 use Rattle.cstar_tree.specs.declared.typed.TExpr.{TExpr}
 use Rattle.lower_expr.specs.Kinds.{has_number, is_modular, operation_bits, shifts_within}
 use Rattle.lower_expr.specs.Steps.{word_of}
@@ -94,6 +94,22 @@ operation_most bits op right most = by (is_modular op || shifts_within bits op r
     by : (b : Bool) → (bits ≤ (if b then bits else 32)) × ((if b then bits else 32) ≤ 32)
     by true = (omega arith, most)
     by false = (most, omega arith)
+
+-- a relation divides nothing
+pub relates_plainly : (op : Op) → relates op ≡ true → divides op ≡ false
+unfolding relates divides
+relates_plainly P.Div e = cc
+relates_plainly P.Rem e = cc
+relates_plainly P.Mod e = cc
+relates_plainly _ e = refl
+
+-- a quotient is one of 32 bits
+pub divides_wide : (bits : ℕ) (op : Op) (right : TExpr) → divides op ≡ true → operation_bits bits op right ≡ 32
+unfolding operation_bits is_modular is_bitwise shifts_within divides
+divides_wide bits P.Div right e = refl
+divides_wide bits P.Rem right e = refl
+divides_wide bits P.Mod right e = refl
+divides_wide bits _ right e = cc
 
 -- a shift to the left by fewer places than there are bits
 shift_within : (bits : ℕ) (op : Op) (signed : Bool) (right : TExpr) (y : ℕ) → bits ≤ 32 → ((word : ℕ) → word_of right ≡ Some word → y ≡ word) → shifts_within bits op right ≡ true → Keeps op signed bits y

@@ -6,7 +6,9 @@ pub mod ConditionCode
 pub mod Conditions
 pub mod Contexts
 pub mod Deciding
+pub mod Dividing
 pub mod Effects
+pub mod Ending
 pub mod Entering
 pub mod Example
 pub mod Expressions
@@ -34,6 +36,7 @@ pub mod Neighbours
 pub mod News
 pub mod Onto
 pub mod Operands
+pub mod Outcomes
 pub mod Passing
 pub mod PassingTests
 pub mod Places
@@ -46,6 +49,7 @@ pub mod Reductions
 pub mod Relations
 pub mod Saving
 pub mod Sizes
+pub mod Spreading
 pub mod TestFlags
 pub mod Testing
 pub mod Totals

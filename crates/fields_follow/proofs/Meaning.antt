@@ -1,5 +1,5 @@
 -- The numbers that pure parallel expressions mean, and what their promoted parts do.
-use Rattle.std.proofs.Common.{◌≡◌, ◌∙◌, ℕ, zero, suc, ◌+◌, Bool, true, false, not, ◌&&◌, ◌||◌, ◌==◌, List, [], ◌∷◌, Option, Some, None, refl, sym, ap, subst, inl, inr, if◌then◌else◌, ◌⊎◌, ◌<◌, ◌^◌}
+use Rattle.std.proofs.Common.{◌≡◌, ◌∙◌, ℕ, zero, suc, ◌+◌, Bool, true, false, not, ◌&&◌, ◌||◌, ◌==◌, List, [], ◌∷◌, Option, Some, None, refl, sym, ap, subst, inl, inr, if◌then◌else◌, ◌⊎◌}
 use Rattle.std.specs.Prelude.{is_none, slice_index}
 use Rattle.std.specs.Int.{from_bool}
 use Rattle.cstar_base.specs.declared.faults.RunFault.TheVariants.{DivZero}
@@ -17,7 +17,7 @@ use Rattle.cstar_tree.specs.Typed.{type_of}
 use Rattle.source_meaning.specs.Constants as Const
 use Rattle.source_meaning.specs.Constants.{constant_of, is_constant}
 use Rattle.source_meaning.specs.Expressions.{evaluated, mapped, operated}
-use Rattle.source_meaning.specs.State.{Gives, Outcome, State, then_do}
+use Rattle.source_meaning.specs.State.{Ends, Fault, Gives, Outcome, State, then_do}
 use Rattle.source_meaning.specs.Targets.{read, variable_target}
 use Rattle.source_meaning.specs.Values.{Active, Parallel, Scalar, Scope, Value, at, convert_to, each, failing, nonzero, positions, unary_of, unless}
 use Rattle.source_meaning.proofs.ConstantLaws.{Boxed, value_means}
@@ -25,14 +25,8 @@ use Rattle.lower_comm.specs.declared.news.NewsStep.{NewsStep}
 use Rattle.lower_comm.specs.News.{checked_step, step_of}
 use Rattle.vp_sets.specs.Positions.{coordinate, moved, number_at}
 use Rattle.fields_follow.specs.Fragment.{IsEverywhere, IsPromoted, IsPure, IsScalarName}
-use Rattle.cstar_base.specs.declared.elem.Elem.{Elem}
 use Rattle.cstar_base.specs.Numbers.{converted, number_of}
 use Rattle.code_follows.proofs.Following.{held}
-use Rattle.code_follows.proofs.Words.{held_converted, held_wide}
-
--- a number of 32 bits is one of another such type
-pub wide_same : (to from : Elem) (w : ℕ) → to.bits ≡ 32 → from.bits ≡ 32 → w < 2 ^ 32 → converted to from w ≡ w
-wide_same to from w wide also few = held_converted to from w wide ∙ held_wide from w also few
 
 -- the number of a scalar that is promoted
 unfoldable pub variable_in : State → TExpr → ℕ
@@ -115,13 +109,6 @@ pub either : {A B C : Type 0} → (A → C) → (B → C) → A ⊎ B → C
 either f g (inl x) = f x
 either f g (inr y) = g y
 
--- where an operator divides, it does so by no 0
-abbrev pub DividesByNoZero : Op → (ℕ → ℕ) → Type 0
-DividesByNoZero op w = divides op ≡ true → (q : ℕ) → (w q == 0) ≡ false
-
-pub divides_nothing : (op : Op) (w : ℕ → ℕ) → divides op ≡ false → DividesByNoZero op w
-divides_nothing op w no_check divided q = cc
-
 pub scalar_constant : (e : TExpr) → IsScalarName e → is_constant e ≡ false
 unfolding IsScalarName is_constant
 scalar_constant (T.Variable ty x) is = refl
@@ -130,17 +117,36 @@ scalar_constant (T.Convert' ty p operand) is = right_false (is_none ty.shape) (i
 scalar_constant _ is = absurd is
 
 module _ (scope : Scope) (active : Active) where
-  pub operated_is : (ty : ValueType) (set : ℕ) (place : Place) (op : Op) (unsigned : Bool) (v w : Value) (st : State) → ty.shape ≡ Some set → DividesByNoZero op (λ p. at w p)
+  -- an operator on two operands, which fails where it divides by 0
+  operated_so : (ty : ValueType) (set : ℕ) (place : Place) (op : Op) (unsigned : Bool) (v w : Value) (st : State) → ty.shape ≡ Some set
+      → operated scope active ty place op unsigned v w st ≡ unless (failing scope active (Some set) (λ p. divides op && at w p == 0)) DivZero place st (Gives (Parallel (λ p. outcome op 32 unsigned (at v p) (at w p))) st)
+  unfolding operated each
+  operated_so ty set place op unsigned v w st shaped = ap (λ (y : ValueType). operated scope active y place op unsigned v w st) (as_shaped ty set shaped)
+
+  pub operated_is : (ty : ValueType) (set : ℕ) (place : Place) (op : Op) (unsigned : Bool) (v w : Value) (st : State) → ty.shape ≡ Some set → divides op ≡ false
       → operated scope active ty place op unsigned v w st ≡ Gives (Parallel (λ p. outcome op 32 unsigned (at v p) (at w p))) st
-  unfolding operated failing unless each
-  operated_is ty set place op unsigned v w st shaped never =
-      ap (λ (y : ValueType). operated scope active y place op unsigned v w st) (as_shaped ty set shaped)
-      ∙ ap (λ (test : ℕ → Bool). unless (failing scope active (Some set) test) DivZero place st (Gives (Parallel (λ p. outcome op 32 unsigned (at v p) (at w p))) st)) (λ j p. no_fault (divides op) (at w p == 0) (λ divided. never divided p) j)
+  unfolding failing unless
+  operated_is ty set place op unsigned v w st shaped no_check =
+      operated_so ty set place op unsigned v w st shaped
+      ∙ ap (λ (c : Bool). unless (failing scope active (Some set) (λ p. c && at w p == 0)) DivZero place st (Gives (Parallel (λ p. outcome op 32 unsigned (at v p) (at w p))) st)) no_check
       ∙ ap (λ (o : Option ℕ). unless (elim o [ None ↦ None | Some p ↦ Some (Some p) ]) DivZero place st (Gives (Parallel (λ p. outcome op 32 unsigned (at v p) (at w p))) st)) (none_fails (active set) (positions scope set))
+
+  -- a divisor that is 0 at a position
+  pub divided_is : (ty : ValueType) (set : ℕ) (place : Place) (op : Op) (unsigned : Bool) (v w : Value) (st : State) → ty.shape ≡ Some set → divides op ≡ true
+      → operated scope active ty place op unsigned v w st ≡ (elim (least_below (λ p. active set p && at w p == 0) (positions scope set)) as (λ _. Outcome Value) [
+        | None ↦ Gives (Parallel (λ p. outcome op 32 unsigned (at v p) (at w p))) st
+        | Some p ↦ Ends (Fault DivZero place (Some p)) st
+      ])
+  unfolding failing unless
+  divided_is ty set place op unsigned v w st shaped divided =
+      operated_so ty set place op unsigned v w st shaped
+      ∙ ap (λ (c : Bool). unless (failing scope active (Some set) (λ p. c && at w p == 0)) DivZero place st (Gives (Parallel (λ p. outcome op 32 unsigned (at v p) (at w p))) st)) divided
+      ∙ by (least_below (λ p. active set p && at w p == 0) (positions scope set))
     where
-      no_fault : (d z : Bool) → (d ≡ true → z ≡ false) → (d && z) ≡ false
-      no_fault true z h = h refl
-      no_fault false z h = refl
+      by : (o : Option ℕ) → unless (elim o [ None ↦ None | Some p ↦ Some (Some p) ]) DivZero place st (Gives (Parallel (λ p. outcome op 32 unsigned (at v p) (at w p))) st)
+          ≡ (elim o as (λ _. Outcome Value) [ None ↦ Gives (Parallel (λ p. outcome op 32 unsigned (at v p) (at w p))) st | Some p ↦ Ends (Fault DivZero place (Some p)) st ])
+      by None = refl
+      by (Some p) = refl
 
   pub mapped_is : (ty : ValueType) (set : ℕ) (f : ℕ → ℕ) (v : Value) → ty.shape ≡ Some set → mapped ty f v ≡ Parallel (λ p. f (at v p))
   unfolding mapped each
@@ -174,22 +180,26 @@ module _ (scope : Scope) (active : Active) where
   everywhere_means e st (none, inr variable) =
       name_means e st variable none ∙ ap (λ (o : Option ℕ). Gives (Scalar (elim o [ Some word ↦ word | None ↦ variable_in st e ])) st) (sym (no_constant e (scalar_constant e variable)))
 
-  pub promoted_means : (set : ℕ) (e : TExpr) (st : State) → IsPromoted set e → evaluated scope e active st ≡ Gives (Parallel (λ q. value_in (scope.extents set) st e q)) st
+  pub promoted_means : (set : ℕ) (extents : List ℕ) (e : TExpr) (st : State) → IsPromoted set e → evaluated scope e active st ≡ Gives (Parallel (λ q. value_in extents st e q)) st
   unfolding IsPromoted evaluated value_in then_do at
-  promoted_means set (T.Promote' ty p operand) st is =
+  promoted_means set extents (T.Promote' ty p operand) st is =
       ap (λ (o : Outcome Value). then_do o (λ v after. Gives (mapped ty (λ w. w) v) after)) (everywhere_means operand st is.2)
       ∙ ap (λ (v : Value). Gives v st) (mapped_is ty set (λ w. w) (Scalar (scalar_in st operand)) is.0)
-  promoted_means set (T.Brackets' ty p inner) st is = promoted_means set inner st is.1
-  promoted_means set _ st is = absurd is
+  promoted_means set extents (T.Brackets' ty p inner) st is = promoted_means set extents inner st is.1
+  promoted_means set extents _ st is = absurd is
 
-  -- an operator on two operands that change nothing and never fail
-  pub binary_means : (set : ℕ) (ty : ValueType) (place : Place) (op : Op) (p q : Boxed) (left right : TExpr) (v w : ℕ → ℕ) (st : State) → ty.shape ≡ Some set → DividesByNoZero op w → evaluated scope left active st ≡ Gives (Parallel v) st → evaluated scope right active st ≡ Gives (Parallel w) st
-      → evaluated scope (T.Binary' ty place op p left q right) active st ≡ Gives (Parallel (λ x. outcome op 32 (not (type_of left).elem.signed) (v x) (w x))) st
-  unfolding evaluated then_do at
-  binary_means set ty place op p q left right v w st shaped never one other =
+  -- an operator on two operands that change nothing
+  pub binary_so : (ty : ValueType) (place : Place) (op : Op) (p q : Boxed) (left right : TExpr) (v w : ℕ → ℕ) (st : State) → evaluated scope left active st ≡ Gives (Parallel v) st → evaluated scope right active st ≡ Gives (Parallel w) st
+      → evaluated scope (T.Binary' ty place op p left q right) active st ≡ operated scope active ty place op (not (type_of left).elem.signed) (Parallel v) (Parallel w) st
+  unfolding evaluated then_do
+  binary_so ty place op p q left right v w st one other =
       ap (λ (o : Outcome Value). then_do o (λ x between. then_do (evaluated scope right active between) (λ y after. operated scope active ty place op (not (type_of left).elem.signed) x y after))) one
       ∙ ap (λ (o : Outcome Value). then_do o (λ y after. operated scope active ty place op (not (type_of left).elem.signed) (Parallel v) y after)) other
-      ∙ operated_is ty set place op (not (type_of left).elem.signed) (Parallel v) (Parallel w) st shaped never
+
+  pub binary_means : (set : ℕ) (ty : ValueType) (place : Place) (op : Op) (p q : Boxed) (left right : TExpr) (v w : ℕ → ℕ) (st : State) → ty.shape ≡ Some set → divides op ≡ false → evaluated scope left active st ≡ Gives (Parallel v) st → evaluated scope right active st ≡ Gives (Parallel w) st
+      → evaluated scope (T.Binary' ty place op p left q right) active st ≡ Gives (Parallel (λ x. outcome op 32 (not (type_of left).elem.signed) (v x) (w x))) st
+  unfolding at
+  binary_means set ty place op p q left right v w st shaped no_check one other = binary_so ty place op p q left right v w st one other ∙ operated_is ty set place op (not (type_of left).elem.signed) (Parallel v) (Parallel w) st shaped no_check
 
   -- one before an operand that changes nothing
   pub unary_means : (set : ℕ) (ty : ValueType) (op : UnaryOp) (p : Boxed) (operand : TExpr) (v : ℕ → ℕ) (st : State) → ty.shape ≡ Some set → evaluated scope operand active st ≡ Gives (Parallel v) st

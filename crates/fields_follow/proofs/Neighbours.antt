@@ -32,7 +32,7 @@ use Rattle.code_follows.proofs.Standing.{some_same}
 use Rattle.code_follows.proofs.Words.{within_word}
 use Rattle.fields_follow.specs.Fragment.{AreWrapping, IsConstant, IsDot, IsIndex, IsOffset, IsPromoted, IsScalarName, IsWrapping}
 use Rattle.fields_follow.proofs.Extents.{NameExtents, NamesExtent}
-use Rattle.fields_follow.proofs.Meaning.{always_checked, coordinate_behind, coordinates_behind, divides_nothing, no_constant, none_fails, scalar_constant, operated_is, promoted_means, scalar_in, value_in, variable_in}
+use Rattle.fields_follow.proofs.Meaning.{always_checked, coordinate_behind, coordinates_behind, no_constant, none_fails, scalar_constant, operated_is, promoted_means, scalar_in, value_in, variable_in}
 use Rattle.fields_follow.proofs.Wrapping.{IsStep, index_number, near_is, moved_within, still_there, turned_step, within_extent, wrapped_word}
 
 -- a grid of few positions
@@ -96,8 +96,8 @@ module _ (scope : Scope) (active : Active) where
       whole : (op : Op) → divides op ≡ false → evaluated scope (T.Binary' ty place op p left q right) active st ≡ Gives (Parallel (λ q. outcome op 32 unsigned (own q) (number q))) st
       whole op no_check =
           ap (λ (o : Outcome Value). then_do o (λ v between. then_do (evaluated scope right active between) (λ w after. operated scope active ty place op unsigned v w after))) (dot_means set axis left st is.1)
-          ∙ ap (λ (o : Outcome Value). then_do o (λ w after. operated scope active ty place op unsigned (Parallel own) w after)) (promoted_means scope active set right st is.2)
-          ∙ operated_is scope active ty set place op unsigned (Parallel own) (Parallel number) st is.0 (divides_nothing op number no_check)
+          ∙ ap (λ (o : Outcome Value). then_do o (λ w after. operated scope active ty place op unsigned (Parallel own) w after)) (promoted_means scope active set (scope.extents set) right st is.2)
+          ∙ operated_is scope active ty set place op unsigned (Parallel own) (Parallel number) st is.0 no_check
 
       by_op : (op : Op) (c : ℕ) → step_number right ≡ Some c → step_by op c ≡ Some k → Offset set axis k (T.Binary' ty place op p left q right) st
       by_op P.Add c is_c h =

@@ -14,9 +14,7 @@ use Rattle.cstar_tree.specs.declared.typed.Variable.{Variable}
 use Rattle.cstar_tree.specs.declared.typed.Variable.TheVariants as V
 use Rattle.cstar_tree.specs.Conversions.{parallel}
 use Rattle.cstar_tree.specs.StatementTypes.{variable_info}
-use Rattle.code_lengths.specs.Growth.{Extended}
 use Rattle.code_lengths.specs.Naming.{HasVariable, plain}
-use Rattle.code_lengths.proofs.Drafting.{extended}
 use Rattle.lower_base.specs.declared.emit.Out.{Out}
 use Rattle.lower_base.specs.declared.emit.Out.TheVariants as O
 use Rattle.lower_base.specs.Layouts.{Layout, field_of}
@@ -36,6 +34,7 @@ use Rattle.paris_code.specs.Memory.{processors}
 use Rattle.source_meaning.specs.State.{State}
 use Rattle.vp_sets.specs.Positions.{are_positive, number_at}
 use Rattle.code_follows.proofs.Following.{Sim, held}
+use Rattle.code_follows.proofs.Growing.{Extended, extended}
 use Rattle.code_follows.proofs.Settings.{At, Setting, Within, layout}
 use Rattle.fields_follow.specs.Fragment.{AreWrapping}
 use Rattle.fields_follow.proofs.Extents.{NameExtents, extents_in}

@@ -8,8 +8,6 @@ use Rattle.cstar_tree.specs.declared.syntax.ReduceOp.{ReduceOp}
 use Rattle.cstar_tree.specs.declared.syntax.ReduceOp.TheVariants as R
 use Rattle.cstar_tree.specs.declared.typed.VarInfo.{VarInfo}
 use Rattle.cstar_tree.specs.declared.typed.Variable.{Variable}
-use Rattle.code_lengths.specs.Growth.{Extended}
-use Rattle.code_lengths.proofs.Drafting.{and_instr, as_it_was, extended}
 use Rattle.lower_base.specs.Drafts.{Draft, Plain, step as step_of, with_instr}
 use Rattle.lower_base.specs.Layouts.{register_of}
 use Rattle.lower_base.specs.Operators.{machine_of, operation_of, reduce_op_of}
@@ -28,6 +26,7 @@ use Rattle.source_meaning.specs.Reductions.{folded_into}
 use Rattle.source_meaning.specs.State.{State, with_scalar}
 use Rattle.constant_trees.proofs.Words.{converted_below}
 use Rattle.code_follows.proofs.Following.{HasRegisters, IsScalar, Keeps, Sim, held, keeps_all, keeps_on, register_is, register_kept, register_set, variable_kept}
+use Rattle.code_follows.proofs.Growing.{Extended, and_instr, as_it_was, extended}
 use Rattle.code_follows.proofs.Numbers.{rounded_is}
 use Rattle.code_follows.proofs.Operators.{by_machine, machine_below, machine_same}
 use Rattle.code_follows.proofs.Settings.{At, Reaches, Setting, Within, and_one, at_next, begins_here, code_more, earlier, layout, one, onto, placed_instr, regs_more, stay}

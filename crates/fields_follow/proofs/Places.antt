@@ -13,14 +13,14 @@ use Rattle.paris_code.specs.Proper.{IsEntry, IsOwn}
 use Rattle.paris_code.specs.Shapes.{bits_at}
 use Rattle.paris_code.specs.Spans.{IsNamedAt, StandsAt, entry_of, fields_of}
 use Rattle.source_meaning.specs.State.{State}
-use Rattle.source_meaning.specs.Values.{Active}
+use Rattle.source_meaning.specs.Values.{Active, Scope}
 use Rattle.code_follows.proofs.Settings.{Setting, StandsBelow, Within, stands_here as stands_so}
 use Rattle.fields_follow.proofs.Fields.{HoldsFields}
 use Rattle.vp_sets.specs.Positions.{positions_fit}
 use Rattle.fields_follow.proofs.Extents.{extents_in}
 use Rattle.fields_follow.specs.Fields.{IsElement, file_field, file_number}
 use Rattle.fields_follow.proofs.FileFields.{Apart}
-use Rattle.fields_follow.proofs.Instructions.{extents, place, shapes}
+use Rattle.fields_follow.proofs.Instructions.{SameExtents, extents, place, shapes}
 use Rattle.fields_follow.proofs.Named.{NamesFields}
 
 module _ (g : Setting) where
@@ -56,11 +56,14 @@ module _ (g : Setting) where
     pub few : (set : ℕ) → processors (shapes g) set ≤ 2 ^ 20
     pub grids : (set : ℕ) → set < length (shapes g) → (extents_in g.typed set ≡ extents g set) × (positions_fit (extents g set) ≡ true)
 
-  -- what the memory holds of the source's state is the numbers of the fields, where these positions are active
+  -- what the memory holds of the source's state is the numbers of the fields, where these positions are active; and the
+  -- extents of the shapes are those of the image
   pub record HoldsTheFields : Type 0 where
+    pub scope : Scope
+    pub same_extents : SameExtents g scope
     pub active : Active
-    pub opens : (st : State) (m : BitMemory) → g.held.holds st m → HoldsFields g.typed g.image active st m
-    pub closes : (st : State) (m : BitMemory) → HoldsFields g.typed g.image active st m → g.held.holds st m
+    pub opens : (at : ℕ) (st : State) (m : BitMemory) → g.held.holds at st m → HoldsFields g.typed g.image active st m
+    pub closes : (at : ℕ) (st : State) (m : BitMemory) → HoldsFields g.typed g.image active st m → g.held.holds at st m
 
   -- the instruction that the draft gets next stands in the unit
   pub stands_here : (i : Instr) (d : Draft) → Within g (with_instr i d) → step_of i ≡ Plain i → StandsAt g.unit (length d.code) i

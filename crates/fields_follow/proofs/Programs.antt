@@ -1,5 +1,5 @@
 -- The run of a program with parallel variables: what its memory holds from the first instruction to the end.
-use Rattle.std.proofs.Common.{◌≡◌, ◌∙◌, ℕ, ◌<◌, ◌^◌, ◌⊎◌, inl, inr, true, List, [], slice_get, Option, Some, None, sym, ap, subst, arith}
+use Rattle.std.proofs.Common.{◌≡◌, ◌∙◌, ℕ, ◌+◌, ◌<◌, ◌^◌, ◌⊎◌, inl, inr, true, List, [], slice_get, Option, Some, None, sym, ap, subst, arith}
 use Rattle.std.proofs.lemmas.Nat.{pow_pos}
 use Rattle.cstar_base.specs.declared.operators.Winner.{Winner}
 use Rattle.cstar_compile.specs.Compiled.{IsCompiled}
@@ -23,7 +23,7 @@ use Rattle.code_follows.specs.Fragment.{IsFileVariable}
 use Rattle.code_follows.proofs.Activations.{activation}
 use Rattle.code_follows.proofs.Entering.{AllBeside, running}
 use Rattle.code_follows.proofs.Programs.{Comes, program_follows}
-use Rattle.code_follows.proofs.Settings.{CallStands, Held, Setting, called_below}
+use Rattle.code_follows.proofs.Settings.{CallStands, Held, Setting, called_below, start}
 use Rattle.fields_follow.specs.Fragment.{IsParallelProgram, fields_beside}
 use Rattle.fields_follow.specs.Laws.{ComesToAll, HasTheNumbers, IsNew, ParallelCodeMeansSource}
 use Rattle.fields_follow.proofs.Besides.{besides}
@@ -31,7 +31,7 @@ use Rattle.fields_follow.proofs.Fields.{HoldsFields, HoldsNumbers, fields_held}
 use Rattle.fields_follow.proofs.FileFields.{IsTranslated, extents_are, file_exists, fresh_active, fresh_bit, fresh_file, processors_of, translated}
 use Rattle.fields_follow.proofs.Instructions.{SameExtents}
 use Rattle.fields_follow.proofs.Joining.{places_fields}
-use Rattle.fields_follow.proofs.Knowing.{KnowsFields}
+use Rattle.fields_follow.proofs.Knowing.{KnowsFields, held_under}
 use Rattle.fields_follow.proofs.Places.{PlacesFields}
 
 -- everything is active
@@ -66,17 +66,22 @@ module _ (t : Typed) (image : Image) (p : IsParallelProgram t) (codable : IsCoda
     conditions = λ set e h. h;
     kept = λ m. Unit {0};
     lasts = record { code = λ m other stays same h. tt; calls = λ index at stands low high m other same h. tt };
-    opens = λ st m h. (h, tt);
-    closes = λ st m h kept. h;
+    opens = λ at st m h. (h, tt);
+    closes = λ at st m h kept. h;
     ends = λ st m h. h;
   }
 
-  -- and of a function, where it is known of one that calls it: what is kept lasts over its code, and over what it calls
-  known_called : (held : Held) (from entries upto : ℕ) (a : Active) (me : ℕ) (i : Instance) (is_me : slice_get t.instances.items me ≡ Some i) (opens : List ℕ) (most : ℕ) → KnowsFields (running t image p codable compiled held from entries upto me i is_me opens most) (scope_of t i (calls t most)) a
-      → (number : ℕ) (b : Instance) (is : slice_get t.instances.items number ≡ Some b) (back : List ℕ) (m : ℕ) → CallStands (running t image p codable compiled held from entries upto me i is_me opens most) number → KnowsFields (g held number b is back m) (scope_of t b (calls t m)) a
+  -- what a function holds that is called: the fields of the file, and what is kept by one that calls it
+  abbrev held_called : (held : Held) (from entries upto : ℕ) (a : Active) (me : ℕ) (i : Instance) (is_me : slice_get t.instances.items me ≡ Some i) (opens : List ℕ) (most : ℕ) → KnowsFields (running t image p codable compiled held from entries upto me i is_me opens most) (scope_of t i (calls t most)) a → Held
+  held_called held from entries upto a me i is_me opens most caller = held_under (running t image p codable compiled held from entries upto me i is_me opens most) a caller.kept
+
+  -- it is known of it, where it is known of the one that calls it: what is kept lasts over its code, and over what it calls
+  known_called : (held : Held) (from entries upto : ℕ) (a : Active) (me : ℕ) (i : Instance) (is_me : slice_get t.instances.items me ≡ Some i) (opens : List ℕ) (most : ℕ) (caller : KnowsFields (running t image p codable compiled held from entries upto me i is_me opens most) (scope_of t i (calls t most)) a)
+      → (number : ℕ) (b : Instance) (is : slice_get t.instances.items number ≡ Some b) (back : List ℕ) (m : ℕ) → CallStands (running t image p codable compiled held from entries upto me i is_me opens most) number
+      → KnowsFields (g (held_called held from entries upto a me i is_me opens most caller) number b is back m) (scope_of t b (calls t m)) a
   known_called held from entries upto a me i is_me opens most caller number b is back m here = record {
-    places = places held number b is back m;
-    same_extents = same_extents held number b is back m;
+    places = places (held_called held from entries upto a me i is_me opens most caller) number b is back m;
+    same_extents = same_extents (held_called held from entries upto a me i is_me opens most caller) number b is back m;
     effects = λ e h. h;
     folds = λ e h. h;
     conditions = λ set e h. h;
@@ -84,15 +89,30 @@ module _ (t : Typed) (image : Image) (p : IsParallelProgram t) (codable : IsCoda
     lasts = record {
       code = λ memory other stays same has. caller.lasts.calls number here.at here.stands here.low here.high memory other same has;
       calls = λ index at stands low high memory other same has.
-          caller.lasts.calls number here.at here.stands here.low here.high memory other (λ f q there. same f q (called_below (g held number b is back m) index (record { at = at; stands = stands; low = low; high = high }) f there)) has;
+          caller.lasts.calls number here.at here.stands here.low here.high memory other (λ f q there. same f q (called_below (g (held_called held from entries upto a me i is_me opens most caller) number b is back m) index (record { at = at; stands = stands; low = low; high = high }) f there)) has;
     };
-    opens = caller.opens;
-    closes = caller.closes;
-    ends = caller.ends;
+    opens = λ at st memory h. h;
+    closes = λ at st memory h kept. (h, kept);
+    ends = λ st memory h. h;
   }
 
   all_beside : AllBeside t image p codable compiled KnowsFields
-  all_beside = record { follows = besides; called = known_called }
+  all_beside = record {
+    follows = besides;
+    called = λ held from entries upto a me i is_me opens most caller number b is back m here place st.
+        let inside : Held = held_called held from entries upto a me i is_me opens most caller in (
+          inside,
+          (
+            record {
+              enters = λ at u memory files winner h. inside.still at st u memory files winner (caller.opens place st memory h);
+              leaves = λ at u v memory files winner h. let has = inside.still at u v memory files winner h in caller.closes place v memory has.0 has.1;
+              ends = caller.ends;
+            },
+            known_called held from entries upto a me i is_me opens most caller number b is back m here,
+          ),
+        );
+    lasts = λ unit scope a known target low place jump stands leads st memory h. let has = known.opens (start unit + place) st memory h in known.closes (target + start unit) st memory has.0 has.1;
+  }
 
   -- a parallel variable of the file begins with 0
   begins_at_zero : (k : ℕ) (info : VarInfo) (set : ℕ) → slice_get t.vars.items k ≡ Some info → info.shape ≡ Some set → start_of t (V.File k) ≡ 0

@@ -1,7 +1,10 @@
 -- What pure parallel expressions mean: a number at each position, with the state as it was.
-use Rattle.std.proofs.Common.{◌≡◌, ◌∙◌, ℕ, true, List, Option, Some, sym, ap, subst}
+use Rattle.std.proofs.Common.{◌≡◌, ◌∙◌, ◌&&◌, not, Bool, ℕ, true, false, refl, List, Option, Some, sym, ap, subst}
 use Rattle.cstar_tree.specs.declared.typed.Instance.{Instance}
-use Rattle.cstar_tree.specs.declared.typed.TExpr.{TExpr}
+use Rattle.cstar_base.specs.declared.operators.Op.{Op}
+use Rattle.cstar_base.specs.declared.operators.Place.{Place}
+use Rattle.cstar_base.specs.Operators.{divides}
+use Rattle.cstar_tree.specs.declared.typed.TExpr.{Row_of-TExpr, TExpr, items-the_row-TExpr}
 use Rattle.cstar_tree.specs.declared.typed.TExpr as T
 use Rattle.cstar_tree.specs.declared.typed.Typed.{Typed}
 use Rattle.cstar_tree.specs.declared.typed.ValueType.{ValueType}
@@ -10,20 +13,32 @@ use Rattle.cstar_tree.specs.declared.typed.Variable.TheVariants as V
 use Rattle.cstar_tree.specs.Conversions.{parallel}
 use Rattle.cstar_tree.specs.StatementTypes.{variable_info}
 use Rattle.cstar_tree.specs.Typed.{type_of}
-use Rattle.code_lengths.specs.Naming.{NamesVariables, plain}
+use Rattle.code_lengths.specs.Naming.{HasVariable, plain}
 use Rattle.source_meaning.specs.Expressions.{evaluated}
 use Rattle.source_meaning.specs.State.{Gives, Outcome, State, then_do}
 use Rattle.source_meaning.specs.Values.{Active, Parallel, Scope, Value, at, convert_to, each, own_coordinate}
-use Rattle.vp_sets.specs.Positions.{positions_fit}
-use Rattle.fields_follow.specs.Fragment.{IsPure}
-use Rattle.fields_follow.proofs.Extents.{NameExtents, extents_in, get_names}
-use Rattle.fields_follow.proofs.Meaning.{as_shaped, binary_means, either, left_of, promoted_means, read_is, right_of, unary_means, value_in}
+use Rattle.vp_sets.specs.Positions.{number_at, positions_fit}
+use Rattle.lower_expr.specs.Operands.{ignores_context}
+use Rattle.fields_follow.specs.Fragment.{AreWrapping, IsPure}
+use Rattle.fields_follow.proofs.Extents.{NameExtents, extents_in}
+use Rattle.fields_follow.proofs.Meaning.{as_shaped, binary_means, coordinates_behind, either, left_of, promoted_means, read_is, right_of, unary_means, value_in}
 use Rattle.fields_follow.specs.Fields.{IsElement}
-use Rattle.fields_follow.proofs.Forms.{divisor_never_zero, element_is}
+use Rattle.fields_follow.proofs.Forms.{element_is}
 use Rattle.fields_follow.proofs.Neighbours.{get_means}
 use Rattle.code_follows.proofs.Settings.{Setting}
-use Rattle.fields_follow.proofs.Instructions.{SameExtents}
-use Rattle.fields_follow.proofs.Places.{PlacesFields}
+use Rattle.fields_follow.proofs.Instructions.{SameExtents, extents}
+use Rattle.fields_follow.proofs.Outcomes.{meant}
+use Rattle.fields_follow.proofs.Places.{HoldsTheFields, PlacesFields}
+
+-- an operator that ignores the context divides nothing, and its operands ignore it
+pub ignores_both : (op : Op) (left right : TExpr) → (not (divides op) && ignores_context left && ignores_context right) ≡ true → (divides op ≡ false) × (ignores_context left ≡ true) × (ignores_context right ≡ true)
+ignores_both op left right free = by (divides op) (ignores_context left) (ignores_context right) free
+  where
+    by : (d l r : Bool) → (not d && l && r) ≡ true → (d ≡ false) × (l ≡ true) × (r ≡ true)
+    by false true true h = (refl, refl, refl)
+    by true l r h = cc
+    by false false r h = cc
+    by false true false h = cc
 
 -- the shape is a grid of few positions, with the extents that are known
 abbrev pub IsGrid : Scope → (ℕ → List ℕ) → ℕ → Type 0
@@ -34,24 +49,35 @@ abbrev pub AreGrids : Scope → Typed → ℕ → Type 0
 AreGrids scope t set = (k : ℕ) (info : VarInfo) → IsElement t k info set 0 → IsGrid scope (extents_in t) set
 
 module _ (scope : Scope) (active : Active) (t : Typed) (i : Instance) (n : ℕ) where
-  pub pure_means : (set : ℕ) (e : TExpr) (st : State) → IsPure set e → AreGrids scope t set → NamesVariables t i n e → evaluated scope e active st ≡ Gives (Parallel (λ q. value_in (scope.extents set) st e q)) st
-  unfolding IsPure NamesVariables evaluated value_in then_do at convert_to each own_coordinate
-  pure_means set (T.Variable ty (V.File k)) st is grids names = ap (λ (v : Value). Gives v st) (read_is scope active ty set k st is)
-  pure_means set (T.Brackets' ty p inner) st is grids names = pure_means set inner st is.1 grids names
-  pure_means set (T.Unary' ty op p operand) st is grids names = unary_means scope active set ty op p operand (λ q. value_in (scope.extents set) st operand q) st is.0.0 (pure_means set operand st is.2 grids names)
-  pure_means set (T.Binary' ty place op p left q right) st is grids names =
-      binary_means scope active set ty place op p q left right (λ q. value_in (scope.extents set) st left q) (λ q. value_in (scope.extents set) st right q) st is.0.0 (divisor_never_zero set op right (scope.extents set) st is.1 (right_of set left right is.2))
-      (either (λ h. pure_means set left st h grids names.0) (λ h. promoted_means scope active set left st h) (left_of set left right is.2)) (either (λ h. pure_means set right st h grids names.1) (λ h. promoted_means scope active set right st h) (right_of set left right is.2))
-  pure_means set (T.Convert' ty p operand) st is grids names =
-      ap (λ (o : Outcome Value). then_do o (λ v after. Gives (convert_to ty (type_of operand).elem v) after)) (pure_means set operand st is.2 grids names)
+  -- one that ignores the context never fails
+  pub pure_means : (set : ℕ) (e : TExpr) (st : State) → IsPure set e → ignores_context e ≡ true → evaluated scope e active st ≡ Gives (Parallel (λ q. value_in (scope.extents set) st e q)) st
+  unfolding IsPure ignores_context evaluated value_in then_do at convert_to each own_coordinate
+  pure_means set (T.Variable ty (V.File k)) st is free = ap (λ (v : Value). Gives v st) (read_is scope active ty set k st is)
+  pure_means set (T.Brackets' ty p inner) st is free = pure_means set inner st is.1 free
+  pure_means set (T.Unary' ty op p operand) st is free = unary_means scope active set ty op p operand (λ q. value_in (scope.extents set) st operand q) st is.0.0 (pure_means set operand st is.2 free)
+  pure_means set (T.Binary' ty place op p left q right) st is free =
+      let parts = ignores_both op left right free in
+      binary_means scope active set ty place op p q left right (λ q. value_in (scope.extents set) st left q) (λ q. value_in (scope.extents set) st right q) st is.0.0 parts.0
+      (either (λ h. pure_means set left st h parts.1) (λ h. promoted_means scope active set (scope.extents set) left st h) (left_of set left right is.2)) (either (λ h. pure_means set right st h parts.2) (λ h. promoted_means scope active set (scope.extents set) right st h) (right_of set left right is.2))
+  pure_means set (T.Convert' ty p operand) st is free =
+      ap (λ (o : Outcome Value). then_do o (λ v after. Gives (convert_to ty (type_of operand).elem v) after)) (pure_means set operand st is.2 free)
       ∙ ap (λ (y : ValueType). Gives (convert_to y (type_of operand).elem (Parallel (λ q. value_in (scope.extents set) st operand q))) st) (as_shaped ty set is.0)
-  pure_means set (T.Pcoord ty axis) st is grids names = ap (λ (o : Option ℕ). Gives (own_coordinate scope o axis) st) is.0
-  pure_means set (T.LeftIndex' ty place p indexes (V.File k) of) st is grids names =
-      let grid : IsGrid scope (extents_in t) set = grids k (variable_info names.0.word (plain (parallel ty.elem of)) names.0.start) (element_is t i n k set (parallel ty.elem of) (ap Some is.1) names.0) in
-      get_means scope active set k ty place p indexes of st is.0 is.1 is.2 grid.1 (subst (λ (xs : List ℕ). NameExtents xs indexes) (ap (extents_in t) is.1 ∙ grid.0) (get_names t i n of set indexes is.1 is.2 names.1 names.2))
-  pure_means set _ st is grids names = absurd is
+  pure_means set (T.Pcoord ty axis) st is free = ap (λ (o : Option ℕ). Gives (own_coordinate scope o axis) st) is.0
+  pure_means set (T.LeftIndex' ty place p indexes (V.File k) of) st is free = cc
+  pure_means set _ st is free = absurd is
 
 -- a shape of the image is such a grid
 pub are_grids : (g : Setting) (scope : Scope) → PlacesFields g → SameExtents g scope → (set : ℕ) → AreGrids scope g.typed set
 are_grids g scope places same set k info is =
     let exists = places.exists k 0 set info is in ((places.grids set exists).0 ∙ sym (same set exists), subst (λ (xs : List ℕ). positions_fit xs ≡ true) (sym (same set exists)) (places.grids set exists).1)
+
+-- a get from neighbours that wraps around never fails
+pub get_gives : (g : Setting) (places : PlacesFields g) (fields : HoldsTheFields g) (n : ℕ) (ty : ValueType) (place : Place) (p : _) (indexes : Row_of-TExpr _) (k of set : ℕ) (st : State) → ty.shape ≡ Some set → of ≡ set → AreWrapping set 0 indexes
+    → HasVariable g.typed g.instance n (V.File k) (plain (parallel ty.elem of)) → NameExtents (extents_in g.typed of) indexes
+    → meant g fields (T.LeftIndex' ty place p indexes (V.File k) of) st ≡ Gives (Parallel (λ q. value_in (extents g set) st (T.LeftIndex' ty place p indexes (V.File k) of) q)) st
+unfolding value_in
+get_gives g places fields n ty place p indexes k of set st shaped same are v names =
+    let element = element_is g.typed g.instance n k set (parallel ty.elem of) (ap Some same) v in
+    let grid : IsGrid fields.scope (extents_in g.typed) set = are_grids g fields.scope places fields.same_extents set k (variable_info v.word (plain (parallel ty.elem of)) v.start) element in
+    get_means fields.scope fields.active set k ty place p indexes of st shaped same are grid.1 (subst (λ (xs : List ℕ). NameExtents xs indexes) (ap (extents_in g.typed) same ∙ grid.0) names)
+    ∙ ap (λ (xs : List ℕ). Gives (Parallel (λ q. st.parallel (V.File k) 0 (number_at xs (coordinates_behind xs of 0 (items-the_row-TExpr _ indexes) q)))) st) (fields.same_extents set (places.exists k 0 set (variable_info v.word (plain (parallel ty.elem of)) v.start) element))

@@ -15,8 +15,6 @@ use Rattle.cstar_tree.specs.declared.typed.ValueType.{ValueType}
 use Rattle.cstar_tree.specs.declared.typed.Variable.{Variable}
 use Rattle.cstar_tree.specs.Typed.{type_of}
 use Rattle.constant_trees.proofs.Words.{unary_below}
-use Rattle.code_lengths.specs.Growth.{Extended}
-use Rattle.code_lengths.proofs.Drafting.{and_instr, as_it_was, extended}
 use Rattle.lower_base.specs.declared.emit.Out.{Out}
 use Rattle.lower_base.specs.declared.emit.Out.TheVariants as O
 use Rattle.lower_base.specs.Drafts.{Draft, Fails, Made, Makes, Plain, from, in_field, in_register, step as step_of, then_make, with_instr}
@@ -37,10 +35,11 @@ use Rattle.paris_code.specs.Memory.{is_active, processors}
 use Rattle.paris_code.specs.Scalar.{rounded}
 use Rattle.short_values.specs.Short.{put_back}
 use Rattle.source_meaning.specs.Reductions.{combiner_of, folded, reduced}
-use Rattle.source_meaning.specs.State.{State}
+use Rattle.source_meaning.specs.State.{Outcome, State}
 use Rattle.source_meaning.specs.Values.{Scalar, Value, unary_of}
 use Rattle.source_meaning.proofs.ConstantLaws.{Boxed}
-use Rattle.code_follows.proofs.Following.{Extends, HasRegisters, Sim}
+use Rattle.code_follows.proofs.Following.{Follows, follows_same, Extends, HasRegisters, Sim}
+use Rattle.code_follows.proofs.Growing.{Extended, and_instr, as_it_was, extended}
 use Rattle.code_follows.proofs.Operators.{minus_same, wide_signed}
 use Rattle.code_follows.proofs.Settings.{At, Reaches, Setting, Within, and_one, at_next, begins_here, earlier, layout, one, onto, placed_instr, start}
 use Rattle.code_follows.proofs.Values.{Dest}
@@ -48,6 +47,7 @@ use Rattle.code_follows.proofs.Words.{below_bits, held_wide}
 use Rattle.fields_follow.specs.Fragment.{IsWide}
 use Rattle.fields_follow.proofs.Folds.{folding, global_is, narrow_is}
 use Rattle.fields_follow.proofs.Instructions.{HasNumbers, has_words, place, shapes}
+use Rattle.fields_follow.proofs.Outcomes.{Given, given_through}
 use Rattle.fields_follow.proofs.Passing.{After, Behind, GivesField, Passes, after_same, flags_of, gives_numbers, made_after, then_after}
 use Rattle.fields_follow.proofs.Places.{HoldsTheFields, PlacesFields, names_first, stands_here}
 
@@ -115,7 +115,7 @@ module _ (g : Setting) (alive : Variable → Type 0) where
   -- it goes to a register that is to have it
   pub number_to : (has : HasRegisters g) (elem : Elem) (d : Draft) (s : CodeState) (st : State) (R : Value → State → Out → Draft → Type 0) (r w : ℕ) (f : Draft) → elem.bits ≡ 32 → Dest g has alive elem d s R r → GivesNumber d s st r w f → Within g f → R (Scalar w) st (O.Scalar r) f
   number_to has elem d s st R r w f wide dest h within =
-      dest.takes h.middle f h.passes.grown.0 h.puts.more.0 h.passes.t h.puts.place st w h.passes.go h.passes.sim h.passes.grown.1 (λ q kept. ap (λ (registers : List ℕ). slice_index registers q) h.passes.registers) h.puts.more.1 within
+      dest.takes h.middle f h.passes.grown.0 h.puts.more.0 h.passes.t h.puts.place st w h.passes.go h.passes.at h.passes.sim h.passes.grown.1 (λ q kept. ap (λ (registers : List ℕ). slice_index registers q) h.passes.registers) h.puts.more.1 within
       (subst (λ (n : ℕ). Reaches g h.passes.t (put_at r n h.puts.place h.passes.t)) (sym (held_wide elem w wide h.puts.few)) h.puts.go) h.puts.at (below_bits elem.bits w wide h.puts.few)
 
   module _ (op : ReduceOp) (signed : Bool) where
@@ -287,8 +287,8 @@ module _ (g : Setting) (alive : Variable → Type 0) where
     next_grows r O.Nothing e = tt
 
     module _ (d : Draft) (s : CodeState) (st : State) (v : ℕ → ℕ) (bits : ℕ) (folds : FoldsWords op signed_operand places fields set v bits sign) (r w : ℕ) (number_is : set < length (shapes g) → number op signed_operand places fields set v ≡ w) where
-      abbrev Given : Out → Draft → Type 0
-      Given out x = (f : Field) × ((out ≡ O.Field f) × GivesField g alive bits (length d.fields) d s set st v f x)
+      abbrev InField : Out → Draft → Type 0
+      InField out x = (f : Field) × ((out ≡ O.Field f) × GivesField g alive bits (length d.fields) d s set st v f x)
 
       abbrev Reduced : Out → Draft → Type 0
       Reduced out x = (out ≡ O.Scalar r) × GivesNumber d s st r w x
@@ -300,8 +300,9 @@ module _ (g : Setting) (alive : Variable → Type 0) where
 
       -- The code of a fold, where that of its operand gives a field: it passes, and its last instructions put the number
       -- of the reduction in the register that is to have it.
-      pub fold_passes : After g Given (next_of g.typed (layout g) (reduced_bits op operand) true operand d) → After g Reduced (computed_to g.typed (layout g) (O.Scalar r) (T.Reduce' ty op p operand) d)
+      pub fold_passes : (o : Outcome Value) (m : ℕ → ℕ) → Follows g (Given g m st InField) s o (next_of g.typed (layout g) (reduced_bits op operand) true operand d) → Follows g (Given g m st Reduced) s o (computed_to g.typed (layout g) (O.Scalar r) (T.Reduce' ty op p operand) d)
       unfolding computed_to message_to
-      fold_passes gives =
-          after_same g Reduced (gone_inside (O.Scalar r) (next_of g.typed (layout g) (reduced_bits op operand) true operand d) (λ u after. communicated g.typed (layout g) (T.Reduce' ty op p operand) O.Nothing (u ∷ []) (O.Scalar r) after))
-          (then_after g Given Reduced (next_of g.typed (layout g) (reduced_bits op operand) true operand d) (λ u after. next r u after) gives (λ u after. next_grows r u after) (λ out x h. reduced_next out x h.0 h.1.0 h.1.1))
+      fold_passes o m gives =
+          follows_same g (Given g m st Reduced) s refl (gone_inside (O.Scalar r) (next_of g.typed (layout g) (reduced_bits op operand) true operand d) (λ u after. communicated g.typed (layout g) (T.Reduce' ty op p operand) O.Nothing (u ∷ []) (O.Scalar r) after))
+          (given_through g s o m st InField Reduced (next_of g.typed (layout g) (reduced_bits op operand) true operand d) (λ u after. next r u after) (λ u after. next_grows r u after)
+          (λ part h. then_after g InField Reduced part (λ u after. next r u after) h (λ u after. next_grows r u after) (λ out x h. reduced_next out x h.0 h.1.0 h.1.1)) gives)

@@ -26,21 +26,21 @@ use Rattle.source_meaning.specs.Expressions.{evaluated, reduction_of}
 use Rattle.source_meaning.specs.Reductions.{reduced}
 use Rattle.source_meaning.specs.State as Source
 use Rattle.source_meaning.specs.State.{Outcome, State, then_do}
-use Rattle.source_meaning.specs.Values.{Parallel, Scalar, Scope, Value, at, positions}
+use Rattle.source_meaning.specs.Values.{Parallel, Scalar, Value, at, positions}
 use Rattle.source_meaning.proofs.ConstantLaws.{Boxed}
 use Rattle.vp_sets.specs.Positions.{position_count}
-use Rattle.code_follows.proofs.Following.{Sim}
+use Rattle.code_follows.proofs.Following.{Follows, Sim}
 use Rattle.code_follows.proofs.Operators.{wide_signed}
 use Rattle.code_follows.proofs.Settings.{At, Setting, layout}
 use Rattle.fields_follow.specs.Fragment.{HasItsKind, IsFold, IsFolded, IsNarrowed, IsPure, IsWide}
 use Rattle.fields_follow.proofs.Folds.{folding}
 use Rattle.fields_follow.proofs.Forms.{HasItsCode}
-use Rattle.fields_follow.proofs.Instructions.{SameExtents, extents}
+use Rattle.fields_follow.proofs.Instructions.{extents}
 use Rattle.fields_follow.proofs.Meaning.{value_in}
 use Rattle.fields_follow.proofs.NarrowKinds.{kind_has, kind_narrow}
-use Rattle.fields_follow.proofs.Passing.{After, GivesField}
+use Rattle.fields_follow.proofs.Passing.{GivesField}
 use Rattle.fields_follow.proofs.Places.{HoldsTheFields, PlacesFields}
-use Rattle.fields_follow.proofs.Pure.{are_grids, pure_means}
+use Rattle.fields_follow.proofs.Outcomes.{Ended, Given, ended_on, meant, outcome_like}
 use Rattle.fields_follow.proofs.Reducing.{FoldsWords, GivesNumber, fold_passes, narrow_whole, whole_is}
 use Rattle.fields_follow.proofs.Sizes.{pure_at}
 use Rattle.code_follows.specs.Fragment.{ScalarsAmong}
@@ -61,24 +61,30 @@ module _ (g : Setting) (alive : Variable → Type 0) where
   GivesPure bits set e d s st out x = (f : Field) × ((out ≡ O.Field f) × GivesField g alive bits (length d.fields) d s set st (λ q. value_in (extents g set) st e q) f x)
 
   -- what the code of pure parallel expressions of 32 bits does
-  abbrev pub OperandsStand : ℕ → Type 0
-  OperandsStand n = (bits set : ℕ) (e : TExpr) → bits ≤ 32 → IsPure set e → IsWide set (type_of e) → HasItsCode g.typed g.instance alive n e → (d : Draft) (s : CodeState) (st : State) → At g s (length d.code) → Sim g alive st s
-      → After g (GivesPure bits set e d s st) (next_of g.typed (layout g) bits true e d)
+  abbrev pub OperandsStand : HoldsTheFields g → ℕ → Type 0
+  OperandsStand fields n = (bits set : ℕ) (e : TExpr) → bits ≤ 32 → IsPure set e → IsWide set (type_of e) → HasItsCode g.typed g.instance alive n e → (d : Draft) (s : CodeState) (st : State) → At g s (length d.code) → Sim g alive st s
+      → Follows g (Given g (λ q. value_in (extents g set) st e q) st (GivesPure bits set e d s st)) s (meant g fields e st) (next_of g.typed (layout g) bits true e d)
 
   -- the number stands in a register, by code that passes up to its last instructions
   abbrev pub GivesRegister : ℕ → ℕ → Draft → CodeState → State → Out → Draft → Type 0
   GivesRegister r w d s st out x = (out ≡ O.Scalar r) × GivesNumber g alive d s st r w x
 
-  module _ (scope : Scope) (places : PlacesFields g) (fields : HoldsTheFields g) (n : ℕ) (stand : OperandsStand n) (same_extents : SameExtents g scope) where
+  module _ (places : PlacesFields g) (fields : HoldsTheFields g) (n : ℕ) (stand : OperandsStand fields n) where
     -- the number of a reduction over these extents
     abbrev reduction : ReduceOp → TExpr → ℕ → State → List ℕ → ℕ
-    reduction op operand set st xs = reduced op (not (type_of operand).elem.signed) (fields.active set) (λ q. value_in xs st operand q) (position_count xs)
+    reduction op operand set st xs = reduced op (not (type_of operand).elem.signed) (fields.active set) (λ q. value_in (extents g set) st operand q) (position_count xs)
 
-    reduction_means : (ty : ValueType) (op : ReduceOp) (p : Boxed) (operand : TExpr) (set : ℕ) (st : State) → IsPure set operand → IsWide set (type_of operand) → HasItsCode g.typed g.instance alive n operand → evaluated scope (T.Reduce' ty op p operand) fields.active st ≡ Source.Gives (Scalar (reduction op operand set st (scope.extents set))) st
+    reduction_means : (ty : ValueType) (op : ReduceOp) (p : Boxed) (operand : TExpr) (set : ℕ) (st : State) → IsWide set (type_of operand) → meant g fields operand st ≡ Source.Gives (Parallel (λ q. value_in (extents g set) st operand q)) st
+        → meant g fields (T.Reduce' ty op p operand) st ≡ Source.Gives (Scalar (reduction op operand set st (fields.scope.extents set))) st
     unfolding evaluated reduction_of then_do at positions
-    reduction_means ty op p operand set st is wide c =
-        ap (λ (o : Outcome Value). then_do o (λ v after. Source.Gives (reduction_of scope fields.active op (type_of operand) v) after)) (pure_means scope fields.active g.typed g.instance n set operand st is (are_grids g scope places same_extents set) c.code.names)
-        ∙ ap (λ (o : Option ℕ). Source.Gives (elim o as (λ _. Value) [ None ↦ Parallel (λ q. value_in (scope.extents set) st operand q) | Some s ↦ Scalar (reduced op (not (type_of operand).elem.signed) (fields.active s) (λ q. value_in (scope.extents set) st operand q) (positions scope s)) ]) st) wide.0
+    reduction_means ty op p operand set st wide given =
+        ap (λ (o : Outcome Value). then_do o (λ v after. Source.Gives (reduction_of fields.scope fields.active op (type_of operand) v) after)) given
+        ∙ ap (λ (o : Option ℕ). Source.Gives (elim o as (λ _. Value) [ None ↦ Parallel (λ q. value_in (extents g set) st operand q) | Some s ↦ Scalar (reduced op (not (type_of operand).elem.signed) (fields.active s) (λ q. value_in (extents g set) st operand q) (positions fields.scope s)) ]) st) wide.0
+
+    -- it ends where its operand does
+    reduction_ended : (ty : ValueType) (op : ReduceOp) (p : Boxed) (operand : TExpr) (s : CodeState) (st : State) → Ended g s (meant g fields operand st) → Ended g s (meant g fields (T.Reduce' ty op p operand) st)
+    unfolding evaluated
+    reduction_ended ty op p operand s st early = ended_on g s (meant g fields operand st) (λ v after. Source.Gives (reduction_of fields.scope fields.active op (type_of operand) v) after) early
 
     -- a fold at the bits that it takes is that of the numbers
     pub folds_so : (op : ReduceOp) (operand : TExpr) (set : ℕ) → IsFolded set operand → HasItsCode g.typed g.instance alive n operand → (s : CodeState) (st : State) → Sim g alive st s
@@ -124,19 +130,16 @@ module _ (g : Setting) (alive : Variable → Type 0) where
             few h false false true = omega (arith, h)
             few h false false false = omega (arith, h)
 
-    -- A fold gives a number in the source and changes nothing; its code passes, and its last instructions put that number
-    -- in the register that is to have it.
+    -- A fold gives a number in the source and changes nothing, or ends early; its code passes, and its last instructions
+    -- put that number in the register that is to have it.
     pub folds_give : (e : TExpr) → IsFold e → HasItsCode g.typed g.instance alive n e → (d : Draft) (s : CodeState) (st : State) (r : ℕ) → At g s (length d.code) → Sim g alive st s
-        → (w : ℕ) × ((evaluated scope e fields.active st ≡ Source.Gives (Scalar w) st) × After g (GivesRegister r w d s st) (computed_to g.typed (layout g) (O.Scalar r) e d))
+        → Follows g (λ x u out f. (w : ℕ) × ((x ≡ Scalar w) × ((u ≡ st) × GivesRegister r w d s st out f))) s (meant g fields e st) (computed_to g.typed (layout g) (O.Scalar r) e d)
     unfolding IsFold
     folds_give (T.Reduce' ty op p operand) (word, (set, is)) c d s st r here sim =
-        let part = operand_code n ty op p operand c in (
-          reduction op operand set st (scope.extents set),
-          (
-            reduction_means ty op p operand set st is.0.0 is.1 part,
-            fold_passes g alive places fields ty op p operand set is.1 d s st (λ q. value_in (extents g set) st operand q) (reduced_bits op operand) (folds_so op operand set is part s st sim) r (reduction op operand set st (scope.extents set))
-                (λ exists. ap (λ (xs : List ℕ). reduction op operand set st xs) (sym (same_extents set exists)))
-                (stand (reduced_bits op operand) set operand (folded_most (fold_by (reduce_op_of op) operand) set operand is.0) is.0.0 is.1 part d s st here sim),
-          ),
-        )
+        let part = operand_code n ty op p operand c in
+        let w : ℕ = reduction op operand set st (fields.scope.extents set) in
+        outcome_like g s (meant g fields operand st) (λ q. value_in (extents g set) st operand q) st (meant g fields (T.Reduce' ty op p operand) st) (Scalar w) st (GivesRegister r w d s st) (λ x u out f. (w : ℕ) × ((x ≡ Scalar w) × ((u ≡ st) × GivesRegister r w d s st out f)))
+        (computed_to g.typed (layout g) (O.Scalar r) (T.Reduce' ty op p operand) d) (λ given. reduction_means ty op p operand set st is.1 given) (λ early. reduction_ended ty op p operand s st early) (λ out f said. (w, (refl, (refl, said))))
+        (fold_passes g alive places fields ty op p operand set is.1 d s st (λ q. value_in (extents g set) st operand q) (reduced_bits op operand) (folds_so op operand set is part s st sim) r w (λ exists. ap (λ (xs : List ℕ). reduction op operand set st xs) (sym (fields.same_extents set exists)))
+        (meant g fields operand st) (λ q. value_in (extents g set) st operand q) (stand (reduced_bits op operand) set operand (folded_most (fold_by (reduce_op_of op) operand) set operand is.0) is.0.0 is.1 part d s st here sim))
     folds_give _ is c d s st r here sim = absurd is

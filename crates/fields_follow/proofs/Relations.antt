@@ -1,5 +1,5 @@
 -- The code of a relation of two parallel operands leaves the test flags.
-use Rattle.std.proofs.Common.{◌≡◌, ◌∙◌, ℕ, ◌+◌, ◌<◌, ◌≤◌, ◌%◌, ◌^◌, inl, inr, Bool, true, false, not, [], ◌∷◌, length, Option, Some, None, refl, sym, ap, subst, arith, if◌then◌else◌}
+use Rattle.std.proofs.Common.{◌≡◌, ◌∙◌, ℕ, ◌<◌, ◌≤◌, ◌%◌, ◌^◌, inl, inr, Bool, true, false, not, [], ◌∷◌, length, Option, Some, None, refl, ap, subst, arith, if◌then◌else◌}
 use Rattle.std.specs.Prelude.{unwrap_or}
 use Rattle.std.specs.Int.{from_bool}
 use Rattle.std.proofs.Math.Nat.{mod-eq_of_lt}
@@ -12,8 +12,7 @@ use Rattle.cstar_tree.specs.declared.typed.TExpr as T
 use Rattle.cstar_tree.specs.declared.typed.ValueType.{ValueType}
 use Rattle.cstar_tree.specs.declared.typed.Variable.{Variable}
 use Rattle.cstar_tree.specs.Typed.{type_of}
-use Rattle.code_lengths.specs.Ready.{IsReady}
-use Rattle.code_lengths.proofs.Drafting.{and_instr, extended}
+use Rattle.code_lengths.specs.Ready.{IsReadyButForFields}
 use Rattle.cstar_base.proofs.NumberLaws.{kind_bits}
 use Rattle.lower_base.specs.declared.emit.Out.{Out}
 use Rattle.lower_base.specs.declared.operators.Machine.{Machine}
@@ -33,27 +32,31 @@ use Rattle.paris_code.specs.declared.operands.Field.{Field}
 use Rattle.paris_code.specs.declared.operands.Konst.{Konst}
 use Rattle.paris_code.specs.declared.program.Owner.TheVariants as W
 use Rattle.paris_code.specs.Code.{CodeState}
-use Rattle.paris_code.specs.Memory.{is_active, processors}
+use Rattle.paris_code.specs.Memory.{processors}
 use Rattle.paris_code.specs.Operators.{comparison_of}
-use Rattle.paris_code.specs.Spans.{IsNamedAt, StandsAt}
-use Rattle.source_meaning.specs.State.{State}
-use Rattle.source_meaning.specs.Values.{nonzero}
+use Rattle.paris_code.specs.Spans.{StandsAt}
+use Rattle.source_meaning.specs.State as Source
+use Rattle.source_meaning.specs.State.{Outcome, State}
+use Rattle.source_meaning.specs.Values.{Parallel, Value, nonzero}
 use Rattle.source_meaning.proofs.ConstantLaws.{Boxed}
-use Rattle.code_follows.proofs.Following.{Extends, HasRegisters, Sim, extends_then}
+use Rattle.code_follows.proofs.Following.{Extends, Follows, HasRegisters, Sim, extends_then}
+use Rattle.code_follows.proofs.Growing.{and_instr}
 use Rattle.code_follows.proofs.Operators.{wide_signed}
-use Rattle.code_follows.proofs.Settings.{At, Setting, Within, and_one, code_more, earlier, layout, one}
+use Rattle.code_follows.proofs.Settings.{At, stay, Setting, Within, and_one, earlier, layout, one}
 use Rattle.fields_follow.specs.Fragment.{HaveTheirKinds, IsRelation}
 use Rattle.fields_follow.proofs.Expressions.{constant_at, operand_at, operand_grows, pure_after}
 use Rattle.fields_follow.proofs.NarrowKinds.{narrow_compares, relation_has}
 use Rattle.fields_follow.proofs.Forms.{HasItsCode}
-use Rattle.fields_follow.proofs.Instructions.{HasNumbers, shapes, extents, place, puts_constant, word_in}
-use Rattle.fields_follow.proofs.Meaning.{AreOperands, left_of, right_of, value_in, word_at}
-use Rattle.fields_follow.proofs.Operands.{GivesRight, GivesWord, RightField, left_after, pure_left, pure_right, right_after, right_extends}
-use Rattle.fields_follow.proofs.Passing.{After, Behind, GivesField, Passes, Stands, after_same, code_longer, fields_longer, first_there, flags_of, gives_numbers, in_file_has, made_after, names_second, passes_from, passes_less, passes_on, still_numbers, then_after}
-use Rattle.fields_follow.proofs.Places.{HoldsTheFields, IsOwnField, PlacesFields, names_first, stands_here}
+use Rattle.fields_follow.proofs.Instructions.{HasNumbers, shapes, extents, place}
+use Rattle.fields_follow.proofs.Meaning.{AreOperands, binary_means, left_of, promoted_means, right_of, value_in, word_at}
+use Rattle.fields_follow.proofs.Operands.{GivesRight, RightField, Takes, promoted_left, pure_left, pure_right, right_after, right_extends}
+use Rattle.fields_follow.proofs.Dividing.{left_ended, right_ended}
+use Rattle.fields_follow.proofs.Outcomes.{Ended, Given, Known, ended_back, known_follows, meant, then_known}
+use Rattle.fields_follow.proofs.Passing.{After, Behind, GivesField, after_same, code_longer, fields_longer, gives_numbers, made_after, names_second, passes_from, passes_on, still_numbers, then_after}
+use Rattle.fields_follow.proofs.Places.{HoldsTheFields, PlacesFields, names_first, stands_here}
 use Rattle.fields_follow.proofs.Quiet.{pure_quiet}
-use Rattle.fields_follow.proofs.Values.{and_entry, next_field, one_more, operand_of, taken, with_entry}
-use Rattle.fields_follow.proofs.Writing.{Written, own_written}
+use Rattle.fields_follow.proofs.Spreading.{GivesWord, HasBoth, spread_behind}
+use Rattle.fields_follow.proofs.Values.{and_entry, next_field, one_more, operand_of, with_entry}
 use Rattle.fields_follow.proofs.TestFlags.{ComparesAs, LeavesTests, compares, is_truth, puts_compare, tested_last}
 use Rattle.fields_follow.proofs.Totals.{held_below}
 
@@ -73,7 +76,7 @@ unfolding bits_of
 relation_most None = omega arith
 relation_most (Some kind) = (kind_bits kind.bits kind.signed kind.kind).1
 
-module _ (g : Setting) (has : HasRegisters g) (alive : Variable → Type 0) (n : ℕ) (ready : (d : Draft) → IsReady g.typed g.instance (layout g) n d) (places : PlacesFields g) (fields : HoldsTheFields g) where
+module _ (g : Setting) (has : HasRegisters g) (alive : Variable → Type 0) (n : ℕ) (ready : (d : Draft) → IsReadyButForFields g.typed g.instance (layout g) n d) (places : PlacesFields g) (fields : HoldsTheFields g) where
   abbrev operand : ℕ → Bool → TExpr → Draft → Made Out
   operand bits quiet e d = operand_of g has alive n ready places fields bits quiet e d
 
@@ -117,103 +120,33 @@ module _ (g : Setting) (has : HasRegisters g) (alive : Variable → Type 0) (n :
 
   -- the left operand stands in a field, and the right one is a word, which is spread first
   word_compared : (bits set : ℕ) (relation : Compare) (a : Field) (k : Konst) (v w u : ℕ → ℕ) (d e1 e2 : Draft) (s : CodeState) (st : State) → Compares bits set relation v w u
-      → (left : GivesField g alive bits (length (with_entry set bits W.Own d).fields) (with_entry set bits W.Own d) s set st v a e1) → GivesWord g has alive n ready places fields (length e1.fields) e1 left.passes.t st w k e2
+      → (left : GivesField g alive bits (length (with_entry set bits W.Own d).fields) (with_entry set bits W.Own d) s set st v a e1) → GivesWord g alive (length e1.fields) e1 left.passes.t st w k e2
       → Within g (with_instr (I.Compare relation a (next_field set bits d)) (with_instr (I.MoveConstant (next_field set bits d) k) e2))
       → Tests d s set st u (with_instr (I.Compare relation a (next_field set bits d)) (with_instr (I.MoveConstant (next_field set bits d) k) e2))
-  unfolding step_of passes_on passes_from passes_less
+  unfolding step_of passes_from
   word_compared bits set relation a k v w u d e1 e2 s st same left right within =
-      tested_last g alive fields places (length d.fields) set d e3 compare s st u (Unit {0}) (omega arith)
-      (passes_from g alive (length d.fields) d d1 e3 s st (Unit {0}) (and_entry set bits W.Own d) (passes_on g alive (length d.fields) (length d.fields) d1 e2 e3 s st (Unit {0}) (Unit {0}) (Unit {0}) (omega arith) (passes_less g alive (length d.fields) (length d1.fields) d1 e2 s st (Unit {0}) (omega (arith, first)) both) spreads (λ u. tt) (λ u. tt)))
-      tt numbers.exists within (puts_compare g bits set relation a spare moved.t v w u same (still left.stands)
-      (subst (λ (x : ℕ → ℕ). HasNumbers g bits set spare moved.t x) same_all moved.has))
+      tested_last g alive fields places (length d.fields) set d e3 compare s st u (Unit {0}) (omega arith) (passes_from g alive (length d.fields) d d1 e3 s st (Unit {0}) (and_entry set bits W.Own d) both.passes) tt both.left.exists within
+      (puts_compare g bits set relation a spare both.passes.t v w u same both.left both.right)
     where
       d1 : Draft
       d1 = with_entry set bits W.Own d
 
-      first : length d1.fields ≡ length d.fields + 1
-      first = one_more set bits W.Own d
-
       spare : Field
       spare = next_field set bits d
-
-      move : Instr
-      move = I.MoveConstant spare k
 
       compare : Instr
       compare = I.Compare relation a spare
 
       e3 : Draft
-      e3 = with_instr move e2
-
-      long : length e3.code ≡ length e2.code + 1
-      long = code_more g move e2
-
-      within3 : Within g e3
-      within3 = earlier g e3 (with_instr compare e3) 1 (and_one g compare e3) within
+      e3 = with_instr (I.MoveConstant spare k) e2
 
       there : StandsAt g.unit (length e3.code) compare
       there = stands_here g compare e3 within refl
 
-      named_a : IsNamedAt g.unit a.offset (length e3.code)
-      named_a = names_first g compare a (spare ∷ []) (length e3.code) there refl
-
-      named_spare : IsNamedAt g.unit spare.offset (length e3.code)
-      named_spare = names_second g compare a spare [] (length e3.code) there refl
-
-      longer : length e1.code ≤ length e2.code
-      longer = code_longer e1 e2 right.passes.grown.0 right.passes.grown.1
-
-      both : Passes g alive (length d1.fields) d1 e2 s st (Unit {0})
+      both : HasBoth g alive bits set (length d.fields) a spare d1 e3 s st v w
       both =
-          passes_on g alive (length d1.fields) (length e1.fields) d1 e1 e2 s st (Behind g a e1) (Unit {0}) (Unit {0}) (fields_longer d1 e1 left.passes.grown.0 left.passes.grown.1) left.passes right.passes
-          (λ u. (length e3.code, (named_a, omega (arith, long, longer)))) (λ u. tt)
-
-      own : IsOwnField g spare
-      own = taken g set bits W.Own d e3 (both.grown.0 + 1) within3 (extended d1 e2 e3 both.grown.0 1 both.grown.1 (and_one g move e2))
-
-      Again : Type 0
-      Again = (later : ℕ) × (IsNamedAt g.unit spare.offset later × (length e2.code < later))
-
-      again : Again
-      again = (length e3.code, (named_spare, omega (arith, long)))
-
-      moved : Written g places fields alive set spare e2 move right.passes.t st (λ q. word_in g k right.passes.t) Again
-      moved = own_written g places fields alive set move spare e2 right.passes.t st (λ q. word_in g k right.passes.t) within3 right.passes.at right.passes.sim refl (puts_constant g set spare k right.passes.t right.small) own
-
-      spreads : Passes g alive (length d.fields) e2 e3 right.passes.t st (Unit {0})
-      spreads = record {
-        grown = (1, and_one g move e2);
-        t = moved.t;
-        go = moved.go;
-        at = moved.at;
-        registers = moved.registers;
-        sim = moved.sim;
-        stays = λ u h one last q below own_h before low after high. moved.stays again h one last q (λ same. omega (arith, same, below)) own_h before after (omega (arith, low)) (omega (arith, high, long));
-      }
-
-      numbers : HasNumbers g bits set a right.passes.t v
-      numbers = still_numbers g alive places fields bits (length d1.fields) (length e1.fields) d1 s set st v a e1 e2 (Unit {0}) left right.passes tt (omega arith) (length e3.code, (named_a, omega (arith, long)))
-
-      was_on : (q : ℕ) → q < processors (shapes g) set → is_active (shapes g) moved.t.memory set q ≡ true → is_active (shapes g) right.passes.t.memory set q ≡ true
-      was_on q below on = flags_of g alive places fields st right.passes.t set q right.passes.sim numbers.exists below ∙ sym (flags_of g alive places fields st moved.t set q moved.sim numbers.exists below) ∙ on
-
-      still : Stands g alive bits (length d1.fields) e1 set a left.passes.t st v → HasNumbers g bits set a moved.t v
-      still (inl h) = record {
-        of_set = numbers.of_set;
-        exists = numbers.exists;
-        len = numbers.len;
-        are = λ q below on.
-            first_there g alive places fields set a h.long st moved.t moved.sim numbers.of_set numbers.exists h.fits h.ends q below
-            ∙ ap (λ (m : ℕ). m % 2 ^ a.len)
-            (moved.stays again (record a { len = h.long }) h.somewhere (length e3.code) q (λ equal. let newer = h.newer in omega (arith, newer, equal, first)) h.own h.named named_a (let before = h.before in omega (arith, before, longer)) (omega (arith, long)))
-            ∙ sym (first_there g alive places fields set a h.long st right.passes.t right.passes.sim numbers.of_set numbers.exists h.fits h.ends q below)
-            ∙ numbers.are q below (was_on q below on);
-        small = λ q below on. numbers.small q below (was_on q below on);
-      }
-      still (inr h) = in_file_has g alive places fields bits set a st v moved.t h moved.sim
-
-      same_all : (λ (q : ℕ). word_in g k right.passes.t) ≡ w
-      same_all = λ j q. sym (right.same q) j
+          spread_behind g alive places fields bits set (length d1.fields) a k v w d e1 e2 s st (omega arith) (fields_longer d1 e1 left.passes.grown.0 left.passes.grown.1) left right (length e3.code) (earlier g e3 (with_instr compare e3) 1 (and_one g compare e3) within) (names_first g compare a (spare ∷ []) (length e3.code) there refl)
+          (names_second g compare a spare [] (length e3.code) there refl) (omega arith)
 
   -- the comparison, wherever the operands stand
   compared_extends : (relation : Compare) (a : Field) (right : Right) (spare : Field) (e : Draft) → Extends g e (compared (M.Compare relation) a right spare e)
@@ -233,6 +166,9 @@ module _ (g : Setting) (has : HasRegisters g) (alive : Variable → Type 0) (n :
 
     are : HaveTheirKinds set left right
     are = is.1
+
+    abbrev number : TExpr → ℕ → ℕ
+    number e = λ q. value_in (extents g set) st e q
 
     abbrev v : ℕ → ℕ
     v = λ q. word_at (extents g set) st left q
@@ -303,29 +239,38 @@ module _ (g : Setting) (has : HasRegisters g) (alive : Variable → Type 0) (n :
             ap at_kind some ∙ narrow_compares op kind unsigned (v q) (w q) is.0 (signs kind some) words.0 words.1
 
     -- the code of a relation
-    chosen : AreOperands set left right → After g Q (then_make (spread_into (operand bits (is_quiet right) left) left spare d1) (λ a e. next a e))
+    chosen : (o : Outcome Value) → (meant g fields left st ≡ Source.Gives (Parallel (number left)) st → meant g fields right st ≡ Source.Gives (Parallel (number right)) st → o ≡ Source.Gives (Parallel u) st) → (Ended g s (meant g fields left st) → Ended g s o)
+        → (meant g fields left st ≡ Source.Gives (Parallel (number left)) st → Ended g s (meant g fields right st) → Ended g s o) → AreOperands set left right → After g (Known g s o u st Q) (then_make (spread_into (operand bits (is_quiet right) left) left spare d1) (λ a e. next a e))
     unfolding compared
-    chosen (inl (pure, any_operand)) =
-        then_after g (GivesField g alive bits (length d1.fields) d1 s set st v) Q (spread_into (operand bits (is_quiet right) left) left spare d1) (λ a e. next a e)
+    chosen o gives left_ends right_ends (inl (pure, any_operand)) =
+        then_known g s (meant g fields left st) (number left) st (GivesField g alive bits (length d1.fields) d1 s set st v) (Known g s o u st Q) (spread_into (operand bits (is_quiet right) left) left spare d1) (λ a e. next a e)
         (pure_left g has alive n ready places fields bits set left (is_quiet right) pure c_left (pure_after g has alive n ready places fields bits set left most pure c_left) spare d1 s st here sim) next_extends
-        (λ a e1 one. then_after g (GivesRight g has alive n ready places fields bits (length e1.fields) e1 one.passes.t set st w) Q (right_by (operand bits true right) op right e1) (λ b after. compared (M.Compare c.relation) a b spare after)
-        (right_after g has alive n ready places fields bits set op right no_check any_operand c_right (λ p. pure_after g has alive n ready places fields bits set right most p c_right) e1 one.passes.t st one.passes.at one.passes.sim) (λ b after. compared_extends c.relation a b spare after)
-        (λ b e2 two. by a e1 one b e2 two))
+        (λ is_left a e1 one. then_known g one.passes.t (meant g fields right st) (number right) st (λ b f. Takes op b × GivesRight g has alive n ready places fields bits (length e1.fields) e1 one.passes.t set st w b f) (Known g s o u st Q) (right_by (operand bits true right) op right e1) (λ b after. compared (M.Compare c.relation) a b spare after)
+        (right_after g has alive n ready places fields bits set op right (inl no_check) any_operand c_right (λ p. pure_after g has alive n ready places fields bits set right most p c_right) e1 one.passes.t st one.passes.at one.passes.sim) (λ b after. compared_extends c.relation a b spare after)
+        (λ is_right b e2 two. by (gives is_left is_right) a e1 one b e2 two.1) (λ early z f. inr (right_ends is_left (ended_back g s one.passes.t (meant g fields right st) one.passes.go early))))
+        (λ early z f. inr (left_ends early))
       where
-        by : (a : Field) (e1 : Draft) (one : GivesField g alive bits (length d1.fields) d1 s set st v a e1) (b : Right) (e2 : Draft) → GivesRight g has alive n ready places fields bits (length e1.fields) e1 one.passes.t set st w b e2 → After g Q (compared (M.Compare c.relation) a b spare e2)
-        by a e1 one b e2 (inl (f, (same, gives))) =
-            after_same g Q (ap (λ (x : Right). compared (M.Compare c.relation) a x spare e2) same)
-            (made_after g Q tt (with_instr (I.Compare c.relation a f) e2) (λ within. field_compared bits set c.relation (length d1.fields) a f v w u d e1 e2 s st words_compare (let more = one_more set bits W.Own d in omega (arith, more)) (fields_longer d1 e1 one.passes.grown.0 one.passes.grown.1) one gives within))
-        by a e1 one b e2 (inr (k, (same, gives))) =
-            after_same g Q (ap (λ (x : Right). compared (M.Compare c.relation) a x spare e2) same)
-            (made_after g Q tt (with_instr (I.Compare c.relation a spare) (with_instr (I.MoveConstant spare k) e2)) (λ within. word_compared bits set c.relation a k v w u d e1 e2 s st words_compare one gives within))
-    chosen (inr (promoted, pure)) =
-        then_after g (GivesField g alive bits (length d.fields) d1 s set st v) Q (spread_into (operand bits (is_quiet right) left) left spare d1) (λ a e. next a e)
-        (left_after g has alive n ready places fields bits set left (is_quiet right) (λ p. pure_quiet set right pure) (inr promoted) c_left (λ p. pure_after g has alive n ready places fields bits set left most p c_left) d s st here sim (λ x. operand_grows g has alive n ready places fields bits left c_left (is_quiet right) x)) next_extends
-        (λ a e1 one. then_after g (RightField g has alive n ready places fields bits e1 one.passes.t set st w) Q (right_by (operand bits true right) op right e1) (λ b after. compared (M.Compare c.relation) a b spare after)
+        by : o ≡ Source.Gives (Parallel u) st → (a : Field) (e1 : Draft) (one : GivesField g alive bits (length d1.fields) d1 s set st v a e1) (b : Right) (e2 : Draft) → GivesRight g has alive n ready places fields bits (length e1.fields) e1 one.passes.t set st w b e2 → After g (Known g s o u st Q) (compared (M.Compare c.relation) a b spare e2)
+        by is_given a e1 one b e2 (inl (f, (same, gives))) =
+            after_same g (Known g s o u st Q) (ap (λ (x : Right). compared (M.Compare c.relation) a x spare e2) same)
+            (made_after g (Known g s o u st Q) tt (with_instr (I.Compare c.relation a f) e2) (λ within. inl (is_given, field_compared bits set c.relation (length d1.fields) a f v w u d e1 e2 s st words_compare (let more = one_more set bits W.Own d in omega (arith, more)) (fields_longer d1 e1 one.passes.grown.0 one.passes.grown.1) one gives within)))
+        by is_given a e1 one b e2 (inr (k, (same, gives))) =
+            after_same g (Known g s o u st Q) (ap (λ (x : Right). compared (M.Compare c.relation) a x spare e2) same)
+            (made_after g (Known g s o u st Q) tt (with_instr (I.Compare c.relation a spare) (with_instr (I.MoveConstant spare k) e2)) (λ within. inl (is_given, word_compared bits set c.relation a k v w u d e1 e2 s st words_compare one gives within)))
+    chosen o gives left_ends right_ends (inr (promoted, pure)) =
+        then_after g (GivesField g alive bits (length d.fields) d1 s set st v) (Known g s o u st Q) (spread_into (operand bits (is_quiet right) left) left spare d1) (λ a e. next a e)
+        (promoted_left g has alive n ready places fields bits set left (is_quiet right) (pure_quiet set right pure) promoted c_left d s st here sim) next_extends
+        (λ a e1 one. then_known g one.passes.t (meant g fields right st) (number right) st (RightField g has alive n ready places fields bits e1 one.passes.t set st w) (Known g s o u st Q) (right_by (operand bits true right) op right e1) (λ b after. compared (M.Compare c.relation) a b spare after)
         (pure_right g has alive n ready places fields bits set op right pure c_right (pure_after g has alive n ready places fields bits set right most pure c_right) e1 one.passes.t st one.passes.at one.passes.sim) (λ b after. compared_extends c.relation a b spare after)
-        (λ b e2 (f, (same, gives)). after_same g Q (ap (λ (x : Right). compared (M.Compare c.relation) a x spare e2) same)
-        (made_after g Q tt (with_instr (I.Compare c.relation a f) e2) (λ within. field_compared bits set c.relation (length d.fields) a f v w u d e1 e2 s st words_compare (omega arith) (let first = one_more set bits W.Own d in let more = fields_longer d1 e1 one.passes.grown.0 one.passes.grown.1 in omega (arith, first, more)) one gives within))))
+        (λ is_right b e2 (f, (same, given)). after_same g (Known g s o u st Q) (ap (λ (x : Right). compared (M.Compare c.relation) a x spare e2) same)
+        (made_after g (Known g s o u st Q) tt (with_instr (I.Compare c.relation a f) e2) (λ within. inl (gives is_left is_right, field_compared bits set c.relation (length d.fields) a f v w u d e1 e2 s st words_compare (omega arith) (let first = one_more set bits W.Own d in let more = fields_longer d1 e1 one.passes.grown.0 one.passes.grown.1 in omega (arith, first, more)) one given within))))
+        (λ early z f. inr (right_ends is_left (ended_back g s one.passes.t (meant g fields right st) one.passes.go early))))
+      where
+        is_left : meant g fields left st ≡ Source.Gives (Parallel (number left)) st
+        is_left = promoted_means fields.scope fields.active set (extents g set) left st promoted
 
-    pub relation_after : After g Q (then_make (spread_into (operand bits (is_quiet right) left) left spare d1) (λ a e. next a e))
-    relation_after = chosen (relation_operands set left right are)
+    pub relation_after : (ty : ValueType) (place : Place) (p q : Boxed) → ty.shape ≡ Some set → Follows g (Given g u st Q) s (meant g fields (T.Binary' ty place op p left q right) st) (then_make (spread_into (operand bits (is_quiet right) left) left spare d1) (λ a e. next a e))
+    relation_after ty place p q shaped =
+        known_follows g s (meant g fields (T.Binary' ty place op p left q right) st) u st Q (then_make (spread_into (operand bits (is_quiet right) left) left spare d1) (λ a e. next a e))
+        (chosen (meant g fields (T.Binary' ty place op p left q right) st) (λ one other. binary_means fields.scope fields.active set ty place op p q left right (number left) (number right) st shaped no_check one other)
+        (λ early. left_ended g fields ty place op p q left right s st early) (λ is_left early. right_ended g fields ty place op p q left right (number left) s s st (stay g s) is_left early) (relation_operands set left right are))

@@ -1,8 +1,7 @@
 -- A context that is saved in an own entry is kept while a part runs, behind which it is loaded.
 use Rattle.std.proofs.Common.{◌≡◌, ℕ, ◌+◌, ◌<◌, ◌≤◌, [], length, Option, Some, None, refl, subst, arith}
+use Rattle.code_lengths.specs.Ready.{HasDeclared}
 use Rattle.cstar_tree.specs.declared.typed.Variable.{Variable}
-use Rattle.code_lengths.specs.Growth.{Extended}
-use Rattle.code_lengths.proofs.Drafting.{as_it_was, extended}
 use Rattle.lower_base.specs.Drafts.{Draft, Made, Makes, step as step_of, with_instr}
 use Rattle.lower_stmt.specs.Frames.{in_context}
 use Rattle.paris_code.specs.declared.instr.Instr.TheVariants as I
@@ -16,9 +15,10 @@ use Rattle.source_meaning.specs.Values.{Active, Scope, Value}
 use Rattle.code_follows.proofs.Besides.{sim_saying}
 use Rattle.code_follows.proofs.Executing.{Exits, IsGiven, Jumped, Left, LeftSo, Returns, left_other, returns_from}
 use Rattle.code_follows.proofs.Following.{Follows, Keeps, Ran, Sim, at_once, finishes_later, keeps_all, keeps_on, with_more}
+use Rattle.code_follows.proofs.Growing.{Extended, as_it_was, extended}
 use Rattle.code_follows.proofs.Parts.{Part, in_one_more}
 use Rattle.code_follows.proofs.Restoring.{Inside}
-use Rattle.code_follows.proofs.Settings.{At, Begun, Held, Setting, Within, and_one, begun_later, onto, stay}
+use Rattle.code_follows.proofs.Settings.{At, Begun, Held, Setting, Within, and_one, begun_later, onto, stay, layout}
 use Rattle.fields_follow.proofs.Instructions.{shapes}
 use Rattle.fields_follow.proofs.Knowing.{KnowsFields, Lasts, finishes_outer, flags_last, inner, kept_inner, knows_inner, lasts_both, lasts_within, sim_inner, sim_outer, within_inner}
 use Rattle.fields_follow.proofs.Leading.{HasContext, Led, led_ran, loads_context}
@@ -88,10 +88,10 @@ module _ (g : Setting) (scope : Scope) (active : Active) (known : KnowsFields g 
           returns_from g alive held d s x.t v given x.go x.keeps (record { t = r.t; go = record { by = r.go.by; below = r.go.below }; sim = sim_saying g alive v r.t r.t.at r.t.memory r.sim.memory r.sim; leaves = r.leaves; spares = r.spares; given = given_outer r.t given r.given })
 
       -- so it follows, where what is kept lasts as long as its code
-      pub part_leads : (f : Exits) (n m : ℕ) (run : Active → State → Outcome Leaving) (code : Draft → Made ℕ) → Part KnowsFields g scope alive saved (in_one_more f) m run code → code begin ≡ Makes m e → begin.homes ≡ [] → Begun g d → Extended begin n e
+      pub part_leads : (f : Exits) (b n m : ℕ) (run : Active → State → Outcome Leaving) (code : Draft → Made ℕ) → Part KnowsFields g scope alive saved (in_one_more f) b m run code → code begin ≡ Makes m e → HasDeclared g.typed g.instance (layout g) b begin → Begun g d → Extended begin n e
           → ((m : BitMemory) → kept m → HasContext g active saved m) → ((m : BitMemory) → kept m → known.kept m) → ((q p : ℕ) → (q ≡ saved.set → ⊥) → active q p ≡ a q p) → Follows g (LedLeft a kept f d s) s (run a u) (Makes m e)
       unfolding Follows LeftSo in_context
-      part_leads f n m run code part is none free longer has weaker beside =
+      part_leads f b n m run code part is none free longer has weaker beside =
           at_once g (LedLeft a kept f d s) s (run a u) m e (λ within.
           let begun : Begun g begin = begun_later g d begin x.grown.0 x.grown.1 free in
           let inside : Inside g saved there.held (length begin.code) (length begin.fields) (length e.code) =
@@ -121,13 +121,13 @@ module _ (g : Setting) (scope : Scope) (active : Active) (known : KnowsFields g 
           by (Ends early v) h = λ w. finishes_later g early v s x.t x.go (finishes_outer g scope active known a kept (length begin.code) (length begin.fields) (length e.code) early v x.t (h (inwards w)))
 
   -- a part whose code is made, and behind it the context is loaded
-  pub part_closed : (a : Active) (saved : Field) (kept : BitMemory → Type 0) (f : Exits) (d begin e : Draft) (s : CodeState) (u : State) (k m : ℕ) (run : Active → State → Outcome Leaving) (code : Draft → Made ℕ) → Part KnowsFields g scope alive saved (in_one_more f) m run code
-      → code begin ≡ Makes m e → begin.homes ≡ [] → Begun g d → Lasts g (length begin.code) (length begin.fields) (length e.code) kept → ((m : BitMemory) → kept m → HasContext g active saved m) → ((m : BitMemory) → kept m → known.kept m) → ((q p : ℕ) → (q ≡ saved.set → ⊥) → active q p ≡ a q p) → Extended begin k e
+  pub part_closed : (a : Active) (saved : Field) (kept : BitMemory → Type 0) (f : Exits) (d begin e : Draft) (s : CodeState) (u : State) (k b m : ℕ) (run : Active → State → Outcome Leaving) (code : Draft → Made ℕ) → Part KnowsFields g scope alive saved (in_one_more f) b m run code
+      → code begin ≡ Makes m e → HasDeclared g.typed g.instance (layout g) b begin → Begun g d → Lasts g (length begin.code) (length begin.fields) (length e.code) kept → ((m : BitMemory) → kept m → HasContext g active saved m) → ((m : BitMemory) → kept m → known.kept m) → ((q p : ℕ) → (q ≡ saved.set → ⊥) → active q p ≡ a q p) → Extended begin k e
       → Led g scope active known alive a kept d begin s u → Follows g (LedLeft active kept f d s) s (run a u) (Makes m (with_instr (I.LoadContext saved) e))
   unfolding LeftSo
-  part_closed a saved kept f d begin e s u k m run code part is none begun lasts has weaker beside longer x =
+  part_closed a saved kept f d begin e s u k b m run code part is none begun lasts has weaker beside longer x =
       with_more g (LedLeft a kept f d s) (LedLeft active kept f d s) s (run a u) m m e (with_instr (I.LoadContext saved) e) 1 (and_one g (I.LoadContext saved) e)
-      (part_leads a saved kept d begin e s lasts u x f k m run code part is none begun longer has weaker beside) (λ leaving v left w. by leaving v left w)
+      (part_leads a saved kept d begin e s lasts u x f b k m run code part is none begun longer has weaker beside) (λ leaving v left w. by leaving v left w)
     where
       by : (leaving : Leaving) (v : State) → LedLeft a kept f d s leaving v m e → Within g (with_instr (I.LoadContext saved) e) → LedLeft active kept f d s leaving v m (with_instr (I.LoadContext saved) e)
       by Onward v led w = loads_context g scope active known alive a kept (length begin.code) (length begin.fields) (length e.code) lasts d e s v active saved has beside w led

@@ -28,7 +28,7 @@ use Rattle.code_follows.proofs.Words.{below_bits, below_word, held_wide}
 use Rattle.fields_follow.specs.Fragment.{IsConstant, IsPromoted, IsPure, IsScalarName, IsWide}
 use Rattle.fields_follow.proofs.Extents.{get_names}
 use Rattle.fields_follow.proofs.FileFields.{coordinate_least}
-use Rattle.fields_follow.proofs.Forms.{HasItsCode, divisor_never_zero, element_is}
+use Rattle.fields_follow.proofs.Forms.{HasItsCode, element_is}
 use Rattle.fields_follow.proofs.Instructions.{extents, operation_below, shapes}
 use Rattle.fields_follow.proofs.Meaning.{no_constant, scalar_constant, scalar_in, value_in, variable_in, word_at}
 use Rattle.fields_follow.proofs.News.{get_below}
@@ -87,7 +87,7 @@ module _ (g : Setting) (alive : Variable → Type 0) (n : ℕ) (places : PlacesF
   value_small set (T.Binary' ty place op p left r right) st s sim is c q below =
       let parts = binary_parts ty place op p r left right c in
       below_bits ty.elem.bits _ is.0.1
-      (operation_below op (type_of left).elem.signed (value_in (extents g set) st left q) (value_in (extents g set) st right q) (λ divided. divisor_never_zero set op right (extents g set) st is.1 (by_right is.2) divided q)
+      (operation_below op (type_of left).elem.signed (value_in (extents g set) st left q) (value_in (extents g set) st right q) is.1.0
       (left_small is.2 parts.0 (λ pure. value_small set left st s sim pure parts.0 q below)) (right_small is.2 parts.1 (λ pure. value_small set right st s sim pure parts.1 q below)))
     where
       Operands : Type 0

@@ -1,6 +1,7 @@
 -- The code of a condition leaves the test flags.
-use Rattle.std.proofs.Common.{◌%◌, ◌≡◌, ◌∙◌, ℕ, ◌<◌, ◌^◌, ◌==◌, ◌&&◌, ◌||◌, ◌⊎◌, inl, inr, Bool, true, false, List, length, Option, Some, None, refl, sym, ap, arith, if◌then◌else◌}
+use Rattle.std.proofs.Common.{subst, ◌%◌, ◌≡◌, ◌∙◌, ℕ, ◌<◌, ◌^◌, ◌==◌, ◌&&◌, ◌||◌, ◌⊎◌, inl, inr, Bool, true, false, List, length, Option, Some, None, refl, sym, ap, arith, if◌then◌else◌}
 use Rattle.std.specs.Int.{from_bool}
+use Rattle.std.specs.Prelude.{is_none, nat_le}
 use Rattle.cstar_base.specs.declared.elem.Elem.{Elem}
 use Rattle.cstar_base.specs.declared.operators.Op.{Op}
 use Rattle.cstar_base.specs.declared.operators.Place.{Place}
@@ -19,12 +20,12 @@ use Rattle.cstar_tree.specs.StatementTypes.{variable_info}
 use Rattle.cstar_tree.specs.Typed.{type_of}
 use Rattle.code_lengths.specs.Lowerable.{InField}
 use Rattle.code_lengths.specs.Naming.{HasVariable, NamesVariables, plain}
-use Rattle.code_lengths.specs.Ready.{IsReady}
-use Rattle.code_lengths.proofs.Agreeing.{expressions}
+use Rattle.code_lengths.specs.Ready.{IsReadyButForFields}
+use Rattle.code_lengths.proofs.Agreeing.{lengths_if_made}
 use Rattle.lower_base.specs.declared.emit.Out.{Out}
 use Rattle.lower_base.specs.declared.emit.Out.TheVariants as O
-use Rattle.lower_base.specs.Drafts.{Draft, Made, Makes, an_entry, in_field, step as step_of, then_make, with_instr}
-use Rattle.lower_base.specs.Kinds.{binary_kind, bits_of, common_kind, is_bitwise, kind_of, truth_type}
+use Rattle.lower_base.specs.Drafts.{Draft, Made, Makes, an_entry, first_bits, in_field, step as step_of, then_make, with_instr}
+use Rattle.lower_base.specs.Kinds.{binary_kind, bits_of, common_kind, is_bitwise, kind_of, narrow, truth_type}
 use Rattle.lower_base.specs.Operators.{negates, relates}
 use Rattle.lower_expr.specs.declared.operands.Own.{Own}
 use Rattle.lower_expr.specs.Joined.{flag_by, is_flag, operation_of}
@@ -33,7 +34,9 @@ use Rattle.lower_expr.specs.Steps.{has_truth, is_kept}
 use Rattle.lower_expr.specs.Values.{condition_by, condition_of, flag_of, logical_by, next_of, nonzero_tested, tested, tested_by, truth_of, value_of, zero_tested}
 use Rattle.paris_code.specs.declared.instr.Instr.TheVariants as I
 use Rattle.paris_code.specs.declared.operands.Field.{Field}
+use Rattle.paris_code.specs.declared.program.Owner.{Owner}
 use Rattle.paris_code.specs.declared.program.Owner.TheVariants as W
+use Rattle.paris_code.specs.Proper.{IsEntry}
 use Rattle.paris_code.specs.Code.{CodeState}
 use Rattle.paris_code.specs.Memory.{processors}
 use Rattle.source_meaning.specs.Constants.{is_constant}
@@ -45,89 +48,124 @@ use Rattle.source_meaning.specs.Values.{Active, Parallel, Scope, Value, at, nonz
 use Rattle.source_meaning.proofs.ConstantLaws.{Boxed}
 use Rattle.std.proofs.Math.Nat.{mod-eq_of_lt}
 use Rattle.std.proofs.lemmas.Bool.{eqb-true}
-use Rattle.code_follows.proofs.Following.{Extends, HasRegisters, Sim, extends_then, held}
+use Rattle.code_follows.proofs.Growing.{as_it_was}
+use Rattle.code_follows.proofs.Following.{Extends, Follows, HasRegisters, Sim, extends_then, follows_same, held}
 use Rattle.code_follows.proofs.Values.{extends_grown}
 use Rattle.code_follows.proofs.Settings.{At, Setting, and_one, layout}
 use Rattle.fields_follow.specs.Fields.{IsElement, file_number}
 use Rattle.fields_follow.specs.Fragment.{HasItsKind, IsCondition, IsInnerCondition, IsNarrowed, IsPure, IsRelation, IsWide}
-use Rattle.fields_follow.proofs.ConditionCode.{AnyBit, Bit, Told, any_bit, Truth, bit_not_value, bit_taken, flag_after, flag_extends, joined_in, joined_made, joined_value, nonzero_after, operand_at, relation_value, stored_after, turned_after, word_not_value, zero_after}
+use Rattle.fields_follow.proofs.ConditionCode.{AnyBit, Bit, Told, any_bit, Truth, bit_not_value, bit_taken, flag_after, flag_extends, joined_in, joined_made, joined_value, nonzero_after, operand_at, relation_value, stored_after, turned_after, turned_in, word_not_value, zero_after}
 use Rattle.fields_follow.proofs.Conditions.{HaveTheirCode, and_codes, condition_constant, condition_kept, condition_shape, conditions_join, or_codes}
-use Rattle.fields_follow.proofs.Expressions.{pure_after}
+use Rattle.fields_follow.proofs.Expressions.{pure_after, unary_ended}
 use Rattle.fields_follow.proofs.Forms.{HasItsCode, element_is, field_is, not_held, pure_constant, pure_kept}
-use Rattle.fields_follow.proofs.Instructions.{SameExtents, extents, place, shapes}
+use Rattle.fields_follow.proofs.Instructions.{extents, place, shapes}
 use Rattle.fields_follow.proofs.Lengths.{held_first}
-use Rattle.fields_follow.proofs.Meaning.{binary_means, divides_nothing, either, left_of, promoted_means, right_of, unary_means, value_in, word_at}
-use Rattle.fields_follow.proofs.Passing.{After, after_same, after_weaker, made_after, passes_all, passes_from, small_there, then_after}
+use Rattle.fields_follow.proofs.Meaning.{binary_means, either, left_of, promoted_means, read_is, right_of, unary_means, value_in, word_at}
+use Rattle.fields_follow.proofs.Lengths.{relates_plainly}
+use Rattle.fields_follow.proofs.Outcomes.{Ended, Given, Known, ended_on, follows_given, follows_like, given_follows, given_weaker, known_follows, meant, then_known}
+use Rattle.fields_follow.proofs.Passing.{After, Behind, after_same, after_weaker, made_after, passes_all, passes_from, small_there, then_after}
+use Rattle.fields_follow.proofs.PassingTests.{tests_passed}
 use Rattle.fields_follow.proofs.Places.{HoldsTheFields, PlacesFields}
-use Rattle.fields_follow.proofs.Pure.{AreGrids, are_grids, pure_means}
+use Rattle.fields_follow.proofs.Pure.{ignores_both, pure_means}
 use Rattle.fields_follow.proofs.NarrowKinds.{kind_most, zero_told}
 use Rattle.fields_follow.proofs.Sizes.{binary_parts, brackets_part, unary_part}
 use Rattle.fields_follow.proofs.Values.{Gives, and_entry, next_field, operand_after, operand_of, taken, variable_has, with_entry}
 use Rattle.fields_follow.proofs.TestFlags.{LeavesTests, numbers_tell, puts_nonzero, tested_last}
-use Rattle.fields_follow.proofs.Truths.{either_or_both, field_bit, field_told, truth_told}
+use Rattle.fields_follow.proofs.Truths.{either_or_both, field_bit, field_told, truth_told, variable_truth}
 use Rattle.fields_follow.proofs.Relations.{relation_after, relation_code, relation_operands}
 
-value_means : (scope : Scope) (active : Active) (t : Typed) (i : Instance) (n set : ℕ) (e : TExpr) (st : State) → IsInnerCondition set e → AreGrids scope t set → NamesVariables t i n e
-    → evaluated scope e active st ≡ Source.Gives (Parallel (λ q. value_in (scope.extents set) st e q)) st
-unfolding IsInnerCondition NamesVariables evaluated value_in then_do and_then or_then at
-value_means scope active t i n set (T.Brackets' ty p inner) st is grids names = value_means scope active t i n set inner st is.1 grids names
-value_means scope active t i n set (T.Unary' ty op p operand) st is grids names =
+-- a type of one bit
+flag_elem : (elem : Elem) → (bits_of (narrow elem) == 1) ≡ true → elem.bits ≡ 1
+unfolding bits_of narrow
+flag_elem elem one = by (elem.bits == 32) refl
+  where
+    by : (b : Bool) → (elem.bits == 32) ≡ b → elem.bits ≡ 1
+    by true wide = let wrong = sym (ap (λ (b : Bool). bits_of (if b then None else Some elem) == 1) wide) ∙ one in cc
+    by false small = eqb-true elem.bits 1 (sym (ap (λ (b : Bool). bits_of (if b then None else Some elem) == 1) small) ∙ one)
+
+-- two that ignore the context
+both_ignore : (left right : TExpr) → (ignores_context left && ignores_context right) ≡ true → (ignores_context left ≡ true) × (ignores_context right ≡ true)
+both_ignore left right free = by (ignores_context left) (ignores_context right) free
+  where
+    by : (l r : Bool) → (l && r) ≡ true → (l ≡ true) × (r ≡ true)
+    by true true h = (refl, refl)
+    by true false h = cc
+    by false r h = cc
+
+-- what two mean that are joined, where each gives its numbers
+pub or_means : (scope : Scope) (active : Active) (set : ℕ) (ty : ValueType) (p q : Boxed) (left right : TExpr) (v w : ℕ → ℕ) (st : State) → IsInnerCondition set left → evaluated scope left active st ≡ Source.Gives (Parallel v) st → evaluated scope right (where_zero set (Parallel v) active) st ≡ Source.Gives (Parallel w) st
+    → evaluated scope (T.LogicalOr' ty p left q right) active st ≡ Source.Gives (Parallel (λ x. from_bool (nonzero (v x) || nonzero (w x)))) st
+unfolding evaluated then_do or_then at
+or_means scope active set ty p q left right v w st is one other =
+    ap (λ (o : Outcome Value). then_do o (λ x after. or_then ty.shape (type_of left).shape x (λ a after. evaluated scope right a after) active after)) one
+    ∙ ap (λ (o : Option ℕ). or_then ty.shape o (Parallel v) (λ a after. evaluated scope right a after) active st) (condition_shape set left is)
+    ∙ ap (λ (o : Outcome Value). then_do o (λ y after. Source.Gives (Parallel (λ x. from_bool (nonzero (v x) || nonzero (at y x)))) after)) other
+
+pub and_means : (scope : Scope) (active : Active) (set : ℕ) (ty : ValueType) (p q : Boxed) (left right : TExpr) (v w : ℕ → ℕ) (st : State) → IsInnerCondition set left → evaluated scope left active st ≡ Source.Gives (Parallel v) st → evaluated scope right (where_nonzero set (Parallel v) active) st ≡ Source.Gives (Parallel w) st
+    → evaluated scope (T.LogicalAnd' ty p left q right) active st ≡ Source.Gives (Parallel (λ x. from_bool (nonzero (v x) && nonzero (w x)))) st
+unfolding evaluated then_do and_then at
+and_means scope active set ty p q left right v w st is one other =
+    ap (λ (o : Outcome Value). then_do o (λ x after. and_then ty.shape (type_of left).shape x (λ a after. evaluated scope right a after) active after)) one
+    ∙ ap (λ (o : Option ℕ). and_then ty.shape o (Parallel v) (λ a after. evaluated scope right a after) active st) (condition_shape set left is)
+    ∙ ap (λ (o : Outcome Value). then_do o (λ y after. Source.Gives (Parallel (λ x. from_bool (nonzero (v x) && nonzero (at y x)))) after)) other
+
+-- one that ignores the context has its value under every context, and never fails
+value_means : (scope : Scope) (active : Active) (t : Typed) (i : Instance) (n set : ℕ) (e : TExpr) (st : State) → IsInnerCondition set e → ignores_context e ≡ true → evaluated scope e active st ≡ Source.Gives (Parallel (λ q. value_in (scope.extents set) st e q)) st
+unfolding IsInnerCondition evaluated value_in ignores_context
+value_means scope active t i n set (T.Brackets' ty p inner) st is free = value_means scope active t i n set inner st is.1 free
+value_means scope active t i n set (T.Unary' ty op p operand) st is free =
     either
     (λ (h : (negates op ≡ true) × (IsInnerCondition set operand ⊎ HasItsKind set operand)).
     unary_means scope active set ty op p operand (λ q. value_in (scope.extents set) st operand q) st is.0.0
-    (either (λ inner. value_means scope active t i n set operand st inner grids names) (λ kinded. pure_means scope active t i n set operand st kinded.0 grids names) h.1))
-    (λ (h : (negates op ≡ false) × IsPure set (T.Unary' ty op p operand)). pure_means scope active t i n set (T.Unary' ty op p operand) st h.1 grids names) is.1
-value_means scope active t i n set (T.LogicalOr' ty p left q right) st is grids names =
-    ap (λ (o : Outcome Value). then_do o (λ x after. or_then ty.shape (type_of left).shape x (λ a after. evaluated scope right a after) active after)) (value_means scope active t i n set left st is.1 grids names.0)
-    ∙ ap (λ (o : Option ℕ). or_then ty.shape o (Parallel (λ q. value_in (scope.extents set) st left q)) (λ a after. evaluated scope right a after) active st) (condition_shape set left is.1)
-    ∙ ap (λ (o : Outcome Value). then_do o (λ w after. Source.Gives (Parallel (λ q. from_bool (nonzero (value_in (scope.extents set) st left q) || nonzero (at w q)))) after))
-    (value_means scope (where_zero set (Parallel (λ q. value_in (scope.extents set) st left q)) active) t i n set right st is.2 grids names.1)
-value_means scope active t i n set (T.LogicalAnd' ty p left q right) st is grids names =
-    ap (λ (o : Outcome Value). then_do o (λ x after. and_then ty.shape (type_of left).shape x (λ a after. evaluated scope right a after) active after)) (value_means scope active t i n set left st is.1 grids names.0)
-    ∙ ap (λ (o : Option ℕ). and_then ty.shape o (Parallel (λ q. value_in (scope.extents set) st left q)) (λ a after. evaluated scope right a after) active st) (condition_shape set left is.1)
-    ∙ ap (λ (o : Outcome Value). then_do o (λ w after. Source.Gives (Parallel (λ q. from_bool (nonzero (value_in (scope.extents set) st left q) && nonzero (at w q)))) after))
-    (value_means scope (where_nonzero set (Parallel (λ q. value_in (scope.extents set) st left q)) active) t i n set right st is.2 grids names.1)
-value_means scope active t i n set (T.Binary' ty place op p left q right) st is grids names =
+    (either (λ inner. value_means scope active t i n set operand st inner free) (λ kinded. pure_means scope active t i n set operand st kinded.0 free) h.1))
+    (λ (h : (negates op ≡ false) × IsPure set (T.Unary' ty op p operand)). pure_means scope active t i n set (T.Unary' ty op p operand) st h.1 free) is.1
+value_means scope active t i n set (T.LogicalOr' ty p left q right) st is free =
+    let parts = both_ignore left right free in
+    or_means scope active set ty p q left right (λ x. value_in (scope.extents set) st left x) (λ x. value_in (scope.extents set) st right x) st is.1 (value_means scope active t i n set left st is.1 parts.0)
+    (value_means scope (where_zero set (Parallel (λ q. value_in (scope.extents set) st left q)) active) t i n set right st is.2 parts.1)
+value_means scope active t i n set (T.LogicalAnd' ty p left q right) st is free =
+    let parts = both_ignore left right free in
+    and_means scope active set ty p q left right (λ x. value_in (scope.extents set) st left x) (λ x. value_in (scope.extents set) st right x) st is.1 (value_means scope active t i n set left st is.1 parts.0)
+    (value_means scope (where_nonzero set (Parallel (λ q. value_in (scope.extents set) st left q)) active) t i n set right st is.2 parts.1)
+value_means scope active t i n set (T.Binary' ty place op p left q right) st is free =
+    let parts = ignores_both op left right free in
     either
-    (λ (h : IsRelation set op left right). binary_means scope active set ty place op p q left right (λ x. value_in (scope.extents set) st left x) (λ x. value_in (scope.extents set) st right x) st is.0.0 (divides_nothing op (λ x. value_in (scope.extents set) st right x) is.1)
-    (either (λ pure. pure_means scope active t i n set left st pure grids names.0) (λ promoted. promoted_means scope active set left st promoted) (left_of set left right (relation_operands set left right h.1)))
-    (either (λ pure. pure_means scope active t i n set right st pure grids names.1) (λ promoted. promoted_means scope active set right st promoted) (right_of set left right (relation_operands set left right h.1))))
-    (λ (h : (relates op ≡ false) × HasItsKind set (T.Binary' ty place op p left q right) × ((bits_of (kind_of (T.Binary' ty place op p left q right)) == 1) ≡ false)). pure_means scope active t i n set (T.Binary' ty place op p left q right) st h.1.0 grids names) is.2
-value_means scope active t i n set e st is grids names = pure_means scope active t i n set e st is.0.0 grids names
+    (λ (h : IsRelation set op left right). binary_means scope active set ty place op p q left right (λ x. value_in (scope.extents set) st left x) (λ x. value_in (scope.extents set) st right x) st is.0.0 parts.0
+    (either (λ pure. pure_means scope active t i n set left st pure parts.1) (λ promoted. promoted_means scope active set (scope.extents set) left st promoted) (left_of set left right (relation_operands set left right h.1)))
+    (either (λ pure. pure_means scope active t i n set right st pure parts.2) (λ promoted. promoted_means scope active set (scope.extents set) right st promoted) (right_of set left right (relation_operands set left right h.1))))
+    (λ (h : (relates op ≡ false) × HasItsKind set (T.Binary' ty place op p left q right) × ((bits_of (kind_of (T.Binary' ty place op p left q right)) == 1) ≡ false)). pure_means scope active t i n set (T.Binary' ty place op p left q right) st h.1.0 free) is.1
+value_means scope active t i n set (T.Variable ty x) st is free = pure_means scope active t i n set (T.Variable ty x) st is.0 free
+value_means scope active t i n set e st is free = pure_means scope active t i n set e st is.0.0 free
 
-pub inner_means : (g : Setting) (scope : Scope) → PlacesFields g → SameExtents g scope → (alive : Variable → Type 0) (n : ℕ) (active : Active) (set : ℕ) (e : TExpr) (st : State) → IsInnerCondition set e → HasItsCode g.typed g.instance alive n e → set < length (shapes g)
-    → evaluated scope e active st ≡ Source.Gives (Parallel (λ q. value_in (extents g set) st e q)) st
-inner_means g scope places same alive n active set e st is c exists =
-    value_means scope active g.typed g.instance n set e st is (are_grids g scope places same set) c.code.names ∙ ap (λ (xs : List ℕ). Source.Gives (Parallel (λ q. value_in xs st e q)) st) (same set exists)
-
-pub condition_means : (g : Setting) (scope : Scope) → PlacesFields g → SameExtents g scope → (alive : Variable → Type 0) (n : ℕ) (active : Active) (set : ℕ) (e : TExpr) (st : State) → IsCondition set e → HasItsCode g.typed g.instance alive n e → set < length (shapes g)
-    → evaluated scope e active st ≡ Source.Gives (Parallel (λ q. value_in (extents g set) st e q)) st
-condition_means g scope places same alive n active set e st (inl inner) c exists = inner_means g scope places same alive n active set e st inner c exists
-condition_means g scope places same alive n active set e st (inr kinded) c exists =
-    pure_means scope active g.typed g.instance n set e st kinded.0 (are_grids g scope places same set) c.code.names ∙ ap (λ (xs : List ℕ). Source.Gives (Parallel (λ q. value_in xs st e q)) st) (same set exists)
-
-module _ (g : Setting) (has : HasRegisters g) (alive : Variable → Type 0) (n : ℕ) (ready : (d : Draft) → IsReady g.typed g.instance (layout g) n d) (places : PlacesFields g) (fields : HoldsTheFields g) where
+module _ (g : Setting) (has : HasRegisters g) (alive : Variable → Type 0) (n : ℕ) (ready : (d : Draft) → IsReadyButForFields g.typed g.instance (layout g) n d) (places : PlacesFields g) (fields : HoldsTheFields g) where
   abbrev operand : ℕ → Bool → TExpr → Draft → Made Out
   operand bits quiet e d = operand_of g has alive n ready places fields bits quiet e d
 
   abbrev numbers_of : ℕ → TExpr → State → ℕ → ℕ
   numbers_of set e st = λ q. value_in (extents g set) st e q
 
-  -- what is said of code wherever it begins
-  abbrev Everywhere : (Draft → CodeState → State → Type 0) → Type 0
-  Everywhere said = (d : Draft) (s : CodeState) (st : State) → At g s (length d.code) → Sim g alive st s → said d s st
+  -- This is said of code wherever it begins, where the source gives the expression's numbers; else both end early.
+  abbrev Says : {B : Type 0} → ℕ → TExpr → (Draft → CodeState → State → B → Draft → Type 0) → (Draft → Made B) → Type 0
+  Says set e said made = (d : Draft) (s : CodeState) (st : State) → At g s (length d.code) → Sim g alive st s → Follows g (Given g (numbers_of set e st) st (said d s st)) s (meant g fields e st) (made d)
+
+  -- the source gives them
+  abbrev pub IsGiven : ℕ → TExpr → State → Type 0
+  IsGiven set e st = meant g fields e st ≡ Source.Gives (Parallel (numbers_of set e st)) st
 
   abbrev Condition : ℕ → TExpr → Draft → CodeState → State → Draft → Type 0
   Condition set e d s st f = LeavesTests g alive fields d s set st (numbers_of set e st) f
 
   abbrev IsTested : ℕ → TExpr → Type 0
-  IsTested set e = Everywhere (λ d s st. After g (λ _ f. Condition set e d s st f) (tested g.typed (layout g) e d))
+  IsTested set e = Says set e (λ d s st _ f. Condition set e d s st f) (λ d. tested g.typed (layout g) e d)
+
+  -- the code of one bit, which stands where it is a variable
+  abbrev bit_code : TExpr → Draft → Made Out
+  bit_code e d = elim (own_of 1 e) as (λ _. Made Out) [ Some own ↦ standing g.typed (layout g) 1 own d | None ↦ value_of g.typed (layout g) 1 e d ]
 
   -- The value of a condition that is no word has one bit.
   record HasBit (set : ℕ) (e : TExpr) : Type 0 where
-    pub kind : kind_of e ≡ Some truth_type
-    pub own : own_of 1 e ≡ None
-    pub value : Everywhere (λ d s st. After g (Bit g alive places fields d s set st (numbers_of set e st)) (value_of g.typed (layout g) 1 e d))
+    pub kind : bits_of (kind_of e) ≡ 1
+    pub value : Says set e (λ d s st. Bit g alive places fields d s set st (numbers_of set e st)) (bit_code e)
 
   -- or it is a value of more than one bit
   abbrev HasWord : ℕ → TExpr → Type 0
@@ -139,24 +177,26 @@ module _ (g : Setting) (has : HasRegisters g) (alive : Variable → Type 0) (n :
 
   -- ---- words
 
-  pure_told : (set : ℕ) (e : TExpr) → HasItsKind set e → HasItsCode g.typed g.instance alive n e → Everywhere (λ d s st. After g (Told g alive places fields d s set st (numbers_of set e st)) (operand (bits_of (kind_of e)) true e d))
+  pure_told : (set : ℕ) (e : TExpr) → HasItsKind set e → HasItsCode g.typed g.instance alive n e → Says set e (λ d s st. Told g alive places fields d s set st (numbers_of set e st)) (λ d. operand (bits_of (kind_of e)) true e d)
   pure_told set e kinded c d s st here sim =
       let bits : ℕ = bits_of (kind_of e) in
-      after_weaker g (Gives g has alive n ready places fields bits (length d.fields) d s set st (λ q. word_at (extents g set) st e q)) (Told g alive places fields d s set st (numbers_of set e st)) (operand bits true e d)
+      given_weaker g s (meant g fields e st) (numbers_of set e st) st (Gives g has alive n ready places fields bits (length d.fields) d s set st (λ q. word_at (extents g set) st e q)) (Told g alive places fields d s set st (numbers_of set e st)) (operand bits true e d)
       (λ x e1 (a, (is, gives)). (a, (is, field_told g alive places fields bits d s set st (λ q. word_at (extents g set) st e q) (numbers_of set e st) a e1 (λ q below. zero_told g alive n places fields set e st s sim kinded c q below) gives)))
       (operand_after g has alive n ready places fields bits set e true kinded.0 c.code.names (pure_after g has alive n ready places fields bits set e (kind_most g alive n places fields set e kinded) kinded.0 c) d s st here sim)
 
   -- a variable of the file, where it stands
   variable_tested : (set k : ℕ) (ty : ValueType) → ty.shape ≡ Some set → HasVariable g.typed g.instance n (V.File k) (plain ty) → (d : Draft) (s : CodeState) (st : State) → At g s (length d.code) → Sim g alive st s
-      → After g (λ _ f. LeavesTests g alive fields d s set st (λ q. st.parallel (V.File k) 0 q) f) (truth_of g.typed (layout g) (T.Variable ty (V.File k)) d)
-  unfolding truth_of then_make an_entry step_of passes_from
+      → Follows g (Given g (λ q. st.parallel (V.File k) 0 q) st (λ _ f. LeavesTests g alive fields d s set st (λ q. st.parallel (V.File k) 0 q) f)) s (meant g fields (T.Variable ty (V.File k)) st) (truth_of g.typed (layout g) (T.Variable ty (V.File k)) d)
+  unfolding truth_of then_make an_entry step_of passes_from evaluated
   variable_tested set k ty shaped v d s st here sim =
-      after_same g (λ _ f. LeavesTests g alive fields d s set st number f) (ap (λ (m : Made Field). then_make m (λ source after. Makes tt (with_instr (I.NeZero source) after))) (field_is g k 0 set info d is))
+      given_follows g s (meant g fields (T.Variable ty (V.File k)) st) (λ q. st.parallel (V.File k) 0 q) st (λ _ f. LeavesTests g alive fields d s set st number f) (truth_of g.typed (layout g) (T.Variable ty (V.File k)) d)
+      (ap (λ (x : Value). Source.Gives x st) (read_is fields.scope fields.active ty set k st shaped))
+      (after_same g (λ _ f. LeavesTests g alive fields d s set st number f) (ap (λ (m : Made Field). then_make m (λ source after. Makes tt (with_instr (I.NeZero source) after))) (field_is g k 0 set info d is))
       (made_after g (λ _ f. LeavesTests g alive fields d s set st number f) tt (with_instr (I.NeZero source) d1) (λ within.
       let numbers = variable_has g has alive n ready places fields set k info source s st is (taken g set info.elem.bits (W.File (file_number g.typed k 0)) d (with_instr (I.NeZero source) d1) 1 within (and_one g (I.NeZero source) d1)) refl refl sim in
       tested_last g alive fields places (length d.fields) set d d1 (I.NeZero source) s st number (Unit {0}) (omega arith)
       (passes_from g alive (length d.fields) d d1 d1 s st (Unit {0}) (and_entry set info.elem.bits (W.File (file_number g.typed k 0)) d) (passes_all g alive (length d.fields) d1 s st (Unit {0}) here sim)) tt numbers.0.exists within
-      (puts_nonzero g set source s number (numbers_tell g info.elem.bits set source s (λ q. held info.elem (number q)) number (λ q below. ap (λ (m : ℕ). m == 0) (held_first info.elem (number q) info.elem.bits (small q below) (omega arith) ∙ mod-eq_of_lt (small q below))) numbers.0))))
+      (puts_nonzero g set source s number (numbers_tell g info.elem.bits set source s (λ q. held info.elem (number q)) number (λ q below. ap (λ (m : ℕ). m == 0) (held_first info.elem (number q) info.elem.bits (small q below) (omega arith) ∙ mod-eq_of_lt (small q below))) numbers.0)))))
     where
       number : ℕ → ℕ
       number = λ q. st.parallel (V.File k) 0 q
@@ -176,35 +216,73 @@ module _ (g : Setting) (has : HasRegisters g) (alive : Variable → Type 0) (n :
       d1 : Draft
       d1 = with_entry set info.elem.bits (W.File (file_number g.typed k 0)) d
 
+  -- where it has one bit, that is it
+  variable_bit : (set k : ℕ) (ty : ValueType) → ty.shape ≡ Some set → ty.elem.bits ≡ 1 → HasVariable g.typed g.instance n (V.File k) (plain ty) → Says set (T.Variable ty (V.File k)) (λ d s st. Bit g alive places fields d s set st (numbers_of set (T.Variable ty (V.File k)) st)) (bit_code (T.Variable ty (V.File k)))
+  unfolding own_of standing first_bits then_make an_entry evaluated value_in tests_passed passes_from
+  variable_bit set k ty shaped one v d s st here sim =
+      given_follows g s (meant g fields (T.Variable ty (V.File k)) st) (λ q. st.parallel (V.File k) 0 q) st R (bit_code (T.Variable ty (V.File k)) d) (ap (λ (x : Value). Source.Gives x st) (read_is fields.scope fields.active ty set k st shaped))
+      (after_same g R
+      (ap (λ (b : Bool). code (own b ty.shape)) (ap (λ (m : ℕ). nat_le 1 m) one) ∙ ap (λ (o : Option ℕ). code (own true o)) shaped
+      ∙ ap (λ (m : Made Field). then_make m (λ f after. Makes (O.Field (first_bits 1 f)) after)) (field_is g k 0 set info d is))
+      (made_after g R (O.Field f) d1 (λ within. (
+        f,
+        (
+          refl,
+          variable_truth g alive places fields set k info f d d1 s st is one (subst (λ (m : ℕ). IsEntry g.unit (length d.fields) (record { set = set; len = m; owner = owner })) one (taken g set info.elem.bits owner d d1 0 within (as_it_was d1))) refl refl
+              (tests_passed g alive (length d.fields) d d1 s st (Behind g f d1) (omega arith) (passes_from g alive (length d.fields) d d1 d1 s st (Behind g f d1) (and_entry set info.elem.bits owner d) (passes_all g alive (length d.fields) d1 s st (Behind g f d1) here sim))),
+        ),
+      ))))
+    where
+      own : Bool → Option ℕ → Option Own
+      own b o = if is_none o || b then Some (record { shape = o; variable = V.File k }) else None
+
+      code : Option Own → Made Out
+      code o = elim o as (λ _. Made Out) [ Some own ↦ standing g.typed (layout g) 1 own d | None ↦ value_of g.typed (layout g) 1 (T.Variable ty (V.File k)) d ]
+
+      info : VarInfo
+      info = variable_info v.word (plain ty) v.start
+
+      is : IsElement g.typed k info set 0
+      is = element_is g.typed g.instance n k set ty shaped v
+
+      owner : Owner
+      owner = W.File (file_number g.typed k 0)
+
+      f : Field
+      f = next_field set 1 d
+
+      d1 : Draft
+      d1 = with_entry set info.elem.bits owner d
+
+      R : Out → Draft → Type 0
+      R = Bit g alive places fields d s set st (λ q. st.parallel (V.File k) 0 q)
+
   -- a value that the test flag does not tell without it
   pure_tested : (set : ℕ) (e : TExpr) → HasItsKind set e → has_truth e ≡ false → HasItsCode g.typed g.instance alive n e → IsTested set e
   unfolding tested_by
   pure_tested set e kinded no_truth c d s st here sim =
-      after_same g (λ _ f. Condition set e d s st f) (ap (λ (b : Bool). tested_by b (truth_of g.typed (layout g) e) (next_of g.typed (layout g) (bits_of (kind_of e)) true e) d) no_truth)
-      (nonzero_after g alive places fields set (numbers_of set e st) (operand (bits_of (kind_of e)) true e) d s st (pure_told set e kinded c d s st here sim))
+      follows_same g (Given g (numbers_of set e st) st (λ _ f. Condition set e d s st f)) s refl (ap (λ (b : Bool). tested_by b (truth_of g.typed (layout g) e) (next_of g.typed (layout g) (bits_of (kind_of e)) true e) d) no_truth)
+      (nonzero_after g alive places fields (meant g fields e st) (numbers_of set e st) set (numbers_of set e st) (operand (bits_of (kind_of e)) true e) d s st (pure_told set e kinded c d s st here sim))
 
   -- ---- bits
 
-  -- no condition is a constant, so its value is nowhere yet
-  bit_after : (set : ℕ) (e : TExpr) → IsInnerCondition set e → HasBit set e → Everywhere (λ d s st. After g (Bit g alive places fields d s set st (numbers_of set e st)) (operand_at g 1 e d))
+  -- no condition is a constant, so its value stands in no register
+  bit_after : (set : ℕ) (e : TExpr) → IsInnerCondition set e → HasBit set e → Says set e (λ d s st. Bit g alive places fields d s set st (numbers_of set e st)) (λ d. operand_at g 1 e d)
   unfolding operand_by in_place
   bit_after set e is bit d s st here sim =
-      after_same g (Bit g alive places fields d s set st (numbers_of set e st))
-      (ap (λ (o : Option ℕ). elim o as (λ _. Made Out) [ Some r ↦ Makes (O.Scalar r) d | None ↦ elim (own_of 1 e) as (λ _. Made Out) [ Some own ↦ standing g.typed (layout g) 1 own d | None ↦ value_of g.typed (layout g) 1 e d ] ]) (not_held (layout g) e (condition_constant set e is))
-      ∙ ap (λ (o : Option Own). elim o as (λ _. Made Out) [ Some own ↦ standing g.typed (layout g) 1 own d | None ↦ value_of g.typed (layout g) 1 e d ]) bit.own)
-      (bit.value d s st here sim)
+      follows_same g (Given g (numbers_of set e st) st (Bit g alive places fields d s set st (numbers_of set e st))) s refl
+      (ap (λ (o : Option ℕ). elim o as (λ _. Made Out) [ Some r ↦ Makes (O.Scalar r) d | None ↦ bit_code e d ]) (not_held (layout g) e (condition_constant set e is))) (bit.value d s st here sim)
 
-  bit_told : (set : ℕ) (e : TExpr) → IsInnerCondition set e → HasBit set e → Everywhere (λ d s st. After g (Told g alive places fields d s set st (numbers_of set e st)) (operand_at g 1 e d))
+  bit_told : (set : ℕ) (e : TExpr) → IsInnerCondition set e → HasBit set e → Says set e (λ d s st. Told g alive places fields d s set st (numbers_of set e st)) (λ d. operand_at g 1 e d)
   bit_told set e is bit d s st here sim =
-      after_weaker g (Bit g alive places fields d s set st (numbers_of set e st)) (Told g alive places fields d s set st (numbers_of set e st)) (operand_at g 1 e d)
+      given_weaker g s (meant g fields e st) (numbers_of set e st) st (Bit g alive places fields d s set st (numbers_of set e st)) (Told g alive places fields d s set st (numbers_of set e st)) (operand_at g 1 e d)
       (λ x e1 (a, (same, gives)). (a, (same, truth_told g alive places fields d s set st (numbers_of set e st) a e1 gives)))
       (bit_after set e is bit d s st here sim)
 
   -- a word or a bit tells
-  operand_told : (set : ℕ) (e : TExpr) → IsInnerCondition set e → HasItsCode g.typed g.instance alive n e → HasWord set e ⊎ HasBit set e → Everywhere (λ d s st. After g (Told g alive places fields d s set st (numbers_of set e st)) (operand_at g (bits_of (kind_of e)) e d))
-  unfolding bits_of
+  operand_told : (set : ℕ) (e : TExpr) → IsInnerCondition set e → HasItsCode g.typed g.instance alive n e → HasWord set e ⊎ HasBit set e → Says set e (λ d s st. Told g alive places fields d s set st (numbers_of set e st)) (λ d. operand_at g (bits_of (kind_of e)) e d)
   operand_told set e is c (inl word) d s st here sim = pure_told set e word.0 c d s st here sim
-  operand_told set e is c (inr bit) d s st here sim = after_same g (Told g alive places fields d s set st (numbers_of set e st)) (ap (λ (k : Option Elem). operand_at g (bits_of k) e d) bit.kind) (bit_told set e is bit d s st here sim)
+  operand_told set e is c (inr bit) d s st here sim = follows_same g (Given g (numbers_of set e st) st (Told g alive places fields d s set st (numbers_of set e st))) s refl (ap (λ (m : ℕ). operand_at g m e d) bit.kind) (bit_told set e is bit d s st here sim)
 
   pure_known : (set : ℕ) (e : TExpr) → HasWord set e → has_truth e ≡ false → HasItsCode g.typed g.instance alive n e → IsKnown set e
   pure_known set e word no_truth c = (pure_tested set e word.0 no_truth c, inl word)
@@ -227,41 +305,43 @@ module _ (g : Setting) (has : HasRegisters g) (alive : Variable → Type 0) (n :
           (λ v after. in_field v (λ source. Makes tt (with_instr (I.NeZero source) after)))
 
   brackets_known : (set : ℕ) (ty : ValueType) (p : Boxed) (inner : TExpr) → IsInnerCondition set (T.Brackets' ty p inner) → ty ≡ type_of inner → IsInnerCondition set inner → IsKnown set inner → IsKnown set (T.Brackets' ty p inner)
-  unfolding IsPure IsNarrowed value_in value_of kind_of own_of
+  unfolding IsPure IsNarrowed value_in value_of kind_of own_of evaluated
   brackets_known set ty p inner is same part (tests, whole) = (
-    λ d s st here sim. after_same g (λ _ f. Condition set (T.Brackets' ty p inner) d s st f) (brackets_code ty p inner d (condition_constant set (T.Brackets' ty p inner) is) (condition_constant set inner part)) (tests d s st here sim),
-    either (λ (word : HasWord set inner). inl (((same, word.0.0), word.0.1), word.1)) (λ (bit : HasBit set inner). inr (record { kind = bit.kind; own = bit.own; value = bit.value })) whole,
+    λ d s st here sim. follows_same g (Given g (numbers_of set inner st) st (λ _ f. Condition set inner d s st f)) s refl (brackets_code ty p inner d (condition_constant set (T.Brackets' ty p inner) is) (condition_constant set inner part)) (tests d s st here sim),
+    either (λ (word : HasWord set inner). inl (((same, word.0.0), word.0.1), word.1)) (λ (bit : HasBit set inner). inr (record { kind = bit.kind; value = bit.value })) whole,
   )
 
-  relation_known : (set : ℕ) (ty : ValueType) (place : Place) (op : Op) (p q : Boxed) (left right : TExpr) → IsWide set ty → IsRelation set op left right → divides op ≡ false → HasItsCode g.typed g.instance alive n (T.Binary' ty place op p left q right)
+  relation_known : (set : ℕ) (ty : ValueType) (place : Place) (op : Op) (p q : Boxed) (left right : TExpr) → IsWide set ty → IsRelation set op left right → HasItsCode g.typed g.instance alive n (T.Binary' ty place op p left q right)
       → IsKnown set (T.Binary' ty place op p left q right)
-  unfolding tested_by has_truth value_in kind_of binary_kind own_of
-  relation_known set ty place op p q left right wide is no_check c = (
-    λ d s st here sim. after_same g (λ _ f. Condition set whole d s st f) (ap (λ (b : Bool). tested_by b (truth_of g.typed (layout g) whole) (next_of g.typed (layout g) (bits_of (kind_of whole)) true whole) d) is.0) (truth d s st here sim),
+  unfolding tested_by has_truth value_in kind_of binary_kind own_of bits_of
+  relation_known set ty place op p q left right wide is c = (
+    λ d s st here sim. follows_same g (Given g (numbers_of set whole st) st (λ _ f. Condition set whole d s st f)) s refl (ap (λ (b : Bool). tested_by b (truth_of g.typed (layout g) whole) (next_of g.typed (layout g) (bits_of (kind_of whole)) true whole) d) is.0) (truth d s st here sim),
     inr (record {
-      kind = ap (λ (b : Bool). if b then Some truth_type else if is_bitwise op then common_kind (kind_of left) (kind_of right) else None) is.0;
-      own = refl;
+      kind = ap (λ (b : Bool). bits_of (if b then Some truth_type else if is_bitwise op then common_kind (kind_of left) (kind_of right) else None)) is.0;
       value = λ d s st here sim.
-          after_same g (Bit g alive places fields d s set st (numbers_of set whole st)) (relation_value g set ty place op p q left right d wide.0 is.0 no_check)
-          (stored_after g alive places fields set (numbers_of set whole st) d s st (truth_of g.typed (layout g) whole (with_entry set 1 W.Own d)) (truth (with_entry set 1 W.Own d) s st here sim));
+          follows_same g (Given g (numbers_of set whole st) st (Bit g alive places fields d s set st (numbers_of set whole st))) s refl (relation_value g set ty place op p q left right d wide.0 is.0 no_check)
+          (stored_after g alive places fields (meant g fields whole st) (numbers_of set whole st) set (numbers_of set whole st) d s st (truth_of g.typed (layout g) whole (with_entry set 1 W.Own d)) (truth (with_entry set 1 W.Own d) s st here sim));
     }),
   )
     where
       whole : TExpr
       whole = T.Binary' ty place op p left q right
 
-      truth : Everywhere (λ d s st. After g (λ _ f. Condition set whole d s st f) (truth_of g.typed (layout g) whole d))
+      no_check : divides op ≡ false
+      no_check = relates_plainly op is.0
+
+      truth : Says set whole (λ d s st _ f. Condition set whole d s st f) (λ d. truth_of g.typed (layout g) whole d)
       truth d s st here sim =
           let parts = binary_parts g alive n places fields ty place op p q left right c in
-          after_same g (λ _ f. Condition set whole d s st f) (relation_code g has alive n ready places fields set op left right is no_check parts.0 parts.1 d s st here sim ty place p q wide.0)
-          (relation_after g has alive n ready places fields set op left right is no_check parts.0 parts.1 d s st here sim)
+          follows_same g (Given g (numbers_of set whole st) st (λ _ f. Condition set whole d s st f)) s refl (relation_code g has alive n ready places fields set op left right is no_check parts.0 parts.1 d s st here sim ty place p q wide.0)
+          (relation_after g has alive n ready places fields set op left right is no_check parts.0 parts.1 d s st here sim ty place p q wide.0)
 
   -- an operand of `!` is told, and one of one bit gives it
   abbrev IsTold : ℕ → TExpr → Type 0
-  IsTold set e = Everywhere (λ d s st. After g (Told g alive places fields d s set st (numbers_of set e st)) (operand_at g (bits_of (kind_of e)) e d))
+  IsTold set e = Says set e (λ d s st. Told g alive places fields d s set st (numbers_of set e st)) (λ d. operand_at g (bits_of (kind_of e)) e d)
 
   abbrev GivesIt : ℕ → TExpr → Type 0
-  GivesIt set e = Everywhere (λ d s st. After g (AnyBit g alive places fields d s set st (numbers_of set e st)) (operand_at g 1 e d))
+  GivesIt set e = Says set e (λ d s st. AnyBit g alive places fields d s set st (numbers_of set e st)) (λ d. operand_at g 1 e d)
 
   record IsNegated (set : ℕ) (e : TExpr) : Type 0 where
     pub fresh : is_kept e ≡ false
@@ -273,14 +353,14 @@ module _ (g : Setting) (has : HasRegisters g) (alive : Variable → Type 0) (n :
     where
       by : HasWord set e ⊎ HasBit set e → (bits_of (kind_of e) == 1) ≡ true → GivesIt set e
       by (inl word) one = let wrong = sym one ∙ word.1 in cc
-      by (inr bit) one = λ d s st here sim. any_bit g alive places fields d s set st (numbers_of set e st) (operand_at g 1 e d) (bit_after set e is bit d s st here sim)
+      by (inr bit) one = λ d s st here sim. any_bit g alive places fields (meant g fields e st) (numbers_of set e st) d s set st (numbers_of set e st) (operand_at g 1 e d) (bit_after set e is bit d s st here sim)
 
   kinded_negated : (set : ℕ) (e : TExpr) → HasItsKind set e → HasItsCode g.typed g.instance alive n e → IsNegated set e
   kinded_negated set e kinded c = record {
     fresh = pure_kept set e kinded.0;
     told = λ d s st here sim. pure_told set e kinded c d s st here sim;
     bit = λ one d s st here sim.
-        after_weaker g (Gives g has alive n ready places fields 1 (length d.fields) d s set st (λ q. word_at (extents g set) st e q)) (AnyBit g alive places fields d s set st (numbers_of set e st)) (operand 1 true e d)
+        given_weaker g s (meant g fields e st) (numbers_of set e st) st (Gives g has alive n ready places fields 1 (length d.fields) d s set st (λ q. word_at (extents g set) st e q)) (AnyBit g alive places fields d s set st (numbers_of set e st)) (operand 1 true e d)
         (λ x e1 (a, (is, gives)). (
           a,
           (
@@ -293,76 +373,121 @@ module _ (g : Setting) (has : HasRegisters g) (alive : Variable → Type 0) (n :
   }
 
   not_known : (set : ℕ) (ty : ValueType) (p : Boxed) (inner : TExpr) → IsWide set ty → IsNegated set inner → IsKnown set (T.Unary' ty U.Not p inner)
-  unfolding tested_by has_truth truth_of value_in unary_of kind_of negates own_of
+  unfolding tested_by has_truth truth_of value_in unary_of kind_of negates own_of bits_of
   not_known set ty p inner wide is = (
-    λ d s st here sim. zero_after g alive places fields set (numbers_of set inner st) (operand_at g (bits_of (kind_of inner)) inner) d s st (is.told d s st here sim),
-    inr (record { kind = refl; own = refl; value = by (bits_of (kind_of inner) == 1) refl }),
+    λ d s st here sim. negated d s st (λ _ f. Condition set whole d s st f) (truth_of g.typed (layout g) whole d) (zero_after g alive places fields (meant g fields inner st) (numbers_of set inner st) set (numbers_of set inner st) (operand_at g (bits_of (kind_of inner)) inner) d s st (is.told d s st here sim)),
+    inr (record { kind = refl; value = by (bits_of (kind_of inner) == 1) refl }),
   )
     where
-      by : (b : Bool) → (bits_of (kind_of inner) == 1) ≡ b → Everywhere (λ d s st. After g (Bit g alive places fields d s set st (numbers_of set (T.Unary' ty U.Not p inner) st)) (value_of g.typed (layout g) 1 (T.Unary' ty U.Not p inner) d))
+      whole : TExpr
+      whole = T.Unary' ty U.Not p inner
+
+      -- what it means
+      negated : {B : Type 0} (d : Draft) (s : CodeState) (st : State) (R : B → Draft → Type 0) (made : Made B) → Follows g (Given g (numbers_of set inner st) st R) s (meant g fields inner st) made → Follows g (Given g (numbers_of set whole st) st R) s (meant g fields whole st) made
+      negated d s st R made h =
+          follows_like g s (meant g fields inner st) (meant g fields whole st) (numbers_of set inner st) (numbers_of set whole st) st R R made (λ given. unary_means fields.scope fields.active set ty U.Not p inner (numbers_of set inner st) st wide.0 given)
+          (λ early. unary_ended g has alive n ready places fields ty U.Not p inner s st early) (λ y e said. said) h
+
+      by : (b : Bool) → (bits_of (kind_of inner) == 1) ≡ b → Says set whole (λ d s st. Bit g alive places fields d s set st (numbers_of set whole st)) (λ d. value_of g.typed (layout g) 1 whole d)
       by false word d s st here sim =
-          after_same g (Bit g alive places fields d s set st (numbers_of set (T.Unary' ty U.Not p inner) st)) (word_not_value g set ty p inner d wide.0 is.fresh word)
-          (stored_after g alive places fields set (numbers_of set (T.Unary' ty U.Not p inner) st) d s st (zero_tested (operand_at g (bits_of (kind_of inner)) inner) (with_entry set 1 W.Own d))
-          (zero_after g alive places fields set (numbers_of set inner st) (operand_at g (bits_of (kind_of inner)) inner) (with_entry set 1 W.Own d) s st (is.told (with_entry set 1 W.Own d) s st here sim)))
+          follows_same g (Given g (numbers_of set whole st) st (Bit g alive places fields d s set st (numbers_of set whole st))) s refl (word_not_value g set ty p inner d wide.0 is.fresh word)
+          (stored_after g alive places fields (meant g fields whole st) (numbers_of set whole st) set (numbers_of set whole st) d s st (zero_tested (operand_at g (bits_of (kind_of inner)) inner) (with_entry set 1 W.Own d))
+          (negated d s st (λ _ f. LeavesTests g alive fields (with_entry set 1 W.Own d) s set st (numbers_of set whole st) f) (zero_tested (operand_at g (bits_of (kind_of inner)) inner) (with_entry set 1 W.Own d))
+          (zero_after g alive places fields (meant g fields inner st) (numbers_of set inner st) set (numbers_of set inner st) (operand_at g (bits_of (kind_of inner)) inner) (with_entry set 1 W.Own d) s st (is.told (with_entry set 1 W.Own d) s st here sim))))
       by true bit d s st here sim =
-          after_same g (Bit g alive places fields d s set st (numbers_of set (T.Unary' ty U.Not p inner) st)) (bit_not_value g set ty p inner d wide.0 is.fresh bit)
-          (turned_after g alive places fields set (numbers_of set inner st) d s st (operand_at g 1 inner (with_entry set 1 W.Own d)) (is.bit bit (with_entry set 1 W.Own d) s st here sim))
+          follows_same g (Given g (numbers_of set whole st) st (Bit g alive places fields d s set st (numbers_of set whole st))) s refl (bit_not_value g set ty p inner d wide.0 is.fresh bit)
+          (negated d s st (Bit g alive places fields d s set st (numbers_of set whole st)) (then_make (operand_at g 1 inner (with_entry set 1 W.Own d)) (turned_in g set d))
+          (turned_after g alive places fields (meant g fields inner st) (numbers_of set inner st) set (numbers_of set inner st) d s st (operand_at g 1 inner (with_entry set 1 W.Own d)) (is.bit bit (with_entry set 1 W.Own d) s st here sim)))
 
   -- ---- `&&` and `||`
 
   -- an operand is put in a field of one bit
-  flagged : (set : ℕ) (e : TExpr) → IsInnerCondition set e → IsKnown set e → Everywhere (λ d s st. After g (Truth g alive places fields d s set st (numbers_of set e st)) (flag_of set (condition_of g.typed (layout g) e) d))
-  unfolding flag_of flag_by condition_by bits_of
+  flagged : (set : ℕ) (e : TExpr) → IsInnerCondition set e → IsKnown set e → Says set e (λ d s st. Truth g alive places fields d s set st (numbers_of set e st)) (λ d. flag_of set (condition_of g.typed (layout g) e) d)
+  unfolding flag_of flag_by condition_by
   flagged set e is (tests, inl word) d s st here sim =
-      after_same g (Truth g alive places fields d s set st (numbers_of set e st)) (ap (λ (b : Bool). flag_by b set (operand_at g (bits_of (kind_of e)) e) (tested g.typed (layout g) e) d) word.1)
-      (flag_after g alive places fields set (numbers_of set e st) d s st (tested g.typed (layout g) e d) (tests d s st here sim))
+      follows_same g (Given g (numbers_of set e st) st (Truth g alive places fields d s set st (numbers_of set e st))) s refl (ap (λ (b : Bool). flag_by b set (operand_at g (bits_of (kind_of e)) e) (tested g.typed (layout g) e) d) word.1)
+      (flag_after g alive places fields (meant g fields e st) (numbers_of set e st) set (numbers_of set e st) d s st (tested g.typed (layout g) e d) (tests d s st here sim))
   flagged set e is (tests, inr bit) d s st here sim =
-      after_same g (Truth g alive places fields d s set st (numbers_of set e st)) (ap (λ (k : Option Elem). flag_by (bits_of k == 1) set (operand_at g (bits_of k) e) (tested g.typed (layout g) e) d) bit.kind)
-      (bit_taken g alive places fields set (numbers_of set e st) d s st (operand_at g 1 e d) (bit_after set e is bit d s st here sim))
+      follows_same g (Given g (numbers_of set e st) st (Truth g alive places fields d s set st (numbers_of set e st))) s refl (ap (λ (m : ℕ). flag_by (m == 1) set (operand_at g m e) (tested g.typed (layout g) e) d) bit.kind)
+      (bit_taken g alive places fields (meant g fields e st) (numbers_of set e st) set (numbers_of set e st) d s st (operand_at g 1 e d) (bit_after set e is bit d s st here sim))
 
   flag_grows : (set : ℕ) (e : TExpr) → HasItsCode g.typed g.instance alive n e → InField g.typed e → (d : Draft) → Extends g d (flag_of set (condition_of g.typed (layout g) e) d)
   unfolding flag_of condition_by
   flag_grows set e c field d =
-      flag_extends g (is_flag e) set (operand_at g (bits_of (kind_of e)) e) (tested g.typed (layout g) e) d (extends_grown g has alive _ d _ _ ((expressions g.typed g.instance (layout g)).operand (bits_of (kind_of e)) n true e d c.code (ready d)))
-      (extends_grown g has alive _ d _ _ ((expressions g.typed g.instance (layout g)).test n e d c.code field (ready d)))
+      flag_extends g (is_flag e) set (operand_at g (bits_of (kind_of e)) e) (tested g.typed (layout g) e) d (extends_grown g has alive _ d _ _ ((lengths_if_made g.typed g.instance (layout g)).operand (bits_of (kind_of e)) n true e d c.code (ready d)))
+      (extends_grown g has alive _ d _ _ ((lengths_if_made g.typed g.instance (layout g)).test n e d c.code field (ready d)))
+
+  -- one that ignores the context has its value under every context
+  ignoring_means : (set : ℕ) (e : TExpr) (st : State) (active : Active) → IsInnerCondition set e → ignores_context e ≡ true → set < length (shapes g) → evaluated fields.scope e active st ≡ Source.Gives (Parallel (numbers_of set e st)) st
+  ignoring_means set e st active is free exists =
+      value_means fields.scope active g.typed g.instance n set e st is free ∙ ap (λ (xs : List ℕ). Source.Gives (Parallel (λ q. value_in xs st e q)) st) (fields.same_extents set exists)
 
   -- what comes behind two of them
-  flags_after : (set : ℕ) (left right : TExpr) → IsInnerCondition set left → IsInnerCondition set right → HaveTheirCode g.typed g.instance alive n left right → IsKnown set left → IsKnown set right → (d : Draft) (s : CodeState) (st : State) → At g s (length d.code) → Sim g alive st s
+  flags_after : (set : ℕ) (left right : TExpr) → IsInnerCondition set left → IsInnerCondition set right → ignores_context right ≡ true → HaveTheirCode g.typed g.instance alive n left right → IsKnown set left → IsKnown set right → (d : Draft) (s : CodeState) (st : State) → At g s (length d.code) → Sim g alive st s
       → (Q : Out → Draft → Type 0) (last : Field → Field → Draft → Made Out) → ((f h : Field) (e : Draft) → Extends g e (last f h e))
-      → ((f h : Field) (e1 e2 : Draft) (one : Truth g alive places fields d s set st (numbers_of set left st) f e1) → Truth g alive places fields e1 one.passes.t set st (numbers_of set right st) h e2 → After g Q (last f h e2))
+      → (IsGiven set left st → set < length (shapes g) → (f h : Field) (e1 e2 : Draft) (one : Truth g alive places fields d s set st (numbers_of set left st) f e1) → Truth g alive places fields e1 one.passes.t set st (numbers_of set right st) h e2 → After g Q (last f h e2))
+      → (Ended g s (meant g fields left st) → (x : Out) (e : Draft) → Q x e)
       → After g Q (then_make (flag_of set (condition_of g.typed (layout g) left) d) (λ f between. then_make (flag_of set (condition_of g.typed (layout g) right) between) (λ h after. last f h after)))
-  flags_after set left right is also codes one two d s st here sim Q last grows given =
-      then_after g (Truth g alive places fields d s set st (numbers_of set left st)) Q (flag_of set (condition_of g.typed (layout g) left) d) (λ f e. then_make (second e) (λ h after. last f h after)) (flagged set left is one d s st here sim)
-      (λ f e. extends_then g e (second e) (λ h after. last f h after) (flag_grows set right codes.right_code codes.right_field e) (λ h after. grows f h after)) (λ f e1 a.
-      then_after g (Truth g alive places fields e1 a.passes.t set st (numbers_of set right st)) Q (second e1) (λ h after. last f h after) (flagged set right also two e1 a.passes.t st a.passes.at a.passes.sim) (λ h after. grows f h after) (λ h e2 b. given f h e1 e2 a b))
+  flags_after set left right is also free codes one two d s st here sim Q last grows given ended =
+      then_known g s (meant g fields left st) (numbers_of set left st) st (Truth g alive places fields d s set st (numbers_of set left st)) Q (flag_of set (condition_of g.typed (layout g) left) d) (λ f e. then_make (second e) (λ h after. last f h after)) (flagged set left is one d s st here sim)
+      (λ f e. extends_then g e (second e) (λ h after. last f h after) (flag_grows set right codes.right_code codes.right_field e) (λ h after. grows f h after)) (λ is_left f e1 a.
+      then_after g (Truth g alive places fields e1 a.passes.t set st (numbers_of set right st)) Q (second e1) (λ h after. last f h after)
+      (follows_given g a.passes.t (meant g fields right st) (numbers_of set right st) st (Truth g alive places fields e1 a.passes.t set st (numbers_of set right st)) (second e1) (ignoring_means set right st fields.active also free a.exists) (flagged set right also two e1 a.passes.t st a.passes.at a.passes.sim))
+      (λ h after. grows f h after) (λ h e2 b. given is_left a.exists f h e1 e2 a b)) ended
     where
       second : Draft → Made Field
       second e = flag_of set (condition_of g.typed (layout g) right) e
 
-  joined_bit : (is_or : Bool) (set : ℕ) (shape : Option ℕ) (left right : TExpr) → shape ≡ Some set → IsInnerCondition set left → IsInnerCondition set right → ignores_context right ≡ true → HaveTheirCode g.typed g.instance alive n left right → IsKnown set left → IsKnown set right
-      → Everywhere (λ d s st. After g (Bit g alive places fields d s set st (λ q. from_bool (either_or_both is_or (nonzero (value_in (extents g set) st left q)) (nonzero (value_in (extents g set) st right q))))) (logical_by is_or shape 1 (condition_of g.typed (layout g) left) (condition_of g.typed (layout g) right) d))
+  joined_bit : (is_or : Bool) (set : ℕ) (shape : Option ℕ) (whole left right : TExpr) → shape ≡ Some set → IsInnerCondition set left → IsInnerCondition set right → ignores_context right ≡ true → HaveTheirCode g.typed g.instance alive n left right → IsKnown set left → IsKnown set right
+      → ((st : State) → IsGiven set left st → set < length (shapes g) → IsGiven set whole st) → ((s : CodeState) (st : State) → Ended g s (meant g fields left st) → Ended g s (meant g fields whole st))
+      → Says set whole (λ d s st. Bit g alive places fields d s set st (λ q. from_bool (either_or_both is_or (nonzero (value_in (extents g set) st left q)) (nonzero (value_in (extents g set) st right q))))) (λ d. logical_by is_or shape 1 (condition_of g.typed (layout g) left) (condition_of g.typed (layout g) right) d)
   unfolding condition_by Extends
-  joined_bit is_or set shape left right shaped is also same codes one two d s st here sim =
-      after_same g (Bit g alive places fields d s set st (λ q. from_bool (either_or_both is_or (nonzero (value_in (extents g set) st left q)) (nonzero (value_in (extents g set) st right q))))) (joined_value g is_or set shape (condition_of g.typed (layout g) left) (condition_of g.typed (layout g) right) d shaped (conditions_join set left right is also same))
-      (flags_after set left right is also codes one two (with_entry set 1 W.Own d) s st here sim (Bit g alive places fields d s set st (λ q. from_bool (either_or_both is_or (nonzero (value_in (extents g set) st left q)) (nonzero (value_in (extents g set) st right q))))) (λ f h e. joined_in g is_or set d f h e)
-      (λ f h e. (1, and_one g (I.Operate (operation_of is_or) (next_field set 1 d) f h) e)) (λ f h e1 e2 a b. joined_made g alive places fields is_or set (numbers_of set left st) (numbers_of set right st) d s st f h e1 e2 a b))
+  joined_bit is_or set shape whole left right shaped is also same codes one two means ends d s st here sim =
+      known_follows g s (meant g fields whole st) (numbers_of set whole st) st R (logical_by is_or shape 1 (condition_of g.typed (layout g) left) (condition_of g.typed (layout g) right) d)
+      (after_same g (Known g s (meant g fields whole st) (numbers_of set whole st) st R) (joined_value g is_or set shape (condition_of g.typed (layout g) left) (condition_of g.typed (layout g) right) d shaped (conditions_join set left right is also same))
+      (flags_after set left right is also same codes one two (with_entry set 1 W.Own d) s st here sim (Known g s (meant g fields whole st) (numbers_of set whole st) st R) (λ f h e. joined_in g is_or set d f h e)
+      (λ f h e. (1, and_one g (I.Operate (operation_of is_or) (next_field set 1 d) f h) e))
+      (λ is_left exists f h e1 e2 a b. after_weaker g R (Known g s (meant g fields whole st) (numbers_of set whole st) st R) (joined_in g is_or set d f h e2) (λ y e said. inl (means st is_left exists, said)) (joined_made g alive places fields is_or set (numbers_of set left st) (numbers_of set right st) d s st f h e1 e2 a b))
+      (λ early x e. inr (ends s st early))))
+    where
+      R : Out → Draft → Type 0
+      R = Bit g alive places fields d s set st (λ q. from_bool (either_or_both is_or (nonzero (value_in (extents g set) st left q)) (nonzero (value_in (extents g set) st right q))))
+
+  -- so both that join
+  pub or_given : (set : ℕ) (ty : ValueType) (p q : Boxed) (left right : TExpr) (st : State) → IsInnerCondition set left → IsInnerCondition set right → ignores_context right ≡ true → IsGiven set left st → set < length (shapes g) → IsGiven set (T.LogicalOr' ty p left q right) st
+  unfolding value_in
+  or_given set ty p q left right st is also free given exists =
+      or_means fields.scope fields.active set ty p q left right (numbers_of set left st) (numbers_of set right st) st is given (ignoring_means set right st (where_zero set (Parallel (numbers_of set left st)) fields.active) also free exists)
+
+  pub and_given : (set : ℕ) (ty : ValueType) (p q : Boxed) (left right : TExpr) (st : State) → IsInnerCondition set left → IsInnerCondition set right → ignores_context right ≡ true → IsGiven set left st → set < length (shapes g) → IsGiven set (T.LogicalAnd' ty p left q right) st
+  unfolding value_in
+  and_given set ty p q left right st is also free given exists =
+      and_means fields.scope fields.active set ty p q left right (numbers_of set left st) (numbers_of set right st) st is given (ignoring_means set right st (where_nonzero set (Parallel (numbers_of set left st)) fields.active) also free exists)
+
+  pub or_ended : (ty : ValueType) (p q : Boxed) (left right : TExpr) (s : CodeState) (st : State) → Ended g s (meant g fields left st) → Ended g s (meant g fields (T.LogicalOr' ty p left q right) st)
+  unfolding evaluated
+  or_ended ty p q left right s st early = ended_on g s (meant g fields left st) (λ x after. or_then ty.shape (type_of left).shape x (λ a after. evaluated fields.scope right a after) fields.active after) early
+
+  pub and_ended : (ty : ValueType) (p q : Boxed) (left right : TExpr) (s : CodeState) (st : State) → Ended g s (meant g fields left st) → Ended g s (meant g fields (T.LogicalAnd' ty p left q right) st)
+  unfolding evaluated
+  and_ended ty p q left right s st early = ended_on g s (meant g fields left st) (λ x after. and_then ty.shape (type_of left).shape x (λ a after. evaluated fields.scope right a after) fields.active after) early
 
   -- a bit that is no test flag is tested
   bit_known : (set : ℕ) (e : TExpr) → IsInnerCondition set e → has_truth e ≡ false → HasBit set e → IsKnown set e
-  unfolding tested_by bits_of
+  unfolding tested_by
   bit_known set e is no_truth bit = (
     λ d s st here sim.
-        after_same g (λ _ f. Condition set e d s st f)
+        follows_same g (Given g (numbers_of set e st) st (λ _ f. Condition set e d s st f)) s refl
         (ap (λ (b : Bool). tested_by b (truth_of g.typed (layout g) e) (next_of g.typed (layout g) (bits_of (kind_of e)) true e) d) no_truth
-        ∙ ap (λ (k : Option Elem). nonzero_tested (next_of g.typed (layout g) (bits_of k) true e) d) bit.kind)
-        (nonzero_after g alive places fields set (numbers_of set e st) (operand_at g 1 e) d s st (bit_told set e is bit d s st here sim)),
+        ∙ ap (λ (m : ℕ). nonzero_tested (next_of g.typed (layout g) m true e) d) bit.kind)
+        (nonzero_after g alive places fields (meant g fields e st) (numbers_of set e st) set (numbers_of set e st) (operand_at g 1 e) d s st (bit_told set e is bit d s st here sim)),
     inr bit,
   )
 
   -- ---- all conditions
 
   known : (set : ℕ) (e : TExpr) → IsInnerCondition set e → HasItsCode g.typed g.instance alive n e → IsKnown set e
-  unfolding IsInnerCondition IsPure has_truth NamesVariables value_in value_of kind_of own_of negates tested_by
+  unfolding IsInnerCondition IsPure has_truth NamesVariables value_in value_of kind_of own_of negates tested_by evaluated bits_of
   known set (T.Brackets' ty p inner) is c = brackets_known set ty p inner is is.0 is.1 (known set inner is.1 (brackets_part g alive n places fields ty p inner c))
   known set (T.Unary' ty op p inner) is c = by op is.1 c (λ part code. known set inner part code)
     where
@@ -379,17 +504,21 @@ module _ (g : Setting) (has : HasRegisters g) (alive : Variable → Type 0) (n :
       by U.Complement (inl h) c of_inner = let wrong = h.0 in cc
   known set (T.LogicalOr' ty p left q right) is c =
       let codes = or_codes g.typed g.instance alive n set ty p q left right is.2 c in
-      bit_known set (T.LogicalOr' ty p left q right) is refl (record { kind = refl; own = refl; value = joined_bit true set ty.shape left right is.0.0 is.1 is.2 is.3 codes (known set left is.1 codes.left_code) (known set right is.2 codes.right_code) })
+      bit_known set (T.LogicalOr' ty p left q right) is refl (record { kind = refl; value = joined_bit true set ty.shape (T.LogicalOr' ty p left q right) left right is.0.0 is.1 is.2 is.3 codes (known set left is.1 codes.left_code) (known set right is.2 codes.right_code) (λ st given exists. or_given set ty p q left right st is.1 is.2 is.3 given exists) (λ s st early. or_ended ty p q left right s st early) })
   known set (T.LogicalAnd' ty p left q right) is c =
       let codes = and_codes g.typed g.instance alive n set ty p q left right is.2 c in
-      bit_known set (T.LogicalAnd' ty p left q right) is refl (record { kind = refl; own = refl; value = joined_bit false set ty.shape left right is.0.0 is.1 is.2 is.3 codes (known set left is.1 codes.left_code) (known set right is.2 codes.right_code) })
-  known set (T.Binary' ty place op p left q right) is c = by is.2
+      bit_known set (T.LogicalAnd' ty p left q right) is refl (record { kind = refl; value = joined_bit false set ty.shape (T.LogicalAnd' ty p left q right) left right is.0.0 is.1 is.2 is.3 codes (known set left is.1 codes.left_code) (known set right is.2 codes.right_code) (λ st given exists. and_given set ty p q left right st is.1 is.2 is.3 given exists) (λ s st early. and_ended ty p q left right s st early) })
+  known set (T.Binary' ty place op p left q right) is c = by is.1
     where
       by : IsRelation set op left right ⊎ ((relates op ≡ false) × HasItsKind set (T.Binary' ty place op p left q right) × ((bits_of (kind_of (T.Binary' ty place op p left q right)) == 1) ≡ false)) → IsKnown set (T.Binary' ty place op p left q right)
-      by (inl relation) = relation_known set ty place op p q left right is.0 relation is.1 c
+      by (inl relation) = relation_known set ty place op p q left right is.0 relation c
       by (inr plain_one) = pure_known set (T.Binary' ty place op p left q right) (plain_one.1, plain_one.2) plain_one.0 c
-  known set (T.Variable ty (V.File k)) is c = ((λ d s st here sim. variable_tested set k ty is.0.0 c.code.names d s st here sim), inl is)
-  known set (T.Variable ty x) is c = absurd is.0.0
+  known set (T.Variable ty (V.File k)) is c = ((λ d s st here sim. variable_tested set k ty is.0 c.code.names d s st here sim), by (bits_of (kind_of (T.Variable ty (V.File k))) == 1) refl)
+    where
+      by : (b : Bool) → (bits_of (kind_of (T.Variable ty (V.File k))) == 1) ≡ b → HasWord set (T.Variable ty (V.File k)) ⊎ HasBit set (T.Variable ty (V.File k))
+      by false word = inl (is, word)
+      by true one = inr (record { kind = eqb-true (bits_of (kind_of (T.Variable ty (V.File k)))) 1 one; value = λ d s st here sim. variable_bit set k ty is.0 (flag_elem ty.elem one) c.code.names d s st here sim })
+  known set (T.Variable ty x) is c = absurd is.0
   known set e is c = pure_known set e is refl c
 
   pub inner_tested : (set : ℕ) (e : TExpr) → IsInnerCondition set e → HasItsCode g.typed g.instance alive n e → IsTested set e
@@ -397,7 +526,7 @@ module _ (g : Setting) (has : HasRegisters g) (alive : Variable → Type 0) (n :
 
   -- one of one bit gives it to the next instruction
   pub inner_bit : (set : ℕ) (e : TExpr) → IsCondition set e → (bits_of (kind_of e) == 1) ≡ true → HasItsCode g.typed g.instance alive n e → (d : Draft) (s : CodeState) (st : State) → At g s (length d.code) → Sim g alive st s
-      → After g (AnyBit g alive places fields d s set st (λ q. value_in (extents g set) st e q)) (next_of g.typed (layout g) 1 true e d)
+      → Follows g (Given g (λ q. value_in (extents g set) st e q) st (AnyBit g alive places fields d s set st (λ q. value_in (extents g set) st e q))) s (meant g fields e st) (next_of g.typed (layout g) 1 true e d)
   inner_bit set e (inl inner) one c d s st here sim = (known_negated set e inner c (known set e inner c).1).bit one d s st here sim
   inner_bit set e (inr kinded) one c d s st here sim = (kinded_negated set e kinded c).bit one d s st here sim
 
@@ -407,10 +536,10 @@ module _ (g : Setting) (has : HasRegisters g) (alive : Variable → Type 0) (n :
 
   -- any value is tested at its own bits
   kinded_tested : (set : ℕ) (e : TExpr) → HasItsKind set e → HasItsCode g.typed g.instance alive n e → IsTested set e
-  unfolding IsPure IsNarrowed has_truth NamesVariables value_in kind_of negates tested_by
+  unfolding IsPure IsNarrowed has_truth NamesVariables value_in kind_of negates tested_by evaluated
   kinded_tested set (T.Variable ty (V.File k)) is c = λ d s st here sim. variable_tested set k ty is.0 c.code.names d s st here sim
   kinded_tested set (T.Brackets' ty p inner) is c = λ d s st here sim.
-      after_same g (λ _ f. Condition set (T.Brackets' ty p inner) d s st f) (brackets_code ty p inner d (pure_constant set (T.Brackets' ty p inner) is.0) (pure_constant set inner is.0.1))
+      follows_same g (Given g (numbers_of set inner st) st (λ _ f. Condition set inner d s st f)) s refl (brackets_code ty p inner d (pure_constant set (T.Brackets' ty p inner) is.0) (pure_constant set inner is.0.1))
       (kinded_tested set inner (is.0.1, is.1) (brackets_part g alive n places fields ty p inner c) d s st here sim)
   kinded_tested set (T.Unary' ty op p operand) is c = pure_tested set (T.Unary' ty op p operand) is is.0.1 c
   kinded_tested set (T.Binary' ty place op p left q right) is c = pure_tested set (T.Binary' ty place op p left q right) is is.0.1.0 c
@@ -421,13 +550,14 @@ module _ (g : Setting) (has : HasRegisters g) (alive : Variable → Type 0) (n :
 
   -- the code of a condition
   pub condition_tested : (set : ℕ) (e : TExpr) → IsCondition set e → HasItsCode g.typed g.instance alive n e → (d : Draft) (s : CodeState) (st : State) → At g s (length d.code) → Sim g alive st s
-      → After g (λ _ f. LeavesTests g alive fields d s set st (λ q. value_in (extents g set) st e q) f) (tested g.typed (layout g) e d)
+      → Follows g (Given g (λ q. value_in (extents g set) st e q) st (λ _ f. LeavesTests g alive fields d s set st (λ q. value_in (extents g set) st e q) f)) s (meant g fields e st) (tested g.typed (layout g) e d)
   condition_tested set e (inl inner) c = inner_tested set e inner c
   condition_tested set e (inr kinded) c = kinded_tested set e kinded c
 
   -- what comes behind two that are put in fields of one bit
-  pub both_flagged : (set : ℕ) (left right : TExpr) → IsInnerCondition set left → IsInnerCondition set right → HaveTheirCode g.typed g.instance alive n left right → (d : Draft) (s : CodeState) (st : State) → At g s (length d.code) → Sim g alive st s
+  pub both_flagged : (set : ℕ) (left right : TExpr) → IsInnerCondition set left → IsInnerCondition set right → ignores_context right ≡ true → HaveTheirCode g.typed g.instance alive n left right → (d : Draft) (s : CodeState) (st : State) → At g s (length d.code) → Sim g alive st s
       → (Q : Out → Draft → Type 0) (last : Field → Field → Draft → Made Out) → ((f h : Field) (e : Draft) → Extends g e (last f h e))
-      → ((f h : Field) (e1 e2 : Draft) (one : Truth g alive places fields d s set st (λ q. value_in (extents g set) st left q) f e1) → Truth g alive places fields e1 one.passes.t set st (λ q. value_in (extents g set) st right q) h e2 → After g Q (last f h e2))
+      → (IsGiven set left st → set < length (shapes g) → (f h : Field) (e1 e2 : Draft) (one : Truth g alive places fields d s set st (λ q. value_in (extents g set) st left q) f e1) → Truth g alive places fields e1 one.passes.t set st (λ q. value_in (extents g set) st right q) h e2 → After g Q (last f h e2))
+      → (Ended g s (meant g fields left st) → (x : Out) (e : Draft) → Q x e)
       → After g Q (then_make (flag_of set (condition_of g.typed (layout g) left) d) (λ f between. then_make (flag_of set (condition_of g.typed (layout g) right) between) (λ h after. last f h after)))
-  both_flagged set left right is also codes = flags_after set left right is also codes (known set left is codes.left_code) (known set right also codes.right_code)
+  both_flagged set left right is also free codes = flags_after set left right is also free codes (known set left is codes.left_code) (known set right also codes.right_code)

@@ -1,11 +1,13 @@
 -- Fields of one bit tell where a condition holds.
-use Rattle.std.proofs.Common.{◌≡◌, ◌∙◌, ℕ, ◌+◌, ◌-◌, ◌%◌, ◌^◌, ◌<◌, ◌≤◌, ◌==◌, Bool, true, false, not, ◌&&◌, ◌||◌, if◌then◌else◌, List, [], ◌∷◌, length, refl, sym, ap, arith}
+use Rattle.std.proofs.Common.{◌≡◌, ◌∙◌, slice_get, Option, Some, None, subst, ℕ, ◌+◌, ◌-◌, ◌%◌, ◌^◌, ◌<◌, ◌≤◌, ◌==◌, Bool, true, false, not, ◌&&◌, ◌||◌, if◌then◌else◌, List, [], ◌∷◌, length, refl, sym, ap, arith}
 use Rattle.std.specs.Int.{from_bool}
 use Rattle.std.proofs.lemmas.Bool.Decides.{nat_tests}
 use Rattle.std.proofs.lemmas.Nat.{mod_below}
 use Rattle.cstar_base.specs.Operators.{outcome}
+use Rattle.std.proofs.lemmas.Bool.{eqb-true}
+use Rattle.cstar_tree.specs.declared.typed.VarInfo.{VarInfo}
 use Rattle.cstar_tree.specs.declared.typed.Variable.{Variable}
-use Rattle.code_lengths.proofs.Drafting.{extended}
+use Rattle.cstar_tree.specs.declared.typed.Variable.TheVariants as V
 use Rattle.lower_base.specs.Drafts.{Draft, Plain, step as step_of, with_instr}
 use Rattle.lower_expr.specs.Joined.{operation_of}
 use Rattle.paris_code.specs.declared.instr.Instr.{Instr}
@@ -15,21 +17,24 @@ use Rattle.paris_code.specs.declared.program.Owner.TheVariants as W
 use Rattle.paris_code.specs.Code.{CodeState, Goes, applied, begun}
 use Rattle.paris_code.specs.Elementwise.{element}
 use Rattle.paris_code.specs.Meaning.{after}
-use Rattle.paris_code.specs.Memory.{is_active, is_tested, processors}
+use Rattle.paris_code.specs.Memory.{field_number, is_active, is_tested, processors}
 use Rattle.paris_code.specs.Operators.{operator_of}
 use Rattle.paris_code.specs.Spans.{IsNamedAt, StandsAt, fields_of}
 use Rattle.source_meaning.specs.State.{State}
 use Rattle.source_meaning.specs.Values.{nonzero}
 use Rattle.code_follows.proofs.Besides.{sim_saying}
 use Rattle.code_follows.proofs.Following.{Sim}
+use Rattle.code_follows.proofs.Growing.{extended}
 use Rattle.code_follows.proofs.Settings.{Setting, Within, and_one, code_more, onto, placed_instr}
+use Rattle.fields_follow.specs.Fields.{IsElement}
+use Rattle.fields_follow.proofs.FileFields.{Apart}
 use Rattle.fields_follow.proofs.Flags.{Stored, bit_fits, stored, written_to}
 use Rattle.fields_follow.proofs.Instructions.{number_in, place, shapes, wrote}
 use Rattle.fields_follow.proofs.Leaving.{EndsBelow, PassesTests, under}
 use Rattle.fields_follow.proofs.Named.{NamesFields}
-use Rattle.fields_follow.proofs.Passing.{Behind, GivesField, code_longer, fields_longer, flags_of, gives_numbers, names_second, names_third}
+use Rattle.fields_follow.proofs.Passing.{Behind, GivesField, code_longer, fields_longer, flags_of, gives_numbers, names_second, names_third, small_there}
 use Rattle.fields_follow.proofs.PassingTests.{tests_behind_entry, tests_on, tests_passed}
-use Rattle.fields_follow.proofs.Places.{HoldsTheFields, IsOwnField, PlacesFields, names_first, stands_here}
+use Rattle.fields_follow.proofs.Places.{HoldsTheFields, IsFileField, IsOwnField, PlacesFields, names_first, of_file, stands_here}
 use Rattle.fields_follow.proofs.TestFlags.{Tells, numbers_tell}
 use Rattle.fields_follow.proofs.Values.{with_entry}
 
@@ -59,10 +64,10 @@ joined_bits false false false len = refl
 module _ (g : Setting) (alive : Variable → Type 0) (places : PlacesFields g) (fields : HoldsTheFields g) where
   -- what the state is for the fields alone
   fields_sim : (st : State) (s : CodeState) → Sim g alive st s → Sim (under g fields.active) alive st s
-  fields_sim st s h = sim_saying g alive st s s.at s.memory (fields.opens st s.memory h.memory) h
+  fields_sim st s h = sim_saying g alive st s s.at s.memory (fields.opens s.at st s.memory h.memory) h
 
   whole_sim : (st : State) (s : CodeState) → Sim (under g fields.active) alive st s → Sim g alive st s
-  whole_sim st s h = sim_saying g alive st s s.at s.memory (fields.closes st s.memory h.memory) h
+  whole_sim st s h = sim_saying g alive st s s.at s.memory (fields.closes s.at st s.memory h.memory) h
 
   -- Code of conditions gives a field that is zero where these numbers are.
   pub record GivesTold (d : Draft) (s : CodeState) (set : ℕ) (st : State) (v : ℕ → ℕ) (f : Field) (e : Draft) : Type 0 where
@@ -70,19 +75,25 @@ module _ (g : Setting) (alive : Variable → Type 0) (places : PlacesFields g) (
     pub exists : set < length (shapes g)
     pub tells : Tells g set f passes.t v
 
-  -- It gives a new own entry of one bit that is 1 where, at active positions, these numbers are not zero.
+  -- what stands in own entries below the flags that are named by now is there in another state too, where they are named
+  abbrev Stays : Draft → CodeState → CodeState → ℕ → Type 0
+  Stays e s t last = (h : Field) (first q : ℕ) → h.offset < length e.fields → IsOwnField g h → EndsBelow g h → IsNamedAt g.unit h.offset first → first < length e.code → IsNamedAt g.unit h.offset last → number_in g h t q ≡ number_in g h s q
+
+  -- It gives a field of one bit that is 1 where, at active positions, these numbers are not zero. That lasts to where the
+  -- field is named, and it is apart from variables of more bits.
   pub record GivesTruth (d : Draft) (s : CodeState) (set : ℕ) (st : State) (v : ℕ → ℕ) (f : Field) (e : Draft) : Type 0 where
     pub passes : PassesTests g alive d e s st (Behind g f e)
-    pub own : IsOwnField g f
     pub of_set : f.set ≡ set
     pub exists : set < length (shapes g)
     pub len : f.len ≡ 1
-    pub older : f.offset < length e.fields
-    pub ends : EndsBelow g f
-    pub somewhere : ℕ
-    pub named : IsNamedAt g.unit f.offset somewhere
-    pub before : somewhere < length e.code
     pub are : (q : ℕ) → q < processors (shapes g) set → fields.active set q ≡ true → number_in g f passes.t q ≡ from_bool (nonzero (v q))
+    pub lasts : (t : CodeState) (last : ℕ) → Sim g alive st t → Stays e passes.t t last → IsNamedAt g.unit f.offset last → (q : ℕ) → q < processors (shapes g) set → number_in g f t q ≡ number_in g f passes.t q
+    pub apart : (k : ℕ) (info : VarInfo) → IsElement g.typed k info set 0 → 1 < info.elem.bits → Apart (place g f) (of_file g k 0)
+
+  -- so it is behind more code of conditions
+  pub truth_still : (d e e2 : Draft) (s : CodeState) (set : ℕ) (st : State) (v : ℕ → ℕ) (f : Field) (used : Type 0) (last : ℕ) → (one : GivesTruth d s set st v f e) → (two : PassesTests g alive e e2 one.passes.t st used) → used → IsNamedAt g.unit f.offset last → length e2.code ≤ last
+      → (q : ℕ) → q < processors (shapes g) set → number_in g f two.t q ≡ number_in g f one.passes.t q
+  truth_still d e e2 s set st v f used last one two wanted named late q below = one.lasts two.t last two.sim (λ h first p inside own ends before early there. two.stays wanted h first last p inside own ends before early there late) named q below
 
   -- It gives a field of such bits, maybe that of a variable.
   pub record GivesBit (d : Draft) (s : CodeState) (set : ℕ) (st : State) (v : ℕ → ℕ) (f : Field) (e : Draft) : Type 0 where
@@ -146,16 +157,12 @@ module _ (g : Setting) (alive : Variable → Type 0) (places : PlacesFields g) (
             (let b = behind.1.1 in omega (arith, b, long))
             ∙ p.stays wanted h first last q below is_own ends before low after (omega (arith, high, long));
       };
-      own = own;
       of_set = of_set;
       exists = w.exists;
       len = len;
-      older = let l = fields_longer e (with_instr i e) 1 (and_one g i e) in omega (arith, older, l);
-      ends = w.ends;
-      somewhere = length e.code;
-      named = names_first g i f others (length e.code) (stands_here g i e within plain) names;
-      before = omega (arith, long);
       are = λ q below on. w.has q below (below, on);
+      lasts = λ t last sim stays named q below. stays f (length e.code) q (let l = fields_longer e (with_instr i e) 1 (and_one g i e) in omega (arith, older, l)) own w.ends (names_first g i f others (length e.code) (stands_here g i e within plain) names) (omega (arith, long)) named;
+      apart = λ k info is more. places.own_file k 0 set info f is own;
     }
       where
         long : length (with_instr i e).code ≡ length e.code + 1
@@ -164,6 +171,34 @@ module _ (g : Setting) (alive : Variable → Type 0) (places : PlacesFields g) (
         w : Stored g places alive fields.active set f e i p.t st Takes (λ q. from_bool (nonzero (v q)))
         w = stored g places alive fields.active set f i others e p.t st (λ q. is_active (shapes g) p.t.memory f.set q) value plain simple names goes own of_set within p.at (fields_sim st p.t p.sim) Takes (λ q. from_bool (nonzero (v q)))
             (λ q active takes. (active ∙ takes.1, ap (λ (n : ℕ). value q % 2 ^ n) len ∙ bits q takes.0 takes.1))
+
+  -- the field of a variable of one bit, where it stands
+  pub variable_truth : (set j : ℕ) (info : VarInfo) (f : Field) (d e : Draft) (s : CodeState) (st : State) → IsElement g.typed j info set 0 → info.elem.bits ≡ 1 → IsFileField g j 0 f → f.set ≡ set → f.len ≡ 1 → PassesTests g alive d e s st (Behind g f e) → GivesTruth d s set st (λ q. st.parallel (V.File j) 0 q) f e
+  variable_truth set j info f d e s st is bit file of_set len p = record {
+    passes = p;
+    of_set = of_set;
+    exists = places.exists j 0 set info is;
+    len = len;
+    are = λ q below on. has p.t p.sim q below ∙ one_bit (st.parallel (V.File j) 0 q) (subst (λ (m : ℕ). st.parallel (V.File j) 0 q < 2 ^ m) bit (small_there g alive places fields set j info st p.t is p.sim q below));
+    lasts = λ t last sim stays named q below. has t sim q below ∙ sym (has p.t p.sim q below);
+    apart = λ k other other_is more. subst (λ (x : Field). Apart x (of_file g k 0)) (sym at_file) (places.files_apart j 0 set k 0 set info other is other_is (λ same zero.
+        let same_info : info ≡ other = ap (λ (o : Option VarInfo). elim o as (λ _. VarInfo) [ None ↦ info | Some y ↦ y ]) (sym is.known ∙ ap (λ (m : ℕ). slice_get g.typed.vars.items m) same ∙ other_is.known) in
+        let same_bits : info.elem.bits ≡ other.elem.bits = ap (λ (y : VarInfo). y.elem.bits) same_info in
+        omega (arith, same_bits, bit, more)));
+  }
+    where
+      at_file : place g f ≡ of_file g j 0
+      at_file = places.file j 0 info f (subst (λ (m : ℕ). IsElement g.typed j info m 0) (sym of_set) is) (bit ∙ sym len) file
+
+      has : (t : CodeState) → Sim g alive st t → (q : ℕ) → q < processors (shapes g) set → number_in g f t q ≡ st.parallel (V.File j) 0 q
+      has t sim q below = ap (λ (x : Field). field_number t.memory x q) at_file ∙ (fields.opens t.at st t.memory sim.memory).numbers j 0 set q info is below
+
+      one_bit : (m : ℕ) → m < 2 ^ 1 → m ≡ from_bool (nonzero m)
+      one_bit m few = by (m == 0) refl
+        where
+          by : (b : Bool) → (m == 0) ≡ b → m ≡ from_bool (not (m == 0))
+          by true none = eqb-true m 0 none ∙ sym (ap (λ (b : Bool). from_bool (not b)) none)
+          by false some = (let one : m ≡ 1 = grind (arith, nat_tests, few, some) in one) ∙ sym (ap (λ (b : Bool). from_bool (not b)) some)
 
   -- the test flags, stored
   pub truth_stored : (set : ℕ) (d e : Draft) (f : Field) (s : CodeState) (st : State) (v : ℕ → ℕ) (p : PassesTests g alive d e s st (Unit {0})) → ((q : ℕ) → q < processors (shapes g) set → fields.active set q ≡ true → is_tested (shapes g) p.t.memory set q ≡ nonzero (v q))
@@ -195,7 +230,7 @@ module _ (g : Setting) (alive : Variable → Type 0) (places : PlacesFields g) (
       (tests_behind_entry g alive set 1 d e2 s st (Unit {0}) (tests_on g alive d1 e1 e2 s st (Behind g a e1) (Behind g b e2) (Unit {0}) one.passes two.passes (λ u. early) (λ u. behind_b)))
       tt newer older own of_set len refl tt refl refl within
       (λ q below on.
-      ap (λ (n : ℕ). outcome (operator_of (operation_of is_or)).0 f.len (operator_of (operation_of is_or)).1 n (number_in g b two.passes.t q) % 2 ^ 1) (still q ∙ one.are q below on)
+      ap (λ (n : ℕ). outcome (operator_of (operation_of is_or)).0 f.len (operator_of (operation_of is_or)).1 n (number_in g b two.passes.t q) % 2 ^ 1) (still q below ∙ one.are q below on)
       ∙ ap (λ (n : ℕ). outcome (operator_of (operation_of is_or)).0 f.len (operator_of (operation_of is_or)).1 (from_bool (nonzero (v q))) n % 2 ^ 1) (two.are q below on)
       ∙ joined_bits is_or (nonzero (v q)) (nonzero (w q)) f.len)
     where
@@ -217,5 +252,5 @@ module _ (g : Setting) (alive : Variable → Type 0) (places : PlacesFields g) (
       early : Behind g a e1
       early = (length e2.code, (named_a, code_longer e1 e2 two.passes.grown.0 two.passes.grown.1))
 
-      still : (q : ℕ) → number_in g a two.passes.t q ≡ number_in g a one.passes.t q
-      still q = two.passes.stays behind_b a one.somewhere (length e2.code) q one.older one.own one.ends one.named one.before named_a (omega arith)
+      still : (q : ℕ) → q < processors (shapes g) set → number_in g a two.passes.t q ≡ number_in g a one.passes.t q
+      still q below = truth_still d1 e1 e2 s set st v a (Behind g b e2) (length e2.code) one two.passes behind_b named_a (omega arith) q below

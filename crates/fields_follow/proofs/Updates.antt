@@ -1,6 +1,6 @@
 -- What assignments to parallel variables and steps of them mean: the variable takes numbers where it is active.
 use Rattle.std.proofs.Common.{◌≡◌, ◌∙◌, ℕ, ◌<◌, ◌≤◌, ◌==◌, ◌%◌, ◌^◌, Bool, true, false, not, ◌&&◌, ◌||◌, Option, Some, None, refl, sym, ap, subst, arith, if◌then◌else◌}
-use Rattle.std.specs.Prelude.{IfSome, is_none, nat_le, nat_lt}
+use Rattle.std.specs.Prelude.{is_none, nat_le, nat_lt}
 use Rattle.std.proofs.lemmas.Bool.Decides.{nat_tests}
 use Rattle.cstar_base.specs.declared.elem.Elem.{Elem}
 use Rattle.cstar_base.specs.declared.faults.RunFault.TheVariants.{DivZero}
@@ -30,7 +30,7 @@ use Rattle.lower_expr.specs.Operands.{own_of}
 use Rattle.lower_expr.specs.Steps.{assigned_signed}
 use Rattle.source_meaning.specs.Expressions.{evaluated, located}
 use Rattle.source_meaning.specs.Reductions.{divides_by_zero, int_type, promoted, step_of, updated, working_type}
-use Rattle.source_meaning.specs.State.{Gives, Outcome, State, then_do, with_positions}
+use Rattle.source_meaning.specs.State.{Early, Ends, Fault, Gives, Outcome, State, then_do, with_positions}
 use Rattle.source_meaning.specs.Targets.{OfElement, Target, assign_to, assigned, new_value, read, step_op, step_value, stepped, stored, variable_target}
 use Rattle.source_meaning.specs.Values.{Active, Parallel, Scope, Value, at, each, failing, positions, unless}
 use Rattle.source_meaning.proofs.ConstantLaws.{Boxed}
@@ -42,7 +42,7 @@ use Rattle.fields_follow.proofs.Lengths.{cut_converted}
 use Rattle.fields_follow.specs.Fragment.{IsTarget}
 use Rattle.fields_follow.specs.Fields.{IsElement}
 use Rattle.fields_follow.proofs.Forms.{element_is}
-use Rattle.fields_follow.proofs.Meaning.{DividesByNoZero, as_shaped, none_fails}
+use Rattle.fields_follow.proofs.Meaning.{as_shaped, none_fails}
 
 working_so : (o : Op) (to at_type : Elem) (signed : Bool) (old w : ℕ) → (to.bits == 1) ≡ false → at_type.bits ≡ 32 → signed ≡ at_type.signed → outcome o 32 (not signed) (held to old) w < 2 ^ 32
     → converted to at_type (outcome o 32 (not at_type.signed) (converted at_type to old) w) ≡ outcome o 32 (not signed) (held to old) w % 2 ^ to.bits
@@ -105,16 +105,34 @@ updated_is op o to from old w is no_truth also small = by op o is small
     by A.Min o e = along A.Min P.Min o e (like_value P.Min)
     by A.Max o e = along A.Max P.Max o e (like_value P.Max)
 
--- where an assignment divides, it does so by no 0
-abbrev pub AssignsByNoZero : AssignOp → (ℕ → ℕ) → Type 0
-AssignsByNoZero op v = IfSome (assign_op_of op) (λ o. DividesByNoZero o v)
+along : (a o : Op) (w : ℕ) → Some a ≡ Some o → (divides a && w == 0) ≡ (divides o && w == 0)
+along a o w e = ap (λ (x : Option Op). (elim x as (λ _. Bool) [ None ↦ divides a | Some y ↦ divides y ]) && w == 0) e
 
-no_zero : (op : AssignOp) (v : ℕ → ℕ) → AssignsByNoZero op v → (q : ℕ) → divides_by_zero op (v q) ≡ false
+-- an assignment divides where its operator does
+pub divides_as : (op : AssignOp) (o : Op) (w : ℕ) → assign_op_of op ≡ Some o → divides_by_zero op w ≡ (divides o && w == 0)
 unfolding divides_by_zero assign_op_of divides
-no_zero A.Div v never q = never refl q
-no_zero A.Rem v never q = never refl q
-no_zero A.Mod v never q = never refl q
-no_zero _ v never q = refl
+divides_as A.Set o w e = cc
+divides_as A.Add o w e = along P.Add o w e
+divides_as A.Sub o w e = along P.Sub o w e
+divides_as A.Mul o w e = along P.Mul o w e
+divides_as A.Div o w e = along P.Div o w e
+divides_as A.Rem o w e = along P.Rem o w e
+divides_as A.Mod o w e = along P.Mod o w e
+divides_as A.And o w e = along P.And o w e
+divides_as A.Or o w e = along P.Or o w e
+divides_as A.Xor o w e = along P.Xor o w e
+divides_as A.Shl o w e = along P.Shl o w e
+divides_as A.Shr o w e = along P.Shr o w e
+divides_as A.Min o w e = along P.Min o w e
+divides_as A.Max o w e = along P.Max o w e
+
+-- and without one never
+pub divides_never : (op : AssignOp) (w : ℕ) → assign_op_of op ≡ None → divides_by_zero op w ≡ false
+unfolding divides_by_zero assign_op_of
+divides_never A.Div w e = cc
+divides_never A.Rem w e = cc
+divides_never A.Mod w e = cc
+divides_never _ w e = refl
 
 -- a target is the variable of a number
 pub record IsFileTarget (t : Typed) (set : ℕ) (target : TExpr) : Type 0 where
@@ -151,28 +169,50 @@ file_target t i n set (T.Brackets' ty p inner) is v =
 file_target t i n set _ is v = absurd is
 
 module _ (scope : Scope) (active : Active) where
-  -- what an assignment stores
-  assigned_is : (set k : ℕ) (place : Place) (op : AssignOp) (to from : ValueType) (v : ℕ → ℕ) (st : State) → to.shape ≡ Some set → AssignsByNoZero op v
-      → assigned scope active place op to from (OfElement (V.File k) 0 set) (Parallel v) st
-      ≡ Gives (Parallel (λ p. updated op to.elem from.elem (st.parallel (V.File k) 0 p) (v p))) (with_positions (V.File k) 0 (active set) (λ p. updated op to.elem from.elem (st.parallel (V.File k) 0 p) (v p)) st)
-  unfolding assigned assign_to new_value read stored failing unless each at
-  assigned_is set k place op to from v st shaped never =
-      ap (λ (y : ValueType). assigned scope active place op y from (OfElement (V.File k) 0 set) (Parallel v) st) (as_shaped to set shaped)
-      ∙ ap (λ (f : ℕ → Bool). unless (elim (least_below (λ p. active set p && f p) (positions scope set)) [ None ↦ None | Some p ↦ Some (Some p) ]) DivZero place st stores) (λ j p. no_zero op v never p j)
-      ∙ ap (λ (o : Option ℕ). unless (elim o [ None ↦ None | Some p ↦ Some (Some p) ]) DivZero place st stores) (none_fails (active set) (positions scope set))
-    where
-      stores : Outcome Value
-      stores = Gives (Parallel (λ p. updated op to.elem from.elem (st.parallel (V.File k) 0 p) (v p))) (with_positions (V.File k) 0 (active set) (λ p. updated op to.elem from.elem (st.parallel (V.File k) 0 p) (v p)) st)
+  -- the state with what is stored
+  abbrev pub stores : ℕ → ℕ → AssignOp → ValueType → ValueType → (ℕ → ℕ) → State → Outcome Value
+  stores set k op to from v st =
+      Gives (Parallel (λ p. updated op to.elem from.elem (st.parallel (V.File k) 0 p) (v p))) (with_positions (V.File k) 0 (active set) (λ p. updated op to.elem from.elem (st.parallel (V.File k) 0 p) (v p)) st)
 
-  pub assign_means : (set : ℕ) (ty : ValueType) (place : Place) (op : AssignOp) (p q : Boxed) (target value : TExpr) (k : ℕ) (v : ℕ → ℕ) (st : State) → ty.shape ≡ Some set → AssignsByNoZero op v
-      → located scope target active st ≡ Gives (OfElement (V.File k) 0 set) st → evaluated scope value active st ≡ Gives (Parallel v) st
-      → evaluated scope (T.Assign' ty place op p target q value) active st
-      ≡ Gives (Parallel (λ x. updated op ty.elem (type_of value).elem (st.parallel (V.File k) 0 x) (v x))) (with_positions (V.File k) 0 (active set) (λ x. updated op ty.elem (type_of value).elem (st.parallel (V.File k) 0 x) (v x)) st)
+  -- what an assignment stores, unless it divides by 0
+  assigned_so : (set k : ℕ) (place : Place) (op : AssignOp) (to from : ValueType) (v : ℕ → ℕ) (st : State) → to.shape ≡ Some set
+      → assigned scope active place op to from (OfElement (V.File k) 0 set) (Parallel v) st ≡ unless (failing scope active (Some set) (λ p. divides_by_zero op (v p))) DivZero place st (stores set k op to from v st)
+  unfolding assigned assign_to new_value read stored each at
+  assigned_so set k place op to from v st shaped = ap (λ (y : ValueType). assigned scope active place op y from (OfElement (V.File k) 0 set) (Parallel v) st) (as_shaped to set shaped)
+
+  pub assigned_is : (set k : ℕ) (place : Place) (op : AssignOp) (to from : ValueType) (v : ℕ → ℕ) (st : State) → to.shape ≡ Some set → ((q : ℕ) → divides_by_zero op (v q) ≡ false) → assigned scope active place op to from (OfElement (V.File k) 0 set) (Parallel v) st ≡ stores set k op to from v st
+  unfolding failing unless
+  assigned_is set k place op to from v st shaped never =
+      assigned_so set k place op to from v st shaped
+      ∙ ap (λ (f : ℕ → Bool). unless (elim (least_below (λ p. active set p && f p) (positions scope set)) [ None ↦ None | Some p ↦ Some (Some p) ]) DivZero place st (stores set k op to from v st)) (λ j p. never p j)
+      ∙ ap (λ (o : Option ℕ). unless (elim o [ None ↦ None | Some p ↦ Some (Some p) ]) DivZero place st (stores set k op to from v st)) (none_fails (active set) (positions scope set))
+
+  pub assigned_divides : (set k : ℕ) (place : Place) (op : AssignOp) (to from : ValueType) (v : ℕ → ℕ) (st : State) → to.shape ≡ Some set → ((q : ℕ) → divides_by_zero op (v q) ≡ (v q == 0))
+      → assigned scope active place op to from (OfElement (V.File k) 0 set) (Parallel v) st ≡ (elim (least_below (λ p. active set p && v p == 0) (positions scope set)) as (λ _. Outcome Value) [ None ↦ stores set k op to from v st | Some p ↦ Ends (Fault DivZero place (Some p)) st ])
+  unfolding failing unless
+  assigned_divides set k place op to from v st shaped divides_so =
+      assigned_so set k place op to from v st shaped
+      ∙ ap (λ (f : ℕ → Bool). unless (elim (least_below (λ p. active set p && f p) (positions scope set)) [ None ↦ None | Some p ↦ Some (Some p) ]) DivZero place st (stores set k op to from v st)) (λ j p. divides_so p j)
+      ∙ by (least_below (λ p. active set p && v p == 0) (positions scope set))
+    where
+      by : (o : Option ℕ) → unless (elim o [ None ↦ None | Some p ↦ Some (Some p) ]) DivZero place st (stores set k op to from v st) ≡ (elim o as (λ _. Outcome Value) [ None ↦ stores set k op to from v st | Some p ↦ Ends (Fault DivZero place (Some p)) st ])
+      by None = refl
+      by (Some p) = refl
+
+  pub assign_means : (set : ℕ) (ty : ValueType) (place : Place) (op : AssignOp) (p q : Boxed) (target value : TExpr) (k : ℕ) (v : ℕ → ℕ) (st : State) → located scope target active st ≡ Gives (OfElement (V.File k) 0 set) st → evaluated scope value active st ≡ Gives (Parallel v) st
+      → evaluated scope (T.Assign' ty place op p target q value) active st ≡ assigned scope active place op ty (type_of value) (OfElement (V.File k) 0 set) (Parallel v) st
   unfolding evaluated then_do
-  assign_means set ty place op p q target value k v st shaped never there gives =
+  assign_means set ty place op p q target value k v st there gives =
       ap (λ (o : Outcome Target). then_do o (λ place_of between. then_do (evaluated scope value active between) (λ x after. assigned scope active place op ty (type_of value) place_of x after))) there
       ∙ ap (λ (o : Outcome Value). then_do o (λ x after. assigned scope active place op ty (type_of value) (OfElement (V.File k) 0 set) x after)) gives
-      ∙ assigned_is set k place op ty (type_of value) v st shaped never
+
+  -- it ends where its value does
+  pub assign_ends : (set : ℕ) (ty : ValueType) (place : Place) (op : AssignOp) (p q : Boxed) (target value : TExpr) (k : ℕ) (early : Early) (u st : State) → located scope target active st ≡ Gives (OfElement (V.File k) 0 set) st → evaluated scope value active st ≡ Ends early u
+      → evaluated scope (T.Assign' ty place op p target q value) active st ≡ Ends early u
+  unfolding evaluated then_do
+  assign_ends set ty place op p q target value k early u st there ends =
+      ap (λ (o : Outcome Target). then_do o (λ place_of between. then_do (evaluated scope value active between) (λ x after. assigned scope active place op ty (type_of value) place_of x after))) there
+      ∙ ap (λ (o : Outcome Value). then_do o (λ x after. assigned scope active place op ty (type_of value) (OfElement (V.File k) 0 set) x after)) ends
 
   -- and a step
   pub step_means : (set : ℕ) (ty : ValueType) (op : StepOp) (order : StepOrder) (p : Boxed) (target : TExpr) (k : ℕ) (st : State) → ty.shape ≡ Some set → located scope target active st ≡ Gives (OfElement (V.File k) 0 set) st

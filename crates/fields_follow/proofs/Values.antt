@@ -1,4 +1,4 @@
--- The code of a pure parallel expression leaves its numbers in a field.
+-- The code of a pure parallel expression leaves its numbers in a field, where the source gives them.
 use Rattle.std.proofs.Common.{◌≡◌, ℕ, ◌+◌, Bool, true, false, [], ◌∷◌, ◌++◌, length, Option, Some, None, refl, sym, ap, subst, arith, ◌⊎◌, inl, inr, if◌then◌else◌, length-append, ◌<◌, ◌≤◌}
 use Rattle.cstar_tree.specs.declared.typed.TExpr.{TExpr}
 use Rattle.cstar_tree.specs.declared.typed.TExpr as T
@@ -8,10 +8,9 @@ use Rattle.cstar_tree.specs.declared.typed.Variable.{Variable}
 use Rattle.cstar_tree.specs.declared.typed.Variable.TheVariants as V
 use Rattle.cstar_tree.specs.StatementTypes.{variable_info}
 use Rattle.cstar_tree.specs.Typed.{type_of}
-use Rattle.code_lengths.specs.Growth.{Extended}
 use Rattle.code_lengths.specs.Naming.{HasVariable, NamesVariables, plain}
-use Rattle.code_lengths.specs.Ready.{IsReady}
-use Rattle.code_lengths.proofs.Drafting.{and_instr, append_nothing, as_it_was}
+use Rattle.code_lengths.specs.Ready.{IsReadyButForFields}
+use Rattle.code_lengths.proofs.Drafting.{append_nothing}
 use Rattle.lower_base.specs.declared.emit.Out.{Out}
 use Rattle.lower_base.specs.declared.emit.Out.TheVariants as O
 use Rattle.lower_base.specs.Drafts.{Draft, Fails, Made, Makes, an_entry, first_bits, fresh_for, in_field, shortened, then_make, with_instr}
@@ -28,15 +27,20 @@ use Rattle.paris_code.specs.declared.program.Owner.TheVariants as W
 use Rattle.paris_code.specs.Code.{CodeState}
 use Rattle.paris_code.specs.Memory.{processors}
 use Rattle.paris_code.specs.Proper.{IsEntry}
+use Rattle.source_meaning.specs.Expressions.{evaluated}
+use Rattle.source_meaning.specs.State as Source
 use Rattle.source_meaning.specs.State.{State}
-use Rattle.code_follows.proofs.Following.{HasRegisters, Sim, held}
+use Rattle.source_meaning.specs.Values.{Value}
+use Rattle.code_follows.proofs.Following.{Follows, HasRegisters, Sim, follows_same, held}
+use Rattle.code_follows.proofs.Growing.{Extended, and_instr, as_it_was}
 use Rattle.code_follows.proofs.Settings.{At, Setting, Within, and_one, layout}
 use Rattle.fields_follow.specs.Fragment.{IsPure}
 use Rattle.fields_follow.specs.Fields.{IsElement, file_number}
 use Rattle.fields_follow.proofs.Forms.{StandsInFile, element_is, field_is, pure_not_held, pure_own}
 use Rattle.fields_follow.proofs.Instructions.{HasNumbers, extents, puts_extended, shapes}
 use Rattle.fields_follow.proofs.Lengths.{held_has}
-use Rattle.fields_follow.proofs.Meaning.{as_shaped, value_in, word_at}
+use Rattle.fields_follow.proofs.Meaning.{as_shaped, read_is, value_in, word_at}
+use Rattle.fields_follow.proofs.Outcomes.{Given, given_follows, meant}
 use Rattle.fields_follow.proofs.Passing.{After, Behind, GivesField, after_same, gives_first, gives_from, in_file_has, made_after, passes_all, passes_from, puts_own, small_there}
 use Rattle.fields_follow.proofs.Places.{HoldsTheFields, IsFileField, IsOwnField, PlacesFields, entry_is}
 use Rattle.fields_follow.proofs.Totals.{held_below}
@@ -49,7 +53,7 @@ abbrev pub next_field : ℕ → ℕ → Draft → Field
 next_field set len d = record { set = set; offset = length d.fields; len = len }
 
 pub and_entry : (set len : ℕ) (owner : Owner) (d : Draft) → Extended d 0 (with_entry set len owner d)
-and_entry set len owner d = record { name = refl; more = []; code = append_nothing d.code; long = refl; entries = record { set = set; len = len; owner = owner } ∷ []; fields = refl; regs = omega arith; homes = refl }
+and_entry set len owner d = record { more = []; code = append_nothing d.code; long = refl; entries = record { set = set; len = len; owner = owner } ∷ []; fields = refl; regs = omega arith }
 
 pub one_more : (set len : ℕ) (owner : Owner) (d : Draft) → length (with_entry set len owner d).fields ≡ length d.fields + 1
 one_more set len owner d = length-append d.fields (record { set = set; len = len; owner = owner } ∷ [])
@@ -59,7 +63,7 @@ module _ (g : Setting) where
   pub taken : (set len : ℕ) (owner : Owner) (d e : Draft) (n : ℕ) → Within g e → Extended (with_entry set len owner d) n e → IsEntry g.unit (length d.fields) (record { set = set; len = len; owner = owner })
   taken set len owner d e n w x = entry_is g d.fields x.entries (record { set = set; len = len; owner = owner }) e w x.fields
 
-  module _ (has : HasRegisters g) (alive : Variable → Type 0) (n : ℕ) (ready : (d : Draft) → IsReady g.typed g.instance (layout g) n d) (places : PlacesFields g) (fields : HoldsTheFields g) where
+  module _ (has : HasRegisters g) (alive : Variable → Type 0) (n : ℕ) (ready : (d : Draft) → IsReadyButForFields g.typed g.instance (layout g) n d) (places : PlacesFields g) (fields : HoldsTheFields g) where
     -- the code of so many bits of a value, and of an operand
     abbrev pub code_of : ℕ → TExpr → Code
     code_of bits e = value_of g.typed (layout g) bits e
@@ -71,14 +75,18 @@ module _ (g : Setting) where
     abbrev pub Gives : ℕ → ℕ → Draft → CodeState → ℕ → State → (ℕ → ℕ) → Out → Draft → Type 0
     Gives bits bound d s set st v out e = (f : Field) × ((out ≡ O.Field f) × GivesField g alive bits bound d s set st v f e)
 
+    -- as many of a parallel expression's value, where the source gives one, and it ends as the source does where that ends
     abbrev pub Valued : ℕ → ℕ → TExpr → Code → Type 0
-    Valued bits set e code = (d : Draft) (s : CodeState) (st : State) → At g s (length d.code) → Sim g alive st s → After g (Gives bits (length d.fields) d s set st (λ q. word_at (extents g set) st e q)) (code d)
+    Valued bits set e code =
+        (d : Draft) (s : CodeState) (st : State) → At g s (length d.code) → Sim g alive st s
+        → Follows g (Given g (λ q. value_in (extents g set) st e q) st (Gives bits (length d.fields) d s set st (λ q. word_at (extents g set) st e q))) s (meant g fields e st) (code d)
 
     -- a variable where it stands
     pub standing_after : (bits set : ℕ) (e : TExpr) → (h : StandsInFile g.typed bits set e) → Valued bits set e (λ d. standing g.typed (layout g) bits (record { shape = Some set; variable = V.File h.k }) d)
     unfolding standing first_bits then_make an_entry
     standing_after bits set e h d s st here sim =
-        after_same g Q (ap (λ (m : Made Field). then_make m (λ f after. Makes (O.Field (first_bits bits f)) after)) (field_is g h.k 0 set h.info d h.is))
+        given_follows g s (meant g fields e st) (λ q. value_in (extents g set) st e q) st Q (standing g.typed (layout g) bits (record { shape = Some set; variable = V.File h.k }) d) (h.means fields.scope fields.active (extents g set) st)
+        (after_same g Q (ap (λ (m : Made Field). then_make m (λ f after. Makes (O.Field (first_bits bits f)) after)) (field_is g h.k 0 set h.info d h.is))
         (made_after g Q (O.Field (next_field set bits d)) d1 (λ within. (
           next_field set bits d,
           (
@@ -97,7 +105,7 @@ module _ (g : Setting) where
               });
             },
           ),
-        )))
+        ))))
       where
         owner : Owner
         owner = W.File (file_number g.typed h.k 0)
@@ -112,16 +120,16 @@ module _ (g : Setting) where
     pub operand_after : (bits set : ℕ) (e : TExpr) (quiet : Bool) → IsPure set e → NamesVariables g.typed g.instance n e → Valued bits set e (λ d. code_of bits e d) → Valued bits set e (λ d. operand_of bits quiet e d)
     unfolding operand_by in_place
     operand_after bits set e quiet is names whole d s st here sim =
-        after_same g Q
+        follows_same g R s refl
         (ap (λ (o : Option ℕ). elim o as (λ _. Made Out) [ Some r ↦ Makes (O.Scalar r) d | None ↦ elim (if quiet then own_of bits e else None) as (λ _. Made Out) [ Some own ↦ standing g.typed (layout g) bits own d | None ↦ code_of bits e d ] ]) (pure_not_held set (layout g) e is))
         (by quiet (pure_own g.typed g.instance n bits set e is names))
       where
-        Q : Out → Draft → Type 0
-        Q = Gives bits (length d.fields) d s set st (λ q. word_at (extents g set) st e q)
+        R : Value → State → Out → Draft → Type 0
+        R = Given g (λ q. value_in (extents g set) st e q) st (Gives bits (length d.fields) d s set st (λ q. word_at (extents g set) st e q))
 
-        by : (quiet : Bool) → StandsInFile g.typed bits set e ⊎ (own_of bits e ≡ None) → After g Q (elim (if quiet then own_of bits e else None) as (λ _. Made Out) [ Some own ↦ standing g.typed (layout g) bits own d | None ↦ code_of bits e d ])
-        by true (inl h) = after_same g Q (ap (λ (o : Option Own). elim o as (λ _. Made Out) [ Some own ↦ standing g.typed (layout g) bits own d | None ↦ code_of bits e d ]) h.own) (standing_after bits set e h d s st here sim)
-        by true (inr none) = after_same g Q (ap (λ (o : Option Own). elim o as (λ _. Made Out) [ Some own ↦ standing g.typed (layout g) bits own d | None ↦ code_of bits e d ]) none) (whole d s st here sim)
+        by : (quiet : Bool) → StandsInFile g.typed bits set e ⊎ (own_of bits e ≡ None) → Follows g R s (meant g fields e st) (elim (if quiet then own_of bits e else None) as (λ _. Made Out) [ Some own ↦ standing g.typed (layout g) bits own d | None ↦ code_of bits e d ])
+        by true (inl h) = follows_same g R s refl (ap (λ (o : Option Own). elim o as (λ _. Made Out) [ Some own ↦ standing g.typed (layout g) bits own d | None ↦ code_of bits e d ]) h.own) (standing_after bits set e h d s st here sim)
+        by true (inr none) = follows_same g R s refl (ap (λ (o : Option Own). elim o as (λ _. Made Out) [ Some own ↦ standing g.typed (layout g) bits own d | None ↦ code_of bits e d ]) none) (whole d s st here sim)
         by false any = whole d s st here sim
 
     -- the field of a variable, all of it, has its words, which its type has
@@ -169,27 +177,32 @@ module _ (g : Setting) where
         )))
 
     pub variable_after : (bits set k : ℕ) (ty : ValueType) → bits ≤ 32 → ty.shape ≡ Some set → HasVariable g.typed g.instance n (V.File k) (plain ty) → Valued bits set (T.Variable ty (V.File k)) (λ d. code_of bits (T.Variable ty (V.File k)) d)
-    unfolding value_of read_by read_to fresh_for an_entry then_make variable_spot loaded in_field value_in
+    unfolding value_of read_by read_to fresh_for an_entry then_make variable_spot loaded in_field value_in evaluated
     variable_after bits set k ty most shaped v d s st here sim =
-        after_same g (Gives bits (length d.fields) d s set st (λ q. held ty.elem (st.parallel (V.File k) 0 q))) (ap (λ (y : ValueType). code_of bits (T.Variable y (V.File k)) d) (as_shaped ty set shaped))
-        (field_copied bits set k (variable_info v.word (plain ty) v.start) most (element_is g.typed g.instance n k set ty shaped v) d s st here sim)
+        given_follows g s (meant g fields (T.Variable ty (V.File k)) st) (λ q. st.parallel (V.File k) 0 q) st (Gives bits (length d.fields) d s set st (λ q. held ty.elem (st.parallel (V.File k) 0 q))) (code_of bits (T.Variable ty (V.File k)) d)
+        (ap (λ (x : Value). Source.Gives x st) (read_is fields.scope fields.active ty set k st shaped))
+        (after_same g (Gives bits (length d.fields) d s set st (λ q. held ty.elem (st.parallel (V.File k) 0 q))) (ap (λ (y : ValueType). code_of bits (T.Variable y (V.File k)) d) (as_shaped ty set shaped))
+        (field_copied bits set k (variable_info v.word (plain ty) v.start) most (element_is g.typed g.instance n k set ty shaped v) d s st here sim))
 
     -- the first bits of a field that has more
-    pub first_given : (bits fewer bound : ℕ) (d : Draft) (s : CodeState) (set : ℕ) (st : State) (v : ℕ → ℕ) (made : Made Out) → fewer ≤ bits → After g (Gives bits bound d s set st v) made → After g (Gives fewer bound d s set st v) (lowest fewer made)
+    pub first_given : (bits fewer bound : ℕ) (d : Draft) (s : CodeState) (set : ℕ) (st : State) (v : ℕ → ℕ) (P E : Type 0) (made : Made Out) → fewer ≤ bits → After g (λ out e. (P × Gives bits bound d s set st v out e) ⊎ E) made → After g (λ out e. (P × Gives fewer bound d s set st v out e) ⊎ E) (lowest fewer made)
     unfolding lowest After then_make shortened first_bits
-    first_given bits fewer bound d s set st v (Makes (O.Field f) e) less h = λ w. by (h w)
+    first_given bits fewer bound d s set st v P E (Makes (O.Field f) e) less h = λ w. by (h w)
       where
         same : (f x : Field) → O.Field f ≡ O.Field x → f ≡ x
         same f x is = ap (λ (o : Out). elim o as (λ _. Field) [ O.Scalar r ↦ f | O.Field y ↦ y | O.Nothing ↦ f ]) is
 
-        by : Gives bits bound d s set st v (O.Field f) e → Gives fewer bound d s set st v (O.Field (record f { len = fewer })) e
-        by (x, (is, gives)) = (record x { len = fewer }, (ap (λ (y : Field). O.Field (record y { len = fewer })) (same f x is), gives_first g alive places fields bits fewer bound d s set st v x e less gives))
-    first_given bits fewer bound d s set st v (Makes (O.Scalar r) e) less h = λ w. by (h w)
+        by : (P × Gives bits bound d s set st v (O.Field f) e) ⊎ E → (P × Gives fewer bound d s set st v (O.Field (record f { len = fewer })) e) ⊎ E
+        by (inl (p, (x, (is, gives)))) = inl (p, (record x { len = fewer }, (ap (λ (y : Field). O.Field (record y { len = fewer })) (same f x is), gives_first g alive places fields bits fewer bound d s set st v x e less gives)))
+        by (inr ends) = inr ends
+    first_given bits fewer bound d s set st v P E (Makes (O.Scalar r) e) less h = λ w. by (h w)
       where
-        by : Gives bits bound d s set st v (O.Scalar r) e → Gives fewer bound d s set st v (O.Scalar r) e
-        by (x, (is, gives)) = cc
-    first_given bits fewer bound d s set st v (Makes O.Nothing e) less h = λ w. by (h w)
+        by : (P × Gives bits bound d s set st v (O.Scalar r) e) ⊎ E → (P × Gives fewer bound d s set st v (O.Scalar r) e) ⊎ E
+        by (inl (p, (x, (is, gives)))) = cc
+        by (inr ends) = inr ends
+    first_given bits fewer bound d s set st v P E (Makes O.Nothing e) less h = λ w. by (h w)
       where
-        by : Gives bits bound d s set st v O.Nothing e → Gives fewer bound d s set st v O.Nothing e
-        by (x, (is, gives)) = cc
-    first_given bits fewer bound d s set st v Fails less h = tt
+        by : (P × Gives bits bound d s set st v O.Nothing e) ⊎ E → (P × Gives fewer bound d s set st v O.Nothing e) ⊎ E
+        by (inl (p, (x, (is, gives)))) = cc
+        by (inr ends) = inr ends
+    first_given bits fewer bound d s set st v P E Fails less h = tt

@@ -1,11 +1,12 @@
 -- `everywhere` follows where what stands under it does.
-use Rattle.std.proofs.Common.{◌≡◌, ◌∙◌, ℕ, ◌+◌, ◌≤◌, List, [], ◌∷◌, ◌++◌, length, refl, sym, ap, arith}
+use Rattle.std.proofs.Common.{◌≡◌, ℕ, ◌+◌, ◌≤◌, List, [], ◌∷◌, ◌++◌, length, refl, sym, ap, arith}
+use Rattle.code_lengths.specs.Ready.{HasDeclared}
+use Rattle.code_follows.proofs.Statements.{declared_on}
+use Rattle.fields_follow.proofs.Entering.{declared_entry}
 use Rattle.cstar_tree.specs.declared.typed.TStmt.{TStmt}
 use Rattle.cstar_tree.specs.declared.typed.TStmt as S
 use Rattle.cstar_tree.specs.declared.typed.Variable.{Variable}
-use Rattle.code_lengths.specs.Growth.{Extended}
 use Rattle.code_lengths.specs.NamingStatements.{behind}
-use Rattle.code_lengths.proofs.Drafting.{and_instr}
 use Rattle.lower_base.specs.Drafts.{Draft, Made, Makes, an_entry, step as step_of, then_make, with_instr}
 use Rattle.lower_stmt.specs.Frames.{in_context}
 use Rattle.lower_stmt.specs.Statements.{closing, statement_of, widened}
@@ -20,6 +21,7 @@ use Rattle.source_meaning.specs.Values.{Active, Scope}
 use Rattle.source_meaning.proofs.ConstantLaws.{Boxed}
 use Rattle.code_follows.proofs.Executing.{Exits, Left}
 use Rattle.code_follows.proofs.Following.{at_once, follows_same}
+use Rattle.code_follows.proofs.Growing.{Extended, and_instr}
 use Rattle.code_follows.proofs.Parts.{ComesOn, Part, StatementPart, in_one_more}
 use Rattle.code_follows.proofs.Settings.{Setting, Within, and_one, code_more, earlier, layout}
 use Rattle.fields_follow.proofs.Knowing.{KnowsFields, Lasts}
@@ -34,7 +36,7 @@ module _ (g : Setting) (scope : Scope) (active : Active) (known : KnowsFields g 
   -- the context is saved, all positions become active, and behind the part it is loaded
   pub widening_follows : (shape : ℕ) (p : Boxed) (body : TStmt) (f : Exits) (contexts : List Field) → StatementPart KnowsFields g scope alive body n f contexts → ComesOn g scope alive active (S.Everywhere' shape p body) n f contexts
   unfolding executed statement_of an_entry then_make widened closing step_of
-  widening_follows shape p body f contexts parts d s st none begun at sim =
+  widening_follows shape p body f contexts parts d s st declares begun at sim =
       follows_same g (Left g alive f d s) s refl (ap (λ (made : Made ℕ). closing saved made) made.1.0)
       (at_once g (Left g alive f d s) s o (behind n body) (with_instr (I.LoadContext saved) e) (λ w.
       let w_e : Within g e = earlier g e (with_instr (I.LoadContext saved) e) 1 (and_one g (I.LoadContext saved) e) w in
@@ -58,7 +60,7 @@ module _ (g : Setting) (scope : Scope) (active : Active) (known : KnowsFields g 
       let led_inner : Led g scope active known alive (all_active shape active) (λ m. Kept g scope active known alive saved m) d inner s st =
       widens g scope active known alive active (λ m. Kept g scope active known alive saved m) (length inner.code) (length inner.fields) (length e.code) lasts d stores s st shape w_inner (led_weaker g scope active known alive active (λ m. Kept g scope active known alive saved m × Unit {0}) (λ m. Kept g scope active known alive saved m) d stores s st (λ m kept. kept.0) led_stores) in
       arrives g scope active known alive (λ m. Kept g scope active known alive saved m) f d s o (Makes (behind n body) (with_instr (I.LoadContext saved) e)) (λ m kept. kept.0)
-      (part_closed g scope active known alive (all_active shape active) saved (λ m. Kept g scope active known alive saved m) f d inner e s st longer.0 (behind n body) (λ a u. executed scope body n a u) code part made.1.0 inner_homes begun lasts (λ m kept. kept.1) (λ m kept. kept.0) (λ q x differ. sym (widened_beside shape active q x differ)) longer.1 led_inner)))
+      (part_closed g scope active known alive (all_active shape active) saved (λ m. Kept g scope active known alive saved m) f d inner e s st longer.0 n (behind n body) (λ a u. executed scope body n a u) code part made.1.0 inner_declares begun lasts (λ m kept. kept.1) (λ m kept. kept.0) (λ q x differ. sym (widened_beside shape active q x differ)) longer.1 led_inner)))
     where
       start : Draft
       start = with_entry shape 1 W.Own d
@@ -75,17 +77,17 @@ module _ (g : Setting) (scope : Scope) (active : Active) (known : KnowsFields g 
       inner_more : Extended start 2 inner
       inner_more = and_instr (I.SetContext shape) start stores 1 (and_one g (I.StoreContext saved) start)
 
-      inner_homes : inner.homes ≡ []
-      inner_homes = inner_more.homes ∙ none
+      inner_declares : HasDeclared g.typed g.instance (layout g) n inner
+      inner_declares = declared_on g (I.SetContext shape) n stores (declared_on g (I.StoreContext saved) n start (declared_entry g shape 1 W.Own n d declares))
 
       code : Draft → Made ℕ
       code after = statement_of g.typed (layout g) body (in_context f.frame) (contexts ++ saved ∷ []) n after
 
-      part : Part KnowsFields g scope alive saved (in_one_more f) (behind n body) (λ a u. executed scope body n a u) code
+      part : Part KnowsFields g scope alive saved (in_one_more f) n (behind n body) (λ a u. executed scope body n a u) code
       part = parts saved
 
-      made : (e : Draft) × ((code inner ≡ Makes (behind n body) e) × ((k : ℕ) × Extended inner k e) × (e.homes ≡ []))
-      made = part.made inner inner_homes
+      made : (e : Draft) × ((code inner ≡ Makes (behind n body) e) × ((k : ℕ) × Extended inner k e) × HasDeclared g.typed g.instance (layout g) (behind n body) e)
+      made = part.made inner inner_declares
 
       e : Draft
       e = made.0

@@ -4,7 +4,7 @@
 --     int s;
 --     lift() { where (p < 2) { p += 10; return; } }
 --     main() {
---       with (S) { p = pcoord(0); p += 1; where (p < 3) lift(); else p = 0; s = += p; }
+--       with (S) { p = pcoord(0); p += 1; where (p < 3) lift(); else p = 12 / p; s = += p; }
 --       printf("%d\n", s);
 --     }
 use Rattle.std.proofs.Common.{ℕ, List, [], ◌∷◌, Some, None, Global, lit<}
@@ -51,7 +51,7 @@ module _ (heap : Global) where
   choice =
       S.Where' 0 (T.Binary' numbers (record { line = 6; col = 46 }) O.Lt (box heap) p (box heap) (all heap (num 3))) (box heap)
       (S.Expression (T.Call' number 1 (vec heap [] (lit< tt)) T.end_of-TExpr))
-      (S.Some' (box heap) (S.Expression (T.Assign' numbers (record { line = 6; col = 66 }) A.Set (box heap) p (box heap) (all heap (num 0)))))
+      (S.Some' (box heap) (S.Expression (T.Assign' numbers (record { line = 6; col = 66 }) A.Set (box heap) p (box heap) (T.Binary' numbers (record { line = 6; col = 71 }) O.Div (box heap) (all heap (num 12)) (box heap) p))))
 
   -- the block of `with`
   abbrev pub inner : S.TStmt
@@ -60,7 +60,7 @@ module _ (heap : Global) where
       (S.more_of-TStmt (S.Expression (T.Assign' numbers (record { line = 6; col = 16 }) A.Set (box heap) p (box heap) own))
       (S.more_of-TStmt (S.Expression (T.Assign' numbers (record { line = 6; col = 31 }) A.Add (box heap) p (box heap) (all heap (num 1))))
       (S.more_of-TStmt choice
-      (S.more_of-TStmt (S.Expression (T.Assign' number (record { line = 6; col = 73 }) A.Set (box heap) s (box heap) (T.Reduce' number R.Add (box heap) p))) S.end_of-TStmt))))
+      (S.more_of-TStmt (S.Expression (T.Assign' number (record { line = 6; col = 78 }) A.Set (box heap) s (box heap) (T.Reduce' number R.Add (box heap) p))) S.end_of-TStmt))))
 
   abbrev pub main : Instance
   main = record {
@@ -74,13 +74,13 @@ module _ (heap : Global) where
         (S.more_of-TStmt (S.Expression (T.Printf' number (vec heap (P.Argument Signed ∷ P.Bytes (10 ∷ []) ∷ []) (lit< tt)) (vec heap (tt ∷ []) (lit< tt)) (T.more_of-TExpr s T.end_of-TExpr))) S.end_of-TStmt));
   }
 
-  -- the shape needs 2 bits, 32 for `p`, 99 for its first assignment, and 68 for the `where` of what is called
+  -- the shape needs 2 bits, 32 for `p`, 167 for the `where` with the quotient, and 68 for that of what is called
   abbrev pub example : Typed
   example = record {
     shapes = vec heap (record { name = 83 ∷ []; extents = vec heap (4 ∷ []) (lit< tt) } ∷ []) (lit< tt);
     vars = vec heap (plain_info (112 ∷ []) numbers ∷ plain_info (115 ∷ []) number ∷ []) (lit< tt);
     instances = vec heap (main ∷ lift ∷ []) (lit< tt);
-    need = vec heap (201 ∷ []) (lit< tt);
+    need = vec heap (269 ∷ []) (lit< tt);
   }
 
 abbrev pub ExampleIsParallel : Type 0

@@ -1,7 +1,7 @@
 -- The programs with parallel variables of which it is said so far that their code means them. Their parallel
 -- expressions are pure ones, of variables of the file of all types, gets from neighbours round the ends of the grid, own
--- coordinates, promoted scalars, and quotients and remainders by constants other than 0, which change nothing and never
--- fail; they are assigned to such variables, as truth values of them are, and folded into numbers and onto scalar
+-- coordinates and promoted scalars, which change nothing; they fail where a divisor is 0 at an active position, and
+-- nowhere else. They are assigned to such variables, as truth values of them are, and folded into numbers and onto scalar
 -- variables, and they are the conditions of `where`. Folds are of the active positions.
 -- Under `where` and `everywhere` stand the statements of scalar programs with these, also calls, `return` and jumps that
 -- lead out of them.
@@ -37,13 +37,13 @@ IsWide set ty = (ty.shape ≡ Some set) × (ty.elem.bits ≡ 32)
 abbrev pub IsConstant : TExpr → Type 0
 IsConstant e = (word : ℕ) × (constant_of e ≡ Some word) × (word < 2 ^ (type_of e).elem.bits)
 
--- a constant that is not 0, promoted
+-- anything but a promoted constant 0
 unfoldable pub IsDivisor : TExpr → Type 0
-IsDivisor (T.Promote' ty p operand) = (constant : IsConstant operand) × (0 < constant.0)
+IsDivisor (T.Promote' ty p operand) = constant_of operand ≡ Some 0 → ⊥
 IsDivisor (T.Brackets' ty p inner) = IsDivisor inner
-IsDivisor _ = ⊥
+IsDivisor _ = Unit {0}
 
--- the operator is no relation, and divides by such a constant only: it gives a word of any left operand
+-- The operator is no relation, and divides by no constant 0. Where the divisor is 0 at an active position, the run ends.
 abbrev pub IsOperation : Op → TExpr → Type 0
 IsOperation op right = (relates op ≡ false) × ((divides op ≡ false) ⊎ IsDivisor right)
 
@@ -148,17 +148,17 @@ HasOperation op elem value = elim (assign_op_of op) [
   | Some o ↦ IsOperation o value × ((type_of value).elem.bits ≡ 32) × ((elem.bits == 1) ≡ false) × (operation_bits elem.bits o value ≡ elem.bits)
 ]
 
--- A condition that may be part of others: a relation of two operands, a value that is not zero and is no quotient
--- itself, `!` of a condition or of any value, or two joined by `&&` or `||`. The right one of these ignores the context:
--- it has no get and no quotient, not even one of constants. A value of one bit is such a condition only if it is a truth
--- value.
+-- A condition that may be part of others: a relation of two operands, a value that is not zero, `!` of a condition or of
+-- any value, or two joined by `&&` or `||`. The right one of these ignores the context: it has no get and no quotient, not
+-- even one of constants. A value of one bit is such a condition only if it is a variable or a truth value.
 unfoldable pub IsInnerCondition : ℕ → TExpr → Type 0
 IsInnerCondition set (T.Brackets' ty p inner) = (ty ≡ type_of inner) × IsInnerCondition set inner
 IsInnerCondition set (T.Unary' ty op p operand) = IsWide set ty × (((negates op ≡ true) × (IsInnerCondition set operand ⊎ HasItsKind set operand)) ⊎ ((negates op ≡ false) × IsPure set (T.Unary' ty op p operand)))
 IsInnerCondition set (T.LogicalOr' ty p left q right) = IsWide set ty × IsInnerCondition set left × IsInnerCondition set right × (ignores_context right ≡ true)
 IsInnerCondition set (T.LogicalAnd' ty p left q right) = IsWide set ty × IsInnerCondition set left × IsInnerCondition set right × (ignores_context right ≡ true)
 IsInnerCondition set (T.Binary' ty place op p left q right) =
-    IsWide set ty × (divides op ≡ false) × (IsRelation set op left right ⊎ ((relates op ≡ false) × HasItsKind set (T.Binary' ty place op p left q right) × ((bits_of (kind_of (T.Binary' ty place op p left q right)) == 1) ≡ false)))
+    IsWide set ty × (IsRelation set op left right ⊎ ((relates op ≡ false) × HasItsKind set (T.Binary' ty place op p left q right) × ((bits_of (kind_of (T.Binary' ty place op p left q right)) == 1) ≡ false)))
+IsInnerCondition set (T.Variable ty x) = HasItsKind set (T.Variable ty x)
 IsInnerCondition set e = HasItsKind set e × ((bits_of (kind_of e) == 1) ≡ false)
 
 -- a condition of `where`: such a one, or any value

@@ -15,17 +15,19 @@ ghost use Rattle.fields_follow.specs.Laws.{ParallelCodeMeansSource};
 /// conditions of `where` are parallel values and relations of them, also with `!`, `&&` and `||`. Parallel expressions
 /// are of such variables, of gets from neighbours that wrap around, `[(. + 1) %% dimof(S, 0)]x`, of own coordinates, of
 /// constants and of scalar variables, converted to other types than `bool`, but scalar variables from one type of 32 bits
-/// to another alone, with the operators `+ - * & | ^ ~ << >> <? >?`, and `/ % %%` by constants other than 0. Truth values
-/// of relations, `!`, `&&` and `||` are assigned, too, to variables of all types. What is tested, compared or folded are
-/// values of any types, but for bitwise operations on a narrow one and a constant that is converted to a narrow type;
-/// `bool` alone is a condition of `where` and an operand of `!`, but none of `&&` and `||`.
+/// to another alone, with the operators `+ - * / % %% & | ^ ~ << >> <? >?`, but for a division by the constant 0; where a
+/// divisor is 0 at an active position, both end with that fault at the least such one. Truth values of relations, `!`,
+/// `&&` and `||` are assigned, too, to variables of all types; a right operand of `&&` and `||` has no get and no quotient.
+/// What is tested, compared or folded are values of any types, but for bitwise operations on a narrow one and a constant
+/// that is converted to a narrow type; values of `bool` alone are conditions of `where` and operands of `!`, and of `&&`
+/// and `||` the variables among them.
 pub fn parallel_code_means_source()
     ensures { ParallelCodeMeansSource }
 {}
 
 /// Such a program is this one, which gives a parallel variable its own coordinates, adds 1 to them, calls a function where
-/// they are less than 3 and makes them 0 elsewhere, by `where` with an `else`, and prints their sum. The function adds 10
-/// where they are less than 2, and returns from there. So the law speaks of some, with contexts.
+/// they are less than 3 and divides 12 by them elsewhere, by `where` with an `else`, and prints their sum. The function
+/// adds 10 where they are less than 2, and returns from there. So the law speaks of some, with contexts.
 pub fn example_is_parallel()
     ensures { ExampleIsParallel }
 {}
