@@ -27,7 +27,8 @@ use type_statements::{Scopes, block_in, typed_info};
 /// The most nodes that the trees of a program can have.
 pub const NODES: u64 = 1 << 20;
 
-/// The instances of a program that were typed, and whether these are all of them.
+/// The instances of a program that were typed, and whether these are all of them, from a `main` on that
+/// may be one.
 #[derive(Drop)]
 pub struct Program {
     pub instances: Vec<Instance>,
