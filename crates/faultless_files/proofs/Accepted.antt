@@ -199,11 +199,13 @@ well_formed tree typed accepted = (
     main = let first = main_reached (file_known tree).shapes (file_functions tree) (main_of tree) (λ none. none_of F.NoMain tree.end (W.FaultOf.absent_main none)) in some_instance types.instances first.0 first.1;
   },
   record {
-    names = let names = counted.names_are in omega (arith, names);
-    parameters = λ r placed is.
-        let all = parameters_counted (header_place (file_known tree).shapes placed r) 0 placed.function.parameters.items (λ fault p f. none_of fault p (W.FaultOf.in_instance is.which is.is_instance is.is_function (W.InstanceFault.parameters f))) in
-        omega (arith, all);
-    main = λ f placed is function no_main. none_of F.NoMain placed.function.name.place (W.FaultOf.no_main is function no_main);
+    named = record {
+      names = let names = counted.names_are in omega (arith, names);
+      parameters = λ r placed is.
+          let all = parameters_counted (header_place (file_known tree).shapes placed r) 0 placed.function.parameters.items (λ fault p f. none_of fault p (W.FaultOf.in_instance is.which is.is_instance is.is_function (W.InstanceFault.parameters f))) in
+          omega (arith, all);
+      main = λ f placed is function no_main. none_of F.NoMain placed.function.name.place (W.FaultOf.no_main is function no_main);
+    };
     few_nodes = stable (tree_nodes tree) (2 ^ 20) (λ many. none_of F.Size tree.end (W.FaultOf.too_many_nodes (more_than many)));
   },
   stable (machine_bits typed.shapes.items typed.need.items) (2 ^ 30) (λ full. accepted.no_fault F.Space tree.end (W.Stands.no_room none_of types full)),

@@ -31,19 +31,19 @@ files_sound tree typed types is_typed well fault p f = by_fault f
     by_fault : {fault : Fault} {p : Place} → FaultOf tree fault p → ⊥
     by_fault (W.FaultOf.in_items f) =
         let few = is_typed.few_shapes in
-        let as_many = well.names in
+        let as_many = well.named.names in
         sound_items (program_of tree) (functions_named tree) f typed.shapes.items typed.vars.items types.items
         (new_items (functions_named tree) nothing_known tree.items.items (omega (arith, as_many))) (omega (arith, few))
     by_fault (W.FaultOf.in_instance {r = r} {placed = placed} which is function f) =
         let it = instance_at types.instances which r is in
-        let as_many = well.parameters r placed (record { which = which; is_instance = is; is_function = function }) in
+        let as_many = well.named.parameters r placed (record { which = which; is_instance = is; is_function = function }) in
         sound_instance (program_of tree) (file_known tree).shapes r f it.0 it.1 function
         (new_parameters (header_place (file_known tree).shapes placed r) 0 placed.function.parameters.items (omega (arith, as_many)))
     by_fault (W.FaultOf.absent_main none) =
         let main = is_typed.main in
         let nothing : length typed.instances.items ≡ 0 = no_instances types.instances (ap (instances_from (file_known tree).shapes (file_functions tree)) none) in
         absurd (omega (arith, main, nothing))
-    by_fault (W.FaultOf.no_main {f = g} {placed = placed} is function f) = well.main g placed is function f
+    by_fault (W.FaultOf.no_main {f = g} {placed = placed} is function f) = well.named.main g placed is function f
     by_fault (W.FaultOf.too_many_nodes many) = let few = well.few_nodes in absurd (omega (arith, few, many))
 
 pub files_accepted : TypedFilesAreAccepted

@@ -2,10 +2,12 @@
 -- themselves.
 use Rattle.std.specs.Prelude.{◌≡◌, ℕ, ◌+◌, ◌-◌, ◌^◌, ◌<◌, ◌≤◌, List, [], ◌∷◌, ◌++◌, drop, length, map, reverse, slice_get, is_some, Option, Some, None, if◌then◌else◌}
 use Rattle.std.specs.Option.{option_map}
+use Rattle.cstar_tree.specs.declared.syntax.Function.{Function}
 use Rattle.cstar_tree.specs.declared.syntax.Item.TheVariants as I
 use Rattle.cstar_tree.specs.declared.syntax.Tree.{Tree}
 use Rattle.cstar_tree.specs.declared.typed.Variable.{Variable}
 use Rattle.cstar_tree.specs.declared.typed.Variable.TheVariants as V
+use Rattle.cstar_tree.specs.FileFaults.{IsNoMain}
 use Rattle.cstar_tree.specs.FileScopes.{Known, file_known, functions_named}
 use Rattle.cstar_tree.specs.Headers.{Placed}
 use Rattle.cstar_tree.specs.Scopes.{Binding, Meaning, a_function, a_shape, a_variable, find}
@@ -87,3 +89,8 @@ declared_function None = None
 declared_function (Some (N.Shape s)) = None
 declared_function (Some (N.Function f)) = Some f
 declared_function (Some (N.Variable v)) = None
+
+-- the function that was found, if it was, may be `main`
+abbrev pub MayBeMain : Option (FunctionInfo × Function) → Type 0
+MayBeMain None = Unit {0}
+MayBeMain (Some found) = IsNoMain found.1 → ⊥

@@ -1,12 +1,14 @@
 //! The names of a file: which there are, how each is numbered, and which function is `main`.
 #![tactic(auto)]
 
+ghost use Rattle.cstar_tree.specs.FileFaults.{IsMainResult};
 ghost use Rattle.cstar_tree.specs.FileScopes.{file_functions, file_known};
 ghost use Rattle.cstar_tree.specs.Instances.{main_of};
-ghost use Rattle.file_names.specs.Numbers.{HasFewNames, StandsAt, declared_function, in_text_order, named};
+ghost use Rattle.file_names.specs.Numbers.{HasFewNames, MayBeMain, StandsAt, declared_function, in_text_order, named};
 ghost use Rattle.std.specs.List.{AllZip};
-ghost use Rattle.std.specs.Prelude.{◌≡◌, [], OnOk};
+ghost use Rattle.std.specs.Prelude.{◌≡◌, [], OnOk, true};
 ghost use Rattle.type_scopes.specs.FileBindings.{file_names};
+ghost use Rattle.type_scopes.specs.Headers.{function_of};
 
 mod numbering;
 
@@ -48,18 +50,26 @@ pub fn collect(faults: &mut Faults, file: &mut File<'_>) -> Result<(), Memory>
     Ok(())
 }
 
-/// The number of the function `main`, if the file has one. One that takes something, or answers what is
-/// no scalar `int`, is a fault at its name.
-pub fn main_function(faults: &mut Faults, file: &File<'_>) -> Option<u32>
+/// The number of the function `main`, if the file has one.
+pub fn main_function(file: &File<'_>) -> Option<u32>
     ensures { file_names file.now.names ≡ in_text_order (file_known file.now.tree.now) → result ≡ main_of file.now.tree.now }
 {
-    let main = declared_function(file.names.find_bytes(b"main"))?;
-    if let Some((_, function)) = file.function(main)
-        && (!function.parameters.is_empty() || !is_main_result(&function.result))
-    {
+    declared_function(file.names.find_bytes(b"main"))
+}
+
+/// May the function of the number be `main`? One that takes something, or answers what is no scalar
+/// `int`, is a fault at its name.
+pub fn may_be_main(faults: &mut Faults, file: &File<'_>, main: u32) -> bool
+    ensures { result ≡ true → MayBeMain (function_of file.now main) }
+{
+    let Some((_, function)) = file.function(main) else {
+        return true;
+    };
+    let fits = function.parameters.is_empty() && is_main_result(&function.result);
+    if !fits {
         faults.stands(Fault::NoMain, function.name.place);
     }
-    Some(main)
+    fits
 }
 
 /// The number of the function that was found, if it is one.
@@ -73,7 +83,9 @@ fn declared_function(found: Option<(usize, FileName)>) -> Option<u32>
 }
 
 /// Is the result of `main` an `int`, or nothing?
-fn is_main_result(written: &ResultType) -> bool {
+fn is_main_result(written: &ResultType) -> bool
+    ensures { result ≡ true → IsMainResult written.now }
+{
     match written {
         ResultType::Unwritten | ResultType::Void => true,
         ResultType::Written(written) => written.shape.is_none() && written.elem == Elem::INT,

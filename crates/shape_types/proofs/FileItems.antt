@@ -1,6 +1,6 @@
 -- The items of a file one behind the other.
-use Rattle.std.proofs.Common.{◌≡◌, ℕ, ◌+◌, ◌-◌, ◌<◌, ◌≤◌, ◌^◌, Bool, true, false, if◌then◌else◌, is_some, List, [], ◌∷◌, ◌++◌, append_assoc, drop, get_or, length, length-append, map, take, Option, None, Vec, refl, sym, ap, subst, ◌∙◌, arith}
-use Rattle.std.proofs.lemmas.List.{append-nil, length-drop, take-append-drop, take_all, take_more}
+use Rattle.std.proofs.Common.{◌≡◌, ℕ, ◌+◌, ◌-◌, ◌<◌, ◌≤◌, ◌^◌, Bool, true, false, if◌then◌else◌, is_some, List, [], ◌∷◌, ◌++◌, append_assoc, drop, get_or, length, length-append, map, take, Option, Some, None, Vec, refl, sym, ap, subst, ◌∙◌, arith}
+use Rattle.std.proofs.lemmas.List.{append-nil, length-drop, length-map, take-append-drop, take_all, take_more}
 use Rattle.std.proofs.lemmas.List.Elements.{All-drop, All-get_or, All-nil}
 use Rattle.std.specs.Int.{from_bool}
 use Rattle.std.specs.Prelude.{min}
@@ -8,6 +8,7 @@ use Rattle.std.specs.declared.alloc.Global.{Global}
 use Rattle.constant_trees.specs.Words.{IsCounted}
 use Rattle.cstar_base.specs.declared.operators.Place.{Place}
 use Rattle.cstar_tree.specs.declared.syntax.Declaration.{Declaration}
+use Rattle.cstar_tree.specs.declared.syntax.Declarator.{Declarator}
 use Rattle.cstar_tree.specs.declared.syntax.Function.{Function}
 use Rattle.cstar_tree.specs.declared.syntax.Item.{Item}
 use Rattle.cstar_tree.specs.declared.syntax.Item.TheVariants as I
@@ -16,10 +17,11 @@ use Rattle.cstar_tree.specs.declared.syntax.Tree.{Tree}
 use Rattle.cstar_tree.specs.declared.typed.ShapeInfo.{ShapeInfo}
 use Rattle.cstar_tree.specs.declared.typed.ValueType.{ValueType}
 use Rattle.cstar_tree.specs.declared.typed.VarInfo.{VarInfo}
-use Rattle.cstar_tree.specs.FileScopes.{Known, behind_item, behind_items, behind_shape, behind_shapes, behind_variables, file_known, functions_named, nothing_known}
+use Rattle.cstar_tree.specs.FileScopes.{Known, behind_item, behind_items, behind_shape, behind_shapes, behind_variables, file_known, functions_named, nothing_known, words_of}
 use Rattle.cstar_tree.specs.ProgramTypes.{TypesItems}
 use Rattle.cstar_tree.specs.ProgramTypes as Y
 use Rattle.cstar_tree.specs.Scopes.{Binding, find}
+use Rattle.cstar_tree.specs.TypedParts.{concat}
 use Rattle.file_names.specs.Numbers.{HasFewNames, first_names}
 use Rattle.file_names.proofs.Items.{Grows, behind_all, behind_first, grows_both, grows_none, item_grows, items_more, next_known}
 use Rattle.type_scopes.specs.FileBindings.{file_names}
@@ -29,6 +31,7 @@ use Rattle.shape_types.specs.FileWalk.{AreDefined, AreFirst, IsKept, IsTypedDecl
 use Rattle.shape_types.specs.Plain.{IsPlainItem, IsPlainTree}
 use Rattle.shape_types.proofs.FileSteps.{first_before, function_known}
 use Rattle.shape_types.proofs.FunctionNames.{function_behind}
+use Rattle.shape_types.proofs.NamesCounted.{as_many_shapes, as_many_variables, names_of_shapes, names_of_variables, one_item_more, words_in}
 use Rattle.shape_types.proofs.KnownNames.{names_known, shape_within, told_of}
 
 items_grow : (functions : List Binding) (k : Known) (items : List Item) → Grows k (behind_items functions k items)
@@ -72,9 +75,10 @@ pub record AreItems (start : File) (n : ℕ) (file : File) (count : ℕ) (vars :
   pub knows : Knows start (behind_first (functions_named start.tree.now) start.tree.now.items.items n) file count
   pub typed : TypesItems (functions_named start.tree.now) nothing_known (take n start.tree.now.items.items) file.shapes.items vars
   pub new : (behind_first (functions_named start.tree.now) start.tree.now.items.items n).variables ≡ length vars
+  pub once : length (behind_first (functions_named start.tree.now) start.tree.now.items.items n).names ≡ words_in (take n start.tree.now.items.items)
 
 pub no_items : (start : File) (vars : List VarInfo) → vars ≡ [] → HasFewNames (file_known start.tree.now) → IsNumberedFile start → AreItems start 0 start 0 vars
-unfolding behind_items
+unfolding behind_items concat
 no_items start vars none few numbered = record {
   knows = record {
     numbered = numbered;
@@ -92,6 +96,7 @@ no_items start vars none few numbered = record {
   };
   typed = subst (λ (xs : List ShapeInfo). TypesItems (functions_named start.tree.now) nothing_known [] xs vars) (sym numbered.no_shapes) (subst (λ (xs : List VarInfo). TypesItems (functions_named start.tree.now) nothing_known [] [] xs) (sym none) Y.no_item);
   new = ap length (sym none);
+  once = refl;
 }
 
 module _ (start : File) (n : ℕ) (file : File) (count : ℕ) (vars : List VarInfo) (are : AreItems start n file count vars) (item : Item) (within : n < length start.tree.now.items.items) (is : item ≡ get_or start.tree.now.items.items n item) where
@@ -111,8 +116,8 @@ module _ (start : File) (n : ℕ) (file : File) (count : ℕ) (vars : List VarIn
   item_first = subst (λ (k : Known). AreFirst k.names (file_known start.tree.now).names) (next_known functions items n item within is) (items_first start.tree.now (n + 1))
 
   pub item_more : (after : File) (more : ℕ) (all : List VarInfo) (infos : List ShapeInfo) (own : List VarInfo) → after.shapes.items ≡ file.shapes.items ++ infos → all ≡ vars ++ own → TypesItems functions there (item ∷ []) infos own → Knows start (behind_item functions there item) after more
-      → (behind_item functions there item).variables ≡ there.variables + length own → AreItems start (n + 1) after more all
-  item_more after more all infos own shapes_are all_are typed knows new = record {
+      → (behind_item functions there item).variables ≡ there.variables + length own → length (behind_item functions there item).names ≡ length there.names + length (words_of item) → AreItems start (n + 1) after more all
+  item_more after more all infos own shapes_are all_are typed knows new once = record {
     knows = subst (λ (k : Known). Knows start k after more) (sym (next_known functions items n item within is)) knows;
     typed = rw (one_taken, shapes_are, all_are) (items_behind (item ∷ []) infos own are.typed typed);
     new =
@@ -120,6 +125,11 @@ module _ (start : File) (n : ℕ) (file : File) (count : ℕ) (vars : List VarIn
         let first = are.new in
         let long = ap length all_are ∙ length-append vars own in
         omega (arith, behind, first, new, long);
+    once =
+        let behind = ap (λ (k : Known). length k.names) (next_known functions items n item within is) in
+        let first = are.once in
+        let words = ap words_in one_taken ∙ one_item_more (take n items) item in
+        omega (arith, behind, first, once, words);
   }
 
 pub shapes_item : (start : File) (n : ℕ) (file : File) (count : ℕ) (vars : List VarInfo) (p : Place) (list : Vec ShapeDefinition Global) (after : File) (more : ℕ) (all : List VarInfo) → AreItems start n file count vars
@@ -129,6 +139,15 @@ unfolding behind_item
 shapes_item start n file count vars p list after more all are within is same defined =
     item_more start n file count vars are (I.Shapes p list) within is after more all (defined.own ++ []) [] (defined.behind ∙ ap (λ (xs : List ShapeInfo). file.shapes.items ++ xs) (sym (append-nil defined.own))) (same ∙ sym (append-nil vars)) (Y.shapes defined.typed Y.no_item) defined.knows
     (let same = shapes_leave (functions_named start.tree.now) (behind_first (functions_named start.tree.now) start.tree.now.items.items n) list.items in omega (arith, same))
+    (let functions = functions_named start.tree.now in
+    let there = behind_first functions start.tree.now.items.items n in
+    let shapes = names_of_shapes functions there list.items in
+    let before = ap length are.knows.shapes ∙ length-map file.shapes.items (λ (s : ShapeInfo). s.extents.items) in
+    let behind = ap length defined.knows.shapes ∙ length-map after.shapes.items (λ (s : ShapeInfo). s.extents.items) in
+    let own = ap length defined.behind ∙ length-append file.shapes.items defined.own in
+    let many = as_many_shapes defined.typed in
+    let words = length-map list.items (λ (s : ShapeDefinition). s.name.word) in
+    omega (arith, shapes, before, behind, own, many, words))
 
 pub variables_item : (start : File) (n : ℕ) (file : File) (count : ℕ) (vars : List VarInfo) (d : Declaration) (after : File) (more : ℕ) (all : List VarInfo) → AreItems start n file count vars
     → n < length start.tree.now.items.items → I.Variables d ≡ get_or start.tree.now.items.items n (I.Variables d) → after.shapes ≡ file.shapes
@@ -143,6 +162,13 @@ variables_item start n file count vars d after more all are within is same typed
     let own = typed.variables.new in
     let long = length-append typed.variables.own [] in
     omega (arith, written, own, long))
+    (let written = ap (λ (ty : Option ValueType). behind_variables functions ty there d.variables.items) typed.written in
+    let names = ap (λ (k : Known). length k.names) written in
+    let variables = names_of_variables functions (Some typed.ty) there d.variables.items in
+    let own = typed.variables.new in
+    let many = as_many_variables typed.variables.typed in
+    let words = length-map d.variables.items (λ (v : Declarator). v.name.word) in
+    omega (arith, names, variables, own, many, words))
 
 pub function_item : (start : File) (n : ℕ) (file : File) (count : ℕ) (vars : List VarInfo) (f : Function) (more : ℕ) (all : List VarInfo) → AreItems start n file count vars
     → n < length start.tree.now.items.items → I.Function f ≡ get_or start.tree.now.items.items n (I.Function f) → all ≡ vars
@@ -152,6 +178,7 @@ function_item start n file count vars f more all are within is same new counted 
     item_more start n file count vars are (I.Function f) within is file more all [] [] (sym (append-nil file.shapes.items)) (same ∙ sym (append-nil vars)) (Y.function Y.no_item)
     (function_known start _ file count more f are.knows new (item_first start n file count vars are (I.Function f) within is) counted)
     (let same = ap (λ (k : Known). k.variables) (function_behind (behind_first (functions_named start.tree.now) start.tree.now.items.items n) f new) in omega (arith, same))
+    (let same = ap (λ (k : Known). length k.names) (function_behind (behind_first (functions_named start.tree.now) start.tree.now.items.items n) f new) in omega (arith, same))
 
 -- the whole file
 pub all_items : (start : File) (n : ℕ) (file : File) (count : ℕ) (vars : List VarInfo) → length start.tree.now.items.items ≤ n → AreItems start n file count vars → IsDeclaredFile start.tree.now file vars
@@ -175,6 +202,7 @@ all_items start n file count vars all are =
             shape_within tree (file_known tree).shapes (first_names known names) word m (All-drop (λ (b : Binding). IsOfShapes (file_known tree).shapes b.meaning) (length names - known) names knows.shaped) is;
       };
       new = subst (λ (k : Known). k.variables ≡ length vars) (behind_all tree n all) are.new;
+      once = ap (λ (k : Known). length k.names) (sym (behind_all tree n all)) ∙ (are.once ∙ ap words_in (take_all n tree.items.items all));
     }
 
 pub item_plain : (tree : Tree) (n : ℕ) (item : Item) → n < length tree.items.items → item ≡ get_or tree.items.items n item → IsPlainTree tree → IsPlainItem item

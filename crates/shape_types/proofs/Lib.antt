@@ -9,6 +9,7 @@ pub mod Functions
 pub mod Heads
 pub mod KnownNames
 pub mod KnownPlace
+pub mod NamesCounted
 pub mod NamesFound
 pub mod Needs
 pub mod Numbered

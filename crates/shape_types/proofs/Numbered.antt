@@ -2,22 +2,27 @@
 -- declarations.
 use Rattle.std.proofs.Common.{◌≡◌, ◌<◌, ◌≤◌, ◌+◌, ◌-◌, ℕ, zero, suc, add-one, append_assoc, drop, drop-cons, get_or, length, slice_get, bytes_eq, unwrap_or, Bool, true, false, List, [], ◌∷◌, ◌++◌, Option, Some, if◌then◌else◌, arith, refl, sym, ap, subst, ◌∙◌}
 use Rattle.std.proofs.lemmas.List.{append-nil, drop_all}
-use Rattle.std.proofs.lemmas.Option.{same_Some}
+use Rattle.std.proofs.lemmas.List.Elements.{All-get_or}
+use Rattle.std.proofs.lemmas.Option.{get_or_from_slice_get, same_Some, slice_get_within}
 use Rattle.std.proofs.lemmas.Slice.Zip.{AllZip-long}
-use Rattle.std.specs.List.{AllZip}
+use Rattle.std.specs.List.{All, AllZip}
 use Rattle.call_graph.specs.Graph.{AreGroups}
 use Rattle.call_groups.specs.Called.{AreFunctions}
+use Rattle.cstar_tree.specs.declared.syntax.Item.TheVariants as I
 use Rattle.cstar_tree.specs.declared.syntax.Tree.{Tree}
+use Rattle.cstar_tree.specs.declared.typed.VarInfo.{VarInfo}
 use Rattle.cstar_tree.specs.FileScopes.{file_functions, file_known}
 use Rattle.cstar_tree.specs.Headers.{Placed}
-use Rattle.cstar_tree.specs.Instances.{called_from, function_meant}
+use Rattle.cstar_tree.specs.Instances.{called_from, function_meant, main_of, program_of}
 use Rattle.cstar_tree.specs.Scopes.{Binding, find}
-use Rattle.file_names.specs.Numbers.{StandsAt, in_text_order}
+use Rattle.faultless_files.specs.Files.{IsWellNamed}
+use Rattle.file_names.specs.Numbers.{MayBeMain, StandsAt, in_text_order}
 use Rattle.shape_types.proofs.Functions.{zipped}
-use Rattle.shape_types.specs.FileKnowledge.{IsKnownFile, IsNumberedFile, groups_in}
+use Rattle.shape_types.specs.FileKnowledge.{IsDeclaredFile, IsKnownFile, IsNumberedFile, groups_in}
 use Rattle.shape_types.specs.Groups.{in_groups}
-use Rattle.shape_types.specs.Reached.{IsWholeFile}
+use Rattle.shape_types.specs.Reached.{HasOwnParameters, IsWholeFile}
 use Rattle.type_scopes.specs.FileBindings.{file_binding, file_meant, file_names, is_known, known_names}
+use Rattle.type_scopes.specs.Headers.{function_of, in_item, listed_in}
 use Rattle.type_scopes.specs.declared.file.File.{File}
 use Rattle.type_scopes.specs.declared.file.FunctionInfo.{FunctionInfo}
 use Rattle.type_scopes.specs.declared.names.FileName.{FileName}
@@ -158,3 +163,24 @@ whole_file tree file last same numbered known names functions =
       functions = rw functions stand;
       groups = rw functions groups;
     }
+
+-- the function of a number, as it stands in the file
+pub function_there : (tree : Tree) (file : File) (f : ℕ) (placed : Placed) → IsWholeFile tree file → slice_get (file_functions tree) f ≡ Some placed → (info : FunctionInfo) × (function_of file f ≡ Some (info, placed.function))
+function_there tree file f placed whole is =
+    let z = zipped (StandsAt tree) file.functions.items (file_functions tree) f placed whole.functions is in
+    let item : slice_get file.tree.now.items.items z.0.item ≡ Some (I.Function placed.function) = ap (λ (t : Tree). slice_get t.items.items z.0.item) whole.known.is_tree ∙ z.2.is_item in
+    (z.0, ap (listed_in file.tree.now.items.items) z.1 ∙ ap (in_item z.0) item)
+
+-- Behind the declarations of a file whose names are declared once, with the instances of its program, whose
+-- parameters are.
+pub well_named : (tree : Tree) (file : File) (vars : List VarInfo) (main : ℕ) → IsDeclaredFile tree file vars → IsWholeFile tree file → main_of tree ≡ Some main → MayBeMain (function_of file main) → All (HasOwnParameters tree) (program_of tree).instances → IsWellNamed tree
+well_named tree file vars main declared whole is may parameters = record {
+  names = declared.once;
+  parameters = λ r placed reached.
+      let own = All-get_or (HasOwnParameters tree) (program_of tree).instances reached.which r (slice_get_within (program_of tree).instances reached.which r reached.is_instance) parameters in
+      subst (HasOwnParameters tree) (get_or_from_slice_get (program_of tree).instances reached.which r r reached.is_instance) own placed reached.is_function;
+  main = λ f placed is_main function.
+      let same : main ≡ f = same_Some main f (sym is ∙ is_main) in
+      let there = function_there tree file main placed whole (ap (slice_get (file_functions tree)) same ∙ function) in
+      subst MayBeMain there.1 may;
+}

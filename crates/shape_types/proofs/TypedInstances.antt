@@ -1,5 +1,5 @@
 -- An instance is typed from its head and its body.
-use Rattle.std.proofs.Common.{◌≡◌, ◌<◌, ℕ, length, slice_get, List, [], Option, Some, None, refl, sym, ap, subst, ◌∙◌}
+use Rattle.std.proofs.Common.{◌≡◌, ◌<◌, ◌+◌, ℕ, length, slice_get, List, [], Option, Some, None, arith, refl, sym, ap, subst, ◌∙◌}
 use Rattle.std.proofs.lemmas.List.{length-map}
 use Rattle.std.proofs.lemmas.Option.{same_Some, some_pair_parts}
 use Rattle.cstar_tree.specs.declared.syntax.Function.{Function}
@@ -49,6 +49,7 @@ pub record IsMade (file : File) (old new : Instances) (r : Kept.Reached) (info :
   pub count : first.count ≡ 0
   pub names : (here : Here) → here.names.inner ≡ bindings start.locals → header.parameters.items ≡ parameter_types here 0 function.parameters.items → (behind_parameters here 0 function.parameters.items).names.inner ≡ bindings first.locals
   pub parameters : (here : Here) → here.names.inner ≡ bindings start.locals → header.parameters.items ≡ parameter_types here 0 function.parameters.items → TypesParameters here 0 function.parameters.items i.params.items
+  pub once : (here : Here) → here.names.inner ≡ bindings start.locals → header.parameters.items ≡ parameter_types here 0 function.parameters.items → length (behind_parameters here 0 function.parameters.items).names.inner ≡ length here.names.inner + length function.parameters.items
   pub result : TypesResult function.name.word (returned header.returns) i.result
   pub block : IsTypedBlock new file first last (site_of info r header.returns) 0 function.body i.body
   pub calls : MeetsCallsOf old new file first (site_of info r header.returns) 0 function.body
@@ -96,6 +97,9 @@ made tree file old new r info placed i whole plain headers listed is stands shap
   calls =
       m.calls (with_instances tree (met new)) here r.function place (ready_body tree file new (met new) (instance_of r) placed whole plain (m.later.headers.0 headers) (beginning_same refl) is) (ap (λ (h : Here). h.around) (same_around head 0 placed.function.parameters.items))
       ∙ ap (λ (cs : List Call). meeting (met old) (reached_by cs)) (sym (ap (calls_of_placed (file_known tree).shapes (instance_of r)) is));
+  parameters = λ other other_is.
+      let once : length here.names.inner ≡ length placed.function.parameters.items = let all = m.once head (sym m.none) types in omega (arith, all) in
+      subst (λ (p : Placed). length (body_place (file_known tree).shapes p (instance_of r)).names.inner ≡ length p.function.parameters.items) (same_Some placed other (sym is ∙ other_is)) once;
 }
   where
     head : Here

@@ -7,11 +7,12 @@ use Rattle.cstar_tree.specs.declared.typed.VarInfo.{VarInfo}
 use Rattle.call_graph.specs.Graph.{AreGroups}
 use Rattle.call_groups.specs.Called.{AreFunctions}
 use Rattle.constant_trees.specs.Words.{IsCounted}
-use Rattle.cstar_tree.specs.FileScopes.{file_functions, file_known, functions_named, nothing_known}
+use Rattle.cstar_tree.specs.FileScopes.{file_functions, file_known, functions_named, nothing_known, words_of}
 use Rattle.cstar_tree.specs.Headers.{Placed}
 use Rattle.cstar_tree.specs.Instances.{called_from}
 use Rattle.cstar_tree.specs.ProgramTypes.{TypesItems}
 use Rattle.cstar_tree.specs.Scopes.{Meaning, a_function, a_shape, a_variable, find}
+use Rattle.cstar_tree.specs.TypedParts.{concat}
 use Rattle.file_names.specs.Numbers.{StandsAt, first_names, in_text_order}
 use Rattle.type_scopes.specs.FileBindings.{file_bindings, file_names}
 use Rattle.type_scopes.specs.declared.file.File.{File}
@@ -44,8 +45,9 @@ pub record IsKnownFile (tree : Tree) (file : File) : Type 0 where
   pub few : All IsCounted (file_known tree).shapes
   pub shaped : (known : ℕ) (word : List ℕ) (m : Meaning) → known ≤ length (file_known tree).names → find (first_names known (file_known tree).names ++ functions_named tree) word ≡ Some m → IsOfShapes (file_known tree).shapes m
 
--- the declarations of the file are typed as the rules say, and none of its variables is declared twice
+-- the declarations of the file are typed as the rules say, and none of its names is declared twice
 pub record IsDeclaredFile (tree : Tree) (file : File) (vars : List VarInfo) : Type 0 where
   pub items : TypesItems (functions_named tree) nothing_known tree.items.items file.shapes.items vars
   pub known : IsKnownFile tree file
   pub new : (file_known tree).variables ≡ length vars
+  pub once : length (file_known tree).names ≡ length (concat (map words_of tree.items.items))

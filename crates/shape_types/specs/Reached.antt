@@ -1,11 +1,11 @@
 -- The instances that `main` reaches, as they are typed one behind the other.
-use Rattle.std.specs.List.{AllZip}
-use Rattle.std.specs.Prelude.{◌≡◌, false, true, List, Some, None}
+use Rattle.std.specs.List.{All, AllZip}
+use Rattle.std.specs.Prelude.{◌≡◌, false, true, List, Some, None, length, slice_get}
 use Rattle.call_graph.specs.Graph.{AreGroups}
 use Rattle.cstar_tree.specs.declared.syntax.Tree.{Tree}
 use Rattle.cstar_tree.specs.declared.typed.Instance.{Instance}
 use Rattle.cstar_tree.specs.FileScopes.{file_functions, file_known}
-use Rattle.cstar_tree.specs.Headers.{Reached}
+use Rattle.cstar_tree.specs.Headers.{Placed, Reached, body_place}
 use Rattle.cstar_tree.specs.Headers as H
 use Rattle.cstar_tree.specs.Instances.{called_from, program_of}
 use Rattle.cstar_tree.specs.ProgramTypes.{TypesInstance, TypesInstances}
@@ -42,17 +42,27 @@ pub record IsWholeFile (tree : Tree) (file : File) : Type 0 where
 abbrev pub called_in : Tree → Reached → List Reached
 called_in tree r = called_by (file_known tree).shapes (file_functions tree) r
 
--- An instance is typed as the rules say, in each program that begins with what is met by then, and it
--- has met the instances that it calls.
+-- the parameters of a function are declared once, under this current shape
+abbrev pub HasOwnParameters : Tree → Reached → Type 0
+HasOwnParameters tree r =
+    (placed : Placed) → slice_get (file_functions tree) r.function ≡ Some placed → length (body_place (file_known tree).shapes placed r).names.inner ≡ length placed.function.parameters.items
+
+-- An instance is typed as the rules say, in each program that begins with what is met by then, it has
+-- met the instances that it calls, and its parameters are declared once.
 pub record IsTypedInstance (tree : Tree) (old new : Instances) (r : Reached) (i : Instance) : Type 0 where
   pub typed : (all : List Reached) → IsBeginning (met new) all → TypesInstance (with_instances tree all) (file_known tree).shapes r i
   pub calls : met new ≡ meeting (met old) (called_in tree r)
+  pub parameters : HasOwnParameters tree r
 
 -- where the body of an instance stands
 abbrev pub site_of : FunctionInfo → Kept.Reached → Returns → Site
 site_of info r returns = record { current = r.current; known = info.known; function = Some r.function; returns = returns; in_loop = false; dot = None; whole = false }
 
--- where no instance is lacking, these are the program's
+-- these are the instances of the program, and the parameters of each are declared once
+pub record AreInstances (tree : Tree) (instances : List Instance) : Type 0 where
+  pub typed : TypesInstances (program_of tree) (file_known tree).shapes (program_of tree).instances instances
+  pub parameters : All (HasOwnParameters tree) (program_of tree).instances
+
+-- so it is where no instance is lacking
 abbrev pub IsTypedProgram : Tree → Program → Type 0
-IsTypedProgram tree program =
-    program.is_whole ≡ true → TypesInstances (program_of tree) (file_known tree).shapes (program_of tree).instances program.instances.items
+IsTypedProgram tree program = program.is_whole ≡ true → AreInstances tree program.instances.items

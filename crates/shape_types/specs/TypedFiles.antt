@@ -8,8 +8,8 @@ use Rattle.cstar_tree.specs.FileScopes.{file_known, functions_named, nothing_kno
 use Rattle.cstar_tree.specs.Instances.{program_of}
 use Rattle.cstar_tree.specs.ProgramTypes.{NamesAll, TypesInstances, TypesItems}
 use Rattle.cstar_tree.specs.Room.{needs}
+use Rattle.faultless_files.specs.Files.{IsWellNamed}
 use Rattle.shape_room.specs.Counted.{kept}
-use Rattle.shape_types.specs.Reached.{IsTypedProgram}
 use Rattle.shape_types.specs.declared.declarations.Declared.{Declared}
 use Rattle.shape_types.specs.declared.instances.Program.{Program}
 
@@ -27,7 +27,8 @@ pub record IsTypedFile (tree : Tree) (typed : Typed) : Type 0 where
   pub new : HaveOwnNames tree typed.shapes.items typed.vars.items
 
 -- where no declaration is lacking, the declarations are typed, and so is the program, where none of its
--- instances is
+-- instances is; then no name of the file is declared twice, and its `main` may be one
 abbrev pub AreTyped : Tree → List ShapeInfo → Declared × Program → Type 0
 AreTyped tree shapes typed =
-    typed.0.is_whole ≡ true → TypesItems (functions_named tree) nothing_known tree.items.items shapes typed.0.vars.items × HaveOwnNames tree shapes typed.0.vars.items × IsTypedProgram tree typed.1
+    typed.0.is_whole ≡ true → TypesItems (functions_named tree) nothing_known tree.items.items shapes typed.0.vars.items × HaveOwnNames tree shapes typed.0.vars.items
+    × (typed.1.is_whole ≡ true → TypesInstances (program_of tree) (file_known tree).shapes (program_of tree).instances typed.1.instances.items × IsWellNamed tree)

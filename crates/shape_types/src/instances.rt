@@ -8,7 +8,7 @@ ghost use Rattle.cstar_tree.specs.declared.syntax.Tree as Text;
 ghost use Rattle.shape_types.specs.Plain.{IsPlainTree};
 ghost use Rattle.shape_types.specs.Reached.{IsTypedInstance, IsTypedProgram, IsWholeFile, site_of};
 ghost use Rattle.std.specs.Option.{option_flatten};
-ghost use Rattle.std.specs.Prelude.{◌≡◌, ◌<◌, [], ℕ, IfOk, IfSome, None, OnOk, Some, false, length, slice_get, true};
+ghost use Rattle.std.specs.Prelude.{◌≡◌, ◌<◌, ◌+◌, ◌&&◌, [], ℕ, IfOk, IfSome, None, OnOk, Some, false, length, slice_get, true};
 ghost use Rattle.type_expressions.specs.Instances.{AreHeaders, Grows, instance_of, met};
 ghost use Rattle.type_scopes.specs.Bindings.{bindings, type_meant};
 ghost use Rattle.type_scopes.specs.Headers.{returned};
@@ -27,7 +27,8 @@ use type_statements::{Scopes, block_in, typed_info};
 /// The most nodes that the trees of a program can have.
 pub const NODES: u64 = 1 << 20;
 
-/// The instances of a program that were typed, and whether these are all of them.
+/// The instances of a program that were typed, and whether these are all of them, from a `main` on that
+/// may be one.
 #[derive(Drop)]
 pub struct Program {
     pub instances: Vec<Instance>,
@@ -44,6 +45,14 @@ impl Program {
             instances: Vec::new(alloc),
             is_whole: false,
         }
+    }
+
+    /// The program stays whole only if its `main` may be one.
+    pub fn require(&mut self, is_main: bool)
+        ensures whole { self.new.is_whole ≡ (self.old.is_whole && is_main) }
+        ensures instances { self.new.instances ≡ self.old.instances }
+    {
+        self.is_whole = self.is_whole && is_main;
     }
 }
 
@@ -186,8 +195,8 @@ fn plain(ty: ValueType) -> VariableType
     }
 }
 
-/// Declares the parameters of the instance. A name that comes twice is a fault of the header. None
-/// where a type has a fault.
+/// Declares the parameters of the instance. None where a type has a fault, or a name comes twice, which
+/// is a fault of the header.
 fn parameters(
     alloc: Global,
     scopes: &mut Scopes,
@@ -197,6 +206,7 @@ fn parameters(
     ensures count { OnOk result (scopes.new.count ≡ scopes.old.count) }
     ensures names { (here : Here) → here.names.inner ≡ bindings scopes.old.locals → header.now.parameters.items ≡ parameter_types here 0 parameters.now → OnOk result ((behind_parameters here 0 parameters.now).names.inner ≡ bindings scopes.new.locals) }
     ensures typed { (here : Here) → here.names.inner ≡ bindings scopes.old.locals → header.now.parameters.items ≡ parameter_types here 0 parameters.now → IfOk result (λ r. IfSome r (λ infos. TypesParameters here 0 parameters.now infos.items)) }
+    ensures once { (here : Here) → here.names.inner ≡ bindings scopes.old.locals → header.now.parameters.items ≡ parameter_types here 0 parameters.now → IfOk result (λ r. IfSome r (λ infos. length (behind_parameters here 0 parameters.now).names.inner ≡ length here.names.inner + length parameters.now)) }
 {
     let mut infos = Vec::new(alloc);
     let mut complete = true;
@@ -205,9 +215,10 @@ fn parameters(
         let ty = type_at(types, number);
         let variable = Variable::Param(parameter_number(number)?);
         let word = &parameter.name.word;
-        scopes
+        let new = scopes
             .locals
             .declare(alloc, 0, word, variable, plain_if(ty))?;
+        complete = new && complete;
         match ty {
             Some(ty) => infos.push(value_info(alloc, &parameter.name, ty)?)?,
             None => complete = false,

@@ -1,12 +1,15 @@
 //! Typing: what every name means, the type of every expression, and the first fault of a file.
 #![tactic(auto)]
 
+ghost use Rattle.cstar_tree.specs.FileFaults.{IsAccepted};
 ghost use Rattle.cstar_tree.specs.FileScopes.{file_known, functions_named, nothing_known};
 ghost use Rattle.cstar_tree.specs.Instances.{program_of};
 ghost use Rattle.cstar_tree.specs.IsTyped.{IsTyped};
+ghost use Rattle.cstar_tree.specs.Nodes.{tree_nodes};
 ghost use Rattle.cstar_tree.specs.ProgramTypes.{TypesFile, TypesInstances, TypesItems};
 ghost use Rattle.cstar_tree.specs.Room.{HasRoom};
 ghost use Rattle.cstar_tree.specs.declared.syntax.Tree as Text;
+ghost use Rattle.faultless_files.specs.Files.{IsWellNamed};
 ghost use Rattle.file_names.specs.Numbers.{HasFewNames};
 ghost use Rattle.shape_types.specs.FileKnowledge.{IsNumberedFile};
 ghost use Rattle.shape_types.specs.Groups.{in_groups};
@@ -27,7 +30,7 @@ use call_groups::function_groups;
 use cstar_base::{Fault, Memory, Place};
 use cstar_tree::syntax::Tree;
 use cstar_tree::typed::{Instance, ShapeInfo, Typed};
-use file_names::{collect, main_function};
+use file_names::{collect, main_function, may_be_main};
 use shape_room::{has_room, needs};
 use std::alloc::Global;
 use type_expressions::Found;
@@ -65,6 +68,7 @@ pub fn check(alloc: Global, tree: &Tree) -> Result<Typed, TypeFault>
     ensures exact { length (file_known tree.now).names < 2 ^ 32 → IsPlainTree tree.now → IfOk result (TypesFile tree.now) }
     ensures new { length (file_known tree.now).names < 2 ^ 32 → IsPlainTree tree.now → IfOk result (λ typed. HaveOwnNames tree.now typed.shapes.items typed.vars.items) }
     ensures room { IfOk result (λ typed. HasRoom typed.shapes.items typed.need.items) }
+    ensures accepted { length (file_known tree.now).names < 2 ^ 32 → IsPlainTree tree.now → tree_nodes tree.now ≤ 2 ^ 20 → IfOk result (IsAccepted tree.now) }
 {
     let typed = types(alloc, tree)?;
     if has_room(typed.shapes.as_slice(), typed.need.as_slice()) {
@@ -83,6 +87,7 @@ pub fn types(alloc: Global, tree: &Tree) -> Result<Typed, TypeFault>
     ensures fault { IfErr result IsListedFault }
     ensures typed { IfOk result IsTyped }
     ensures exact { length (file_known tree.now).names < 2 ^ 32 → IsPlainTree tree.now → IfOk result (IsTypedFile tree.now) }
+    ensures named { length (file_known tree.now).names < 2 ^ 32 → IsPlainTree tree.now → IfOk result (λ typed. IsWellNamed tree.now) }
 {
     let mut found = Found::new(alloc);
     let mut file = File::new(alloc, tree);
@@ -149,8 +154,13 @@ fn type_file(found: &mut Found, file: &mut File<'_>) -> Result<(Declared, Progra
 {
     number_names(&mut found.faults, file)?;
     let declared = file_scope(found, file)?;
-    let program = match main_function(&mut found.faults, file) {
-        Some(main) => reached_instances(found, file, main)?,
+    let program = match main_function(file) {
+        Some(main) => {
+            let is_main = may_be_main(&mut found.faults, file, main);
+            let mut program = reached_instances(found, file, main)?;
+            program.require(is_main);
+            program
+        }
         None => Program::none(file.alloc),
     };
     Ok((declared, program))

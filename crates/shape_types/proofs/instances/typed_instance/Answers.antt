@@ -1,4 +1,4 @@
-use Rattle.std.proofs.Common.{◌≡◌, ◌∙◌, IfSome, Option, Box, Vec, List, ap, refl, subst, sym}
+use Rattle.std.proofs.Common.{◌≡◌, ◌∙◌, ◌+◌, IfSome, Option, Box, Vec, List, ap, length, refl, subst, sym}
 use Rattle.std.specs.declared.alloc.Global.{Global}
 use Rattle.cstar_tree.specs.declared.syntax.Parameter.{Parameter}
 use Rattle.cstar_tree.specs.declared.typed.TStmt.{TStmt}
@@ -49,6 +49,9 @@ returns-clause-typed c tree whole plain headers =
       parameters = λ here inner types.
           subst (λ (ps : List Parameter). TypesParameters here 0 ps c.in-Some-Some-Some.params.items) c.deref.ensures.value
           (subst (λ (r : Option (Vec VarInfo Global)). IfSome r (λ (infos : Vec VarInfo Global). TypesParameters here 0 c.deref.result.now infos.items)) c.in-Some-Some-Some.is-0 (c.in_ok-params.ensures.typed here inner (types ∙ ap (λ (ps : List Parameter). parameter_types here 0 ps) (sym c.deref.ensures.value))));
+      once = λ here inner types.
+          subst (λ (ps : List Parameter). length (behind_parameters here 0 ps).names.inner ≡ length here.names.inner + length ps) c.deref.ensures.value
+          (subst (λ (r : Option (Vec VarInfo Global)). IfSome r (λ (infos : Vec VarInfo Global). length (behind_parameters here 0 c.deref.result.now).names.inner ≡ length here.names.inner + length c.deref.result.now)) c.in-Some-Some-Some.is-0 (c.in_ok-params.ensures.once here inner (types ∙ ap (λ (ps : List Parameter). parameter_types here 0 ps) (sym c.deref.ensures.value))));
       result = result;
       block = subst (λ (t : TStmt). IsTypedBlock new file first last site 0 function.body t) (sym c.into_inner.ensures) (subst (λ (s : Site). IsTypedBlock new file first last s 0 function.body c.in-Some-Some-Some.body.value) c.body_site-site.ensures block);
       calls = subst (λ (i : Instances). MeetsCallsOf i new file first site 0 function.body) same (subst (λ (s : Site). MeetsCallsOf c.count-2.new.self.instances new file first s 0 function.body) c.body_site-site.ensures calls);
