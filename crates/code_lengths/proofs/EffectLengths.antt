@@ -66,7 +66,7 @@ abbrev pub Suits : Bool → TExpr → Type 0
 Suits true e = is_kept e ≡ true
 Suits false e = HasShape (type_of e)
 
-suits_by : (k : Bool) (e : TExpr) → (k ≡ true → is_kept e ≡ true) → (k ≡ false → HasShape (type_of e)) → Suits k e
+pub suits_by : (k : Bool) (e : TExpr) → (k ≡ true → is_kept e ≡ true) → (k ≡ false → HasShape (type_of e)) → Suits k e
 suits_by true e f g = f refl
 suits_by false e f g = g refl
 
@@ -74,7 +74,7 @@ kept_if : (k : Bool) (e : TExpr) → Suits k e → k ≡ true → is_kept e ≡ 
 kept_if true e u h = u
 kept_if false e u h = cc
 
-through : (k : Bool) (e inner : TExpr) → is_kept e ≡ is_kept inner → is_none (type_of e).shape ≡ is_none (type_of inner).shape → Suits k e → Suits k inner
+pub through : (k : Bool) (e inner : TExpr) → is_kept e ≡ is_kept inner → is_none (type_of e).shape ≡ is_none (type_of inner).shape → Suits k e → Suits k inner
 through true e inner a b u = sym a ∙ u
 through false e inner a b u = sym b ∙ u
 
@@ -193,7 +193,7 @@ negated_to_grows lacks k t i l n dest op operand d s c g h p =
     sized (Stands k) d _ _ _ (ap (λ (b : Bool). used_length_of t l (unary_bits (bits_for dest) op operand) true operand + unary_length l (bits_for dest) (done_as (bits_for dest) op operand) b) (sym h))
     (bind (Stands k) (Stands k) d _ _ _ _ (next_at _ k t i l n _ true operand c g h d) (λ v after at. plainly (negated_grows _ l (bits_for dest) (done_as (bits_for dest) op operand) k dest v after (is_plus_done (bits_for dest) op operand ∙ p) (own_bits_at k dest s) at)))
 
-plus_suits : (k shaped : Bool) (operand : TExpr) → IsShaped operand → shaped ≡ is_kept operand → k ≡ shaped → Suits k operand
+pub plus_suits : (k shaped : Bool) (operand : TExpr) → IsShaped operand → shaped ≡ is_kept operand → k ≡ shaped → Suits k operand
 plus_suits true shaped operand h a f = sym a ∙ sym f
 plus_suits false shaped operand h a f = shape_of_field operand h (sym a ∙ sym f)
 
@@ -207,7 +207,7 @@ gone_grows k P dest n made d s g =
     and_nothing n = omega arith
 
 -- the value of a form stands as its type says
-sides : (k : Bool) (e : TExpr) → Suits k e → is_kept e ≡ is_none (type_of e).shape → k ≡ is_none (type_of e).shape
+pub sides : (k : Bool) (e : TExpr) → Suits k e → is_kept e ≡ is_none (type_of e).shape → k ≡ is_none (type_of e).shape
 sides true e u h = sym u ∙ h
 sides false e u h = sym u
 
@@ -243,7 +243,7 @@ choice_next t l bits ty p test q first r second k =
     no e = cc
 
 -- a value that is no constant
-has_code : {t : Typed} {i : Instance} {n : ℕ} {e : TExpr} → IsShaped e → IsLowerable t e → NamesVariables t i n e → HasCode t i n e
+pub has_code : {t : Typed} {i : Instance} {n : ℕ} {e : TExpr} → IsShaped e → IsLowerable t e → NamesVariables t i n e → HasCode t i n e
 has_code h w v = record { shaped = h; lowerable = w; names = v }
 
 computed_grows : (lacks : Type 0) (k : Bool) (t : Typed) (i : Instance) (l : Layout) (n : ℕ) (dest : Out) (e : TExpr) (d : Draft) → Stands k dest → IsShaped e → IsLowerable t e → NamesVariables t i n e → Suits k e → GivesValue t e →
@@ -381,7 +381,7 @@ WritesOwn lacks t i l n op place target value (Some own) =
     OwnNamed t i n (Some own) × ((dest : Out) (d : Draft) → IsAt (is_none own.shape) (type_of target).elem.bits dest →
     GrowsOn (ready lacks t i l n) d (assigned_length t l (is_none own.shape) op (type_of target).elem value) (Stands (is_none own.shape)) (variable_assigned t l op place target value dest d))
 
-kept_unless_folded : (a b c : Bool) → (not (a && not b) && c) ≡ true → a ≡ true → b ≡ true
+pub kept_unless_folded : (a b c : Bool) → (not (a && not b) && c) ≡ true → a ≡ true → b ≡ true
 kept_unless_folded true true c h e = refl
 kept_unless_folded true false c h e = cc
 kept_unless_folded false b c h e = cc

@@ -67,7 +67,7 @@ take_long [] (suc n) h = absurd (no n h)
     no n h = omega (arith, h)
 take_long (x ∷ xs) (suc n) h = ap suc (take_long xs n (omega (arith, h)))
 
-restored_more : (contexts : List Field) (newest n : ℕ) (d e : Draft) → newest ≤ length contexts → Extended d n e → Extended d (n + newest) (L.restored contexts newest e)
+pub restored_more : (contexts : List Field) (newest n : ℕ) (d e : Draft) → newest ≤ length contexts → Extended d n e → Extended d (n + newest) (L.restored contexts newest e)
 unfolding L.restored
 restored_more contexts newest n d e h x =
     resized d _ _ _ (ap (λ (k : ℕ). n + k) (take_long (reverse contexts) newest (subst (λ (k : ℕ). newest ≤ k) (sym (length-reverse contexts)) h))) (loaded_more (take newest (reverse contexts)) n d e x)
@@ -108,7 +108,7 @@ locals_sum t l at_start (local ∷ locals) = swap (clear_length_of at_start loca
     swap a b c d = omega arith
 
 -- how many contexts a jump loads is how many are saved
-deeper : (f : Frame) (contexts : List Field) (saved : Field) → StandsAmong f contexts → StandsAmong (in_context f) (contexts ++ saved ∷ [])
+pub deeper : (f : Frame) (contexts : List Field) (saved : Field) → StandsAmong f contexts → StandsAmong (in_context f) (contexts ++ saved ∷ [])
 unfolding in_context one_more
 deeper f contexts saved h =
     let l : length (contexts ++ saved ∷ []) ≡ length contexts + 1 = length-append contexts (saved ∷ []) in
@@ -116,7 +116,7 @@ deeper f contexts saved h =
     let b = h.all in
     record { loop = omega (arith, l, a); all = omega (arith, l, b) }
 
-looped : (f : Frame) (contexts : List Field) (next after : ℕ) → StandsAmong f contexts → StandsAmong (in_loop next after f) contexts
+pub looped : (f : Frame) (contexts : List Field) (next after : ℕ) → StandsAmong f contexts → StandsAmong (in_loop next after f) contexts
 unfolding in_loop at_loop
 looped f contexts next after h = record { loop = omega arith; all = h.all }
 
@@ -149,16 +149,16 @@ where_sum : (a k b c e : ℕ) → k + c ≡ e → 0 + (0 + (a + ((((1 + k) + 1) 
 where_sum a k b c e h = omega (arith, h)
 
 -- where a condition holds is kept for what is behind `else`, by one instruction
-kept_length : Held-TStmt-If-2 → ℕ
+pub kept_length : Held-TStmt-If-2 → ℕ
 kept_length None' = 0
 kept_length (Some' p s) = 1
 
-narrowed_more : (second : Held-TStmt-If-2) (shape : ℕ) (saved holds : Field) (d : Draft) → Extended d ((1 + kept_length second) + 1) (L.narrowed shape saved (L.kept_for second holds) d)
+pub narrowed_more : (second : Held-TStmt-If-2) (shape : ℕ) (saved holds : Field) (d : Draft) → Extended d ((1 + kept_length second) + 1) (L.narrowed shape saved (L.kept_for second holds) d)
 unfolding kept_length L.narrowed L.kept_for L.with_kept
 narrowed_more None' shape saved holds d = and_instr _ d _ 1 (and_instr _ d d 0 (as_it_was d))
 narrowed_more (Some' p s) shape saved holds d = and_instr _ d _ 2 (and_instr _ d _ 1 (and_instr _ d d 0 (as_it_was d)))
 
-kept_and_other : (t : Typed) (l : Layout) (r : Bool) (saved : Saved) (second : Held-TStmt-If-2) → kept_length second + else_length_of t l r saved 3 second ≡ else_length_of t l r saved 4 second
+pub kept_and_other : (t : Typed) (l : Layout) (r : Bool) (saved : Saved) (second : Held-TStmt-If-2) → kept_length second + else_length_of t l r saved 3 second ≡ else_length_of t l r saved 4 second
 unfolding kept_length else_length_of
 kept_and_other t l r saved None' = refl
 kept_and_other t l r saved (Some' p s) = one_more_around (statement_length_of t l r saved s)
@@ -170,16 +170,16 @@ else_sum : (a : ℕ) → (2 + a) + 1 ≡ a + 3
 else_sum a = omega arith
 
 -- the parts of a `for` that are there
-part_code : (t : Typed) (i : Instance) (n : ℕ) (e : Option TExpr) → IsShapedPart e → IfSome e (IsLowerable t) → IfSome e (NamesVariables t i n) → IfSome e (HasCode t i n)
+pub part_code : (t : Typed) (i : Instance) (n : ℕ) (e : Option TExpr) → IsShapedPart e → IfSome e (IsLowerable t) → IfSome e (NamesVariables t i n) → IfSome e (HasCode t i n)
 unfolding IsShapedPart
 part_code t i n None h w v = tt
 part_code t i n (Some e) h w v = record { shaped = h; lowerable = w; names = v }
 
 -- a condition has code, and its value stands in a register
-abbrev IsCondition : Typed → Instance → ℕ → TExpr → Type 0
+abbrev pub IsCondition : Typed → Instance → ℕ → TExpr → Type 0
 IsCondition t i n e = HasCode t i n e × InRegister t e
 
-condition_code : (t : Typed) (i : Instance) (n : ℕ) (e : Option TExpr) → IsShapedPart e → IfSome e (IsTest t) → IfSome e (NamesVariables t i n) → IfSome e (IsCondition t i n)
+pub condition_code : (t : Typed) (i : Instance) (n : ℕ) (e : Option TExpr) → IsShapedPart e → IfSome e (IsTest t) → IfSome e (NamesVariables t i n) → IfSome e (IsCondition t i n)
 unfolding IsShapedPart
 condition_code t i n None h w v = tt
 condition_code t i n (Some e) h w v = (record { shaped = h; lowerable = w.1; names = v }, w.0)
@@ -213,20 +213,20 @@ block_more n s locals rest is = ap (λ (k : ℕ). (n + k) + length rest) (sym (l
 row_more : (n : ℕ) (first second : List VarInfo) → (n + length first) + length second ≡ n + length (first ++ second)
 row_more n first second = let all = length-append first second in omega (arith, all)
 
-block_rest : (all : List VarInfo) (n : ℕ) (locals : List LocalVar) (rest : List VarInfo) → StandFrom all n (map info_of locals ++ rest) → StandFrom all (n + length locals) rest
+pub block_rest : (all : List VarInfo) (n : ℕ) (locals : List LocalVar) (rest : List VarInfo) → StandFrom all n (map info_of locals ++ rest) → StandFrom all (n + length locals) rest
 block_rest all n locals rest z = subst (λ (k : ℕ). StandFrom all (n + k) rest) (length-map locals info_of) (second_part (map info_of locals) rest z)
 
 module _ (t : Typed) (i : Instance) (l : Layout) (numbers : NumbersVariables i l) (codes : ExpressionLengths ⊥ t i l) where
   -- ---- code that declares nothing
 
   -- parts
-  part_grows : (n : ℕ) (e : Option TExpr) (d : Draft) → IfSome e (HasCode t i n) → IsReady t i l n d → Grows d (part_length_of t l e) Anything (part_of t l e d)
+  pub part_grows : (n : ℕ) (e : Option TExpr) (d : Draft) → IfSome e (HasCode t i n) → IsReady t i l n d → Grows d (part_length_of t l e) Anything (part_of t l e d)
   unfolding part_length_of part_of
   part_grows n None d code ready = makes _ Anything tt d d 0 tt (as_it_was d)
   part_grows n (Some e) d code ready =
       sized _ Anything d _ _ _ (and_nothing _) (bind _ Anything Anything d (effect_length_of t l e) 0 _ _ (codes.effect n e d code ready) (λ v after _. makes _ Anything tt after after 0 tt (as_it_was after)))
 
-  condition_grows : (n : ℕ) (e : TExpr) (d : Draft) → IsCondition t i n e → IsReady t i l n d → Grows d (used_length_of t l 32 true e) Anything (condition_of t l e d)
+  pub condition_grows : (n : ℕ) (e : TExpr) (d : Draft) → IsCondition t i n e → IsReady t i l n d → Grows d (used_length_of t l 32 true e) Anything (condition_of t l e d)
   unfolding condition_of
   condition_grows n e d code ready =
       sized _ Anything d _ _ _ (and_nothing _) (bind _ (Arrives t e) Anything d (used_length_of t l 32 true e) 0 _ _ (codes.operand 32 n true e d code.0 ready)
@@ -338,7 +338,7 @@ module _ (t : Typed) (i : Instance) (l : Layout) (numbers : NumbersVariables i l
   recounted : (n m : ℕ) (d : Draft) (a : ℕ) (made : Made ℕ) → n ≡ m → Leads d a (Declares t i l n) made → Leads d a (Declares t i l m) made
   recounted n m d a made is g = subst (λ (k : ℕ). Leads d a (Declares t i l k) made) is g
 
-  declared_lead : (at_start : Bool) (locals : List LocalVar) (n : ℕ) (d : Draft) → AreShapedLocals locals → All (IsLowerableLocal t) locals → InitialsNameVariables t i n locals →
+  pub declared_lead : (at_start : Bool) (locals : List LocalVar) (n : ℕ) (d : Draft) → AreShapedLocals locals → All (IsLowerableLocal t) locals → InitialsNameVariables t i n locals →
       StandFrom (variables_of i.body) n (map info_of locals) → HasDeclared t i l n d → Leads d (locals_length_of t l at_start locals) (Declares t i l (n + length locals)) (declared t l at_start locals n d)
   unfolding declared
   declared_lead at_start locals n d h w v z y =
@@ -366,7 +366,7 @@ module _ (t : Typed) (i : Instance) (l : Layout) (numbers : NumbersVariables i l
   result_code (Some e) n h w v = (record { shaped = h; lowerable = w.1; names = v }, w.0)
 
   -- what is behind a loop's body is ready for what is before it
-  loop_ready : (n : ℕ) (s : TStmt) (d : Draft) → HasDeclared t i l (behind n s) d → IsReady t i l n d
+  pub loop_ready : (n : ℕ) (s : TStmt) (d : Draft) → HasDeclared t i l (behind n s) d → IsReady t i l n d
   loop_ready n s d y = ready_before _ t i l n (behind n s) d (omega arith) y.ready
 
   -- ---- statements

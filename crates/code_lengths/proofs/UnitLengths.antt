@@ -42,7 +42,7 @@ unfolding then_make
 three_together (Makes x d) f g h = two_together (f x d) g h
 three_together Fails f g h = refl
 
-first_made : {B : Type 0} (m : Made (Unit {0})) (next : Unit {0} → Draft → Made B) (d : Draft) → m ≡ Makes tt d → then_make m next ≡ next tt d
+pub first_made : {B : Type 0} (m : Made (Unit {0})) (next : Unit {0} → Draft → Made B) (d : Draft) → m ≡ Makes tt d → then_make m next ≡ next tt d
 unfolding then_make
 first_made m next d is = ap (λ (m : Made (Unit {0})). then_make m next) is
 
@@ -95,7 +95,7 @@ outcome_is : (t : Typed) (words : List ℕ) (number : ℕ) (instance : Instance)
 unfolding layout_of entered
 outcome_is t words number instance is = ap (λ (own : Option Instance). fold Y.behind 0 (params_by own)) is
 
-locals_are : (t : Typed) (words : List ℕ) (number : ℕ) (instance : Instance) → slice_get t.instances.items number ≡ Some instance → NumbersVariables instance (layout_of t words number)
+pub locals_are : (t : Typed) (words : List ℕ) (number : ℕ) (instance : Instance) → slice_get t.instances.items number ≡ Some instance → NumbersVariables instance (layout_of t words number)
 unfolding layout_of entered
 locals_are t words number instance is = ap (λ (own : Option Instance). (numbered (elim own as (λ _. List VarInfo) [ None ↦ [] | Some instance ↦ variables_of instance.body ]) nothing_numbered).locals) is
 
@@ -325,11 +325,11 @@ module _ (t : Typed) (words : List ℕ) (number : ℕ) where
 -- ---- the body
 
 -- the body of an instance, and its end
-rest_of : Typed → Layout → Bool → Instance → Unit {0} → Draft → Made (Unit {0})
+unfoldable pub rest_of : Typed → Layout → Bool → Instance → Unit {0} → Draft → Made (Unit {0})
 rest_of t l is_main instance _ start =
     then_make (body_of t l (body_frame is_main instance) instance.body start) (λ _ end. Makes tt (ended is_main instance.body end))
 
-no_context : (is_main : Bool) (instance : Instance) → StandsAmong (body_frame is_main instance) []
+pub no_context : (is_main : Bool) (instance : Instance) → StandsAmong (body_frame is_main instance) []
 unfolding body_frame
 no_context is_main instance = record { loop = omega arith; all = refl }
 
@@ -341,7 +341,7 @@ ended_more is_main body d = by (ends_in_return body)
     by true = as_it_was d
     by false = end_more is_main 0 d d (as_it_was d)
 
-opened : (t : Typed) (l : Layout) (is_main : Bool) (regs : ℕ) (instance : Instance) → unit_of t l is_main regs instance ≡ then_make (opening_of t l is_main regs instance) (rest_of t l is_main instance)
+pub opened : (t : Typed) (l : Layout) (is_main : Bool) (regs : ℕ) (instance : Instance) → unit_of t l is_main regs instance ≡ then_make (opening_of t l is_main regs instance) (rest_of t l is_main instance)
 unfolding unit_of opening_of rest_of
 opened t l is_main regs instance =
     three_together (own_fields_of instance.params.items (blank instance.name regs)) (λ _ d. own_result_of instance.result d) (λ _ ready. begun t l is_main ready) (rest_of t l is_main instance)
@@ -363,6 +363,14 @@ opening_made t words number is_main regs instance =
           ∙ first_made (own_result_of instance.result params.behind) (λ _ ready. begun t l is_main ready) result.behind result.made ∙ start.1,
       record { entries = omega (arith, fields, entries); homes = start.2.homes ∙ result.homes ∙ params.homes },
     )
+
+-- and then no variable of its blocks is declared
+pub begins : (t : Typed) (words : List ℕ) (number : ℕ) (is_main : Bool) (regs : ℕ) (instance : Instance) → slice_get t.instances.items number ≡ Some instance → HasPlainParameters instance →
+    (start : Draft) × (opening_of t (layout_of t words number) is_main regs instance ≡ Makes tt start) × HasDeclared t instance (layout_of t words number) 0 start
+unfolding numbered
+begins t words number is_main regs instance is plain =
+    let start = opening_made t words number is_main regs instance in
+    (start.0, start.1, record { ready = body_ready t words number instance start.0 is plain start.2; homes = ap length start.2.homes })
 
 body_made : (t : Typed) (words : List ℕ) (number : ℕ) (is_main : Bool) (instance : Instance) (start : Draft) → slice_get t.instances.items number ≡ Some instance →
     HasPlainParameters instance → HasStatementCode t instance 0 instance.body → IsBegun instance start →
