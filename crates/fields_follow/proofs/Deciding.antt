@@ -57,17 +57,17 @@ use Rattle.code_follows.proofs.Settings.{At, Setting, Within, and_one, layout}
 use Rattle.constant_trees.proofs.Words.{from_bool_below}
 use Rattle.fields_follow.specs.Fields.{IsElement}
 use Rattle.cstar_tree.specs.Typed.{type_of}
-use Rattle.fields_follow.specs.Fragment.{IsCondition, IsInnerCondition, IsTruth}
+use Rattle.fields_follow.specs.Fragment.{IsCondition, IsTruth}
 use Rattle.fields_follow.proofs.Clearing.{field_at, joined_behind, joined_more, truths_taken}
-use Rattle.fields_follow.proofs.Conditions.{HaveTheirCode, and_codes, conditions_join, or_codes}
+use Rattle.fields_follow.proofs.Conditions.{HaveTheirCode, and_codes, condition_kept, conditions_join, or_codes}
 use Rattle.fields_follow.proofs.Sizes.{brackets_part, convert_part, unary_part}
 use Rattle.fields_follow.proofs.Places.{HoldsTheFields, IsFileField, PlacesFields, stands_here}
-use Rattle.fields_follow.proofs.Testing.{and_ended, and_given, both_flagged, inner_bit, inner_tested, operand_kept, or_ended, or_given}
+use Rattle.fields_follow.proofs.Testing.{and_ended, and_given, both_flagged, condition_bit, condition_tested, or_ended, or_given}
 use Rattle.fields_follow.proofs.Expressions.{convert_ended, convert_means, unary_ended}
 use Rattle.fields_follow.proofs.Lengths.{relates_plainly}
 use Rattle.fields_follow.proofs.Outcomes.{Ended, meant, then_known}
 use Rattle.fields_follow.proofs.Truths.{either_or_both, joined_bits, truth_still}
-use Rattle.fields_follow.proofs.ConditionCode.{AnyBit, Truth, flag_after, put_in, relation_put, stored_behind, zero_put}
+use Rattle.fields_follow.proofs.ConditionCode.{Bit, Truth, flag_after, put_in, relation_put, stored_behind, zero_put}
 use Rattle.fields_follow.proofs.Forms.{HasItsCode}
 use Rattle.fields_follow.proofs.Instructions.{Puts, extents, number_in, place, shapes}
 use Rattle.fields_follow.proofs.Meaning.{unary_means, value_in}
@@ -392,7 +392,7 @@ module _ (g : Setting) where
           instr_takes g set i f e2 p.t v (entry_and_below g places fields alive set k 0 info f is_element word file refl) within p.at (subst (λ (m : ℕ). Puts g set i (field_at set offset m) p.t v) same puts)
 
       -- by its test, and a bit that is moved, or the flags
-      by_test : (e : TExpr) → IsInnerCondition set e → has_truth e ≡ true → HasItsCode g.typed g.instance alive n e → ((q : ℕ) → words_of e q ≡ from_bool (nonzero (words_of e q)))
+      by_test : (e : TExpr) → IsCondition set e → has_truth e ≡ true → HasItsCode g.typed g.instance alive n e → ((q : ℕ) → words_of e q ≡ from_bool (nonzero (words_of e q)))
           → computed_to g.typed (layout g) (O.Field f) e d ≡ then_make (truth_of g.typed (layout g) e d) (put_in f) → Last e → Ends e → After g Q (computed_to g.typed (layout g) (O.Field f) e d)
       unfolding step_of Extends tested_by
       by_test e is told c truth code last ended = after_same g Q (code ∙ sym (ap (λ (b : Bool). then_make (tested_by b (truth_of g.typed (layout g) e) (next_of g.typed (layout g) (bits_of (kind_of e)) true e) d) (put_in f)) told)) (by (bits == 1) refl)
@@ -403,7 +403,7 @@ module _ (g : Setting) where
           bit_put : (len : ℕ) → len ≡ bits → len ≡ 1 → After g Q (then_make tests (put_in (field_at set offset len)))
           bit_put len same one =
               after_same g Q (ap (λ (n : ℕ). then_make tests (put_in (field_at set offset n))) one ∙ at_once set offset tests)
-              (then_known g s (meant g fields e st) (words_of e) st (λ _ x. LeavesTests g alive fields d s set st (words_of e) x) Q tests (flag_stored (field_at set offset 1)) (inner_tested g has alive n ready places fields set e is c d s st here sim) (λ x e2. (1, and_one g (I.StoreTest (field_at set offset 1)) e2))
+              (then_known g s (meant g fields e st) (words_of e) st (λ _ x. LeavesTests g alive fields d s set st (words_of e) x) Q tests (flag_stored (field_at set offset 1)) (condition_tested g has alive n ready places fields set e is c d s st here sim) (λ x e2. (1, and_one g (I.StoreTest (field_at set offset 1)) e2))
               (λ given x e2 left. made_after g Q (O.Field (field_at set offset 1)) (with_instr (I.StoreTest (field_at set offset 1)) e2) (λ within.
               let is_one : bits ≡ 1 = sym same ∙ one in
               let puts : Puts g set (I.StoreTest (field_at set offset 1)) (field_at set offset 1) left.leaves.t (words_of e) =
@@ -416,7 +416,7 @@ module _ (g : Setting) where
           by true one = bit_put bits refl (eqb-true bits 1 one)
           by false several =
               after_same g Q (through_bit set offset bits tests several)
-              (then_known g s (meant g fields e st) (words_of e) st (Truth g alive places fields d s set st (words_of e)) Q (then_make tests (stored_behind set)) (bit_moved f) (flag_after g alive places fields (meant g fields e st) (words_of e) set (words_of e) d s st tests (inner_tested g has alive n ready places fields set e is c d s st here sim))
+              (then_known g s (meant g fields e st) (words_of e) st (Truth g alive places fields d s set st (words_of e)) Q (then_make tests (stored_behind set)) (bit_moved f) (flag_after g alive places fields (meant g fields e st) (words_of e) set (words_of e) d s st tests (condition_tested g has alive n ready places fields set e is c d s st here sim))
               (λ kept e2. (1, and_one g (I.Move false f kept) e2))
               (λ given kept e2 bit. made_after g Q (O.Field f) (with_instr (I.Move false f kept) e2) (λ within.
               last given e2 (with_instr (I.Move false f kept) e2) (Behind g kept e2) within bit.passes (length e2.code, (names_second g (I.Move false f kept) f kept [] (length e2.code) (stands_here g (I.Move false f kept) e2 within refl) refl, omega arith))
@@ -429,7 +429,7 @@ module _ (g : Setting) where
       unfolding Extends step_of in_field
       by_complement e operand is one c value code is_one gives ends last ended =
           after_same g Q (ap (λ (m : ℕ). computed_to g.typed (layout g) (O.Field (field_at set offset m)) e d) is_one ∙ code)
-          (then_known g s (meant g fields operand st) (words_of operand) st (AnyBit g alive places fields d s set st (words_of operand)) Q (next_of g.typed (layout g) 1 true operand d) (bit_turned set offset) (inner_bit g has alive n ready places fields set operand is one c d s st here sim) grows
+          (then_known g s (meant g fields operand st) (words_of operand) st (Bit g alive places fields d s set st (words_of operand)) Q (next_of g.typed (layout g) 1 true operand d) (bit_turned set offset) (condition_bit g has alive n ready places fields set operand is one c d s st here sim) grows
           (λ given x e2 (a, (same, bit)). after_same g Q (ap (λ (o : Out). bit_turned set offset o e2) same)
           (made_after g Q (O.Field (field_at set offset 1)) (with_instr (I.Lognot (field_at set offset 1) a) e2) (λ within.
           let i : Instr = I.Lognot (field_at set offset 1) a in
@@ -445,7 +445,7 @@ module _ (g : Setting) where
           grows O.Nothing e2 = tt
 
       -- by the operation on two bits
-      by_operation : (is_or : Bool) (e left right : TExpr) → IsInnerCondition set left → IsInnerCondition set right → ignores_context right ≡ true → HaveTheirCode g.typed g.instance alive n left right
+      by_operation : (is_or : Bool) (e left right : TExpr) → IsCondition set left → IsCondition set right → ignores_context right ≡ true → HaveTheirCode g.typed g.instance alive n left right
           → ◌≡◌ {A = ℕ → ℕ} (λ q. from_bool (either_or_both is_or (nonzero (words_of left q)) (nonzero (words_of right q)))) (words_of e) → (IsGiven left → set < length (shapes g) → IsGiven e) → (Ended g s (meant g fields left st) → Ended g s (meant g fields e st)) → Last e → Ends e → After g Q (logical_to g.typed (layout g) (O.Field f) e is_or left right d)
       unfolding Extends step_of tests_on
       by_operation is_or e left right is also same codes value gives ends last ended = by (bits == 1) refl
@@ -483,7 +483,7 @@ module _ (g : Setting) where
               last (gives given exists) e2 (joined_behind is_or set offset bits a b e2) (Unit {0}) within passes tt (subst (λ (v : ℕ → ℕ). TakesBehind g set f e2 (joined_behind is_or set offset bits a b e2) passes.t v) value takes))) (λ early. ended (ends early)))
 
       truth_computed : (e : TExpr) → IsTruth set bits e → HasItsCode g.typed g.instance alive n e → Last e → Ends e → After g Q (computed_to g.typed (layout g) (O.Field f) e d)
-      unfolding IsTruth IsInnerCondition computed_to value_in has_truth goes_unchanged keeps_bits negates unary_of evaluated
+      unfolding IsTruth IsCondition computed_to value_in has_truth goes_unchanged keeps_bits negates unary_of evaluated
       truth_computed (T.Brackets' ty p inner) is c last ended = truth_computed inner is.1 (brackets_part g alive n places fields ty p inner c) last ended
       truth_computed (T.Convert' ty p inner) is c last ended =
           after_same g Q (ap (λ (b : Bool). if b then computed_to g.typed (layout g) (O.Field f) inner d else converted_to g.typed (layout g) (O.Field f) (T.Convert' ty p inner) ty.elem inner d) (kept (nat_le bits ty.elem.bits) (let long = is.1 in grind (arith, nat_tests, long)) (not (ty.elem.bits == 1)) (bits_of (kind_of inner) == 1) (truth_flag set bits inner is.2)))
@@ -501,7 +501,7 @@ module _ (g : Setting) where
           whole = T.Unary' ty op p operand
 
           tests : (bits == 1 && bits_of (kind_of operand) == 1) ≡ false → After g Q (computed_to g.typed (layout g) (O.Field f) whole d)
-          tests no_bit = by_test whole (is.0, inl (is.1, is.2)) is.1 c (λ q. truth_bit (extents g set) st set bits whole q is) (not_code set offset bits ty p op operand d is.1 no_bit (operand_kept g has alive n ready places fields set operand is.2)) last ended
+          tests no_bit = by_test whole (is.0, inl (is.1, is.2)) is.1 c (λ q. truth_bit (extents g set) st set bits whole q is) (not_code set offset bits ty p op operand d is.1 no_bit (condition_kept set operand is.2)) last ended
 
           value : (o : UnaryOp) → negates o ≡ true → ◌≡◌ {A = ℕ → ℕ} (λ q. from_bool (words_of operand q == 0)) (λ q. unary_of o (words_of operand q))
           value U.Not e = refl
@@ -511,7 +511,7 @@ module _ (g : Setting) where
 
           by : (a b : Bool) → (bits == 1) ≡ a → (bits_of (kind_of operand) == 1) ≡ b → After g Q (computed_to g.typed (layout g) (O.Field f) whole d)
           by true true one bit =
-              by_complement whole operand is.2 bit (unary_part g alive n places fields ty op p operand c) (value op is.1) (bit_not_code set offset ty p op operand d is.1 bit (operand_kept g has alive n ready places fields set operand is.2)) (eqb-true bits 1 one)
+              by_complement whole operand is.2 bit (unary_part g alive n places fields ty op p operand c) (value op is.1) (bit_not_code set offset ty p op operand d is.1 bit (condition_kept set operand is.2)) (eqb-true bits 1 one)
               (λ given. unary_means fields.scope fields.active set ty op p operand (words_of operand) st is.0.0 given) (λ early. unary_ended g has alive n ready places fields ty op p operand s st early) last ended
           by true false one bit = tests (ap (λ (b : Bool). bits == 1 && b) bit ∙ ap (λ (b : Bool). b && false) one)
           by false b one bit = tests (ap (λ (a : Bool). a && bits_of (kind_of operand) == 1) one)

@@ -19,8 +19,7 @@ ghost use Rattle.fields_follow.specs.Laws.{ParallelCodeMeansSource};
 /// divisor is 0 at an active position, both end with that fault at the least such one. Truth values of relations, `!`,
 /// `&&` and `||` are assigned, too, to variables of all types; a right operand of `&&` and `||` has no get and no quotient.
 /// What is tested, compared or folded are values of any types, but for bitwise operations on a narrow one and a constant
-/// that is converted to a narrow type; values of `bool` alone are conditions of `where` and operands of `!`, and of `&&`
-/// and `||` the variables among them.
+/// that is converted to a narrow type; those of `bool` are conditions and operands of `!`, `&&` and `||` as others are.
 pub fn parallel_code_means_source()
     ensures { ParallelCodeMeansSource }
 {}
