@@ -1,5 +1,5 @@
 -- The code of a condition leaves the test flags.
-use Rattle.std.proofs.Common.{◌%◌, ◌≡◌, ◌∙◌, ℕ, ◌<◌, ◌^◌, ◌==◌, ◌&&◌, ◌||◌, ◌⊎◌, inl, inr, Bool, true, false, List, length, Option, Some, None, refl, sym, ap, arith, if◌then◌else◌}
+use Rattle.std.proofs.Common.{subst, ◌%◌, ◌≡◌, ◌∙◌, ℕ, ◌<◌, ◌^◌, ◌==◌, ◌&&◌, ◌||◌, ◌⊎◌, inl, inr, Bool, true, false, List, length, Option, Some, None, refl, sym, ap, arith, if◌then◌else◌}
 use Rattle.std.specs.Int.{from_bool}
 use Rattle.cstar_base.specs.declared.operators.Op.{Op}
 use Rattle.cstar_base.specs.declared.operators.Place.{Place}
@@ -41,6 +41,7 @@ use Rattle.source_meaning.specs.State as Source
 use Rattle.source_meaning.specs.State.{Outcome, State, then_do}
 use Rattle.source_meaning.specs.Values.{Active, Parallel, Scope, Value, at, nonzero, unary_of}
 use Rattle.source_meaning.proofs.ConstantLaws.{Boxed}
+use Rattle.constant_trees.proofs.Words.{from_bool_below}
 use Rattle.std.proofs.Math.Nat.{mod-eq_of_lt}
 use Rattle.std.proofs.lemmas.Bool.{eqb-true}
 use Rattle.code_follows.proofs.Following.{Extends, Follows, HasRegisters, Sim, extends_then, follows_same, held}
@@ -61,9 +62,9 @@ use Rattle.fields_follow.proofs.Passing.{After, after_same, after_weaker, made_a
 use Rattle.fields_follow.proofs.Places.{HoldsTheFields, PlacesFields}
 use Rattle.fields_follow.proofs.Pure.{ignores_both, pure_means}
 use Rattle.fields_follow.proofs.NarrowKinds.{kind_most, zero_told}
-use Rattle.fields_follow.proofs.Sizes.{binary_parts, brackets_part, unary_part}
+use Rattle.fields_follow.proofs.Sizes.{binary_parts, brackets_part, unary_part, value_small}
 use Rattle.fields_follow.proofs.Values.{Gives, IsFlag, and_entry, next_field, operand_after, operand_of, taken, variable_has, with_entry}
-use Rattle.fields_follow.proofs.TestFlags.{LeavesTests, numbers_tell, puts_nonzero, tested_last}
+use Rattle.fields_follow.proofs.TestFlags.{LeavesTests, is_truth, numbers_tell, puts_nonzero, tested_last}
 use Rattle.fields_follow.proofs.Truths.{either_or_both, field_told, field_truth, truth_told}
 use Rattle.fields_follow.proofs.Relations.{relation_after, relation_code, relation_operands}
 
@@ -457,6 +458,30 @@ module _ (g : Setting) (has : HasRegisters g) (alive : Variable → Type 0) (n :
   known set (T.Variable ty (V.File k)) is c = ((λ d s st here sim. variable_tested set k ty is.0 c.code.names d s st here sim), inl is)
   known set (T.Variable ty x) is c = absurd is.0
   known set e is c = pure_known set e is refl c
+
+  -- its numbers are those of its type
+  pub condition_small : (set : ℕ) (e : TExpr) (st : State) (s : CodeState) → Sim g alive st s → IsCondition set e → HasItsCode g.typed g.instance alive n e → (q : ℕ) → q < processors (shapes g) set → value_in (extents g set) st e q < 2 ^ (type_of e).elem.bits
+  unfolding IsCondition value_in unary_of negates
+  condition_small set (T.Brackets' ty p inner) st s sim is c q below = subst (λ (y : ValueType). value_in (extents g set) st inner q < 2 ^ y.elem.bits) (sym is.0) (condition_small set inner st s sim is.1 (brackets_part g alive n places fields ty p inner c) q below)
+  condition_small set (T.Unary' ty op p operand) st s sim is c q below = by op is.1 c
+    where
+      by : (op : UnaryOp) → ((negates op ≡ true) × IsCondition set operand) ⊎ ((negates op ≡ false) × IsPure set (T.Unary' ty op p operand)) → HasItsCode g.typed g.instance alive n (T.Unary' ty op p operand) → value_in (extents g set) st (T.Unary' ty op p operand) q < 2 ^ ty.elem.bits
+      by op (inr h) c = value_small g alive n places fields set (T.Unary' ty op p operand) st s sim h.1 c q below
+      by U.Not (inl h) c = subst (λ (m : ℕ). from_bool (value_in (extents g set) st operand q == 0) < 2 ^ m) (sym is.0.1) (from_bool_below _)
+      by U.Plus (inl h) c = let wrong = h.0 in cc
+      by U.Minus (inl h) c = let wrong = h.0 in cc
+      by U.Complement (inl h) c = let wrong = h.0 in cc
+  condition_small set (T.LogicalOr' ty p left r right) st s sim is c q below = subst (λ (m : ℕ). from_bool (nonzero (value_in (extents g set) st left q) || nonzero (value_in (extents g set) st right q)) < 2 ^ m) (sym is.0.1) (from_bool_below _)
+  condition_small set (T.LogicalAnd' ty p left r right) st s sim is c q below = subst (λ (m : ℕ). from_bool (nonzero (value_in (extents g set) st left q) && nonzero (value_in (extents g set) st right q)) < 2 ^ m) (sym is.0.1) (from_bool_below _)
+  condition_small set (T.Binary' ty place op p left r right) st s sim is c q below = by is.1
+    where
+      v : ℕ
+      v = value_in (extents g set) st (T.Binary' ty place op p left r right) q
+
+      by : IsRelation set op left right ⊎ ((relates op ≡ false) × HasItsKind set (T.Binary' ty place op p left r right)) → v < 2 ^ ty.elem.bits
+      by (inl relation) = subst (λ (m : ℕ). v < 2 ^ m) (sym is.0.1) (subst (λ (w : ℕ). w < 2 ^ 32) (sym (is_truth op 32 _ _ _ relation.0)) (from_bool_below _))
+      by (inr plain_one) = value_small g alive n places fields set (T.Binary' ty place op p left r right) st s sim plain_one.1.0 c q below
+  condition_small set e st s sim is c q below = value_small g alive n places fields set e st s sim is.0 c q below
 
   -- the code of a condition
   pub condition_tested : (set : ℕ) (e : TExpr) → IsCondition set e → HasItsCode g.typed g.instance alive n e → (d : Draft) (s : CodeState) (st : State) → At g s (length d.code) → Sim g alive st s
