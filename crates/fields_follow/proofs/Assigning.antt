@@ -58,7 +58,8 @@ use Rattle.code_follows.proofs.Growing.{Extended, extended}
 use Rattle.code_follows.proofs.Settings.{At, Setting, Within, and_one, layout, onto}
 use Rattle.fields_follow.specs.Fragment.{HasOperation, IsOperand, IsOperandOrTruth, IsOperation, IsTarget, IsUpdate, IsWide}
 use Rattle.fields_follow.specs.Fields.{IsElement, file_number}
-use Rattle.fields_follow.proofs.Deciding.{truth_bit, truth_last}
+use Rattle.fields_follow.proofs.Deciding.{truth_last}
+use Rattle.fields_follow.proofs.TruthValues.{truth_bit}
 use Rattle.fields_follow.proofs.Dividing.{zero_at, zero_there}
 use Rattle.fields_follow.proofs.Forms.{HasItsCode, field_is, operand_shape}
 use Rattle.fields_follow.proofs.Lengths.{held_first, modular_keeps}

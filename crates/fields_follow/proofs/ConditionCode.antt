@@ -37,13 +37,13 @@ use Rattle.code_follows.proofs.Following.{Extends, Follows, extends_then}
 use Rattle.code_follows.proofs.Growing.{as_it_was, extended}
 use Rattle.code_follows.proofs.Settings.{Setting, Within, and_one, layout}
 use Rattle.fields_follow.proofs.Leaving.{PassesTests}
-use Rattle.fields_follow.proofs.Outcomes.{Given, given_through, given_weaker}
+use Rattle.fields_follow.proofs.Outcomes.{Given, given_through}
 use Rattle.fields_follow.proofs.Passing.{After, Behind, after_same, fields_longer, made_after, then_after}
 use Rattle.fields_follow.proofs.PassingTests.{tests_and_entry, tests_behind_entry, tests_on}
 use Rattle.fields_follow.proofs.Places.{HoldsTheFields, IsOwnField, PlacesFields, names_first, stands_here}
 use Rattle.fields_follow.proofs.Values.{and_entry, next_field, one_more, taken, with_entry}
 use Rattle.fields_follow.proofs.TestFlags.{LeavesTests, PutsTest, Tells, compares, puts_nonzero, puts_zero, tested_behind}
-use Rattle.fields_follow.proofs.Truths.{GivesBit, GivesTold, GivesTruth, either_or_both, truth_bit, truth_joined, truth_stored, truth_turned}
+use Rattle.fields_follow.proofs.Truths.{GivesTold, GivesTruth, either_or_both, truth_joined, truth_stored, truth_turned}
 
 -- ---- what the code is
 
@@ -198,13 +198,6 @@ module _ (g : Setting) (alive : Variable → Type 0) (places : PlacesFields g) (
   abbrev pub Bit : Draft → CodeState → ℕ → State → (ℕ → ℕ) → Out → Draft → Type 0
   Bit d s set st v out e = (f : Field) × ((out ≡ O.Field f) × Truth d s set st v f e)
 
-  -- a bit in any field
-  abbrev pub AnyBit : Draft → CodeState → ℕ → State → (ℕ → ℕ) → Out → Draft → Type 0
-  AnyBit d s set st v out e = (f : Field) × ((out ≡ O.Field f) × GivesBit g alive places fields d s set st v f e)
-
-  pub any_bit : (o : Outcome Value) (m : ℕ → ℕ) (d : Draft) (s : CodeState) (set : ℕ) (st : State) (v : ℕ → ℕ) (made : Made Out) → Follows g (Given g m st (Bit d s set st v)) s o made → Follows g (Given g m st (AnyBit d s set st v)) s o made
-  any_bit o m d s set st v made h = given_weaker g s o m st (Bit d s set st v) (AnyBit d s set st v) made (λ x e (f, (is, gives)). (f, (is, truth_bit g alive places fields d s set st v f e gives))) h
-
   abbrev put : (Field → Instr) → Out → Draft → Made (Unit {0})
   put test x e = in_field x (λ source. Makes tt (with_instr (test source) e))
 
@@ -277,12 +270,12 @@ module _ (g : Setting) (alive : Variable → Type 0) (places : PlacesFields g) (
       (λ x e (a, (is, one)). after_same g (Truth d s set st v) (ap (λ (o : Out). as_bit o e) is) (made_after g (Truth d s set st v) a e (λ within. one)))) bit
 
   -- a bit's complement
-  pub turned_after : (o : Outcome Value) (m : ℕ → ℕ) (set : ℕ) (v : ℕ → ℕ) (d : Draft) (s : CodeState) (st : State) (made : Made Out) → Follows g (Given g m st (AnyBit (with_entry set 1 W.Own d) s set st v)) s o made
+  pub turned_after : (o : Outcome Value) (m : ℕ → ℕ) (set : ℕ) (v : ℕ → ℕ) (d : Draft) (s : CodeState) (st : State) (made : Made Out) → Follows g (Given g m st (Bit (with_entry set 1 W.Own d) s set st v)) s o made
       → Follows g (Given g m st (Bit d s set st (λ q. from_bool (v q == 0)))) s o (then_make made (turned_in g set d))
   unfolding Extends in_field
   turned_after o m set v d s st made bit =
-      given_through g s o m st (AnyBit (with_entry set 1 W.Own d) s set st v) (Bit d s set st (λ q. from_bool (v q == 0))) made (turned_in g set d) next_extends (λ part h.
-      then_after g (AnyBit (with_entry set 1 W.Own d) s set st v) (Bit d s set st (λ q. from_bool (v q == 0))) part (turned_in g set d) h next_extends (λ x e (a, (is, one)).
+      given_through g s o m st (Bit (with_entry set 1 W.Own d) s set st v) (Bit d s set st (λ q. from_bool (v q == 0))) made (turned_in g set d) next_extends (λ part h.
+      then_after g (Bit (with_entry set 1 W.Own d) s set st v) (Bit d s set st (λ q. from_bool (v q == 0))) part (turned_in g set d) h next_extends (λ x e (a, (is, one)).
       after_same g (Bit d s set st (λ q. from_bool (v q == 0))) (ap (λ (o : Out). turned_in g set d o e) is)
       (made_after g (Bit d s set st (λ q. from_bool (v q == 0))) (O.Field (next_field set 1 d)) (with_instr (I.Lognot (next_field set 1 d) a) e) (λ within. (
         next_field set 1 d,

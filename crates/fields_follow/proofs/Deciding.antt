@@ -1,18 +1,16 @@
 -- A truth value that is assigned: the test flags are stored in a field of one bit, which the last instruction moves to
 -- the variable; or the variable is cleared, and its lowest bit written by an operation on two such fields. In a variable
 -- of one bit the flags are stored at once, and it is not cleared; and `!` of a value of one bit is its complement there.
-use Rattle.std.proofs.Common.{◌≡◌, ◌≢◌, ◌∙◌, ℕ, ℤ, pos, ◌+◌, ◌-◌, ◌<◌, ◌≤◌, ◌%◌, ◌^◌, ◌==◌, ◌||◌, ◌&&◌, ◌⊎◌, Bool, true, false, not, [], ◌∷◌, length, Option, Some, None, refl, sym, ap, subst, arith, inl, inr, lit<, if◌then◌else◌}
+use Rattle.std.proofs.Common.{◌≡◌, ◌∙◌, ℕ, ℤ, ◌+◌, ◌-◌, ◌<◌, ◌≤◌, ◌%◌, ◌^◌, ◌==◌, ◌||◌, ◌&&◌, ◌⊎◌, Bool, true, false, not, [], ◌∷◌, length, Option, Some, None, refl, sym, ap, subst, arith, inl, inr, if◌then◌else◌}
 use Rattle.std.specs.Int.{from_bool}
-use Rattle.std.specs.Prelude.{nat_le, nat_lt, unwrap_or}
-use Rattle.std.proofs.lemmas.Bool.{cases_eq, eqb-true}
+use Rattle.std.specs.Prelude.{nat_le, unwrap_or}
+use Rattle.std.proofs.lemmas.Bool.{eqb-true}
 use Rattle.std.proofs.lemmas.Bool.Decides.{nat_tests}
-use Rattle.std.proofs.Math.Nat.{mod-eq_of_lt, pow-le-pow_right}
-use Rattle.cstar_base.specs.declared.elem.Elem.{Elem}
 use Rattle.cstar_base.specs.declared.operators.Op.{Op}
 use Rattle.cstar_base.specs.declared.operators.Place.{Place}
-use Rattle.cstar_base.specs.Numbers.{converted, number_of, residue, truth_of as truth_number}
+use Rattle.cstar_base.specs.Numbers.{number_of, residue}
 use Rattle.cstar_base.specs.Operators.{divides, outcome}
-use Rattle.cstar_base.proofs.NumberLaws.{kind_bits, number_in_lower, number_unsigned, residue_of_pos}
+use Rattle.cstar_base.proofs.NumberLaws.{number_unsigned, residue_of_pos}
 use Rattle.cstar_tree.specs.declared.typed.TExpr.{TExpr}
 use Rattle.cstar_tree.specs.declared.typed.TExpr as T
 use Rattle.cstar_tree.specs.declared.typed.UnaryOp.{UnaryOp}
@@ -24,14 +22,14 @@ use Rattle.code_lengths.specs.Ready.{IsReadyButForFields}
 use Rattle.lower_base.specs.declared.emit.Out.{Out}
 use Rattle.lower_base.specs.declared.emit.Out.TheVariants as O
 use Rattle.lower_base.specs.Drafts.{Draft, Fails, Made, Makes, a_field, a_flag, an_entry, first_bits, in_field, step as step_of, then_make, with_instr}
-use Rattle.lower_base.specs.Kinds.{binary_kind, bits_of, common_kind, converted_kind, has_all, is_bitwise, kind_of, narrow, truth_type as truth_kind}
+use Rattle.lower_base.specs.Kinds.{bits_of, kind_of}
 use Rattle.lower_base.specs.Operators.{negates, relates}
-use Rattle.lower_expr.specs.Effects.{binary_to, bits_for, computed_to, converted_to, field_binary_to, fits_field, goes_unchanged, keeps_bits, logical_to, moved, put_to}
+use Rattle.lower_expr.specs.Effects.{binary_to, bits_for, cast_to, computed_to, converted_to, field_binary_to, fits_field, goes_unchanged, keeps_bits, logical_to, moved, put_to}
 use Rattle.lower_expr.specs.Joined.{cleared, joined, joins, operation_of}
 use Rattle.lower_expr.specs.Kinds.{done_as, operand_bits, operation_bits, reads_signed, relation_kind, unary_bits}
 use Rattle.lower_expr.specs.Operands.{ignores_context, is_plus, is_quiet, operand_by}
-use Rattle.lower_expr.specs.Steps.{field_negated, has_truth, is_kept, negated, put_test, word_for, word_of, word_put}
-use Rattle.lower_expr.specs.Values.{Code, condition_of, field_binary_of, fields_by, flag_of, joined_by, joined_of, next_of, relation_by, tested, tested_by, truth_of, value_of, zero_tested}
+use Rattle.lower_expr.specs.Steps.{field_negated, has_truth, is_kept, negated, put_test, word_for, word_put}
+use Rattle.lower_expr.specs.Values.{Code, condition_of, extended as extended_of, field_binary_of, fields_by, flag_of, joined_by, joined_of, next_of, relation_by, tested, tested_by, truth_of, truth_put, value_of, zero_tested}
 use Rattle.paris_code.specs.declared.instr.Instr.{Instr}
 use Rattle.paris_code.specs.declared.instr.Instr.TheVariants as I
 use Rattle.paris_code.specs.declared.operands.Konst.TheVariants as K
@@ -43,7 +41,6 @@ use Rattle.paris_code.specs.Memory.{is_active, is_tested, processors, whole_numb
 use Rattle.paris_code.specs.Operators.{operator_of}
 use Rattle.paris_code.specs.Spans.{IsNamedAt, StandsAt}
 use Rattle.phase_meaning.proofs.Widths.{cut_cut}
-use Rattle.short_values.proofs.NarrowTypes.{bool_unsigned}
 use Rattle.source_meaning.specs.Expressions.{evaluated}
 use Rattle.source_meaning.specs.State as Source
 use Rattle.source_meaning.specs.State.{State}
@@ -56,17 +53,18 @@ use Rattle.code_follows.proofs.Settings.{At, Setting, Within, and_one, layout}
 use Rattle.constant_trees.proofs.Words.{from_bool_below}
 use Rattle.fields_follow.specs.Fields.{IsElement}
 use Rattle.cstar_tree.specs.Typed.{type_of}
-use Rattle.fields_follow.specs.Fragment.{IsCondition, IsInnerCondition, IsTruth}
+use Rattle.fields_follow.specs.Fragment.{IsCondition, IsTruth}
 use Rattle.fields_follow.proofs.Clearing.{field_at, joined_behind, joined_more, truths_taken}
-use Rattle.fields_follow.proofs.Conditions.{HaveTheirCode, and_codes, conditions_join, or_codes}
+use Rattle.fields_follow.proofs.Conditions.{HaveTheirCode, and_codes, condition_kept, conditions_join, or_codes}
 use Rattle.fields_follow.proofs.Sizes.{brackets_part, convert_part, unary_part}
 use Rattle.fields_follow.proofs.Places.{HoldsTheFields, IsFileField, PlacesFields, stands_here}
-use Rattle.fields_follow.proofs.Testing.{and_ended, and_given, both_flagged, inner_bit, inner_tested, operand_kept, or_ended, or_given}
+use Rattle.fields_follow.proofs.Testing.{and_ended, and_given, both_flagged, condition_bit, condition_small, condition_tested, or_ended, or_given}
 use Rattle.fields_follow.proofs.Expressions.{convert_ended, convert_means, unary_ended}
 use Rattle.fields_follow.proofs.Lengths.{relates_plainly}
 use Rattle.fields_follow.proofs.Outcomes.{Ended, meant, then_known}
+use Rattle.fields_follow.proofs.TruthValues.{bool_nonzero, truth_bit, truth_converted, truth_flag, truth_word}
 use Rattle.fields_follow.proofs.Truths.{either_or_both, joined_bits, truth_still}
-use Rattle.fields_follow.proofs.ConditionCode.{AnyBit, Truth, flag_after, put_in, relation_put, stored_behind, zero_put}
+use Rattle.fields_follow.proofs.ConditionCode.{Bit, Truth, flag_after, put_in, relation_put, stored_behind, zero_put}
 use Rattle.fields_follow.proofs.Forms.{HasItsCode}
 use Rattle.fields_follow.proofs.Instructions.{Puts, extents, number_in, place, shapes}
 use Rattle.fields_follow.proofs.Meaning.{unary_means, value_in}
@@ -74,113 +72,7 @@ use Rattle.fields_follow.proofs.Leaving.{PassesTests}
 use Rattle.fields_follow.proofs.Passing.{After, Behind, after_same, code_longer, flags_of, made_after, names_second, names_third}
 use Rattle.fields_follow.proofs.PassingTests.{tests_on}
 use Rattle.fields_follow.proofs.Writing.{TakesBehind, entry_and_below, instr_takes}
-use Rattle.fields_follow.proofs.TestFlags.{LeavesTests, is_truth, truth_is}
-
--- ---- what is known of a truth value
-
--- a truth value is the same number of every type
-one_number : (from : Elem) → number_of from.bits from.signed 1 ≡ pos 1
-one_number from = by from.signed refl
-  where
-    some : 0 < from.bits
-    some = (kind_bits from.bits from.signed from.kind).0
-
-    by : (signed : Bool) → from.signed ≡ signed → number_of from.bits signed 1 ≡ pos 1
-    by false plain = number_unsigned from.bits 1
-    by true with_sign =
-        let several : from.bits ≡ 1 → ⊥ = λ one. (let wrong = sym (bool_unsigned from.bits from.signed from.kind one) ∙ with_sign in cc) in
-        let more : 1 ≤ from.bits - 1 = by_cases (cases_eq from.bits 1) several in
-        number_in_lower from.bits 1 (let least : 2 ^ 1 ≤ 2 ^ (from.bits - 1) = pow-le-pow_right (lit< tt) more in omega (arith, least))
-      where
-        by_cases : (from.bits ≡ 1) ⊎ (from.bits ≢ 1) → (from.bits ≡ 1 → ⊥) → 1 ≤ from.bits - 1
-        by_cases (inl one) no_one = absurd (no_one one)
-        by_cases (inr other) no_one = grind (arith, nat_tests, some, other)
-
-bit_converted : (to from : Elem) (b : Bool) → converted to from (from_bool b) ≡ from_bool b
-unfolding converted truth_number
-bit_converted to from false = zero_converted to from
-bit_converted to from true =
-    ap (λ (z : ℤ). if to.bits == 1 then truth_number z else residue to.bits z) (one_number from) ∙ by (to.bits == 1)
-  where
-    by : (b : Bool) → (if b then truth_number (pos 1) else residue to.bits (pos 1)) ≡ 1
-    by true = refl
-    by false = residue_of_pos to.bits 1 ∙ mod-eq_of_lt (let some = (kind_bits to.bits to.signed to.kind).0 in let least : 2 ^ 1 ≤ 2 ^ to.bits = pow-le-pow_right (lit< tt) some in omega (arith, least))
-
--- a conversion of one is known to be one
-converted_flag : (elem : Elem) (k : Option Elem) → (bits_of k == 1) ≡ true → (bits_of (converted_kind elem k) == 1) ≡ true
-unfolding bits_of converted_kind has_all
-converted_flag elem None h = cc
-converted_flag elem (Some kind) h = ap (λ (b : Bool). bits_of (if b then Some kind else narrow elem) == 1) all ∙ h
-  where
-    one : kind.bits ≡ 1
-    one = eqb-true kind.bits 1 h
-
-    plain : kind.signed ≡ false
-    plain = bool_unsigned kind.bits kind.signed kind.kind one
-
-    some : 0 < elem.bits
-    some = (kind_bits elem.bits elem.signed elem.kind).0
-
-    by : (b : Bool) → elem.signed ≡ b → (if b then nat_lt kind.bits elem.bits else nat_le kind.bits elem.bits) ≡ true
-    by false e = grind (arith, nat_tests, one, some)
-    by true e =
-        let several : elem.bits ≡ 1 → ⊥ = λ bit. (let wrong = sym (bool_unsigned elem.bits elem.signed elem.kind bit) ∙ e in cc) in
-        by_cases (cases_eq elem.bits 1) several
-      where
-        by_cases : (elem.bits ≡ 1) ⊎ (elem.bits ≢ 1) → (elem.bits ≡ 1 → ⊥) → nat_lt kind.bits elem.bits ≡ true
-        by_cases (inl bit) no_bit = absurd (no_bit bit)
-        by_cases (inr other) no_bit = grind (arith, nat_tests, one, some, other)
-
-    all : has_all elem kind ≡ true
-    all = ap (λ (b : Bool). if b then elem.signed && nat_le kind.bits elem.bits else (if elem.signed then nat_lt kind.bits elem.bits else nat_le kind.bits elem.bits)) plain ∙ by elem.signed refl
-
--- it is 0 or 1
-pub truth_bit : (extents : _) (st : State) (set bits : ℕ) (e : TExpr) (x : ℕ) → IsTruth set bits e → value_in extents st e x ≡ from_bool (nonzero (value_in extents st e x))
-unfolding IsTruth value_in unary_of negates
-truth_bit extents st set bits (T.Brackets' ty p inner) x is = truth_bit extents st set bits inner x is.1
-truth_bit extents st set bits (T.Convert' ty p inner) x is =
-    let v : ℕ = value_in extents st inner x in
-    let bit = truth_bit extents st set bits inner x is.2 in
-    ap (λ (w : ℕ). converted ty.elem (type_of inner).elem w) bit ∙ bit_converted ty.elem (type_of inner).elem (nonzero v) ∙ truth_is (nonzero v)
-    ∙ ap (λ (w : ℕ). from_bool (nonzero w)) (sym (ap (λ (w : ℕ). converted ty.elem (type_of inner).elem w) bit ∙ bit_converted ty.elem (type_of inner).elem (nonzero v)))
-truth_bit extents st set bits (T.Unary' ty op p operand) x is = by op is.1
-  where
-    by : (op : UnaryOp) → negates op ≡ true → unary_of op (value_in extents st operand x) ≡ from_bool (nonzero (unary_of op (value_in extents st operand x)))
-    by U.Not e = truth_is _
-    by U.Plus e = cc
-    by U.Minus e = cc
-    by U.Complement e = cc
-truth_bit extents st set bits (T.LogicalOr' ty p left q right) x is = truth_is _
-truth_bit extents st set bits (T.LogicalAnd' ty p left q right) x is = truth_is _
-truth_bit extents st set bits (T.Binary' ty place op p left q right) x is = is_truth op 32 _ _ _ is.0
-truth_bit extents st set bits _ x is = absurd is
-
--- a conversion leaves it
-truth_converted : (extents : _) (st : State) (set bits : ℕ) (to : Elem) (e : TExpr) (x : ℕ) → IsTruth set bits e → converted to (type_of e).elem (value_in extents st e x) ≡ value_in extents st e x
-truth_converted extents st set bits to e x is =
-    let bit = truth_bit extents st set bits e x is in ap (λ (w : ℕ). converted to (type_of e).elem w) bit ∙ bit_converted to (type_of e).elem (nonzero (value_in extents st e x)) ∙ sym bit
-
--- it is no constant
-truth_word : (set bits : ℕ) (e : TExpr) → IsTruth set bits e → word_of e ≡ None
-unfolding IsTruth word_of
-truth_word set bits (T.Brackets' ty p inner) is = truth_word set bits inner is.1
-truth_word set bits (T.Convert' ty p inner) is = refl
-truth_word set bits (T.Unary' ty op p operand) is = refl
-truth_word set bits (T.LogicalOr' ty p left q right) is = refl
-truth_word set bits (T.LogicalAnd' ty p left q right) is = refl
-truth_word set bits (T.Binary' ty place op p left q right) is = refl
-truth_word set bits _ is = absurd is
-
--- and it is known to be one
-truth_flag : (set bits : ℕ) (e : TExpr) → IsTruth set bits e → (bits_of (kind_of e) == 1) ≡ true
-unfolding IsTruth kind_of binary_kind bits_of converted_kind
-truth_flag set bits (T.Brackets' ty p inner) is = truth_flag set bits inner is.1
-truth_flag set bits (T.Convert' ty p inner) is = converted_flag ty.elem (kind_of inner) (truth_flag set bits inner is.2)
-truth_flag set bits (T.Unary' ty op p operand) is = ap (λ (b : Bool). bits_of (if b then Some truth_kind else None) == 1) is.1
-truth_flag set bits (T.LogicalOr' ty p left q right) is = refl
-truth_flag set bits (T.LogicalAnd' ty p left q right) is = refl
-truth_flag set bits (T.Binary' ty place op p left q right) is = ap (λ (b : Bool). bits_of (if b then Some truth_kind else if is_bitwise op then common_kind (kind_of left) (kind_of right) else None) == 1) is.0
-truth_flag set bits _ is = absurd is
+use Rattle.fields_follow.proofs.TestFlags.{LeavesTests}
 
 -- ---- what its code is
 
@@ -391,36 +283,42 @@ module _ (g : Setting) where
           instr_takes g set i f e2 p.t v (entry_and_below g places fields alive set k 0 info f is_element word file refl) within p.at (subst (λ (m : ℕ). Puts g set i (field_at set offset m) p.t v) same puts)
 
       -- by its test, and a bit that is moved, or the flags
-      by_test : (e : TExpr) → IsInnerCondition set e → has_truth e ≡ true → HasItsCode g.typed g.instance alive n e → ((q : ℕ) → words_of e q ≡ from_bool (nonzero (words_of e q)))
-          → computed_to g.typed (layout g) (O.Field f) e d ≡ then_make (truth_of g.typed (layout g) e d) (put_in f) → Last e → Ends e → After g Q (computed_to g.typed (layout g) (O.Field f) e d)
-      unfolding step_of Extends tested_by
-      by_test e is told c truth code last ended = after_same g Q (code ∙ sym (ap (λ (b : Bool). then_make (tested_by b (truth_of g.typed (layout g) e) (next_of g.typed (layout g) (bits_of (kind_of e)) true e) d) (put_in f)) told)) (by (bits == 1) refl)
+      by_tests : (e inner : TExpr) → IsCondition set inner → HasItsCode g.typed g.instance alive n inner → ((q : ℕ) → words_of e q ≡ from_bool (nonzero (words_of e q))) → ((q : ℕ) → q < processors (shapes g) set → nonzero (words_of inner q) ≡ nonzero (words_of e q))
+          → (IsGiven inner → IsGiven e) → (Ended g s (meant g fields inner st) → Ended g s (meant g fields e st)) → computed_to g.typed (layout g) (O.Field f) e d ≡ then_make (tested g.typed (layout g) inner d) (put_in f) → Last e → Ends e → After g Q (computed_to g.typed (layout g) (O.Field f) e d)
+      unfolding step_of Extends
+      by_tests e inner is c truth same_truth gives ends code last ended = after_same g Q code (by (bits == 1) refl)
         where
           tests : Made (Unit {0})
-          tests = tested g.typed (layout g) e d
+          tests = tested g.typed (layout g) inner d
 
           bit_put : (len : ℕ) → len ≡ bits → len ≡ 1 → After g Q (then_make tests (put_in (field_at set offset len)))
           bit_put len same one =
               after_same g Q (ap (λ (n : ℕ). then_make tests (put_in (field_at set offset n))) one ∙ at_once set offset tests)
-              (then_known g s (meant g fields e st) (words_of e) st (λ _ x. LeavesTests g alive fields d s set st (words_of e) x) Q tests (flag_stored (field_at set offset 1)) (inner_tested g has alive n ready places fields set e is c d s st here sim) (λ x e2. (1, and_one g (I.StoreTest (field_at set offset 1)) e2))
+              (then_known g s (meant g fields inner st) (words_of inner) st (λ _ x. LeavesTests g alive fields d s set st (words_of inner) x) Q tests (flag_stored (field_at set offset 1)) (condition_tested g has alive n ready places fields set inner is c d s st here sim) (λ x e2. (1, and_one g (I.StoreTest (field_at set offset 1)) e2))
               (λ given x e2 left. made_after g Q (O.Field (field_at set offset 1)) (with_instr (I.StoreTest (field_at set offset 1)) e2) (λ within.
               let is_one : bits ≡ 1 = sym same ∙ one in
               let puts : Puts g set (I.StoreTest (field_at set offset 1)) (field_at set offset 1) left.leaves.t (words_of e) =
               puts_flags set offset left.leaves.t (words_of e)
-              (λ q below on. left.flags q below (sym (flags_of g alive places fields st left.leaves.t set q left.leaves.sim (subst (λ (m : ℕ). m < length (shapes g)) refl (places.exists k 0 set info is_element)) below) ∙ on)) truth in
+              (λ q below on. left.flags q below (sym (flags_of g alive places fields st left.leaves.t set q left.leaves.sim (subst (λ (m : ℕ). m < length (shapes g)) refl (places.exists k 0 set info is_element)) below) ∙ on) ∙ same_truth q below) truth in
               subst (λ (m : ℕ). Q (O.Field (field_at set offset m)) (with_instr (I.StoreTest (field_at set offset 1)) e2)) is_one
-              (last given e2 (with_instr (I.StoreTest (field_at set offset 1)) e2) (Unit {0}) within left.leaves tt (takes_behind 1 (sym is_one) (I.StoreTest (field_at set offset 1)) e2 (words_of e) (Unit {0}) left.leaves within puts)))) ended)
+              (last (gives given) e2 (with_instr (I.StoreTest (field_at set offset 1)) e2) (Unit {0}) within left.leaves tt (takes_behind 1 (sym is_one) (I.StoreTest (field_at set offset 1)) e2 (words_of e) (Unit {0}) left.leaves within puts)))) (λ early. ended (ends early)))
 
           by : (b : Bool) → (bits == 1) ≡ b → After g Q (then_make tests (put_in f))
           by true one = bit_put bits refl (eqb-true bits 1 one)
           by false several =
               after_same g Q (through_bit set offset bits tests several)
-              (then_known g s (meant g fields e st) (words_of e) st (Truth g alive places fields d s set st (words_of e)) Q (then_make tests (stored_behind set)) (bit_moved f) (flag_after g alive places fields (meant g fields e st) (words_of e) set (words_of e) d s st tests (inner_tested g has alive n ready places fields set e is c d s st here sim))
+              (then_known g s (meant g fields inner st) (words_of inner) st (Truth g alive places fields d s set st (words_of inner)) Q (then_make tests (stored_behind set)) (bit_moved f) (flag_after g alive places fields (meant g fields inner st) (words_of inner) set (words_of inner) d s st tests (condition_tested g has alive n ready places fields set inner is c d s st here sim))
               (λ kept e2. (1, and_one g (I.Move false f kept) e2))
               (λ given kept e2 bit. made_after g Q (O.Field f) (with_instr (I.Move false f kept) e2) (λ within.
-              last given e2 (with_instr (I.Move false f kept) e2) (Behind g kept e2) within bit.passes (length e2.code, (names_second g (I.Move false f kept) f kept [] (length e2.code) (stands_here g (I.Move false f kept) e2 within refl) refl, omega arith))
+              last (gives given) e2 (with_instr (I.Move false f kept) e2) (Behind g kept e2) within bit.passes (length e2.code, (names_second g (I.Move false f kept) f kept [] (length e2.code) (stands_here g (I.Move false f kept) e2 within refl) refl, omega arith))
               (takes_behind bits refl (I.Move false f kept) e2 (words_of e) (Behind g kept e2) bit.passes within
-              (puts_bit set f kept bit.passes.t (words_of e) bit.len (λ q below on. bit.are q below (sym (flags_of g alive places fields st bit.passes.t set q bit.passes.sim bit.exists below) ∙ on)) truth)))) ended)
+              (puts_bit set f kept bit.passes.t (words_of e) bit.len (λ q below on. bit.are q below (sym (flags_of g alive places fields st bit.passes.t set q bit.passes.sim bit.exists below) ∙ on) ∙ ap from_bool (same_truth q below)) truth)))) (λ early. ended (ends early)))
+
+      by_test : (e : TExpr) → IsCondition set e → has_truth e ≡ true → HasItsCode g.typed g.instance alive n e → ((q : ℕ) → words_of e q ≡ from_bool (nonzero (words_of e q)))
+          → computed_to g.typed (layout g) (O.Field f) e d ≡ then_make (truth_of g.typed (layout g) e d) (put_in f) → Last e → Ends e → After g Q (computed_to g.typed (layout g) (O.Field f) e d)
+      unfolding tested_by
+      by_test e is told c truth code last ended =
+          by_tests e e is c truth (λ q below. refl) (λ given. given) (λ early. early) (code ∙ sym (ap (λ (b : Bool). then_make (tested_by b (truth_of g.typed (layout g) e) (next_of g.typed (layout g) (bits_of (kind_of e)) true e) d) (put_in f)) told)) last ended
 
       -- by the complement of a bit
       by_complement : (e operand : TExpr) → IsCondition set operand → (bits_of (kind_of operand) == 1) ≡ true → HasItsCode g.typed g.instance alive n operand → ◌≡◌ {A = ℕ → ℕ} (λ q. from_bool (words_of operand q == 0)) (words_of e)
@@ -428,7 +326,7 @@ module _ (g : Setting) where
       unfolding Extends step_of in_field
       by_complement e operand is one c value code is_one gives ends last ended =
           after_same g Q (ap (λ (m : ℕ). computed_to g.typed (layout g) (O.Field (field_at set offset m)) e d) is_one ∙ code)
-          (then_known g s (meant g fields operand st) (words_of operand) st (AnyBit g alive places fields d s set st (words_of operand)) Q (next_of g.typed (layout g) 1 true operand d) (bit_turned set offset) (inner_bit g has alive n ready places fields set operand is one c d s st here sim) grows
+          (then_known g s (meant g fields operand st) (words_of operand) st (Bit g alive places fields d s set st (words_of operand)) Q (next_of g.typed (layout g) 1 true operand d) (bit_turned set offset) (condition_bit g has alive n ready places fields set operand is one c d s st here sim) grows
           (λ given x e2 (a, (same, bit)). after_same g Q (ap (λ (o : Out). bit_turned set offset o e2) same)
           (made_after g Q (O.Field (field_at set offset 1)) (with_instr (I.Lognot (field_at set offset 1) a) e2) (λ within.
           let i : Instr = I.Lognot (field_at set offset 1) a in
@@ -444,7 +342,7 @@ module _ (g : Setting) where
           grows O.Nothing e2 = tt
 
       -- by the operation on two bits
-      by_operation : (is_or : Bool) (e left right : TExpr) → IsInnerCondition set left → IsInnerCondition set right → ignores_context right ≡ true → HaveTheirCode g.typed g.instance alive n left right
+      by_operation : (is_or : Bool) (e left right : TExpr) → IsCondition set left → IsCondition set right → ignores_context right ≡ true → HaveTheirCode g.typed g.instance alive n left right
           → ◌≡◌ {A = ℕ → ℕ} (λ q. from_bool (either_or_both is_or (nonzero (words_of left q)) (nonzero (words_of right q)))) (words_of e) → (IsGiven left → set < length (shapes g) → IsGiven e) → (Ended g s (meant g fields left st) → Ended g s (meant g fields e st)) → Last e → Ends e → After g Q (logical_to g.typed (layout g) (O.Field f) e is_or left right d)
       unfolding Extends step_of tests_on
       by_operation is_or e left right is also same codes value gives ends last ended = by (bits == 1) refl
@@ -482,25 +380,48 @@ module _ (g : Setting) where
               last (gives given exists) e2 (joined_behind is_or set offset bits a b e2) (Unit {0}) within passes tt (subst (λ (v : ℕ → ℕ). TakesBehind g set f e2 (joined_behind is_or set offset bits a b e2) passes.t v) value takes))) (λ early. ended (ends early)))
 
       truth_computed : (e : TExpr) → IsTruth set bits e → HasItsCode g.typed g.instance alive n e → Last e → Ends e → After g Q (computed_to g.typed (layout g) (O.Field f) e d)
-      unfolding IsTruth IsInnerCondition computed_to value_in has_truth goes_unchanged keeps_bits negates unary_of evaluated
+      unfolding IsTruth IsCondition computed_to value_in has_truth goes_unchanged keeps_bits negates unary_of evaluated converted_to cast_to truth_put
       truth_computed (T.Brackets' ty p inner) is c last ended = truth_computed inner is.1 (brackets_part g alive n places fields ty p inner c) last ended
-      truth_computed (T.Convert' ty p inner) is c last ended =
-          after_same g Q (ap (λ (b : Bool). if b then computed_to g.typed (layout g) (O.Field f) inner d else converted_to g.typed (layout g) (O.Field f) (T.Convert' ty p inner) ty.elem inner d) (kept (nat_le bits ty.elem.bits) (let long = is.1 in grind (arith, nat_tests, long)) (not (ty.elem.bits == 1)) (bits_of (kind_of inner) == 1) (truth_flag set bits inner is.2)))
-          (truth_computed inner is.2 (convert_part g alive n places fields ty p inner c)
-          (λ given e2 f2 used within passes wanted takes. last (convert_means g has alive n ready places fields set ty p inner st is.0 given) e2 f2 used within passes wanted (subst (λ (v : ℕ → ℕ). TakesBehind g set f e2 f2 passes.t v) (λ j q. sym (truth_converted (extents g set) st set bits ty.elem inner q is.2) j) takes)) (λ early. ended (convert_ended g has alive n ready places fields ty p inner s st early)))
+      truth_computed (T.Convert' ty p inner) is c last ended = by is.1 (λ part code final early. truth_computed inner part code final early)
         where
           kept : (a : Bool) → a ≡ true → (b c : Bool) → c ≡ true → (a && (b || c)) ≡ true
           kept true e true c h = refl
           kept true e false true h = refl
           kept true e false false h = cc
           kept false e b c h = cc
+
+          whole : TExpr
+          whole = T.Convert' ty p inner
+
+          goes : Bool → Made Out
+          goes b = if b then computed_to g.typed (layout g) (O.Field f) inner d else converted_to g.typed (layout g) (O.Field f) whole ty.elem inner d
+
+          not_kept : (a b c : Bool) → b ≡ true → c ≡ false → (a && (not b || c)) ≡ false
+          not_kept true true false e h = refl
+          not_kept false b c e h = refl
+          not_kept true true true e h = cc
+          not_kept true false c e h = cc
+
+          by : ((bits ≤ ty.elem.bits) × IsTruth set bits inner) ⊎ ((ty.elem.bits ≡ 1) × ((bits_of (kind_of inner) == 1) ≡ false) × IsCondition set inner) → (IsTruth set bits inner → HasItsCode g.typed g.instance alive n inner → Last inner → Ends inner → After g Q (computed_to g.typed (layout g) (O.Field f) inner d)) → After g Q (computed_to g.typed (layout g) (O.Field f) whole d)
+          by (inl part) of_inner =
+              after_same g Q (ap (λ (b : Bool). if b then computed_to g.typed (layout g) (O.Field f) inner d else converted_to g.typed (layout g) (O.Field f) (T.Convert' ty p inner) ty.elem inner d) (kept (nat_le bits ty.elem.bits) (let long = part.0 in grind (arith, nat_tests, long)) (not (ty.elem.bits == 1)) (bits_of (kind_of inner) == 1) (truth_flag set bits inner part.1)))
+              (of_inner part.1 (convert_part g alive n places fields ty p inner c)
+              (λ given e2 f2 used within passes wanted takes. last (convert_means g has alive n ready places fields set ty p inner st is.0 given) e2 f2 used within passes wanted (subst (λ (v : ℕ → ℕ). TakesBehind g set f e2 f2 passes.t v) (λ j q. sym (truth_converted (extents g set) st set bits ty.elem inner q part.1) j) takes)) (λ early. ended (convert_ended g has alive n ready places fields ty p inner s st early)))
+          by (inr bool_of) of_inner =
+              by_tests whole inner bool_of.2 (convert_part g alive n places fields ty p inner c) (λ q. truth_bit (extents g set) st set bits whole q is)
+              (λ q below. bool_nonzero ty.elem (type_of inner).elem (words_of inner q) bool_of.0 (condition_small g has alive n ready places fields set inner st s sim bool_of.2 (convert_part g alive n places fields ty p inner c) q below))
+              (λ given. convert_means g has alive n ready places fields set ty p inner st is.0 given) (λ early. convert_ended g has alive n ready places fields ty p inner s st early)
+              (ap goes (not_kept (nat_le bits ty.elem.bits) (ty.elem.bits == 1) (bits_of (kind_of inner) == 1) (ap (λ (m : ℕ). m == 1) bool_of.0) bool_of.1)
+              ∙ ap (λ (b : Bool). if b then moved g.typed (layout g) (O.Field f) whole d else if ty.elem.bits == 1 then truth_put f (tested g.typed (layout g) inner) d else extended_of ty.elem.signed f (next_of g.typed (layout g) ty.elem.bits true inner) d) (condition_kept set inner bool_of.2)
+              ∙ ap (λ (m : ℕ). if m == 1 then truth_put f (tested g.typed (layout g) inner) d else extended_of ty.elem.signed f (next_of g.typed (layout g) ty.elem.bits true inner) d) bool_of.0)
+              last ended
       truth_computed (T.Unary' ty op p operand) is c last ended = by (bits == 1) (bits_of (kind_of operand) == 1) refl refl
         where
           whole : TExpr
           whole = T.Unary' ty op p operand
 
           tests : (bits == 1 && bits_of (kind_of operand) == 1) ≡ false → After g Q (computed_to g.typed (layout g) (O.Field f) whole d)
-          tests no_bit = by_test whole (is.0, inl (is.1, is.2)) is.1 c (λ q. truth_bit (extents g set) st set bits whole q is) (not_code set offset bits ty p op operand d is.1 no_bit (operand_kept g has alive n ready places fields set operand is.2)) last ended
+          tests no_bit = by_test whole (is.0, inl (is.1, is.2)) is.1 c (λ q. truth_bit (extents g set) st set bits whole q is) (not_code set offset bits ty p op operand d is.1 no_bit (condition_kept set operand is.2)) last ended
 
           value : (o : UnaryOp) → negates o ≡ true → ◌≡◌ {A = ℕ → ℕ} (λ q. from_bool (words_of operand q == 0)) (λ q. unary_of o (words_of operand q))
           value U.Not e = refl
@@ -510,7 +431,7 @@ module _ (g : Setting) where
 
           by : (a b : Bool) → (bits == 1) ≡ a → (bits_of (kind_of operand) == 1) ≡ b → After g Q (computed_to g.typed (layout g) (O.Field f) whole d)
           by true true one bit =
-              by_complement whole operand is.2 bit (unary_part g alive n places fields ty op p operand c) (value op is.1) (bit_not_code set offset ty p op operand d is.1 bit (operand_kept g has alive n ready places fields set operand is.2)) (eqb-true bits 1 one)
+              by_complement whole operand is.2 bit (unary_part g alive n places fields ty op p operand c) (value op is.1) (bit_not_code set offset ty p op operand d is.1 bit (condition_kept set operand is.2)) (eqb-true bits 1 one)
               (λ given. unary_means fields.scope fields.active set ty op p operand (words_of operand) st is.0.0 given) (λ early. unary_ended g has alive n ready places fields ty op p operand s st early) last ended
           by true false one bit = tests (ap (λ (b : Bool). bits == 1 && b) bit ∙ ap (λ (b : Bool). b && false) one)
           by false b one bit = tests (ap (λ (a : Bool). a && bits_of (kind_of operand) == 1) one)

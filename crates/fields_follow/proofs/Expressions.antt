@@ -47,7 +47,7 @@ use Rattle.code_follows.proofs.Values.{extends_grown}
 use Rattle.code_follows.proofs.Words.{below_word, held_wide}
 use Rattle.fields_follow.specs.Fragment.{AreWrapping, IsOperation, IsPromoted, IsPure, IsWide}
 use Rattle.fields_follow.proofs.Extents.{get_names}
-use Rattle.fields_follow.proofs.Forms.{HasItsCode, HasItsWord, StandsInRegister, promoted_stands, pure_kept, pure_word}
+use Rattle.fields_follow.proofs.Forms.{HasItsCode, HasItsWord, StandsInRegister, flag_converted, promoted_stands, pure_kept, pure_word}
 use Rattle.fields_follow.proofs.Hops.{puts_same}
 use Rattle.fields_follow.proofs.Instructions.{AreAlike, HasNumbers, Puts, alike_same, extents, has_alike, puts_coordinate, puts_extended, puts_lognot, puts_negate, shapes, whole_keeps}
 use Rattle.fields_follow.proofs.Lengths.{Keeps, converted_first, divides_wide, held_has, operation_keeps, operation_most}
@@ -56,11 +56,11 @@ use Rattle.fields_follow.proofs.News.{get_last}
 use Rattle.fields_follow.proofs.Operands.{fields_after}
 use Rattle.fields_follow.proofs.Outcomes.{Ended, Given, Known, ended_on, follows_like, given_follows, given_weaker, known_follows, meant, then_known}
 use Rattle.fields_follow.proofs.Pure.{get_gives}
-use Rattle.fields_follow.proofs.Passing.{After, Behind, Passes, after_same, fields_longer, gives_alike, gives_from, gives_numbers, gives_on, made_after, names_second, passes_all, puts_own}
+use Rattle.fields_follow.proofs.Passing.{After, Behind, GivesField, Passes, after_same, fields_longer, gives_alike, gives_from, gives_numbers, gives_on, made_after, names_second, passes_all, puts_own}
 use Rattle.fields_follow.proofs.Places.{HoldsTheFields, PlacesFields, stands_here}
 use Rattle.fields_follow.proofs.Sizes.{binary_parts, brackets_part, convert_part, coordinates_small, promoted_small, pure_at, unary_part}
 use Rattle.fields_follow.proofs.Totals.{held_below}
-use Rattle.fields_follow.proofs.Values.{Gives, Valued, and_entry, code_of, first_given, next_field, one_more, operand_after, operand_of, taken, variable_after, with_entry}
+use Rattle.fields_follow.proofs.Values.{Gives, IsFlag, Valued, and_entry, code_of, first_given, next_field, one_more, operand_after, operand_of, taken, variable_after, with_entry}
 use Rattle.cstar_base.specs.Numbers.{converted}
 use Rattle.cstar_base.proofs.NumberLaws.{kind_bits}
 use Rattle.std.specs.Prelude.{nat_lt, unwrap_or}
@@ -88,8 +88,8 @@ module _ (g : Setting) (has : HasRegisters g) (alive : Variable → Type 0) (n :
   abbrev operand : ℕ → Bool → TExpr → Draft → Made Out
   operand bits quiet e d = operand_of g has alive n ready places fields bits quiet e d
 
-  abbrev Answers : ℕ → ℕ → Draft → CodeState → ℕ → State → (ℕ → ℕ) → Out → Draft → Type 0
-  Answers bits bound d s set st v out e = Gives g has alive n ready places fields bits bound d s set st v out e
+  abbrev Answers : Type 0 → ℕ → ℕ → Draft → CodeState → ℕ → State → (ℕ → ℕ) → Out → Draft → Type 0
+  Answers flag bits bound d s set st v out e = Gives g has alive n ready places fields flag bits bound d s set st v out e
 
   abbrev IsValued : ℕ → ℕ → TExpr → Type 0
   IsValued bits set e = Valued g has alive n ready places fields bits set e (code bits e)
@@ -99,7 +99,7 @@ module _ (g : Setting) (has : HasRegisters g) (alive : Variable → Type 0) (n :
   number set e st = λ q. value_in (extents g set) st e q
 
   abbrev Knows : ℕ → Draft → CodeState → ℕ → State → TExpr → Out → Draft → Type 0
-  Knows bits d s set st e out f = Known g s (meant g fields e st) (number set e st) st (Answers bits (length d.fields) d s set st (λ q. word_at (extents g set) st e q)) out f
+  Knows bits d s set st e out f = Known g s (meant g fields e st) (number set e st) st (Answers (IsFlag e) bits (length d.fields) d s set st (λ q. word_at (extents g set) st e q)) out f
 
   -- in the source it gives that value
   abbrev pub IsMeant : ℕ → TExpr → State → Type 0
@@ -109,8 +109,8 @@ module _ (g : Setting) (has : HasRegisters g) (alive : Variable → Type 0) (n :
   operand_grows bits e c quiet d = extends_grown g has alive _ d _ _ ((lengths_if_made g.typed g.instance (layout g)).operand bits n quiet e d c.code (ready d))
 
   -- what the last instruction writes to the entry that was taken first is the value
-  own_result : (bits set : ℕ) (d e2 : Draft) (s : CodeState) (st : State) (v : ℕ → ℕ) (i : Instr) → Within g (with_instr i e2) → (p : Passes g alive (length d.fields) (with_entry set bits W.Own d) e2 s st (Unit {0})) → Puts g set i (next_field set bits d) p.t v
-      → Answers bits (length d.fields) d s set st v (O.Field (next_field set bits d)) (with_instr i e2)
+  own_result : {flag : Type 0} (bits set : ℕ) (d e2 : Draft) (s : CodeState) (st : State) (v : ℕ → ℕ) (i : Instr) → Within g (with_instr i e2) → (p : Passes g alive (length d.fields) (with_entry set bits W.Own d) e2 s st (Unit {0})) → Puts g set i (next_field set bits d) p.t v
+      → Answers flag bits (length d.fields) d s set st v (O.Field (next_field set bits d)) (with_instr i e2)
   own_result bits set d e2 s st v i within p puts =
       let d1 : Draft = with_entry set bits W.Own d in
       let dest : Field = next_field set bits d in
@@ -120,9 +120,12 @@ module _ (g : Setting) (has : HasRegisters g) (alive : Variable → Type 0) (n :
         dest,
         (
           refl,
-          gives_from g alive bits (length d.fields) d d1 (with_instr i e2) s set st v dest (and_entry set bits W.Own d)
-              (gives_on g alive bits (length d.fields) (length d.fields) d1 e2 (with_instr i e2) s set st v dest (Unit {0}) (omega arith) p (λ b. tt)
-              (puts_own g alive places fields bits (length d.fields) set i dest e2 p.t st v (omega arith) (omega (arith, longer, first)) (taken g set bits W.Own d (with_instr i e2) (p.grown.0 + 1) within later) refl refl within p.at p.sim puts)),
+          (
+            gives_from g alive bits (length d.fields) d d1 (with_instr i e2) s set st v dest (and_entry set bits W.Own d)
+                (gives_on g alive bits (length d.fields) (length d.fields) d1 e2 (with_instr i e2) s set st v dest (Unit {0}) (omega arith) p (λ b. tt)
+                (puts_own g alive places fields bits (length d.fields) set i dest e2 p.t st v (omega arith) (omega (arith, longer, first)) (taken g set bits W.Own d (with_instr i e2) (p.grown.0 + 1) within later) refl refl within p.at p.sim puts)),
+            λ one k info is more. places.own_file k 0 set info dest is (taken g set bits W.Own d (with_instr i e2) (p.grown.0 + 1) within later),
+          ),
         ),
       )
 
@@ -176,9 +179,9 @@ module _ (g : Setting) (has : HasRegisters g) (alive : Variable → Type 0) (n :
       → After g Q (then_make (operand bits true inner d) (λ v after. next v after))
   unfolding step_of
   from_operand bits set inner dest i next bound d s st w plain both grows is_next puts pure c whole less here sim Q last ended =
-      then_known g s (meant g fields inner st) (number set inner st) st (Answers bits (length d.fields) d s set st v) Q (operand bits true inner d) (λ x after. next x after)
+      then_known g s (meant g fields inner st) (number set inner st) st (Answers (IsFlag inner) bits (length d.fields) d s set st v) Q (operand bits true inner d) (λ x after. next x after)
       (operand_after g has alive n ready places fields bits set inner true pure c.code.names whole d s st here sim) grows
-      (λ is_meant x e1 (a, (is, gives)). after_same g Q (ap (λ (o : Out). next o e1) is ∙ is_next a e1) (made_after g Q (O.Field dest) (with_instr (i a) e1) (λ within.
+      (λ is_meant x e1 (a, (is, (gives, apart))). after_same g Q (ap (λ (o : Out). next o e1) is ∙ is_next a e1) (made_after g Q (O.Field dest) (with_instr (i a) e1) (λ within.
       let there : StandsAt g.unit (length e1.code) (i a) = stands_here g (i a) e1 within (plain a) in
       let behind : Behind g a e1 = (length e1.code, (names_second g (i a) dest a [] (length e1.code) there (both a), omega arith)) in
       last is_meant e1 (i a) within (record {
@@ -246,7 +249,7 @@ module _ (g : Setting) (has : HasRegisters g) (alive : Variable → Type 0) (n :
   signed_after : (bits set : ℕ) (ty : ValueType) (op : UnaryOp) (p : Boxed) (inner : TExpr) → bits ≤ 32 → IsSign op → IsPure set (T.Unary' ty op p inner) → HasItsCode g.typed g.instance alive n (T.Unary' ty op p inner) → IsValued bits set inner → IsValued bits set (T.Unary' ty op p inner)
   unfolding value_of unary_by unary_bits fresh_for then_make an_entry IsPure
   signed_after bits set ty op p inner most sign is c whole d s st here sim =
-      known_follows g s (meant g fields (T.Unary' ty op p inner) st) (number set (T.Unary' ty op p inner) st) st (Answers bits (length d.fields) d s set st v) (code bits (T.Unary' ty op p inner) d)
+      known_follows g s (meant g fields (T.Unary' ty op p inner) st) (number set (T.Unary' ty op p inner) st) st (Answers (IsFlag (T.Unary' ty op p inner)) bits (length d.fields) d s set st v) (code bits (T.Unary' ty op p inner) d)
       (after_same g (Knows bits d s set st (T.Unary' ty op p inner))
       (ap (λ (o : UnaryOp). if is_plus o then code bits inner d else then_make (fresh_for ty.shape bits d) (λ dest between. then_make (operand_by g.typed (layout g) (unary_bits bits op inner) (value_of g.typed (layout g) (unary_bits bits op inner) inner) true inner between) (λ x after. negated (layout g) o dest x after))) (done_as_it_is bits op inner sign.1)
       ∙ ap (λ (b : Bool). if b then code bits inner d else then_make (fresh_for ty.shape bits d) (λ dest between. then_make (operand_by g.typed (layout g) (unary_bits bits op inner) (value_of g.typed (layout g) (unary_bits bits op inner) inner) true inner between) (λ x after. negated (layout g) op dest x after))) sign.0
@@ -268,16 +271,16 @@ module _ (g : Setting) (has : HasRegisters g) (alive : Variable → Type 0) (n :
       ∙ sym (pure_at g alive n places fields set inner st s sim is.2 is.3 (unary_part g alive n places fields ty U.Plus p inner c) q below))
 
   -- words that are alike are given alike
-  pub answers_alike : (bits bound : ℕ) (d : Draft) (s : CodeState) (set : ℕ) (st : State) (v w : ℕ → ℕ) → AreAlike g bits set v w → (out : Out) (e : Draft) → Answers bits bound d s set st v out e → Answers bits bound d s set st w out e
-  answers_alike bits bound d s set st v w alike out e (f, (is, gives)) = (f, (is, gives_alike g alive places fields bits bound d s set st v w f e alike gives))
+  pub answers_alike : (one other : Type 0) → (other → one) → (bits bound : ℕ) (d : Draft) (s : CodeState) (set : ℕ) (st : State) (v w : ℕ → ℕ) → AreAlike g bits set v w → (out : Out) (e : Draft) → Answers one bits bound d s set st v out e → Answers other bits bound d s set st w out e
+  answers_alike one other less bits bound d s set st v w alike out e (f, (is, (gives, apart))) = (f, (is, (gives_alike g alive places fields bits bound d s set st v w f e alike gives, λ flag. apart (less flag))))
 
   unary_after : (bits set : ℕ) (ty : ValueType) (op : UnaryOp) (p : Boxed) (inner : TExpr) → bits ≤ 32 → IsPure set (T.Unary' ty op p inner) → HasItsCode g.typed g.instance alive n (T.Unary' ty op p inner) → IsValued bits set inner → IsValued bits set (T.Unary' ty op p inner)
-  unfolding value_of unary_by is_plus negates done_as IsPure value_in
+  unfolding value_of unary_by is_plus negates done_as IsPure value_in kind_of bits_of
   unary_after bits set ty U.Plus p inner most is c whole d s st here sim =
-      follows_like g s (meant g fields inner st) (meant g fields (T.Unary' ty U.Plus p inner) st) (number set inner st) (number set (T.Unary' ty U.Plus p inner) st) st (Answers bits (length d.fields) d s set st (λ q. word_at (extents g set) st inner q))
-      (Answers bits (length d.fields) d s set st (λ q. word_at (extents g set) st (T.Unary' ty U.Plus p inner) q)) (code bits inner d)
+      follows_like g s (meant g fields inner st) (meant g fields (T.Unary' ty U.Plus p inner) st) (number set inner st) (number set (T.Unary' ty U.Plus p inner) st) st (Answers (IsFlag inner) bits (length d.fields) d s set st (λ q. word_at (extents g set) st inner q))
+      (Answers (IsFlag (T.Unary' ty U.Plus p inner)) bits (length d.fields) d s set st (λ q. word_at (extents g set) st (T.Unary' ty U.Plus p inner) q)) (code bits inner d)
       (λ is_meant. unary_means fields.scope fields.active set ty U.Plus p inner (number set inner st) st is.0.0 is_meant) (λ early. unary_ended ty U.Plus p inner s st early)
-      (answers_alike bits (length d.fields) d s set st (λ q. word_at (extents g set) st inner q) (λ q. word_at (extents g set) st (T.Unary' ty U.Plus p inner) q) (plus_alike bits set ty p inner st s sim is c)) (whole d s st here sim)
+      (answers_alike (IsFlag inner) (IsFlag (T.Unary' ty U.Plus p inner)) (λ one. let wrong = one in absurd (omega (arith, wrong))) bits (length d.fields) d s set st (λ q. word_at (extents g set) st inner q) (λ q. word_at (extents g set) st (T.Unary' ty U.Plus p inner) q) (plus_alike bits set ty p inner st s sim is c)) (whole d s st here sim)
   unary_after bits set ty U.Minus p inner most is c whole d s st here sim = signed_after bits set ty U.Minus p inner most (refl, refl) is c whole d s st here sim
   unary_after bits set ty U.Complement p inner most is c whole d s st here sim = signed_after bits set ty U.Complement p inner most (refl, refl) is c whole d s st here sim
   unary_after bits set ty U.Not p inner most is c whole d s st here sim = let wrong = is.1 in cc
@@ -315,9 +318,9 @@ module _ (g : Setting) (has : HasRegisters g) (alive : Variable → Type 0) (n :
       → (IsPure set left → IsValued (operation_bits bits op right) set left) → (IsPure set right → IsValued (operation_bits bits op right) set right) → IsValued bits set (T.Binary' ty place op p left q right)
   unfolding IsPure
   binary_after bits set ty place op p q left right most is c whole_left whole_right d s st here sim =
-      known_follows g s (meant g fields whole st) (number set whole st) st (Answers bits (length d.fields) d s set st v) (code bits whole d)
+      known_follows g s (meant g fields whole st) (number set whole st) st (Answers (IsFlag whole) bits (length d.fields) d s set st v) (code bits whole d)
       (after_same g (Knows bits d s set st whole) (binary_code bits set ty place op p q left right d is.0.0 is.1.0 is.3.1)
-      (first_given g has alive n ready places fields works bits (length d.fields) d s set st v (IsMeant set whole st) (Ended g s (meant g fields whole st)) made (operation_most bits op right most).0
+      (first_given g has alive n ready places fields works bits (length d.fields) d s set st v (IsFlag whole) (IsMeant set whole st) (Ended g s (meant g fields whole st)) made (operation_most bits op right most).0
       (fields_after g has alive n ready places fields works set ty place op p q (next_field set works d) left right d s st is.0.0 is.1 (divides_wide bits op right) (λ x. operands_keep bits set op (type_of left).elem.signed right st most is.1 (right_of set left right is.2) parts.1 x)
       (λ x below. operand_at set right st s sim (right_of set left right is.2) is.4 parts.1 x below) refl is.2 parts.0 parts.1 whole_left whole_right (operand_grows works left parts.0) (operand_grows works right parts.1) here sim (Knows works d s set st whole)
       (λ is_meant e2 i within passes puts. inl (is_meant, own_result works set d e2 s st v i within passes (puts_same g set i (next_field set works d) passes.t _ v (λ x below. binary_at set ty place op p q left right st passes.t passes.sim is c x below) puts)))
@@ -346,12 +349,12 @@ module _ (g : Setting) (has : HasRegisters g) (alive : Variable → Type 0) (n :
   coordinate_after : (bits set axis : ℕ) (ty : ValueType) → IsWide set ty → IsValued bits set (T.Pcoord ty axis)
   unfolding value_of coordinate_in then_make an_entry value_in
   coordinate_after bits set axis ty wide d s st here sim =
-      known_follows g s (meant g fields (T.Pcoord ty axis) st) (number set (T.Pcoord ty axis) st) st (Answers bits (length d.fields) d s set st v) (code bits (T.Pcoord ty axis) d)
+      known_follows g s (meant g fields (T.Pcoord ty axis) st) (number set (T.Pcoord ty axis) st) st (Answers (IsFlag (T.Pcoord ty axis)) bits (length d.fields) d s set st v) (code bits (T.Pcoord ty axis) d)
       (after_same g (Knows bits d s set st (T.Pcoord ty axis)) (ap (λ (o : Option ℕ). coordinate_in o bits axis d) wide.0)
       (made_after g (Knows bits d s set st (T.Pcoord ty axis)) (O.Field dest) (with_instr i d1) (λ within.
-      let given = own_result bits set d d1 s st v i within (passes_all g alive (length d.fields) d1 s st (Unit {0}) here sim)
+      let given = own_result {flag = IsFlag (T.Pcoord ty axis)} bits set d d1 s st v i within (passes_all g alive (length d.fields) d1 s st (Unit {0}) here sim)
       (puts_same g set i dest s (λ q. coordinate (extents g set) q axis) v (λ q below. sym (held_wide ty.elem (coordinate (extents g set) q axis) wide.1 (coordinates_small g alive n places fields set axis q below))) (puts_coordinate g set axis dest s refl (λ p below. coordinates_small g alive n places fields set axis p below))) in
-      inl (coordinate_means set axis ty st wide.0 (gives_numbers g alive places fields bits (length d.fields) d s set st v given.0 (with_instr i d1) given.1.1).exists, given))))
+      inl (coordinate_means set axis ty st wide.0 (gives_numbers g alive places fields bits (length d.fields) d s set st v given.0 (with_instr i d1) given.1.1.0).exists, given))))
     where
       d1 : Draft
       d1 = with_entry set bits W.Own d
@@ -425,7 +428,7 @@ module _ (g : Setting) (has : HasRegisters g) (alive : Variable → Type 0) (n :
       grows O.Nothing after = tt
 
   convert_after : (bits set : ℕ) (ty : ValueType) (p : Boxed) (inner : TExpr) → bits ≤ 32 → IsPure set (T.Convert' ty p inner) → HasItsCode g.typed g.instance alive n (T.Convert' ty p inner) → ((k : ℕ) → k ≤ 32 → IsValued k set inner) → IsValued bits set (T.Convert' ty p inner)
-  unfolding IsPure an_entry then_make
+  unfolding IsPure an_entry then_make kind_of
   convert_after bits set ty p inner most is c whole d s st here sim = follows_same g R s refl (convert_code bits ty p inner d is.1 (pure_kept set inner is.2)) (by (nat_lt ty.elem.bits bits) refl)
     where
       e : TExpr
@@ -435,7 +438,7 @@ module _ (g : Setting) (has : HasRegisters g) (alive : Variable → Type 0) (n :
       w = λ q. word_at (extents g set) st e q
 
       R : Value → State → Out → Draft → Type 0
-      R = Given g (number set e st) st (Answers bits (length d.fields) d s set st w)
+      R = Given g (number set e st) st (Answers (IsFlag e) bits (length d.fields) d s set st w)
 
       part : HasItsCode g.typed g.instance alive n inner
       part = convert_part g alive n places fields ty p inner c
@@ -445,26 +448,26 @@ module _ (g : Setting) (has : HasRegisters g) (alive : Variable → Type 0) (n :
 
       by : (b : Bool) → nat_lt ty.elem.bits bits ≡ b → Follows g R s (meant g fields e st) (made (nat_lt ty.elem.bits bits))
       by true more =
-          known_follows g s (meant g fields e st) (number set e st) st (Answers bits (length d.fields) d s set st w) (made (nat_lt ty.elem.bits bits))
+          known_follows g s (meant g fields e st) (number set e st) st (Answers (IsFlag e) bits (length d.fields) d s set st w) (made (nat_lt ty.elem.bits bits))
           (after_same g (Knows bits d s set st e) (ap made more ∙ ap (λ (o : Option ℕ). then_make (a_field (unwrap_or o 0) bits d) (λ dest begun. extended ty.elem.signed dest (operand ty.elem.bits true inner) begun)) is.0)
           (extended_after set ty p inner (next_field set bits d) (length d.fields) (with_entry set bits W.Own d) s st is.0 is.1 most is.2 part (whole ty.elem.bits (kind_bits ty.elem.bits ty.elem.signed ty.elem.kind).1) (let one = one_more set bits W.Own d in omega (arith, one)) here sim (Knows bits d s set st e)
           (λ is_meant e1 i within passes puts. inl (is_meant, own_result bits set d e1 s st w i within passes puts)) (λ early x f. inr early)))
       by false enough =
           follows_same g R s refl (ap made enough)
-          (follows_like g s (meant g fields inner st) (meant g fields e st) (number set inner st) (number set e st) st (Answers bits (length d.fields) d s set st (λ q. word_at (extents g set) st inner q)) (Answers bits (length d.fields) d s set st w) (code bits inner d)
+          (follows_like g s (meant g fields inner st) (meant g fields e st) (number set inner st) (number set e st) st (Answers (IsFlag inner) bits (length d.fields) d s set st (λ q. word_at (extents g set) st inner q)) (Answers (IsFlag e) bits (length d.fields) d s set st w) (code bits inner d)
           (λ is_meant. convert_means set ty p inner st is.0 is_meant) (λ early. convert_ended ty p inner s st early)
-          (answers_alike bits (length d.fields) d s set st (λ q. word_at (extents g set) st inner q) w (convert_alike bits set ty p inner st is.1 (grind (arith, nat_tests, enough)))) (whole bits most d s st here sim))
+          (answers_alike (IsFlag inner) (IsFlag e) (λ one. flag_converted ty.elem (kind_of inner) is.1 one) bits (length d.fields) d s set st (λ q. word_at (extents g set) st inner q) w (convert_alike bits set ty p inner st is.1 (grind (arith, nat_tests, enough)))) (whole bits most d s st here sim))
 
   -- a get from neighbours
   get_after : (bits set : ℕ) (ty : ValueType) (place : Place) (p : _) (indexes : Row_of-TExpr _) (k of : ℕ) → bits ≤ 32 → ty.shape ≡ Some set → of ≡ set → AreWrapping set 0 indexes → HasItsCode g.typed g.instance alive n (T.LeftIndex' ty place p indexes (V.File k) of)
       → IsValued bits set (T.LeftIndex' ty place p indexes (V.File k) of)
   unfolding value_of index_read_by fresh_for then_make an_entry NamesVariables
   get_after bits set ty place p indexes k of most shaped same are c d s st here sim =
-      given_follows g s (meant g fields e st) (number set e st) st (Answers bits (length d.fields) d s set st v) (code bits e d)
+      given_follows g s (meant g fields e st) (number set e st) st (Answers (IsFlag e) bits (length d.fields) d s set st v) (code bits e d)
       (get_gives g places fields n ty place p indexes k of set st shaped same are c.code.names.0 (get_names g.typed g.instance n of set indexes same are c.code.names.1 c.code.names.2))
-      (after_same g (Answers bits (length d.fields) d s set st v) (ap (λ (o : Option ℕ). then_make (fresh_for o bits d) (λ dest begun. index_read_to g.typed (layout g) e spot dest begun)) shaped)
+      (after_same g (Answers (IsFlag e) bits (length d.fields) d s set st v) (ap (λ (o : Option ℕ). then_make (fresh_for o bits d) (λ dest begun. index_read_to g.typed (layout g) e spot dest begun)) shaped)
       (get_last g alive n places fields ty place p indexes k of set (length d.fields) bits spot (length d.fields) (with_entry set bits W.Own d) s st most shaped same are c.code.names.0 (get_names g.typed g.instance n of set indexes same are c.code.names.1 c.code.names.2) (let one = one_more set bits W.Own d in omega (arith, one)) here sim
-      (Answers bits (length d.fields) d s set st v) (λ e2 i within passes puts. own_result bits set d e2 s st v i within passes puts)))
+      (Answers (IsFlag e) bits (length d.fields) d s set st v) (λ e2 i within passes puts. own_result bits set d e2 s st v i within passes puts)))
     where
       e : TExpr
       e = T.LeftIndex' ty place p indexes (V.File k) of
@@ -477,11 +480,11 @@ module _ (g : Setting) (has : HasRegisters g) (alive : Variable → Type 0) (n :
 
   -- the code of so many bits of a pure expression leaves the lowest bits of its words in a field
   pub pure_after : (bits set : ℕ) (e : TExpr) → bits ≤ 32 → IsPure set e → HasItsCode g.typed g.instance alive n e → IsValued bits set e
-  unfolding IsPure value_of value_in evaluated
+  unfolding IsPure value_of value_in evaluated kind_of
   pure_after bits set (T.Variable ty (V.File k)) most is c = variable_after g has alive n ready places fields bits set k ty most is (named ty k c)
   pure_after bits set (T.Brackets' ty p inner) most is c = λ d s st here sim.
-      given_weaker g s (meant g fields inner st) (number set inner st) st (Answers bits (length d.fields) d s set st (λ q. word_at (extents g set) st inner q)) (Answers bits (length d.fields) d s set st (λ q. word_at (extents g set) st (T.Brackets' ty p inner) q)) (code bits inner d)
-      (answers_alike bits (length d.fields) d s set st (λ q. word_at (extents g set) st inner q) (λ q. word_at (extents g set) st (T.Brackets' ty p inner) q) (alike_same g bits set _ _ (λ q below few. ap (λ (y : ValueType). held y.elem (value_in (extents g set) st inner q)) is.0)))
+      given_weaker g s (meant g fields inner st) (number set inner st) st (Answers (IsFlag inner) bits (length d.fields) d s set st (λ q. word_at (extents g set) st inner q)) (Answers (IsFlag (T.Brackets' ty p inner)) bits (length d.fields) d s set st (λ q. word_at (extents g set) st (T.Brackets' ty p inner) q)) (code bits inner d)
+      (answers_alike (IsFlag inner) (IsFlag (T.Brackets' ty p inner)) (λ one. one) bits (length d.fields) d s set st (λ q. word_at (extents g set) st inner q) (λ q. word_at (extents g set) st (T.Brackets' ty p inner) q) (alike_same g bits set _ _ (λ q below few. ap (λ (y : ValueType). held y.elem (value_in (extents g set) st inner q)) is.0)))
       (pure_after bits set inner most is.1 (brackets_part g alive n places fields ty p inner c) d s st here sim)
   pure_after bits set (T.Unary' ty op p operand) most is c = unary_after bits set ty op p operand most is c (pure_after bits set operand most is.2 (unary_part g alive n places fields ty op p operand c))
   pure_after bits set (T.Binary' ty place op p left q right) most is c =
@@ -495,8 +498,8 @@ module _ (g : Setting) (has : HasRegisters g) (alive : Variable → Type 0) (n :
 
   -- an operand of 32 bits has its numbers
   pub whole_after : (bits set : ℕ) (e : TExpr) (quiet : Bool) → bits ≤ 32 → IsPure set e → IsWide set (type_of e) → HasItsCode g.typed g.instance alive n e → (d : Draft) (s : CodeState) (st : State) → At g s (length d.code) → Sim g alive st s
-      → Follows g (Given g (number set e st) st (Answers bits (length d.fields) d s set st (λ q. value_in (extents g set) st e q))) s (meant g fields e st) (operand bits quiet e d)
+      → Follows g (Given g (number set e st) st (λ out f. (h : Field) × ((out ≡ O.Field h) × GivesField g alive bits (length d.fields) d s set st (λ q. value_in (extents g set) st e q) h f))) s (meant g fields e st) (operand bits quiet e d)
   whole_after bits set e quiet most pure wide c d s st here sim =
-      given_weaker g s (meant g fields e st) (number set e st) st (Answers bits (length d.fields) d s set st (λ q. word_at (extents g set) st e q)) (Answers bits (length d.fields) d s set st (λ q. value_in (extents g set) st e q)) (operand bits quiet e d)
-      (answers_alike bits (length d.fields) d s set st (λ q. word_at (extents g set) st e q) (λ q. value_in (extents g set) st e q) (alike_same g bits set _ _ (λ q below few. sym (pure_at g alive n places fields set e st s sim pure wide c q below))))
+      given_weaker g s (meant g fields e st) (number set e st) st (Answers (IsFlag e) bits (length d.fields) d s set st (λ q. word_at (extents g set) st e q)) (λ out f. (h : Field) × ((out ≡ O.Field h) × GivesField g alive bits (length d.fields) d s set st (λ q. value_in (extents g set) st e q) h f)) (operand bits quiet e d)
+      (λ out f (h, (is, (gives, apart))). (h, (is, gives_alike g alive places fields bits (length d.fields) d s set st (λ q. word_at (extents g set) st e q) (λ q. value_in (extents g set) st e q) h f (alike_same g bits set _ _ (λ q below few. sym (pure_at g alive n places fields set e st s sim pure wide c q below))) gives)))
       (operand_after g has alive n ready places fields bits set e quiet pure c.code.names (pure_after bits set e most pure c) d s st here sim)

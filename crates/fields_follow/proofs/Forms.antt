@@ -15,6 +15,7 @@ use Rattle.cstar_tree.specs.StatementTypes.{variable_info}
 use Rattle.cstar_tree.specs.Typed.{type_of}
 use Rattle.code_lengths.specs.Naming.{HasVariable, NamesVariables, plain, variable_named}
 use Rattle.lower_base.specs.Constants.{constant_register}
+use Rattle.lower_base.specs.Kinds.{bits_of, converted_kind, has_all, kind_of, narrow}
 use Rattle.lower_base.specs.Drafts.{Draft, an_entry, from}
 use Rattle.lower_base.specs.Layouts.{Layout, entered, entries_of, field_of, layout_of}
 use Rattle.lower_expr.specs.declared.operands.Own.{Own}
@@ -140,6 +141,7 @@ pub record StandsInFile (t : Typed) (bits set : ℕ) (e : TExpr) : Type 0 where
   pub is : IsElement t k info set 0
   pub fits : bits ≤ info.elem.bits
   pub value : (extents : List ℕ) (st : State) (q : ℕ) → word_at extents st e q % 2 ^ bits ≡ word_of_type info.elem (st.parallel (V.File k) 0 q) % 2 ^ bits
+  pub flag : bits_of (kind_of e) ≡ 1 → info.elem.bits ≡ 1
   pub means : (scope : Scope) (active : Active) (extents : List ℕ) (st : State) → evaluated scope e active st ≡ Gives (Parallel (λ q. value_in extents st e q)) st
 
 -- a parallel variable of the file, by its name
@@ -166,8 +168,26 @@ name_kept (T.Brackets' ty p inner) is none = name_kept inner is.1 (ap (λ (y : V
 name_kept (T.Convert' ty p operand) is none = name_kept operand is.2 is.1.0
 name_kept _ is none = absurd is
 
+-- a type of one bit, as it is known, and a conversion to a type of more that is known to have one
+flag_elem : (elem : Elem) → bits_of (narrow elem) ≡ 1 → elem.bits ≡ 1
+unfolding bits_of narrow
+flag_elem elem one = by (elem.bits == 32) refl
+  where
+    by : (b : Bool) → (elem.bits == 32) ≡ b → elem.bits ≡ 1
+    by true wide = let wrong = sym (ap (λ (b : Bool). bits_of (if b then None else Some elem)) wide) ∙ one in omega (arith, wrong)
+    by false small = sym (ap (λ (b : Bool). bits_of (if b then None else Some elem)) small) ∙ one
+
+pub flag_converted : (elem : Elem) (k : Option Elem) → (elem.bits == 1) ≡ false → bits_of (converted_kind elem k) ≡ 1 → bits_of k ≡ 1
+unfolding converted_kind
+flag_converted elem None no_truth one = let wrong = flag_elem elem one in absurd (grind (arith, nat_tests, wrong, no_truth))
+flag_converted elem (Some kind) no_truth one = by (has_all elem kind) refl
+  where
+    by : (b : Bool) → has_all elem kind ≡ b → bits_of (Some kind) ≡ 1
+    by true all = sym (ap (λ (b : Bool). bits_of (if b then Some kind else narrow elem)) all) ∙ one
+    by false less = let wrong = flag_elem elem (sym (ap (λ (b : Bool). bits_of (if b then Some kind else narrow elem)) less) ∙ one) in absurd (grind (arith, nat_tests, wrong, no_truth))
+
 pub pure_own : (t : Typed) (i : Instance) (n bits set : ℕ) (e : TExpr) → IsPure set e → NamesVariables t i n e → StandsInFile t bits set e ⊎ (own_of bits e ≡ None)
-unfolding IsPure own_of NamesVariables value_in is_unchanged evaluated then_do convert_to each at
+unfolding IsPure own_of NamesVariables value_in is_unchanged evaluated then_do convert_to each at kind_of
 pure_own t i n bits set (T.Variable ty (V.File k)) is v = by (nat_le bits ty.elem.bits) refl
   where
     own : Own
@@ -181,13 +201,14 @@ pure_own t i n bits set (T.Variable ty (V.File k)) is v = by (nat_le bits ty.ele
       is = element_is t i n k set ty is v;
       fits = grind (arith, nat_tests, enough);
       value = λ extents st q. refl;
+      flag = λ one. flag_elem ty.elem one;
       means = λ scope active extents st. ap (λ (v : Value). Gives v st) (read_is scope active ty set k st is);
     })
     by false less = inr (ap (λ (b : Bool). if b || nat_le bits ty.elem.bits then Some own else None) (shaped ty.shape set is) ∙ ap (λ (b : Bool). if b then Some own else None) less)
 pure_own t i n bits set (T.Brackets' ty p inner) is v = by (pure_own t i n bits set inner is.1 v)
   where
     by : StandsInFile t bits set inner ⊎ (own_of bits inner ≡ None) → StandsInFile t bits set (T.Brackets' ty p inner) ⊎ (own_of bits inner ≡ None)
-    by (inl h) = inl (record { k = h.k; info = h.info; own = h.own; is = h.is; fits = h.fits; value = λ extents st q. ap (λ (y : ValueType). word_of_type y.elem (value_in extents st inner q) % 2 ^ bits) is.0 ∙ h.value extents st q; means = h.means })
+    by (inl h) = inl (record { k = h.k; info = h.info; own = h.own; is = h.is; fits = h.fits; value = λ extents st q. ap (λ (y : ValueType). word_of_type y.elem (value_in extents st inner q) % 2 ^ bits) is.0 ∙ h.value extents st q; flag = h.flag; means = h.means })
     by (inr h) = inr h
 pure_own t i n bits set (T.Unary' ty op p operand) is v = inr refl
 pure_own t i n bits set (T.Binary' ty place op p left q right) is v = inr refl
@@ -208,6 +229,7 @@ pure_own t i n bits set (T.Convert' ty p operand) is v = by (is_unchanged bits t
           is = h.is;
           fits = h.fits;
           value = λ extents st q. converted_first ty.elem (type_of operand).elem (value_in extents st operand q) bits so.1 so.0 ∙ h.value extents st q;
+          flag = λ one. h.flag (flag_converted ty.elem (kind_of operand) so.1 one);
           means = λ scope active extents st.
               ap (λ (o : Outcome Value). then_do o (λ v after. Gives (convert_to ty (type_of operand).elem v) after)) (h.means scope active extents st)
               ∙ ap (λ (y : ValueType). Gives (convert_to y (type_of operand).elem (Parallel (λ q. value_in extents st operand q))) st) (as_shaped ty set is.0);

@@ -53,6 +53,7 @@ pub mod Spreading
 pub mod TestFlags
 pub mod Testing
 pub mod Totals
+pub mod TruthValues
 pub mod Truths
 pub mod Updates
 pub mod Values

@@ -67,12 +67,21 @@ module _ (g : Setting) where
   pub known_follows : {B : Type 0} (s : CodeState) (o : Outcome Value) (v : ℕ → ℕ) (st : State) (R : B → Draft → Type 0) (made : Made B) → After g (Known s o v st R) made → Follows g (Given v st R) s o made
   known_follows s o v st R made h = outcome_follows s o (Parallel v) st R (Given v st R) made (λ y e said. (refl, refl, said)) h
 
-  pub follows_known : {B : Type 0} (s : CodeState) (o : Outcome Value) (v : ℕ → ℕ) (st : State) (R : B → Draft → Type 0) (made : Made B) → Follows g (Given v st R) s o made → After g (Known s o v st R) made
+  -- and so it is of all that code does
+  pub follows_outcome : {A B : Type 0} (s : CodeState) (o : Outcome A) (R : A → State → B → Draft → Type 0) (made : Made B) → Follows g R s o made → After g (λ y e. ((x : A) × ((u : State) × ((o ≡ Source.Gives x u) × R x u y e))) ⊎ Ended s o) made
   unfolding After Follows
-  follows_known s (Source.Gives x u) v st R (Makes y e) h = λ w. let given = h w in inl (ap (λ (z : Value). Source.Gives z u) given.0 ∙ ap (λ (t : State). Source.Gives (Parallel v) t) given.1, given.2)
-  follows_known s (Source.Ends early u) v st R (Makes y e) h = λ w. inr (record { early = early; state = u; is = refl; finishes = h w })
-  follows_known s (Source.Gives x u) v st R Fails h = tt
-  follows_known s (Source.Ends early u) v st R Fails h = tt
+  follows_outcome s (Source.Gives x u) R (Makes y e) h = λ w. inl (x, (u, (refl, h w)))
+  follows_outcome s (Source.Ends early u) R (Makes y e) h = λ w. inr (record { early = early; state = u; is = refl; finishes = h w })
+  follows_outcome s (Source.Gives x u) R Fails h = tt
+  follows_outcome s (Source.Ends early u) R Fails h = tt
+
+  pub follows_known : {B : Type 0} (s : CodeState) (o : Outcome Value) (v : ℕ → ℕ) (st : State) (R : B → Draft → Type 0) (made : Made B) → Follows g (Given v st R) s o made → After g (Known s o v st R) made
+  follows_known s o v st R made h =
+      after_weaker g (λ y e. ((x : Value) × ((u : State) × ((o ≡ Source.Gives x u) × Given v st R x u y e))) ⊎ Ended s o) (Known s o v st R) made (λ y e so. by y e so) (follows_outcome s o (Given v st R) made h)
+    where
+      by : (y : _) (e : Draft) → ((x : Value) × ((u : State) × ((o ≡ Source.Gives x u) × Given v st R x u y e))) ⊎ Ended s o → Known s o v st R y e
+      by y e (inl (x, (u, (is, given)))) = inl (is ∙ ap (λ (z : Value). Source.Gives z u) given.0 ∙ ap (λ (t : State). Source.Gives (Parallel v) t) given.1, given.2)
+      by y e (inr early) = inr early
 
   -- what always holds is said of any code
   pub after_all : {B : Type 0} (Q : B → Draft → Type 0) (made : Made B) → ((y : B) (e : Draft) → Q y e) → After g Q made
@@ -81,13 +90,18 @@ module _ (g : Setting) where
   after_all Q Fails h = tt
 
   -- a part that may end early, and another
+  pub then_outcome : {A B C : Type 0} (s : CodeState) (o : Outcome A) (R : A → State → B → Draft → Type 0) (Q : C → Draft → Type 0) (made : Made B) (next : B → Draft → Made C) → Follows g R s o made → ((y : B) (e : Draft) → Extends g e (next y e))
+      → ((x : A) (u : State) → o ≡ Source.Gives x u → (y : B) (e : Draft) → R x u y e → After g Q (next y e)) → (Ended s o → (z : C) (e : Draft) → Q z e) → After g Q (then_make made next)
+  then_outcome {A = A} s o R Q made next follows grows given ended = then_after g (λ y e. ((x : A) × ((u : State) × ((o ≡ Source.Gives x u) × R x u y e))) ⊎ Ended s o) Q made next (follows_outcome s o R made follows) grows (λ y e so. by y e so)
+    where
+      by : (y : _) (e : Draft) → ((x : A) × ((u : State) × ((o ≡ Source.Gives x u) × R x u y e))) ⊎ Ended s o → After g Q (next y e)
+      by y e (inl (x, (u, (is, said)))) = given x u is y e said
+      by y e (inr early) = after_all Q (next y e) (λ z f. ended early z f)
+
   pub then_known : {B C : Type 0} (s : CodeState) (o : Outcome Value) (v : ℕ → ℕ) (st : State) (R : B → Draft → Type 0) (Q : C → Draft → Type 0) (made : Made B) (next : B → Draft → Made C) → Follows g (Given v st R) s o made → ((y : B) (e : Draft) → Extends g e (next y e))
       → (o ≡ Source.Gives (Parallel v) st → (y : B) (e : Draft) → R y e → After g Q (next y e)) → (Ended s o → (z : C) (e : Draft) → Q z e) → After g Q (then_make made next)
-  then_known s o v st R Q made next follows grows given ended = then_after g (Known s o v st R) Q made next (follows_known s o v st R made follows) grows (λ y e known. by y e known)
-    where
-      by : (y : _) (e : Draft) → Known s o v st R y e → After g Q (next y e)
-      by y e (inl (is, said)) = given is y e said
-      by y e (inr early) = after_all Q (next y e) (λ z f. ended early z f)
+  then_known s o v st R Q made next follows grows given ended =
+      then_outcome s o (Given v st R) Q made next follows grows (λ x u is y e so. given (is ∙ ap (λ (z : Value). Source.Gives z u) so.0 ∙ ap (λ (t : State). Source.Gives (Parallel v) t) so.1) y e so.2) ended
 
   -- what is said where the source gives them for sure
   pub given_follows : {B : Type 0} (s : CodeState) (o : Outcome Value) (v : ℕ → ℕ) (st : State) (R : B → Draft → Type 0) (made : Made B) → o ≡ Source.Gives (Parallel v) st → After g R made → Follows g (Given v st R) s o made

@@ -1,8 +1,6 @@
 -- The code of a condition leaves the test flags.
 use Rattle.std.proofs.Common.{subst, ◌%◌, ◌≡◌, ◌∙◌, ℕ, ◌<◌, ◌^◌, ◌==◌, ◌&&◌, ◌||◌, ◌⊎◌, inl, inr, Bool, true, false, List, length, Option, Some, None, refl, sym, ap, arith, if◌then◌else◌}
 use Rattle.std.specs.Int.{from_bool}
-use Rattle.std.specs.Prelude.{is_none, nat_le}
-use Rattle.cstar_base.specs.declared.elem.Elem.{Elem}
 use Rattle.cstar_base.specs.declared.operators.Op.{Op}
 use Rattle.cstar_base.specs.declared.operators.Place.{Place}
 use Rattle.cstar_base.specs.Operators.{divides}
@@ -21,22 +19,19 @@ use Rattle.cstar_tree.specs.Typed.{type_of}
 use Rattle.code_lengths.specs.Lowerable.{InField}
 use Rattle.code_lengths.specs.Naming.{HasVariable, NamesVariables, plain}
 use Rattle.code_lengths.specs.Ready.{IsReadyButForFields}
-use Rattle.code_lengths.proofs.Agreeing.{lengths_if_made}
+use Rattle.code_lengths.proofs.Agreeing.{lengths_if_made, expressions}
 use Rattle.lower_base.specs.declared.emit.Out.{Out}
 use Rattle.lower_base.specs.declared.emit.Out.TheVariants as O
-use Rattle.lower_base.specs.Drafts.{Draft, Made, Makes, an_entry, first_bits, in_field, step as step_of, then_make, with_instr}
-use Rattle.lower_base.specs.Kinds.{binary_kind, bits_of, common_kind, is_bitwise, kind_of, narrow, truth_type}
+use Rattle.lower_base.specs.Drafts.{Draft, Made, Makes, an_entry, in_field, step as step_of, then_make, with_instr}
+use Rattle.lower_base.specs.Kinds.{binary_kind, bits_of, common_kind, is_bitwise, kind_of, truth_type}
 use Rattle.lower_base.specs.Operators.{negates, relates}
-use Rattle.lower_expr.specs.declared.operands.Own.{Own}
 use Rattle.lower_expr.specs.Joined.{flag_by, is_flag, operation_of}
 use Rattle.lower_expr.specs.Operands.{ignores_context, in_place, operand_by, own_of, standing}
 use Rattle.lower_expr.specs.Steps.{has_truth, is_kept}
 use Rattle.lower_expr.specs.Values.{condition_by, condition_of, flag_of, logical_by, next_of, nonzero_tested, tested, tested_by, truth_of, value_of, zero_tested}
 use Rattle.paris_code.specs.declared.instr.Instr.TheVariants as I
 use Rattle.paris_code.specs.declared.operands.Field.{Field}
-use Rattle.paris_code.specs.declared.program.Owner.{Owner}
 use Rattle.paris_code.specs.declared.program.Owner.TheVariants as W
-use Rattle.paris_code.specs.Proper.{IsEntry}
 use Rattle.paris_code.specs.Code.{CodeState}
 use Rattle.paris_code.specs.Memory.{processors}
 use Rattle.source_meaning.specs.Constants.{is_constant}
@@ -46,6 +41,7 @@ use Rattle.source_meaning.specs.State as Source
 use Rattle.source_meaning.specs.State.{Outcome, State, then_do}
 use Rattle.source_meaning.specs.Values.{Active, Parallel, Scope, Value, at, nonzero, unary_of}
 use Rattle.source_meaning.proofs.ConstantLaws.{Boxed}
+use Rattle.constant_trees.proofs.Words.{from_bool_below}
 use Rattle.std.proofs.Math.Nat.{mod-eq_of_lt}
 use Rattle.std.proofs.lemmas.Bool.{eqb-true}
 use Rattle.code_follows.proofs.Growing.{as_it_was}
@@ -53,35 +49,25 @@ use Rattle.code_follows.proofs.Following.{Extends, Follows, HasRegisters, Sim, e
 use Rattle.code_follows.proofs.Values.{extends_grown}
 use Rattle.code_follows.proofs.Settings.{At, Setting, and_one, layout}
 use Rattle.fields_follow.specs.Fields.{IsElement, file_number}
-use Rattle.fields_follow.specs.Fragment.{HasItsKind, IsCondition, IsInnerCondition, IsNarrowed, IsPure, IsRelation, IsWide}
-use Rattle.fields_follow.proofs.ConditionCode.{AnyBit, Bit, Told, any_bit, Truth, bit_not_value, bit_taken, flag_after, flag_extends, joined_in, joined_made, joined_value, nonzero_after, operand_at, relation_value, stored_after, turned_after, turned_in, word_not_value, zero_after}
+use Rattle.fields_follow.specs.Fragment.{HasItsKind, IsCondition, IsNarrowed, IsPure, IsRelation, IsWide}
+use Rattle.fields_follow.proofs.ConditionCode.{Bit, Told, Truth, bit_not_value, bit_taken, flag_after, flag_extends, joined_in, joined_made, joined_value, nonzero_after, operand_at, relation_value, stored_after, turned_after, turned_in, word_not_value, zero_after}
 use Rattle.fields_follow.proofs.Conditions.{HaveTheirCode, and_codes, condition_constant, condition_kept, condition_shape, conditions_join, or_codes}
 use Rattle.fields_follow.proofs.Expressions.{pure_after, unary_ended}
-use Rattle.fields_follow.proofs.Forms.{HasItsCode, element_is, field_is, not_held, pure_constant, pure_kept}
+use Rattle.fields_follow.proofs.Forms.{HasItsCode, element_is, field_is, not_held}
 use Rattle.fields_follow.proofs.Instructions.{extents, place, shapes}
 use Rattle.fields_follow.proofs.Lengths.{held_first}
 use Rattle.fields_follow.proofs.Meaning.{binary_means, either, left_of, promoted_means, read_is, right_of, unary_means, value_in, word_at}
 use Rattle.fields_follow.proofs.Lengths.{relates_plainly}
 use Rattle.fields_follow.proofs.Outcomes.{Ended, Given, Known, ended_on, follows_given, follows_like, given_follows, given_weaker, known_follows, meant, then_known}
-use Rattle.fields_follow.proofs.Passing.{After, Behind, after_same, after_weaker, made_after, passes_all, passes_from, small_there, then_after}
-use Rattle.fields_follow.proofs.PassingTests.{tests_passed}
+use Rattle.fields_follow.proofs.Passing.{After, after_same, after_weaker, made_after, passes_all, passes_from, small_there, then_after}
 use Rattle.fields_follow.proofs.Places.{HoldsTheFields, PlacesFields}
 use Rattle.fields_follow.proofs.Pure.{ignores_both, pure_means}
 use Rattle.fields_follow.proofs.NarrowKinds.{kind_most, zero_told}
-use Rattle.fields_follow.proofs.Sizes.{binary_parts, brackets_part, unary_part}
-use Rattle.fields_follow.proofs.Values.{Gives, and_entry, next_field, operand_after, operand_of, taken, variable_has, with_entry}
-use Rattle.fields_follow.proofs.TestFlags.{LeavesTests, numbers_tell, puts_nonzero, tested_last}
-use Rattle.fields_follow.proofs.Truths.{either_or_both, field_bit, field_told, truth_told, variable_truth}
+use Rattle.fields_follow.proofs.Sizes.{binary_parts, brackets_part, unary_part, value_small}
+use Rattle.fields_follow.proofs.Values.{Gives, IsFlag, and_entry, next_field, operand_after, operand_of, taken, variable_has, with_entry}
+use Rattle.fields_follow.proofs.TestFlags.{LeavesTests, is_truth, numbers_tell, puts_nonzero, tested_last}
+use Rattle.fields_follow.proofs.Truths.{either_or_both, field_told, field_truth, truth_told}
 use Rattle.fields_follow.proofs.Relations.{relation_after, relation_code, relation_operands}
-
--- a type of one bit
-flag_elem : (elem : Elem) → (bits_of (narrow elem) == 1) ≡ true → elem.bits ≡ 1
-unfolding bits_of narrow
-flag_elem elem one = by (elem.bits == 32) refl
-  where
-    by : (b : Bool) → (elem.bits == 32) ≡ b → elem.bits ≡ 1
-    by true wide = let wrong = sym (ap (λ (b : Bool). bits_of (if b then None else Some elem) == 1) wide) ∙ one in cc
-    by false small = eqb-true elem.bits 1 (sym (ap (λ (b : Bool). bits_of (if b then None else Some elem) == 1) small) ∙ one)
 
 -- two that ignore the context
 both_ignore : (left right : TExpr) → (ignores_context left && ignores_context right) ≡ true → (ignores_context left ≡ true) × (ignores_context right ≡ true)
@@ -93,7 +79,7 @@ both_ignore left right free = by (ignores_context left) (ignores_context right) 
     by false r h = cc
 
 -- what two mean that are joined, where each gives its numbers
-pub or_means : (scope : Scope) (active : Active) (set : ℕ) (ty : ValueType) (p q : Boxed) (left right : TExpr) (v w : ℕ → ℕ) (st : State) → IsInnerCondition set left → evaluated scope left active st ≡ Source.Gives (Parallel v) st → evaluated scope right (where_zero set (Parallel v) active) st ≡ Source.Gives (Parallel w) st
+pub or_means : (scope : Scope) (active : Active) (set : ℕ) (ty : ValueType) (p q : Boxed) (left right : TExpr) (v w : ℕ → ℕ) (st : State) → IsCondition set left → evaluated scope left active st ≡ Source.Gives (Parallel v) st → evaluated scope right (where_zero set (Parallel v) active) st ≡ Source.Gives (Parallel w) st
     → evaluated scope (T.LogicalOr' ty p left q right) active st ≡ Source.Gives (Parallel (λ x. from_bool (nonzero (v x) || nonzero (w x)))) st
 unfolding evaluated then_do or_then at
 or_means scope active set ty p q left right v w st is one other =
@@ -101,7 +87,7 @@ or_means scope active set ty p q left right v w st is one other =
     ∙ ap (λ (o : Option ℕ). or_then ty.shape o (Parallel v) (λ a after. evaluated scope right a after) active st) (condition_shape set left is)
     ∙ ap (λ (o : Outcome Value). then_do o (λ y after. Source.Gives (Parallel (λ x. from_bool (nonzero (v x) || nonzero (at y x)))) after)) other
 
-pub and_means : (scope : Scope) (active : Active) (set : ℕ) (ty : ValueType) (p q : Boxed) (left right : TExpr) (v w : ℕ → ℕ) (st : State) → IsInnerCondition set left → evaluated scope left active st ≡ Source.Gives (Parallel v) st → evaluated scope right (where_nonzero set (Parallel v) active) st ≡ Source.Gives (Parallel w) st
+pub and_means : (scope : Scope) (active : Active) (set : ℕ) (ty : ValueType) (p q : Boxed) (left right : TExpr) (v w : ℕ → ℕ) (st : State) → IsCondition set left → evaluated scope left active st ≡ Source.Gives (Parallel v) st → evaluated scope right (where_nonzero set (Parallel v) active) st ≡ Source.Gives (Parallel w) st
     → evaluated scope (T.LogicalAnd' ty p left q right) active st ≡ Source.Gives (Parallel (λ x. from_bool (nonzero (v x) && nonzero (w x)))) st
 unfolding evaluated then_do and_then at
 and_means scope active set ty p q left right v w st is one other =
@@ -110,14 +96,12 @@ and_means scope active set ty p q left right v w st is one other =
     ∙ ap (λ (o : Outcome Value). then_do o (λ y after. Source.Gives (Parallel (λ x. from_bool (nonzero (v x) && nonzero (at y x)))) after)) other
 
 -- one that ignores the context has its value under every context, and never fails
-value_means : (scope : Scope) (active : Active) (t : Typed) (i : Instance) (n set : ℕ) (e : TExpr) (st : State) → IsInnerCondition set e → ignores_context e ≡ true → evaluated scope e active st ≡ Source.Gives (Parallel (λ q. value_in (scope.extents set) st e q)) st
-unfolding IsInnerCondition evaluated value_in ignores_context
+value_means : (scope : Scope) (active : Active) (t : Typed) (i : Instance) (n set : ℕ) (e : TExpr) (st : State) → IsCondition set e → ignores_context e ≡ true → evaluated scope e active st ≡ Source.Gives (Parallel (λ q. value_in (scope.extents set) st e q)) st
+unfolding IsCondition evaluated value_in ignores_context
 value_means scope active t i n set (T.Brackets' ty p inner) st is free = value_means scope active t i n set inner st is.1 free
 value_means scope active t i n set (T.Unary' ty op p operand) st is free =
     either
-    (λ (h : (negates op ≡ true) × (IsInnerCondition set operand ⊎ HasItsKind set operand)).
-    unary_means scope active set ty op p operand (λ q. value_in (scope.extents set) st operand q) st is.0.0
-    (either (λ inner. value_means scope active t i n set operand st inner free) (λ kinded. pure_means scope active t i n set operand st kinded.0 free) h.1))
+    (λ (h : (negates op ≡ true) × IsCondition set operand). unary_means scope active set ty op p operand (λ q. value_in (scope.extents set) st operand q) st is.0.0 (value_means scope active t i n set operand st h.1 free))
     (λ (h : (negates op ≡ false) × IsPure set (T.Unary' ty op p operand)). pure_means scope active t i n set (T.Unary' ty op p operand) st h.1 free) is.1
 value_means scope active t i n set (T.LogicalOr' ty p left q right) st is free =
     let parts = both_ignore left right free in
@@ -133,9 +117,8 @@ value_means scope active t i n set (T.Binary' ty place op p left q right) st is 
     (λ (h : IsRelation set op left right). binary_means scope active set ty place op p q left right (λ x. value_in (scope.extents set) st left x) (λ x. value_in (scope.extents set) st right x) st is.0.0 parts.0
     (either (λ pure. pure_means scope active t i n set left st pure parts.1) (λ promoted. promoted_means scope active set (scope.extents set) left st promoted) (left_of set left right (relation_operands set left right h.1)))
     (either (λ pure. pure_means scope active t i n set right st pure parts.2) (λ promoted. promoted_means scope active set (scope.extents set) right st promoted) (right_of set left right (relation_operands set left right h.1))))
-    (λ (h : (relates op ≡ false) × HasItsKind set (T.Binary' ty place op p left q right) × ((bits_of (kind_of (T.Binary' ty place op p left q right)) == 1) ≡ false)). pure_means scope active t i n set (T.Binary' ty place op p left q right) st h.1.0 free) is.1
-value_means scope active t i n set (T.Variable ty x) st is free = pure_means scope active t i n set (T.Variable ty x) st is.0 free
-value_means scope active t i n set e st is free = pure_means scope active t i n set e st is.0.0 free
+    (λ (h : (relates op ≡ false) × HasItsKind set (T.Binary' ty place op p left q right)). pure_means scope active t i n set (T.Binary' ty place op p left q right) st h.1.0 free) is.1
+value_means scope active t i n set e st is free = pure_means scope active t i n set e st is.0 free
 
 module _ (g : Setting) (has : HasRegisters g) (alive : Variable → Type 0) (n : ℕ) (ready : (d : Draft) → IsReadyButForFields g.typed g.instance (layout g) n d) (places : PlacesFields g) (fields : HoldsTheFields g) where
   abbrev operand : ℕ → Bool → TExpr → Draft → Made Out
@@ -162,26 +145,22 @@ module _ (g : Setting) (has : HasRegisters g) (alive : Variable → Type 0) (n :
   abbrev bit_code : TExpr → Draft → Made Out
   bit_code e d = elim (own_of 1 e) as (λ _. Made Out) [ Some own ↦ standing g.typed (layout g) 1 own d | None ↦ value_of g.typed (layout g) 1 e d ]
 
-  -- The value of a condition that is no word has one bit.
+  -- The value of a condition that is no such value has one bit.
   record HasBit (set : ℕ) (e : TExpr) : Type 0 where
     pub kind : bits_of (kind_of e) ≡ 1
     pub value : Says set e (λ d s st. Bit g alive places fields d s set st (numbers_of set e st)) (bit_code e)
 
-  -- or it is a value of more than one bit
-  abbrev HasWord : ℕ → TExpr → Type 0
-  HasWord set e = HasItsKind set e × ((bits_of (kind_of e) == 1) ≡ false)
-
-  -- the code of a condition leaves the test flags, and that of its value a word or a bit
+  -- the code of a condition leaves the test flags, and it is a value of its own kind, or one of a bit
   abbrev IsKnown : ℕ → TExpr → Type 0
-  IsKnown set e = IsTested set e × (HasWord set e ⊎ HasBit set e)
+  IsKnown set e = IsTested set e × (HasItsKind set e ⊎ HasBit set e)
 
   -- ---- words
 
   pure_told : (set : ℕ) (e : TExpr) → HasItsKind set e → HasItsCode g.typed g.instance alive n e → Says set e (λ d s st. Told g alive places fields d s set st (numbers_of set e st)) (λ d. operand (bits_of (kind_of e)) true e d)
   pure_told set e kinded c d s st here sim =
       let bits : ℕ = bits_of (kind_of e) in
-      given_weaker g s (meant g fields e st) (numbers_of set e st) st (Gives g has alive n ready places fields bits (length d.fields) d s set st (λ q. word_at (extents g set) st e q)) (Told g alive places fields d s set st (numbers_of set e st)) (operand bits true e d)
-      (λ x e1 (a, (is, gives)). (a, (is, field_told g alive places fields bits d s set st (λ q. word_at (extents g set) st e q) (numbers_of set e st) a e1 (λ q below. zero_told g alive n places fields set e st s sim kinded c q below) gives)))
+      given_weaker g s (meant g fields e st) (numbers_of set e st) st (Gives g has alive n ready places fields (IsFlag e) bits (length d.fields) d s set st (λ q. word_at (extents g set) st e q)) (Told g alive places fields d s set st (numbers_of set e st)) (operand bits true e d)
+      (λ x e1 (a, (is, (gives, apart))). (a, (is, field_told g alive places fields bits d s set st (λ q. word_at (extents g set) st e q) (numbers_of set e st) a e1 (λ q below. zero_told g alive n places fields set e st s sim kinded c q below) gives)))
       (operand_after g has alive n ready places fields bits set e true kinded.0 c.code.names (pure_after g has alive n ready places fields bits set e (kind_most g alive n places fields set e kinded) kinded.0 c) d s st here sim)
 
   -- a variable of the file, where it stands
@@ -216,47 +195,6 @@ module _ (g : Setting) (has : HasRegisters g) (alive : Variable → Type 0) (n :
       d1 : Draft
       d1 = with_entry set info.elem.bits (W.File (file_number g.typed k 0)) d
 
-  -- where it has one bit, that is it
-  variable_bit : (set k : ℕ) (ty : ValueType) → ty.shape ≡ Some set → ty.elem.bits ≡ 1 → HasVariable g.typed g.instance n (V.File k) (plain ty) → Says set (T.Variable ty (V.File k)) (λ d s st. Bit g alive places fields d s set st (numbers_of set (T.Variable ty (V.File k)) st)) (bit_code (T.Variable ty (V.File k)))
-  unfolding own_of standing first_bits then_make an_entry evaluated value_in tests_passed passes_from
-  variable_bit set k ty shaped one v d s st here sim =
-      given_follows g s (meant g fields (T.Variable ty (V.File k)) st) (λ q. st.parallel (V.File k) 0 q) st R (bit_code (T.Variable ty (V.File k)) d) (ap (λ (x : Value). Source.Gives x st) (read_is fields.scope fields.active ty set k st shaped))
-      (after_same g R
-      (ap (λ (b : Bool). code (own b ty.shape)) (ap (λ (m : ℕ). nat_le 1 m) one) ∙ ap (λ (o : Option ℕ). code (own true o)) shaped
-      ∙ ap (λ (m : Made Field). then_make m (λ f after. Makes (O.Field (first_bits 1 f)) after)) (field_is g k 0 set info d is))
-      (made_after g R (O.Field f) d1 (λ within. (
-        f,
-        (
-          refl,
-          variable_truth g alive places fields set k info f d d1 s st is one (subst (λ (m : ℕ). IsEntry g.unit (length d.fields) (record { set = set; len = m; owner = owner })) one (taken g set info.elem.bits owner d d1 0 within (as_it_was d1))) refl refl
-              (tests_passed g alive (length d.fields) d d1 s st (Behind g f d1) (omega arith) (passes_from g alive (length d.fields) d d1 d1 s st (Behind g f d1) (and_entry set info.elem.bits owner d) (passes_all g alive (length d.fields) d1 s st (Behind g f d1) here sim))),
-        ),
-      ))))
-    where
-      own : Bool → Option ℕ → Option Own
-      own b o = if is_none o || b then Some (record { shape = o; variable = V.File k }) else None
-
-      code : Option Own → Made Out
-      code o = elim o as (λ _. Made Out) [ Some own ↦ standing g.typed (layout g) 1 own d | None ↦ value_of g.typed (layout g) 1 (T.Variable ty (V.File k)) d ]
-
-      info : VarInfo
-      info = variable_info v.word (plain ty) v.start
-
-      is : IsElement g.typed k info set 0
-      is = element_is g.typed g.instance n k set ty shaped v
-
-      owner : Owner
-      owner = W.File (file_number g.typed k 0)
-
-      f : Field
-      f = next_field set 1 d
-
-      d1 : Draft
-      d1 = with_entry set info.elem.bits owner d
-
-      R : Out → Draft → Type 0
-      R = Bit g alive places fields d s set st (λ q. st.parallel (V.File k) 0 q)
-
   -- a value that the test flag does not tell without it
   pure_tested : (set : ℕ) (e : TExpr) → HasItsKind set e → has_truth e ≡ false → HasItsCode g.typed g.instance alive n e → IsTested set e
   unfolding tested_by
@@ -267,30 +205,40 @@ module _ (g : Setting) (has : HasRegisters g) (alive : Variable → Type 0) (n :
   -- ---- bits
 
   -- no condition is a constant, so its value stands in no register
-  bit_after : (set : ℕ) (e : TExpr) → IsInnerCondition set e → HasBit set e → Says set e (λ d s st. Bit g alive places fields d s set st (numbers_of set e st)) (λ d. operand_at g 1 e d)
+  bit_after : (set : ℕ) (e : TExpr) → IsCondition set e → HasBit set e → Says set e (λ d s st. Bit g alive places fields d s set st (numbers_of set e st)) (λ d. operand_at g 1 e d)
   unfolding operand_by in_place
   bit_after set e is bit d s st here sim =
       follows_same g (Given g (numbers_of set e st) st (Bit g alive places fields d s set st (numbers_of set e st))) s refl
       (ap (λ (o : Option ℕ). elim o as (λ _. Made Out) [ Some r ↦ Makes (O.Scalar r) d | None ↦ bit_code e d ]) (not_held (layout g) e (condition_constant set e is))) (bit.value d s st here sim)
 
-  bit_told : (set : ℕ) (e : TExpr) → IsInnerCondition set e → HasBit set e → Says set e (λ d s st. Told g alive places fields d s set st (numbers_of set e st)) (λ d. operand_at g 1 e d)
+  bit_told : (set : ℕ) (e : TExpr) → IsCondition set e → HasBit set e → Says set e (λ d s st. Told g alive places fields d s set st (numbers_of set e st)) (λ d. operand_at g 1 e d)
   bit_told set e is bit d s st here sim =
       given_weaker g s (meant g fields e st) (numbers_of set e st) st (Bit g alive places fields d s set st (numbers_of set e st)) (Told g alive places fields d s set st (numbers_of set e st)) (operand_at g 1 e d)
       (λ x e1 (a, (same, gives)). (a, (same, truth_told g alive places fields d s set st (numbers_of set e st) a e1 gives)))
       (bit_after set e is bit d s st here sim)
 
-  -- a word or a bit tells
-  operand_told : (set : ℕ) (e : TExpr) → IsInnerCondition set e → HasItsCode g.typed g.instance alive n e → HasWord set e ⊎ HasBit set e → Says set e (λ d s st. Told g alive places fields d s set st (numbers_of set e st)) (λ d. operand_at g (bits_of (kind_of e)) e d)
-  operand_told set e is c (inl word) d s st here sim = pure_told set e word.0 c d s st here sim
+  -- such a value of one bit
+  kinded_bit : (set : ℕ) (e : TExpr) → HasItsKind set e → (bits_of (kind_of e) == 1) ≡ true → HasItsCode g.typed g.instance alive n e → Says set e (λ d s st. Bit g alive places fields d s set st (numbers_of set e st)) (λ d. operand_at g 1 e d)
+  kinded_bit set e kinded one c d s st here sim =
+      let is_one : bits_of (kind_of e) ≡ 1 = eqb-true (bits_of (kind_of e)) 1 one in
+      given_weaker g s (meant g fields e st) (numbers_of set e st) st (Gives g has alive n ready places fields (IsFlag e) 1 (length d.fields) d s set st (λ q. word_at (extents g set) st e q)) (Bit g alive places fields d s set st (numbers_of set e st)) (operand 1 true e d)
+      (λ x e1 (a, (is, (gives, apart))). (
+        a,
+        (
+          is,
+          field_truth g alive places fields d s set st (λ q. word_at (extents g set) st e q) (numbers_of set e st) a e1
+              (λ q below. ap (λ (m : ℕ). word_at (extents g set) st e q % 2 ^ m == 0) (sym is_one) ∙ zero_told g alive n places fields set e st s sim kinded c q below) (apart is_one) gives,
+        ),
+      ))
+      (operand_after g has alive n ready places fields 1 set e true kinded.0 c.code.names (pure_after g has alive n ready places fields 1 set e (omega arith) kinded.0 c) d s st here sim)
+
+  -- a value or a bit tells
+  operand_told : (set : ℕ) (e : TExpr) → IsCondition set e → HasItsCode g.typed g.instance alive n e → HasItsKind set e ⊎ HasBit set e → Says set e (λ d s st. Told g alive places fields d s set st (numbers_of set e st)) (λ d. operand_at g (bits_of (kind_of e)) e d)
+  operand_told set e is c (inl kinded) d s st here sim = pure_told set e kinded c d s st here sim
   operand_told set e is c (inr bit) d s st here sim = follows_same g (Given g (numbers_of set e st) st (Told g alive places fields d s set st (numbers_of set e st))) s refl (ap (λ (m : ℕ). operand_at g m e d) bit.kind) (bit_told set e is bit d s st here sim)
 
-  pure_known : (set : ℕ) (e : TExpr) → HasWord set e → has_truth e ≡ false → HasItsCode g.typed g.instance alive n e → IsKnown set e
-  pure_known set e word no_truth c = (pure_tested set e word.0 no_truth c, inl word)
-
-  -- one of no narrow type has all 32
-  all_bits : (e : TExpr) → kind_of e ≡ None → (bits_of (kind_of e) == 1) ≡ false
-  unfolding bits_of
-  all_bits e none = ap (λ (o : Option Elem). bits_of o == 1) none
+  pure_known : (set : ℕ) (e : TExpr) → HasItsKind set e → has_truth e ≡ false → HasItsCode g.typed g.instance alive n e → IsKnown set e
+  pure_known set e kinded no_truth c = (pure_tested set e kinded no_truth c, inl kinded)
 
   -- ---- brackets, relations and `!`
 
@@ -304,11 +252,11 @@ module _ (g : Setting) (has : HasRegisters g) (alive : Variable → Type 0) (n :
           else then_make (elim o as (λ _. Made Out) [ Some r ↦ Makes (O.Scalar r) d | None ↦ elim (own_of (bits_of (kind_of inner)) inner) as (λ _. Made Out) [ Some own ↦ standing g.typed (layout g) (bits_of (kind_of inner)) own d | None ↦ value_of g.typed (layout g) (bits_of (kind_of inner)) inner d ] ])
           (λ v after. in_field v (λ source. Makes tt (with_instr (I.NeZero source) after)))
 
-  brackets_known : (set : ℕ) (ty : ValueType) (p : Boxed) (inner : TExpr) → IsInnerCondition set (T.Brackets' ty p inner) → ty ≡ type_of inner → IsInnerCondition set inner → IsKnown set inner → IsKnown set (T.Brackets' ty p inner)
+  brackets_known : (set : ℕ) (ty : ValueType) (p : Boxed) (inner : TExpr) → IsCondition set (T.Brackets' ty p inner) → ty ≡ type_of inner → IsCondition set inner → IsKnown set inner → IsKnown set (T.Brackets' ty p inner)
   unfolding IsPure IsNarrowed value_in value_of kind_of own_of evaluated
   brackets_known set ty p inner is same part (tests, whole) = (
     λ d s st here sim. follows_same g (Given g (numbers_of set inner st) st (λ _ f. Condition set inner d s st f)) s refl (brackets_code ty p inner d (condition_constant set (T.Brackets' ty p inner) is) (condition_constant set inner part)) (tests d s st here sim),
-    either (λ (word : HasWord set inner). inl (((same, word.0.0), word.0.1), word.1)) (λ (bit : HasBit set inner). inr (record { kind = bit.kind; value = bit.value })) whole,
+    either (λ (kinded : HasItsKind set inner). inl ((same, kinded.0), kinded.1)) (λ (bit : HasBit set inner). inr (record { kind = bit.kind; value = bit.value })) whole,
   )
 
   relation_known : (set : ℕ) (ty : ValueType) (place : Place) (op : Op) (p q : Boxed) (left right : TExpr) → IsWide set ty → IsRelation set op left right → HasItsCode g.typed g.instance alive n (T.Binary' ty place op p left q right)
@@ -341,36 +289,19 @@ module _ (g : Setting) (has : HasRegisters g) (alive : Variable → Type 0) (n :
   IsTold set e = Says set e (λ d s st. Told g alive places fields d s set st (numbers_of set e st)) (λ d. operand_at g (bits_of (kind_of e)) e d)
 
   abbrev GivesIt : ℕ → TExpr → Type 0
-  GivesIt set e = Says set e (λ d s st. AnyBit g alive places fields d s set st (numbers_of set e st)) (λ d. operand_at g 1 e d)
+  GivesIt set e = Says set e (λ d s st. Bit g alive places fields d s set st (numbers_of set e st)) (λ d. operand_at g 1 e d)
 
   record IsNegated (set : ℕ) (e : TExpr) : Type 0 where
     pub fresh : is_kept e ≡ false
     pub told : IsTold set e
     pub bit : (bits_of (kind_of e) == 1) ≡ true → GivesIt set e
 
-  known_negated : (set : ℕ) (e : TExpr) → IsInnerCondition set e → HasItsCode g.typed g.instance alive n e → HasWord set e ⊎ HasBit set e → IsNegated set e
-  known_negated set e is c whole = record { fresh = condition_kept set e is; told = λ d s st here sim. operand_told set e is c whole d s st here sim; bit = by whole }
+  known_negated : (set : ℕ) (e : TExpr) → IsCondition set e → HasItsCode g.typed g.instance alive n e → HasItsKind set e ⊎ HasBit set e → IsNegated set e
+  known_negated set e is c whole = record { fresh = condition_kept set e is; told = λ d s st here sim. operand_told set e is c whole d s st here sim; bit = λ one d s st here sim. bit_of whole one d s st here sim }
     where
-      by : HasWord set e ⊎ HasBit set e → (bits_of (kind_of e) == 1) ≡ true → GivesIt set e
-      by (inl word) one = let wrong = sym one ∙ word.1 in cc
-      by (inr bit) one = λ d s st here sim. any_bit g alive places fields (meant g fields e st) (numbers_of set e st) d s set st (numbers_of set e st) (operand_at g 1 e d) (bit_after set e is bit d s st here sim)
-
-  kinded_negated : (set : ℕ) (e : TExpr) → HasItsKind set e → HasItsCode g.typed g.instance alive n e → IsNegated set e
-  kinded_negated set e kinded c = record {
-    fresh = pure_kept set e kinded.0;
-    told = λ d s st here sim. pure_told set e kinded c d s st here sim;
-    bit = λ one d s st here sim.
-        given_weaker g s (meant g fields e st) (numbers_of set e st) st (Gives g has alive n ready places fields 1 (length d.fields) d s set st (λ q. word_at (extents g set) st e q)) (AnyBit g alive places fields d s set st (numbers_of set e st)) (operand 1 true e d)
-        (λ x e1 (a, (is, gives)). (
-          a,
-          (
-            is,
-            field_bit g alive places fields d s set st (λ q. word_at (extents g set) st e q) (numbers_of set e st) a e1
-                (λ q below. ap (λ (m : ℕ). word_at (extents g set) st e q % 2 ^ m == 0) (sym (eqb-true (bits_of (kind_of e)) 1 one)) ∙ zero_told g alive n places fields set e st s sim kinded c q below) gives,
-          ),
-        ))
-        (operand_after g has alive n ready places fields 1 set e true kinded.0 c.code.names (pure_after g has alive n ready places fields 1 set e (omega arith) kinded.0 c) d s st here sim);
-  }
+      bit_of : HasItsKind set e ⊎ HasBit set e → (bits_of (kind_of e) == 1) ≡ true → GivesIt set e
+      bit_of (inl kinded) one = kinded_bit set e kinded one c
+      bit_of (inr bit) one = bit_after set e is bit
 
   not_known : (set : ℕ) (ty : ValueType) (p : Boxed) (inner : TExpr) → IsWide set ty → IsNegated set inner → IsKnown set (T.Unary' ty U.Not p inner)
   unfolding tested_by has_truth truth_of value_in unary_of kind_of negates own_of bits_of
@@ -402,12 +333,24 @@ module _ (g : Setting) (has : HasRegisters g) (alive : Variable → Type 0) (n :
   -- ---- `&&` and `||`
 
   -- an operand is put in a field of one bit
-  flagged : (set : ℕ) (e : TExpr) → IsInnerCondition set e → IsKnown set e → Says set e (λ d s st. Truth g alive places fields d s set st (numbers_of set e st)) (λ d. flag_of set (condition_of g.typed (layout g) e) d)
+  flagged : (set : ℕ) (e : TExpr) → IsCondition set e → HasItsCode g.typed g.instance alive n e → IsKnown set e → Says set e (λ d s st. Truth g alive places fields d s set st (numbers_of set e st)) (λ d. flag_of set (condition_of g.typed (layout g) e) d)
   unfolding flag_of flag_by condition_by
-  flagged set e is (tests, inl word) d s st here sim =
-      follows_same g (Given g (numbers_of set e st) st (Truth g alive places fields d s set st (numbers_of set e st))) s refl (ap (λ (b : Bool). flag_by b set (operand_at g (bits_of (kind_of e)) e) (tested g.typed (layout g) e) d) word.1)
-      (flag_after g alive places fields (meant g fields e st) (numbers_of set e st) set (numbers_of set e st) d s st (tested g.typed (layout g) e d) (tests d s st here sim))
-  flagged set e is (tests, inr bit) d s st here sim =
+  flagged set e is c (tests, inl kinded) d s st here sim = by (bits_of (kind_of e) == 1) refl
+    where
+      R : Field → Draft → Type 0
+      R = Truth g alive places fields d s set st (numbers_of set e st)
+
+      code : Bool → ℕ → Made Field
+      code b m = flag_by b set (operand_at g m e) (tested g.typed (layout g) e) d
+
+      by : (b : Bool) → (bits_of (kind_of e) == 1) ≡ b → Follows g (Given g (numbers_of set e st) st R) s (meant g fields e st) (code (bits_of (kind_of e) == 1) (bits_of (kind_of e)))
+      by false word =
+          follows_same g (Given g (numbers_of set e st) st R) s refl (ap (λ (b : Bool). code b (bits_of (kind_of e))) word)
+          (flag_after g alive places fields (meant g fields e st) (numbers_of set e st) set (numbers_of set e st) d s st (tested g.typed (layout g) e d) (tests d s st here sim))
+      by true one =
+          follows_same g (Given g (numbers_of set e st) st R) s refl (ap (λ (b : Bool). code b (bits_of (kind_of e))) one ∙ ap (λ (m : ℕ). code true m) (eqb-true (bits_of (kind_of e)) 1 one))
+          (bit_taken g alive places fields (meant g fields e st) (numbers_of set e st) set (numbers_of set e st) d s st (operand_at g 1 e d) (kinded_bit set e kinded one c d s st here sim))
+  flagged set e is c (tests, inr bit) d s st here sim =
       follows_same g (Given g (numbers_of set e st) st (Truth g alive places fields d s set st (numbers_of set e st))) s refl (ap (λ (m : ℕ). flag_by (m == 1) set (operand_at g m e) (tested g.typed (layout g) e) d) bit.kind)
       (bit_taken g alive places fields (meant g fields e st) (numbers_of set e st) set (numbers_of set e st) d s st (operand_at g 1 e d) (bit_after set e is bit d s st here sim))
 
@@ -418,27 +361,27 @@ module _ (g : Setting) (has : HasRegisters g) (alive : Variable → Type 0) (n :
       (extends_grown g has alive _ d _ _ ((lengths_if_made g.typed g.instance (layout g)).test n e d c.code field (ready d)))
 
   -- one that ignores the context has its value under every context
-  ignoring_means : (set : ℕ) (e : TExpr) (st : State) (active : Active) → IsInnerCondition set e → ignores_context e ≡ true → set < length (shapes g) → evaluated fields.scope e active st ≡ Source.Gives (Parallel (numbers_of set e st)) st
+  ignoring_means : (set : ℕ) (e : TExpr) (st : State) (active : Active) → IsCondition set e → ignores_context e ≡ true → set < length (shapes g) → evaluated fields.scope e active st ≡ Source.Gives (Parallel (numbers_of set e st)) st
   ignoring_means set e st active is free exists =
       value_means fields.scope active g.typed g.instance n set e st is free ∙ ap (λ (xs : List ℕ). Source.Gives (Parallel (λ q. value_in xs st e q)) st) (fields.same_extents set exists)
 
   -- what comes behind two of them
-  flags_after : (set : ℕ) (left right : TExpr) → IsInnerCondition set left → IsInnerCondition set right → ignores_context right ≡ true → HaveTheirCode g.typed g.instance alive n left right → IsKnown set left → IsKnown set right → (d : Draft) (s : CodeState) (st : State) → At g s (length d.code) → Sim g alive st s
+  flags_after : (set : ℕ) (left right : TExpr) → IsCondition set left → IsCondition set right → ignores_context right ≡ true → HaveTheirCode g.typed g.instance alive n left right → IsKnown set left → IsKnown set right → (d : Draft) (s : CodeState) (st : State) → At g s (length d.code) → Sim g alive st s
       → (Q : Out → Draft → Type 0) (last : Field → Field → Draft → Made Out) → ((f h : Field) (e : Draft) → Extends g e (last f h e))
       → (IsGiven set left st → set < length (shapes g) → (f h : Field) (e1 e2 : Draft) (one : Truth g alive places fields d s set st (numbers_of set left st) f e1) → Truth g alive places fields e1 one.passes.t set st (numbers_of set right st) h e2 → After g Q (last f h e2))
       → (Ended g s (meant g fields left st) → (x : Out) (e : Draft) → Q x e)
       → After g Q (then_make (flag_of set (condition_of g.typed (layout g) left) d) (λ f between. then_make (flag_of set (condition_of g.typed (layout g) right) between) (λ h after. last f h after)))
   flags_after set left right is also free codes one two d s st here sim Q last grows given ended =
-      then_known g s (meant g fields left st) (numbers_of set left st) st (Truth g alive places fields d s set st (numbers_of set left st)) Q (flag_of set (condition_of g.typed (layout g) left) d) (λ f e. then_make (second e) (λ h after. last f h after)) (flagged set left is one d s st here sim)
+      then_known g s (meant g fields left st) (numbers_of set left st) st (Truth g alive places fields d s set st (numbers_of set left st)) Q (flag_of set (condition_of g.typed (layout g) left) d) (λ f e. then_make (second e) (λ h after. last f h after)) (flagged set left is codes.left_code one d s st here sim)
       (λ f e. extends_then g e (second e) (λ h after. last f h after) (flag_grows set right codes.right_code codes.right_field e) (λ h after. grows f h after)) (λ is_left f e1 a.
       then_after g (Truth g alive places fields e1 a.passes.t set st (numbers_of set right st)) Q (second e1) (λ h after. last f h after)
-      (follows_given g a.passes.t (meant g fields right st) (numbers_of set right st) st (Truth g alive places fields e1 a.passes.t set st (numbers_of set right st)) (second e1) (ignoring_means set right st fields.active also free a.exists) (flagged set right also two e1 a.passes.t st a.passes.at a.passes.sim))
+      (follows_given g a.passes.t (meant g fields right st) (numbers_of set right st) st (Truth g alive places fields e1 a.passes.t set st (numbers_of set right st)) (second e1) (ignoring_means set right st fields.active also free a.exists) (flagged set right also codes.right_code two e1 a.passes.t st a.passes.at a.passes.sim))
       (λ h after. grows f h after) (λ h e2 b. given is_left a.exists f h e1 e2 a b)) ended
     where
       second : Draft → Made Field
       second e = flag_of set (condition_of g.typed (layout g) right) e
 
-  joined_bit : (is_or : Bool) (set : ℕ) (shape : Option ℕ) (whole left right : TExpr) → shape ≡ Some set → IsInnerCondition set left → IsInnerCondition set right → ignores_context right ≡ true → HaveTheirCode g.typed g.instance alive n left right → IsKnown set left → IsKnown set right
+  joined_bit : (is_or : Bool) (set : ℕ) (shape : Option ℕ) (whole left right : TExpr) → shape ≡ Some set → IsCondition set left → IsCondition set right → ignores_context right ≡ true → HaveTheirCode g.typed g.instance alive n left right → IsKnown set left → IsKnown set right
       → ((st : State) → IsGiven set left st → set < length (shapes g) → IsGiven set whole st) → ((s : CodeState) (st : State) → Ended g s (meant g fields left st) → Ended g s (meant g fields whole st))
       → Says set whole (λ d s st. Bit g alive places fields d s set st (λ q. from_bool (either_or_both is_or (nonzero (value_in (extents g set) st left q)) (nonzero (value_in (extents g set) st right q))))) (λ d. logical_by is_or shape 1 (condition_of g.typed (layout g) left) (condition_of g.typed (layout g) right) d)
   unfolding condition_by Extends
@@ -454,12 +397,12 @@ module _ (g : Setting) (has : HasRegisters g) (alive : Variable → Type 0) (n :
       R = Bit g alive places fields d s set st (λ q. from_bool (either_or_both is_or (nonzero (value_in (extents g set) st left q)) (nonzero (value_in (extents g set) st right q))))
 
   -- so both that join
-  pub or_given : (set : ℕ) (ty : ValueType) (p q : Boxed) (left right : TExpr) (st : State) → IsInnerCondition set left → IsInnerCondition set right → ignores_context right ≡ true → IsGiven set left st → set < length (shapes g) → IsGiven set (T.LogicalOr' ty p left q right) st
+  pub or_given : (set : ℕ) (ty : ValueType) (p q : Boxed) (left right : TExpr) (st : State) → IsCondition set left → IsCondition set right → ignores_context right ≡ true → IsGiven set left st → set < length (shapes g) → IsGiven set (T.LogicalOr' ty p left q right) st
   unfolding value_in
   or_given set ty p q left right st is also free given exists =
       or_means fields.scope fields.active set ty p q left right (numbers_of set left st) (numbers_of set right st) st is given (ignoring_means set right st (where_zero set (Parallel (numbers_of set left st)) fields.active) also free exists)
 
-  pub and_given : (set : ℕ) (ty : ValueType) (p q : Boxed) (left right : TExpr) (st : State) → IsInnerCondition set left → IsInnerCondition set right → ignores_context right ≡ true → IsGiven set left st → set < length (shapes g) → IsGiven set (T.LogicalAnd' ty p left q right) st
+  pub and_given : (set : ℕ) (ty : ValueType) (p q : Boxed) (left right : TExpr) (st : State) → IsCondition set left → IsCondition set right → ignores_context right ≡ true → IsGiven set left st → set < length (shapes g) → IsGiven set (T.LogicalAnd' ty p left q right) st
   unfolding value_in
   and_given set ty p q left right st is also free given exists =
       and_means fields.scope fields.active set ty p q left right (numbers_of set left st) (numbers_of set right st) st is given (ignoring_means set right st (where_nonzero set (Parallel (numbers_of set left st)) fields.active) also free exists)
@@ -473,7 +416,7 @@ module _ (g : Setting) (has : HasRegisters g) (alive : Variable → Type 0) (n :
   and_ended ty p q left right s st early = ended_on g s (meant g fields left st) (λ x after. and_then ty.shape (type_of left).shape x (λ a after. evaluated fields.scope right a after) fields.active after) early
 
   -- a bit that is no test flag is tested
-  bit_known : (set : ℕ) (e : TExpr) → IsInnerCondition set e → has_truth e ≡ false → HasBit set e → IsKnown set e
+  bit_known : (set : ℕ) (e : TExpr) → IsCondition set e → has_truth e ≡ false → HasBit set e → IsKnown set e
   unfolding tested_by
   bit_known set e is no_truth bit = (
     λ d s st here sim.
@@ -486,19 +429,19 @@ module _ (g : Setting) (has : HasRegisters g) (alive : Variable → Type 0) (n :
 
   -- ---- all conditions
 
-  known : (set : ℕ) (e : TExpr) → IsInnerCondition set e → HasItsCode g.typed g.instance alive n e → IsKnown set e
-  unfolding IsInnerCondition IsPure has_truth NamesVariables value_in value_of kind_of own_of negates tested_by evaluated bits_of
+  known : (set : ℕ) (e : TExpr) → IsCondition set e → HasItsCode g.typed g.instance alive n e → IsKnown set e
+  unfolding IsCondition IsPure has_truth NamesVariables value_in value_of kind_of own_of negates tested_by evaluated bits_of
   known set (T.Brackets' ty p inner) is c = brackets_known set ty p inner is is.0 is.1 (known set inner is.1 (brackets_part g alive n places fields ty p inner c))
   known set (T.Unary' ty op p inner) is c = by op is.1 c (λ part code. known set inner part code)
     where
-      by : (op : UnaryOp) → ((negates op ≡ true) × (IsInnerCondition set inner ⊎ HasItsKind set inner)) ⊎ ((negates op ≡ false) × IsPure set (T.Unary' ty op p inner)) → HasItsCode g.typed g.instance alive n (T.Unary' ty op p inner)
-          → (IsInnerCondition set inner → HasItsCode g.typed g.instance alive n inner → IsKnown set inner) → IsKnown set (T.Unary' ty op p inner)
+      by : (op : UnaryOp) → ((negates op ≡ true) × IsCondition set inner) ⊎ ((negates op ≡ false) × IsPure set (T.Unary' ty op p inner)) → HasItsCode g.typed g.instance alive n (T.Unary' ty op p inner)
+          → (IsCondition set inner → HasItsCode g.typed g.instance alive n inner → IsKnown set inner) → IsKnown set (T.Unary' ty op p inner)
       by op (inr h) c of_inner =
           let none : kind_of (T.Unary' ty op p inner) ≡ None = ap (λ (b : Bool). if b then Some truth_type else None) h.0 in
-          pure_known set (T.Unary' ty op p inner) ((h.1, inl none), all_bits (T.Unary' ty op p inner) none) h.0 c
+          pure_known set (T.Unary' ty op p inner) (h.1, inl none) h.0 c
       by U.Not (inl h) c of_inner =
           let code = unary_part g alive n places fields ty U.Not p inner c in
-          not_known set ty p inner is.0 (either (λ part. known_negated set inner part code (of_inner part code).1) (λ kinded. kinded_negated set inner kinded code) h.1)
+          not_known set ty p inner is.0 (known_negated set inner h.1 code (of_inner h.1 code).1)
       by U.Plus (inl h) c of_inner = let wrong = h.0 in cc
       by U.Minus (inl h) c of_inner = let wrong = h.0 in cc
       by U.Complement (inl h) c of_inner = let wrong = h.0 in cc
@@ -510,52 +453,49 @@ module _ (g : Setting) (has : HasRegisters g) (alive : Variable → Type 0) (n :
       bit_known set (T.LogicalAnd' ty p left q right) is refl (record { kind = refl; value = joined_bit false set ty.shape (T.LogicalAnd' ty p left q right) left right is.0.0 is.1 is.2 is.3 codes (known set left is.1 codes.left_code) (known set right is.2 codes.right_code) (λ st given exists. and_given set ty p q left right st is.1 is.2 is.3 given exists) (λ s st early. and_ended ty p q left right s st early) })
   known set (T.Binary' ty place op p left q right) is c = by is.1
     where
-      by : IsRelation set op left right ⊎ ((relates op ≡ false) × HasItsKind set (T.Binary' ty place op p left q right) × ((bits_of (kind_of (T.Binary' ty place op p left q right)) == 1) ≡ false)) → IsKnown set (T.Binary' ty place op p left q right)
+      by : IsRelation set op left right ⊎ ((relates op ≡ false) × HasItsKind set (T.Binary' ty place op p left q right)) → IsKnown set (T.Binary' ty place op p left q right)
       by (inl relation) = relation_known set ty place op p q left right is.0 relation c
-      by (inr plain_one) = pure_known set (T.Binary' ty place op p left q right) (plain_one.1, plain_one.2) plain_one.0 c
-  known set (T.Variable ty (V.File k)) is c = ((λ d s st here sim. variable_tested set k ty is.0 c.code.names d s st here sim), by (bits_of (kind_of (T.Variable ty (V.File k))) == 1) refl)
-    where
-      by : (b : Bool) → (bits_of (kind_of (T.Variable ty (V.File k))) == 1) ≡ b → HasWord set (T.Variable ty (V.File k)) ⊎ HasBit set (T.Variable ty (V.File k))
-      by false word = inl (is, word)
-      by true one = inr (record { kind = eqb-true (bits_of (kind_of (T.Variable ty (V.File k)))) 1 one; value = λ d s st here sim. variable_bit set k ty is.0 (flag_elem ty.elem one) c.code.names d s st here sim })
+      by (inr plain_one) = pure_known set (T.Binary' ty place op p left q right) plain_one.1 plain_one.0 c
+  known set (T.Variable ty (V.File k)) is c = ((λ d s st here sim. variable_tested set k ty is.0 c.code.names d s st here sim), inl is)
   known set (T.Variable ty x) is c = absurd is.0
   known set e is c = pure_known set e is refl c
 
-  pub inner_tested : (set : ℕ) (e : TExpr) → IsInnerCondition set e → HasItsCode g.typed g.instance alive n e → IsTested set e
-  inner_tested set e is c = (known set e is c).0
+  -- its numbers are those of its type
+  pub condition_small : (set : ℕ) (e : TExpr) (st : State) (s : CodeState) → Sim g alive st s → IsCondition set e → HasItsCode g.typed g.instance alive n e → (q : ℕ) → q < processors (shapes g) set → value_in (extents g set) st e q < 2 ^ (type_of e).elem.bits
+  unfolding IsCondition value_in unary_of negates
+  condition_small set (T.Brackets' ty p inner) st s sim is c q below = subst (λ (y : ValueType). value_in (extents g set) st inner q < 2 ^ y.elem.bits) (sym is.0) (condition_small set inner st s sim is.1 (brackets_part g alive n places fields ty p inner c) q below)
+  condition_small set (T.Unary' ty op p operand) st s sim is c q below = by op is.1 c
+    where
+      by : (op : UnaryOp) → ((negates op ≡ true) × IsCondition set operand) ⊎ ((negates op ≡ false) × IsPure set (T.Unary' ty op p operand)) → HasItsCode g.typed g.instance alive n (T.Unary' ty op p operand) → value_in (extents g set) st (T.Unary' ty op p operand) q < 2 ^ ty.elem.bits
+      by op (inr h) c = value_small g alive n places fields set (T.Unary' ty op p operand) st s sim h.1 c q below
+      by U.Not (inl h) c = subst (λ (m : ℕ). from_bool (value_in (extents g set) st operand q == 0) < 2 ^ m) (sym is.0.1) (from_bool_below _)
+      by U.Plus (inl h) c = let wrong = h.0 in cc
+      by U.Minus (inl h) c = let wrong = h.0 in cc
+      by U.Complement (inl h) c = let wrong = h.0 in cc
+  condition_small set (T.LogicalOr' ty p left r right) st s sim is c q below = subst (λ (m : ℕ). from_bool (nonzero (value_in (extents g set) st left q) || nonzero (value_in (extents g set) st right q)) < 2 ^ m) (sym is.0.1) (from_bool_below _)
+  condition_small set (T.LogicalAnd' ty p left r right) st s sim is c q below = subst (λ (m : ℕ). from_bool (nonzero (value_in (extents g set) st left q) && nonzero (value_in (extents g set) st right q)) < 2 ^ m) (sym is.0.1) (from_bool_below _)
+  condition_small set (T.Binary' ty place op p left r right) st s sim is c q below = by is.1
+    where
+      v : ℕ
+      v = value_in (extents g set) st (T.Binary' ty place op p left r right) q
 
-  -- one of one bit gives it to the next instruction
-  pub inner_bit : (set : ℕ) (e : TExpr) → IsCondition set e → (bits_of (kind_of e) == 1) ≡ true → HasItsCode g.typed g.instance alive n e → (d : Draft) (s : CodeState) (st : State) → At g s (length d.code) → Sim g alive st s
-      → Follows g (Given g (λ q. value_in (extents g set) st e q) st (AnyBit g alive places fields d s set st (λ q. value_in (extents g set) st e q))) s (meant g fields e st) (next_of g.typed (layout g) 1 true e d)
-  inner_bit set e (inl inner) one c d s st here sim = (known_negated set e inner c (known set e inner c).1).bit one d s st here sim
-  inner_bit set e (inr kinded) one c d s st here sim = (kinded_negated set e kinded c).bit one d s st here sim
-
-  pub operand_kept : (set : ℕ) (e : TExpr) → IsCondition set e → is_kept e ≡ false
-  operand_kept set e (inl inner) = condition_kept set e inner
-  operand_kept set e (inr kinded) = pure_kept set e kinded.0
-
-  -- any value is tested at its own bits
-  kinded_tested : (set : ℕ) (e : TExpr) → HasItsKind set e → HasItsCode g.typed g.instance alive n e → IsTested set e
-  unfolding IsPure IsNarrowed has_truth NamesVariables value_in kind_of negates tested_by evaluated
-  kinded_tested set (T.Variable ty (V.File k)) is c = λ d s st here sim. variable_tested set k ty is.0 c.code.names d s st here sim
-  kinded_tested set (T.Brackets' ty p inner) is c = λ d s st here sim.
-      follows_same g (Given g (numbers_of set inner st) st (λ _ f. Condition set inner d s st f)) s refl (brackets_code ty p inner d (pure_constant set (T.Brackets' ty p inner) is.0) (pure_constant set inner is.0.1))
-      (kinded_tested set inner (is.0.1, is.1) (brackets_part g alive n places fields ty p inner c) d s st here sim)
-  kinded_tested set (T.Unary' ty op p operand) is c = pure_tested set (T.Unary' ty op p operand) is is.0.1 c
-  kinded_tested set (T.Binary' ty place op p left q right) is c = pure_tested set (T.Binary' ty place op p left q right) is is.0.1.0 c
-  kinded_tested set (T.Convert' ty p operand) is c = pure_tested set (T.Convert' ty p operand) is refl c
-  kinded_tested set (T.Pcoord ty axis) is c = pure_tested set (T.Pcoord ty axis) is refl c
-  kinded_tested set (T.LeftIndex' ty place p indexes (V.File k) of) is c = pure_tested set (T.LeftIndex' ty place p indexes (V.File k) of) is refl c
-  kinded_tested set _ is c = absurd is.0
+      by : IsRelation set op left right ⊎ ((relates op ≡ false) × HasItsKind set (T.Binary' ty place op p left r right)) → v < 2 ^ ty.elem.bits
+      by (inl relation) = subst (λ (m : ℕ). v < 2 ^ m) (sym is.0.1) (subst (λ (w : ℕ). w < 2 ^ 32) (sym (is_truth op 32 _ _ _ relation.0)) (from_bool_below _))
+      by (inr plain_one) = value_small g alive n places fields set (T.Binary' ty place op p left r right) st s sim plain_one.1.0 c q below
+  condition_small set e st s sim is c q below = value_small g alive n places fields set e st s sim is.0 c q below
 
   -- the code of a condition
   pub condition_tested : (set : ℕ) (e : TExpr) → IsCondition set e → HasItsCode g.typed g.instance alive n e → (d : Draft) (s : CodeState) (st : State) → At g s (length d.code) → Sim g alive st s
       → Follows g (Given g (λ q. value_in (extents g set) st e q) st (λ _ f. LeavesTests g alive fields d s set st (λ q. value_in (extents g set) st e q) f)) s (meant g fields e st) (tested g.typed (layout g) e d)
-  condition_tested set e (inl inner) c = inner_tested set e inner c
-  condition_tested set e (inr kinded) c = kinded_tested set e kinded c
+  condition_tested set e is c = (known set e is c).0
+
+  -- one of one bit gives it to the next instruction
+  pub condition_bit : (set : ℕ) (e : TExpr) → IsCondition set e → (bits_of (kind_of e) == 1) ≡ true → HasItsCode g.typed g.instance alive n e → (d : Draft) (s : CodeState) (st : State) → At g s (length d.code) → Sim g alive st s
+      → Follows g (Given g (λ q. value_in (extents g set) st e q) st (Bit g alive places fields d s set st (λ q. value_in (extents g set) st e q))) s (meant g fields e st) (next_of g.typed (layout g) 1 true e d)
+  condition_bit set e is one c d s st here sim = (known_negated set e is c (known set e is c).1).bit one d s st here sim
 
   -- what comes behind two that are put in fields of one bit
-  pub both_flagged : (set : ℕ) (left right : TExpr) → IsInnerCondition set left → IsInnerCondition set right → ignores_context right ≡ true → HaveTheirCode g.typed g.instance alive n left right → (d : Draft) (s : CodeState) (st : State) → At g s (length d.code) → Sim g alive st s
+  pub both_flagged : (set : ℕ) (left right : TExpr) → IsCondition set left → IsCondition set right → ignores_context right ≡ true → HaveTheirCode g.typed g.instance alive n left right → (d : Draft) (s : CodeState) (st : State) → At g s (length d.code) → Sim g alive st s
       → (Q : Out → Draft → Type 0) (last : Field → Field → Draft → Made Out) → ((f h : Field) (e : Draft) → Extends g e (last f h e))
       → (IsGiven set left st → set < length (shapes g) → (f h : Field) (e1 e2 : Draft) (one : Truth g alive places fields d s set st (λ q. value_in (extents g set) st left q) f e1) → Truth g alive places fields e1 one.passes.t set st (λ q. value_in (extents g set) st right q) h e2 → After g Q (last f h e2))
       → (Ended g s (meant g fields left st) → (x : Out) (e : Draft) → Q x e)

@@ -1,13 +1,13 @@
 -- Fields of one bit tell where a condition holds.
-use Rattle.std.proofs.Common.{◌≡◌, ◌∙◌, slice_get, Option, Some, None, subst, ℕ, ◌+◌, ◌-◌, ◌%◌, ◌^◌, ◌<◌, ◌≤◌, ◌==◌, Bool, true, false, not, ◌&&◌, ◌||◌, if◌then◌else◌, List, [], ◌∷◌, length, refl, sym, ap, arith}
+use Rattle.std.proofs.Common.{◌≡◌, ◌∙◌, inl, inr, ℕ, ◌+◌, ◌-◌, ◌%◌, ◌^◌, ◌<◌, ◌≤◌, ◌==◌, Bool, true, false, not, ◌&&◌, ◌||◌, if◌then◌else◌, List, [], ◌∷◌, length, refl, sym, ap, arith}
 use Rattle.std.specs.Int.{from_bool}
 use Rattle.std.proofs.lemmas.Bool.Decides.{nat_tests}
 use Rattle.std.proofs.lemmas.Nat.{mod_below}
 use Rattle.cstar_base.specs.Operators.{outcome}
-use Rattle.std.proofs.lemmas.Bool.{eqb-true}
 use Rattle.cstar_tree.specs.declared.typed.VarInfo.{VarInfo}
 use Rattle.cstar_tree.specs.declared.typed.Variable.{Variable}
 use Rattle.cstar_tree.specs.declared.typed.Variable.TheVariants as V
+use Rattle.code_follows.proofs.Growing.{extended}
 use Rattle.lower_base.specs.Drafts.{Draft, Plain, step as step_of, with_instr}
 use Rattle.lower_expr.specs.Joined.{operation_of}
 use Rattle.paris_code.specs.declared.instr.Instr.{Instr}
@@ -17,7 +17,7 @@ use Rattle.paris_code.specs.declared.program.Owner.TheVariants as W
 use Rattle.paris_code.specs.Code.{CodeState, Goes, applied, begun}
 use Rattle.paris_code.specs.Elementwise.{element}
 use Rattle.paris_code.specs.Meaning.{after}
-use Rattle.paris_code.specs.Memory.{field_number, is_active, is_tested, processors}
+use Rattle.paris_code.specs.Memory.{is_active, is_tested, processors}
 use Rattle.paris_code.specs.Operators.{operator_of}
 use Rattle.paris_code.specs.Spans.{IsNamedAt, StandsAt, fields_of}
 use Rattle.source_meaning.specs.State.{State}
@@ -29,14 +29,14 @@ use Rattle.code_follows.proofs.Settings.{Setting, Within, and_one, code_more, on
 use Rattle.fields_follow.specs.Fields.{IsElement}
 use Rattle.fields_follow.proofs.FileFields.{Apart}
 use Rattle.fields_follow.proofs.Flags.{Stored, bit_fits, stored, written_to}
-use Rattle.fields_follow.proofs.Instructions.{number_in, place, shapes, wrote}
+use Rattle.fields_follow.proofs.Instructions.{HasNumbers, number_in, place, shapes, wrote}
 use Rattle.fields_follow.proofs.Leaving.{EndsBelow, PassesTests, under}
 use Rattle.fields_follow.proofs.Named.{NamesFields}
-use Rattle.fields_follow.proofs.Passing.{Behind, GivesField, code_longer, fields_longer, flags_of, gives_numbers, names_second, names_third, small_there}
+use Rattle.fields_follow.proofs.Passing.{Behind, GivesField, Stands, code_longer, fields_longer, first_there, flags_of, gives_numbers, in_file_numbers, names_second, names_third}
 use Rattle.fields_follow.proofs.PassingTests.{tests_behind_entry, tests_on, tests_passed}
-use Rattle.fields_follow.proofs.Places.{HoldsTheFields, IsFileField, IsOwnField, PlacesFields, names_first, of_file, stands_here}
+use Rattle.fields_follow.proofs.Places.{HoldsTheFields, IsOwnField, PlacesFields, names_first, of_file, stands_here}
 use Rattle.fields_follow.proofs.TestFlags.{Tells, numbers_tell}
-use Rattle.fields_follow.proofs.Values.{with_entry}
+use Rattle.fields_follow.proofs.Values.{IsApart, with_entry}
 
 zero_bit : (b : Bool) → (from_bool (not b) == 0) ≡ b
 zero_bit true = refl
@@ -95,30 +95,35 @@ module _ (g : Setting) (alive : Variable → Type 0) (places : PlacesFields g) (
       → (q : ℕ) → q < processors (shapes g) set → number_in g f two.t q ≡ number_in g f one.passes.t q
   truth_still d e e2 s set st v f used last one two wanted named late q below = one.lasts two.t last two.sim (λ h first p inside own ends before early there. two.stays wanted h first last p inside own ends before early there late) named q below
 
-  -- It gives a field of such bits, maybe that of a variable.
-  pub record GivesBit (d : Draft) (s : CodeState) (set : ℕ) (st : State) (v : ℕ → ℕ) (f : Field) (e : Draft) : Type 0 where
-    pub passes : PassesTests g alive d e s st (Behind g f e)
-    pub exists : set < length (shapes g)
-    pub are : (q : ℕ) → q < processors (shapes g) set → fields.active set q ≡ true → number_in g f passes.t q ≡ from_bool (nonzero (v q))
-
-  pub truth_bit : (d : Draft) (s : CodeState) (set : ℕ) (st : State) (v : ℕ → ℕ) (f : Field) (e : Draft) → GivesTruth d s set st v f e → GivesBit d s set st v f e
-  truth_bit d s set st v f e h = record { passes = h.passes; exists = h.exists; are = h.are }
-
-  -- a field of one bit of a value that is zero where its lowest bit is
-  pub field_bit : (d : Draft) (s : CodeState) (set : ℕ) (st : State) (v u : ℕ → ℕ) (f : Field) (e : Draft) → ((q : ℕ) → q < processors (shapes g) set → (v q % 2 ^ 1 == 0) ≡ (u q == 0)) → GivesField g alive 1 (length d.fields) d s set st v f e → GivesBit d s set st u f e
+  -- a field of one bit of a value that is zero where its lowest bit is, apart from wider variables
+  pub field_truth : (d : Draft) (s : CodeState) (set : ℕ) (st : State) (v u : ℕ → ℕ) (f : Field) (e : Draft) → ((q : ℕ) → q < processors (shapes g) set → (v q % 2 ^ 1 == 0) ≡ (u q == 0)) → IsApart g set f → GivesField g alive 1 (length d.fields) d s set st v f e → GivesTruth d s set st u f e
   unfolding tests_passed
-  field_bit d s set st v u f e same h =
-      let numbers = gives_numbers g alive places fields 1 (length d.fields) d s set st v f e h in record {
-        passes = tests_passed g alive (length d.fields) d e s st (Behind g f e) (omega arith) h.passes;
-        exists = numbers.exists;
-        are = λ q below on.
-            numbers.are q below (flags_of g alive places fields st h.passes.t set q h.passes.sim numbers.exists below ∙ on)
-            ∙ is_bit (v q % 2 ^ 1) (mod_below (v q) (2 ^ 1) (omega arith)) (u q == 0) (same q below);
-      }
+  field_truth d s set st v u f e same apart h = record {
+    passes = tests_passed g alive (length d.fields) d e s st (Behind g f e) (omega arith) h.passes;
+    of_set = numbers.of_set;
+    exists = numbers.exists;
+    len = numbers.len;
+    are = λ q below on.
+        numbers.are q below (flags_of g alive places fields st h.passes.t set q h.passes.sim numbers.exists below ∙ on)
+        ∙ is_bit (v q % 2 ^ 1) (mod_below (v q) (2 ^ 1) (omega arith)) (u q == 0) (same q below);
+    lasts = λ t last sim stays named q below. by h.stands t last sim stays named q below;
+    apart = apart;
+  }
     where
+      numbers : HasNumbers g 1 set f h.passes.t v
+      numbers = gives_numbers g alive places fields 1 (length d.fields) d s set st v f e h
+
       is_bit : (n : ℕ) → n < 2 ^ 1 → (b : Bool) → (n == 0) ≡ b → n ≡ from_bool (not b)
       is_bit n few true e = grind (arith, nat_tests, few, e)
       is_bit n few false e = grind (arith, nat_tests, few, e)
+
+      by : Stands g alive 1 (length d.fields) e set f h.passes.t st v → (t : CodeState) (last : ℕ) → Sim g alive st t → Stays e h.passes.t t last → IsNamedAt g.unit f.offset last → (q : ℕ) → q < processors (shapes g) set → number_in g f t q ≡ number_in g f h.passes.t q
+      by (inl own) t last sim stays named q below =
+          first_there g alive places fields set f own.long st t sim numbers.of_set numbers.exists own.fits own.ends q below
+          ∙ ap (λ (m : ℕ). m % 2 ^ f.len) (stays (record f { len = own.long }) own.somewhere q own.older own.own own.ends own.named own.before named)
+          ∙ sym (first_there g alive places fields set f own.long st h.passes.t h.passes.sim numbers.of_set numbers.exists own.fits own.ends q below)
+      by (inr file) t last sim stays named q below =
+          (in_file_numbers g alive places fields 1 set f st v t file sim q below).0 ∙ sym (in_file_numbers g alive places fields 1 set f st v h.passes.t file h.passes.sim q below).0
 
   pub truth_told : (d : Draft) (s : CodeState) (set : ℕ) (st : State) (v : ℕ → ℕ) (f : Field) (e : Draft) → GivesTruth d s set st v f e → GivesTold d s set st v f e
   truth_told d s set st v f e h = record {
@@ -172,34 +177,6 @@ module _ (g : Setting) (alive : Variable → Type 0) (places : PlacesFields g) (
         w = stored g places alive fields.active set f i others e p.t st (λ q. is_active (shapes g) p.t.memory f.set q) value plain simple names goes own of_set within p.at (fields_sim st p.t p.sim) Takes (λ q. from_bool (nonzero (v q)))
             (λ q active takes. (active ∙ takes.1, ap (λ (n : ℕ). value q % 2 ^ n) len ∙ bits q takes.0 takes.1))
 
-  -- the field of a variable of one bit, where it stands
-  pub variable_truth : (set j : ℕ) (info : VarInfo) (f : Field) (d e : Draft) (s : CodeState) (st : State) → IsElement g.typed j info set 0 → info.elem.bits ≡ 1 → IsFileField g j 0 f → f.set ≡ set → f.len ≡ 1 → PassesTests g alive d e s st (Behind g f e) → GivesTruth d s set st (λ q. st.parallel (V.File j) 0 q) f e
-  variable_truth set j info f d e s st is bit file of_set len p = record {
-    passes = p;
-    of_set = of_set;
-    exists = places.exists j 0 set info is;
-    len = len;
-    are = λ q below on. has p.t p.sim q below ∙ one_bit (st.parallel (V.File j) 0 q) (subst (λ (m : ℕ). st.parallel (V.File j) 0 q < 2 ^ m) bit (small_there g alive places fields set j info st p.t is p.sim q below));
-    lasts = λ t last sim stays named q below. has t sim q below ∙ sym (has p.t p.sim q below);
-    apart = λ k other other_is more. subst (λ (x : Field). Apart x (of_file g k 0)) (sym at_file) (places.files_apart j 0 set k 0 set info other is other_is (λ same zero.
-        let same_info : info ≡ other = ap (λ (o : Option VarInfo). elim o as (λ _. VarInfo) [ None ↦ info | Some y ↦ y ]) (sym is.known ∙ ap (λ (m : ℕ). slice_get g.typed.vars.items m) same ∙ other_is.known) in
-        let same_bits : info.elem.bits ≡ other.elem.bits = ap (λ (y : VarInfo). y.elem.bits) same_info in
-        omega (arith, same_bits, bit, more)));
-  }
-    where
-      at_file : place g f ≡ of_file g j 0
-      at_file = places.file j 0 info f (subst (λ (m : ℕ). IsElement g.typed j info m 0) (sym of_set) is) (bit ∙ sym len) file
-
-      has : (t : CodeState) → Sim g alive st t → (q : ℕ) → q < processors (shapes g) set → number_in g f t q ≡ st.parallel (V.File j) 0 q
-      has t sim q below = ap (λ (x : Field). field_number t.memory x q) at_file ∙ (fields.opens t.at st t.memory sim.memory).numbers j 0 set q info is below
-
-      one_bit : (m : ℕ) → m < 2 ^ 1 → m ≡ from_bool (nonzero m)
-      one_bit m few = by (m == 0) refl
-        where
-          by : (b : Bool) → (m == 0) ≡ b → m ≡ from_bool (not (m == 0))
-          by true none = eqb-true m 0 none ∙ sym (ap (λ (b : Bool). from_bool (not b)) none)
-          by false some = (let one : m ≡ 1 = grind (arith, nat_tests, few, some) in one) ∙ sym (ap (λ (b : Bool). from_bool (not b)) some)
-
   -- the test flags, stored
   pub truth_stored : (set : ℕ) (d e : Draft) (f : Field) (s : CodeState) (st : State) (v : ℕ → ℕ) (p : PassesTests g alive d e s st (Unit {0})) → ((q : ℕ) → q < processors (shapes g) set → fields.active set q ≡ true → is_tested (shapes g) p.t.memory set q ≡ nonzero (v q))
       → length d.fields ≤ f.offset → f.offset < length e.fields → IsOwnField g f → f.set ≡ set → f.len ≡ 1 → Within g (with_instr (I.StoreTest f) e) → GivesTruth d s set st v f (with_instr (I.StoreTest f) e)
@@ -209,7 +186,7 @@ module _ (g : Setting) (alive : Variable → Type 0) (places : PlacesFields g) (
       (λ q below on. bit_fits (is_tested (shapes g) p.t.memory f.set q) 1 refl ∙ ap (λ (n : ℕ). from_bool (is_tested (shapes g) p.t.memory n q)) of_set ∙ ap from_bool (flags q below on))
 
   -- a bit's complement, in an entry that was taken before it
-  pub truth_turned : (set : ℕ) (d e : Draft) (a f : Field) (s : CodeState) (st : State) (v : ℕ → ℕ) → GivesBit (with_entry set 1 W.Own d) s set st v a e → length d.fields ≤ f.offset → f.offset < length e.fields → IsOwnField g f → f.set ≡ set → f.len ≡ 1 → Within g (with_instr (I.Lognot f a) e)
+  pub truth_turned : (set : ℕ) (d e : Draft) (a f : Field) (s : CodeState) (st : State) (v : ℕ → ℕ) → GivesTruth (with_entry set 1 W.Own d) s set st v a e → length d.fields ≤ f.offset → f.offset < length e.fields → IsOwnField g f → f.set ≡ set → f.len ≡ 1 → Within g (with_instr (I.Lognot f a) e)
       → GivesTruth d s set st (λ q. from_bool (v q == 0)) f (with_instr (I.Lognot f a) e)
   unfolding begun applied after step_of tests_behind_entry
   truth_turned set d e a f s st v one newer older own of_set len within =

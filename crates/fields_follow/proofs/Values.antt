@@ -1,5 +1,5 @@
 -- The code of a pure parallel expression leaves its numbers in a field, where the source gives them.
-use Rattle.std.proofs.Common.{◌≡◌, ℕ, ◌+◌, Bool, true, false, [], ◌∷◌, ◌++◌, length, Option, Some, None, refl, sym, ap, subst, arith, ◌⊎◌, inl, inr, if◌then◌else◌, length-append, ◌<◌, ◌≤◌}
+use Rattle.std.proofs.Common.{◌≡◌, ℕ, ◌+◌, Bool, true, false, [], ◌∷◌, ◌++◌, length, Option, Some, None, refl, sym, ap, subst, arith, ◌⊎◌, inl, inr, if◌then◌else◌, length-append, ◌<◌, ◌≤◌, ◌∙◌, slice_get}
 use Rattle.cstar_tree.specs.declared.typed.TExpr.{TExpr}
 use Rattle.cstar_tree.specs.declared.typed.TExpr as T
 use Rattle.cstar_tree.specs.declared.typed.ValueType.{ValueType}
@@ -15,6 +15,7 @@ use Rattle.lower_base.specs.declared.emit.Out.{Out}
 use Rattle.lower_base.specs.declared.emit.Out.TheVariants as O
 use Rattle.lower_base.specs.Drafts.{Draft, Fails, Made, Makes, an_entry, first_bits, fresh_for, in_field, shortened, then_make, with_instr}
 use Rattle.lower_expr.specs.declared.operands.Own.{Own}
+use Rattle.lower_base.specs.Kinds.{bits_of, kind_of}
 use Rattle.lower_expr.specs.Kinds.{has_number}
 use Rattle.lower_expr.specs.Operands.{in_place, operand_by, own_of, standing}
 use Rattle.lower_expr.specs.Spots.{field_loaded, loaded, variable_spot}
@@ -36,13 +37,14 @@ use Rattle.code_follows.proofs.Growing.{Extended, and_instr, as_it_was}
 use Rattle.code_follows.proofs.Settings.{At, Setting, Within, and_one, layout}
 use Rattle.fields_follow.specs.Fragment.{IsPure}
 use Rattle.fields_follow.specs.Fields.{IsElement, file_number}
+use Rattle.fields_follow.proofs.FileFields.{Apart}
 use Rattle.fields_follow.proofs.Forms.{StandsInFile, element_is, field_is, pure_not_held, pure_own}
-use Rattle.fields_follow.proofs.Instructions.{HasNumbers, extents, puts_extended, shapes}
+use Rattle.fields_follow.proofs.Instructions.{HasNumbers, extents, place, puts_extended, shapes}
 use Rattle.fields_follow.proofs.Lengths.{held_has}
 use Rattle.fields_follow.proofs.Meaning.{as_shaped, read_is, value_in, word_at}
 use Rattle.fields_follow.proofs.Outcomes.{Given, given_follows, meant}
-use Rattle.fields_follow.proofs.Passing.{After, Behind, GivesField, after_same, gives_first, gives_from, in_file_has, made_after, passes_all, passes_from, puts_own, small_there}
-use Rattle.fields_follow.proofs.Places.{HoldsTheFields, IsFileField, IsOwnField, PlacesFields, entry_is}
+use Rattle.fields_follow.proofs.Passing.{After, Behind, GivesField, after_same, gives_first, gives_from, gives_numbers, in_file_has, made_after, passes_all, passes_from, puts_own, small_there}
+use Rattle.fields_follow.proofs.Places.{HoldsTheFields, IsFileField, IsOwnField, PlacesFields, entry_is, of_file}
 use Rattle.fields_follow.proofs.Totals.{held_below}
 
 -- one entry more
@@ -58,10 +60,24 @@ and_entry set len owner d = record { more = []; code = append_nothing d.code; lo
 pub one_more : (set len : ℕ) (owner : Owner) (d : Draft) → length (with_entry set len owner d).fields ≡ length d.fields + 1
 one_more set len owner d = length-append d.fields (record { set = set; len = len; owner = owner } ∷ [])
 
+-- the value has one bit
+abbrev pub IsFlag : TExpr → Type 0
+IsFlag e = bits_of (kind_of e) ≡ 1
+
+-- first bits of a field are apart from what the field is apart from
+shorter_apart : (f : Field) (long : ℕ) (h : Field) → f.len ≤ long → Apart (record f { len = long }) h → Apart f h
+shorter_apart f long h less (inl differ) = inl differ
+shorter_apart f long h less (inr (inl low)) = inr (inl (omega (arith, low, less)))
+shorter_apart f long h less (inr (inr high)) = inr (inr high)
+
 module _ (g : Setting) where
   -- an entry that was taken is the unit's
   pub taken : (set len : ℕ) (owner : Owner) (d e : Draft) (n : ℕ) → Within g e → Extended (with_entry set len owner d) n e → IsEntry g.unit (length d.fields) (record { set = set; len = len; owner = owner })
   taken set len owner d e n w x = entry_is g d.fields x.entries (record { set = set; len = len; owner = owner }) e w x.fields
+
+  -- a field is apart from the variables of the file that have more bits than one
+  abbrev pub IsApart : ℕ → Field → Type 0
+  IsApart set f = (k : ℕ) (info : VarInfo) → IsElement g.typed k info set 0 → 1 < info.elem.bits → Apart (place g f) (of_file g k 0)
 
   module _ (has : HasRegisters g) (alive : Variable → Type 0) (n : ℕ) (ready : (d : Draft) → IsReadyButForFields g.typed g.instance (layout g) n d) (places : PlacesFields g) (fields : HoldsTheFields g) where
     -- the code of so many bits of a value, and of an operand
@@ -71,15 +87,15 @@ module _ (g : Setting) where
     abbrev pub operand_of : ℕ → Bool → TExpr → Code
     operand_of bits quiet e = operand_by g.typed (layout g) bits (code_of bits e) quiet e
 
-    -- it gives the lowest bits of its words in a field
-    abbrev pub Gives : ℕ → ℕ → Draft → CodeState → ℕ → State → (ℕ → ℕ) → Out → Draft → Type 0
-    Gives bits bound d s set st v out e = (f : Field) × ((out ≡ O.Field f) × GivesField g alive bits bound d s set st v f e)
+    -- it gives the lowest bits of its words in a field, which is apart from wider variables if this is so
+    abbrev pub Gives : Type 0 → ℕ → ℕ → Draft → CodeState → ℕ → State → (ℕ → ℕ) → Out → Draft → Type 0
+    Gives flag bits bound d s set st v out e = (f : Field) × ((out ≡ O.Field f) × (GivesField g alive bits bound d s set st v f e × (flag → IsApart set f)))
 
     -- as many of a parallel expression's value, where the source gives one, and it ends as the source does where that ends
     abbrev pub Valued : ℕ → ℕ → TExpr → Code → Type 0
     Valued bits set e code =
         (d : Draft) (s : CodeState) (st : State) → At g s (length d.code) → Sim g alive st s
-        → Follows g (Given g (λ q. value_in (extents g set) st e q) st (Gives bits (length d.fields) d s set st (λ q. word_at (extents g set) st e q))) s (meant g fields e st) (code d)
+        → Follows g (Given g (λ q. value_in (extents g set) st e q) st (Gives (IsFlag e) bits (length d.fields) d s set st (λ q. word_at (extents g set) st e q))) s (meant g fields e st) (code d)
 
     -- a variable where it stands
     pub standing_after : (bits set : ℕ) (e : TExpr) → (h : StandsInFile g.typed bits set e) → Valued bits set e (λ d. standing g.typed (layout g) bits (record { shape = Some set; variable = V.File h.k }) d)
@@ -91,19 +107,22 @@ module _ (g : Setting) where
           next_field set bits d,
           (
             refl,
-            record {
-              passes = passes_from g alive (length d.fields) d d1 d1 s st (Behind g (next_field set bits d) d1) (and_entry set h.info.elem.bits owner d) (passes_all g alive (length d.fields) d1 s st (Behind g (next_field set bits d) d1) here sim);
-              stands = inr (record {
-                k = h.k;
-                info = h.info;
-                is = h.is;
-                file = taken set h.info.elem.bits owner d d1 0 within (as_it_was d1);
-                of_set = refl;
-                len = refl;
-                fits = h.fits;
-                same = λ q below. (h.value (extents g set) st q, held_below (type_of e).elem (value_in (extents g set) st e q));
-              });
-            },
+            (
+              record {
+                passes = passes_from g alive (length d.fields) d d1 d1 s st (Behind g (next_field set bits d) d1) (and_entry set h.info.elem.bits owner d) (passes_all g alive (length d.fields) d1 s st (Behind g (next_field set bits d) d1) here sim);
+                stands = inr (record {
+                  k = h.k;
+                  info = h.info;
+                  is = h.is;
+                  file = taken set h.info.elem.bits owner d d1 0 within (as_it_was d1);
+                  of_set = refl;
+                  len = refl;
+                  fits = h.fits;
+                  same = λ q below. (h.value (extents g set) st q, held_below (type_of e).elem (value_in (extents g set) st e q));
+                });
+              },
+              λ flag. standing_apart (taken set h.info.elem.bits owner d d1 0 within (as_it_was d1)) (h.flag flag),
+            ),
           ),
         ))))
       where
@@ -114,7 +133,16 @@ module _ (g : Setting) where
         d1 = with_entry set h.info.elem.bits owner d
 
         Q : Out → Draft → Type 0
-        Q = Gives bits (length d.fields) d s set st (λ q. word_at (extents g set) st e q)
+        Q = Gives (IsFlag e) bits (length d.fields) d s set st (λ q. word_at (extents g set) st e q)
+
+        -- a variable of one bit is none of more
+        standing_apart : IsFileField g h.k 0 (next_field set h.info.elem.bits d) → h.info.elem.bits ≡ 1 → IsApart set (next_field set bits d)
+        standing_apart file one k info is more =
+            shorter_apart (place g (next_field set bits d)) h.info.elem.bits (of_file g k 0) h.fits
+            (subst (λ (x : Field). Apart x (of_file g k 0)) (sym (places.file h.k 0 h.info (next_field set h.info.elem.bits d) h.is refl file)) (places.files_apart h.k 0 set k 0 set h.info info h.is is (λ same zero.
+            let same_info : h.info ≡ info = ap (λ (o : Option VarInfo). elim o as (λ _. VarInfo) [ None ↦ h.info | Some y ↦ y ]) (sym h.is.known ∙ ap (λ (m : ℕ). slice_get g.typed.vars.items m) same ∙ is.known) in
+            let same_bits : h.info.elem.bits ≡ info.elem.bits = ap (λ (y : VarInfo). y.elem.bits) same_info in
+            omega (arith, same_bits, one, more))))
 
     -- what needs no field of its own is used where it stands, if all is quiet
     pub operand_after : (bits set : ℕ) (e : TExpr) (quiet : Bool) → IsPure set e → NamesVariables g.typed g.instance n e → Valued bits set e (λ d. code_of bits e d) → Valued bits set e (λ d. operand_of bits quiet e d)
@@ -125,7 +153,7 @@ module _ (g : Setting) where
         (by quiet (pure_own g.typed g.instance n bits set e is names))
       where
         R : Value → State → Out → Draft → Type 0
-        R = Given g (λ q. value_in (extents g set) st e q) st (Gives bits (length d.fields) d s set st (λ q. word_at (extents g set) st e q))
+        R = Given g (λ q. value_in (extents g set) st e q) st (Gives (IsFlag e) bits (length d.fields) d s set st (λ q. word_at (extents g set) st e q))
 
         by : (quiet : Bool) → StandsInFile g.typed bits set e ⊎ (own_of bits e ≡ None) → Follows g R s (meant g fields e st) (elim (if quiet then own_of bits e else None) as (λ _. Made Out) [ Some own ↦ standing g.typed (layout g) bits own d | None ↦ code_of bits e d ])
         by true (inl h) = follows_same g R s refl (ap (λ (o : Option Own). elim o as (λ _. Made Out) [ Some own ↦ standing g.typed (layout g) bits own d | None ↦ code_of bits e d ]) h.own) (standing_after bits set e h d s st here sim)
@@ -151,9 +179,9 @@ module _ (g : Setting) where
 
     -- a copy of a variable's field, cut or extended
     field_copied : (bits set k : ℕ) (info : VarInfo) → bits ≤ 32 → IsElement g.typed k info set 0 → (d : Draft) (s : CodeState) (st : State) → At g s (length d.code) → Sim g alive st s
-        → After g (Gives bits (length d.fields) d s set st (λ q. held info.elem (st.parallel (V.File k) 0 q))) (field_loaded g.typed (layout g) info.elem.signed (V.File k) 0 (next_field set bits d) (with_entry set bits W.Own d))
+        → (flag : Type 0) → After g (Gives flag bits (length d.fields) d s set st (λ q. held info.elem (st.parallel (V.File k) 0 q))) (field_loaded g.typed (layout g) info.elem.signed (V.File k) 0 (next_field set bits d) (with_entry set bits W.Own d))
     unfolding field_loaded then_make an_entry
-    field_copied bits set k info most is d s st here sim =
+    field_copied bits set k info most is d s st here sim flag =
         let dest : Field = next_field set bits d in
         let d1 : Draft = with_entry set bits W.Own d in
         let owner : Owner = W.File (file_number g.typed k 0) in
@@ -161,8 +189,8 @@ module _ (g : Setting) where
         let source : Field = next_field set info.elem.bits d1 in
         let i : Instr = I.Move info.elem.signed dest source in
         let v : ℕ → ℕ = λ q. held info.elem (st.parallel (V.File k) 0 q) in
-        after_same g (Gives bits (length d.fields) d s set st v) (ap (λ (m : Made Field). then_make m (λ f after. Makes (O.Field dest) (with_instr (I.Move info.elem.signed dest f) after))) (field_is g k 0 set info d1 is))
-        (made_after g (Gives bits (length d.fields) d s set st v) (O.Field dest) (with_instr i d2) (λ within.
+        after_same g (Gives flag bits (length d.fields) d s set st v) (ap (λ (m : Made Field). then_make m (λ f after. Makes (O.Field dest) (with_instr (I.Move info.elem.signed dest f) after))) (field_is g k 0 set info d1 is))
+        (made_after g (Gives flag bits (length d.fields) d s set st v) (O.Field dest) (with_instr i d2) (λ within.
         let own : IsOwnField g dest = taken set bits W.Own d (with_instr i d2) 1 within (and_instr i d1 d2 0 (and_entry set info.elem.bits owner d1)) in
         let file : IsFileField g k 0 source = taken set info.elem.bits owner d1 (with_instr i d2) 1 within (and_one g i d2) in
         let numbers = variable_has set k info source s st is file refl refl sim in
@@ -171,38 +199,53 @@ module _ (g : Setting) where
           dest,
           (
             refl,
-            gives_from g alive bits (length d.fields) d d1 (with_instr i d2) s set st v dest (and_entry set bits W.Own d)
-                (gives_from g alive bits (length d.fields) d1 d2 (with_instr i d2) s set st v dest (and_entry set info.elem.bits owner d1) h),
+            (
+              gives_from g alive bits (length d.fields) d d1 (with_instr i d2) s set st v dest (and_entry set bits W.Own d)
+                  (gives_from g alive bits (length d.fields) d1 d2 (with_instr i d2) s set st v dest (and_entry set info.elem.bits owner d1) h),
+              λ flag j other other_is more. places.own_file j 0 set other dest other_is own,
+            ),
           ),
         )))
 
     pub variable_after : (bits set k : ℕ) (ty : ValueType) → bits ≤ 32 → ty.shape ≡ Some set → HasVariable g.typed g.instance n (V.File k) (plain ty) → Valued bits set (T.Variable ty (V.File k)) (λ d. code_of bits (T.Variable ty (V.File k)) d)
     unfolding value_of read_by read_to fresh_for an_entry then_make variable_spot loaded in_field value_in evaluated
     variable_after bits set k ty most shaped v d s st here sim =
-        given_follows g s (meant g fields (T.Variable ty (V.File k)) st) (λ q. st.parallel (V.File k) 0 q) st (Gives bits (length d.fields) d s set st (λ q. held ty.elem (st.parallel (V.File k) 0 q))) (code_of bits (T.Variable ty (V.File k)) d)
+        given_follows g s (meant g fields (T.Variable ty (V.File k)) st) (λ q. st.parallel (V.File k) 0 q) st (Gives (IsFlag (T.Variable ty (V.File k))) bits (length d.fields) d s set st (λ q. held ty.elem (st.parallel (V.File k) 0 q))) (code_of bits (T.Variable ty (V.File k)) d)
         (ap (λ (x : Value). Source.Gives x st) (read_is fields.scope fields.active ty set k st shaped))
-        (after_same g (Gives bits (length d.fields) d s set st (λ q. held ty.elem (st.parallel (V.File k) 0 q))) (ap (λ (y : ValueType). code_of bits (T.Variable y (V.File k)) d) (as_shaped ty set shaped))
-        (field_copied bits set k (variable_info v.word (plain ty) v.start) most (element_is g.typed g.instance n k set ty shaped v) d s st here sim))
+        (after_same g (Gives (IsFlag (T.Variable ty (V.File k))) bits (length d.fields) d s set st (λ q. held ty.elem (st.parallel (V.File k) 0 q))) (ap (λ (y : ValueType). code_of bits (T.Variable y (V.File k)) d) (as_shaped ty set shaped))
+        (field_copied bits set k (variable_info v.word (plain ty) v.start) most (element_is g.typed g.instance n k set ty shaped v) d s st here sim (IsFlag (T.Variable ty (V.File k)))))
 
     -- the first bits of a field that has more
-    pub first_given : (bits fewer bound : ℕ) (d : Draft) (s : CodeState) (set : ℕ) (st : State) (v : ℕ → ℕ) (P E : Type 0) (made : Made Out) → fewer ≤ bits → After g (λ out e. (P × Gives bits bound d s set st v out e) ⊎ E) made → After g (λ out e. (P × Gives fewer bound d s set st v out e) ⊎ E) (lowest fewer made)
+    pub first_given : (bits fewer bound : ℕ) (d : Draft) (s : CodeState) (set : ℕ) (st : State) (v : ℕ → ℕ) (flag P E : Type 0) (made : Made Out) → fewer ≤ bits → After g (λ out e. (P × Gives flag bits bound d s set st v out e) ⊎ E) made → After g (λ out e. (P × Gives flag fewer bound d s set st v out e) ⊎ E) (lowest fewer made)
     unfolding lowest After then_make shortened first_bits
-    first_given bits fewer bound d s set st v P E (Makes (O.Field f) e) less h = λ w. by (h w)
+    first_given bits fewer bound d s set st v flag P E (Makes (O.Field f) e) less h = λ w. by (h w)
       where
         same : (f x : Field) → O.Field f ≡ O.Field x → f ≡ x
         same f x is = ap (λ (o : Out). elim o as (λ _. Field) [ O.Scalar r ↦ f | O.Field y ↦ y | O.Nothing ↦ f ]) is
 
-        by : (P × Gives bits bound d s set st v (O.Field f) e) ⊎ E → (P × Gives fewer bound d s set st v (O.Field (record f { len = fewer })) e) ⊎ E
-        by (inl (p, (x, (is, gives)))) = inl (p, (record x { len = fewer }, (ap (λ (y : Field). O.Field (record y { len = fewer })) (same f x is), gives_first g alive places fields bits fewer bound d s set st v x e less gives)))
+        by : (P × Gives flag bits bound d s set st v (O.Field f) e) ⊎ E → (P × Gives flag fewer bound d s set st v (O.Field (record f { len = fewer })) e) ⊎ E
+        by (inl (p, (x, (is, (gives, apart))))) = inl (
+          p,
+          (
+            record x { len = fewer },
+            (
+              ap (λ (y : Field). O.Field (record y { len = fewer })) (same f x is),
+              (
+                gives_first g alive places fields bits fewer bound d s set st v x e less gives,
+                λ so k info one more. shorter_apart (record (place g x) { len = fewer }) x.len (of_file g k 0) (subst (λ (m : ℕ). fewer ≤ m) (sym (gives_numbers g alive places fields bits bound d s set st v x e gives).len) less) (apart so k info one more),
+              ),
+            ),
+          ),
+        )
         by (inr ends) = inr ends
-    first_given bits fewer bound d s set st v P E (Makes (O.Scalar r) e) less h = λ w. by (h w)
+    first_given bits fewer bound d s set st v flag P E (Makes (O.Scalar r) e) less h = λ w. by (h w)
       where
-        by : (P × Gives bits bound d s set st v (O.Scalar r) e) ⊎ E → (P × Gives fewer bound d s set st v (O.Scalar r) e) ⊎ E
-        by (inl (p, (x, (is, gives)))) = cc
+        by : (P × Gives flag bits bound d s set st v (O.Scalar r) e) ⊎ E → (P × Gives flag fewer bound d s set st v (O.Scalar r) e) ⊎ E
+        by (inl (p, (x, (is, both)))) = cc
         by (inr ends) = inr ends
-    first_given bits fewer bound d s set st v P E (Makes O.Nothing e) less h = λ w. by (h w)
+    first_given bits fewer bound d s set st v flag P E (Makes O.Nothing e) less h = λ w. by (h w)
       where
-        by : (P × Gives bits bound d s set st v O.Nothing e) ⊎ E → (P × Gives fewer bound d s set st v O.Nothing e) ⊎ E
-        by (inl (p, (x, (is, gives)))) = cc
+        by : (P × Gives flag bits bound d s set st v O.Nothing e) ⊎ E → (P × Gives flag fewer bound d s set st v O.Nothing e) ⊎ E
+        by (inl (p, (x, (is, both)))) = cc
         by (inr ends) = inr ends
-    first_given bits fewer bound d s set st v P E Fails less h = tt
+    first_given bits fewer bound d s set st v flag P E Fails less h = tt

@@ -148,32 +148,25 @@ HasOperation op elem value = elim (assign_op_of op) [
   | Some o ↦ IsOperation o value × ((type_of value).elem.bits ≡ 32) × ((elem.bits == 1) ≡ false) × (operation_bits elem.bits o value ≡ elem.bits)
 ]
 
--- A condition that may be part of others: a relation of two operands, a value that is not zero, `!` of a condition or of
--- any value, or two joined by `&&` or `||`. The right one of these ignores the context: it has no get and no quotient, not
--- even one of constants. A value of one bit is such a condition only if it is a variable or a truth value.
-unfoldable pub IsInnerCondition : ℕ → TExpr → Type 0
-IsInnerCondition set (T.Brackets' ty p inner) = (ty ≡ type_of inner) × IsInnerCondition set inner
-IsInnerCondition set (T.Unary' ty op p operand) = IsWide set ty × (((negates op ≡ true) × (IsInnerCondition set operand ⊎ HasItsKind set operand)) ⊎ ((negates op ≡ false) × IsPure set (T.Unary' ty op p operand)))
-IsInnerCondition set (T.LogicalOr' ty p left q right) = IsWide set ty × IsInnerCondition set left × IsInnerCondition set right × (ignores_context right ≡ true)
-IsInnerCondition set (T.LogicalAnd' ty p left q right) = IsWide set ty × IsInnerCondition set left × IsInnerCondition set right × (ignores_context right ≡ true)
-IsInnerCondition set (T.Binary' ty place op p left q right) =
-    IsWide set ty × (IsRelation set op left right ⊎ ((relates op ≡ false) × HasItsKind set (T.Binary' ty place op p left q right) × ((bits_of (kind_of (T.Binary' ty place op p left q right)) == 1) ≡ false)))
-IsInnerCondition set (T.Variable ty x) = HasItsKind set (T.Variable ty x)
-IsInnerCondition set e = HasItsKind set e × ((bits_of (kind_of e) == 1) ≡ false)
+-- A condition: a relation of two operands, a value that is not zero, `!` of a condition, or two joined by `&&` or `||`. The
+-- right one of these ignores the context: it has no get and no quotient, not even one of constants.
+unfoldable pub IsCondition : ℕ → TExpr → Type 0
+IsCondition set (T.Brackets' ty p inner) = (ty ≡ type_of inner) × IsCondition set inner
+IsCondition set (T.Unary' ty op p operand) = IsWide set ty × (((negates op ≡ true) × IsCondition set operand) ⊎ ((negates op ≡ false) × IsPure set (T.Unary' ty op p operand)))
+IsCondition set (T.LogicalOr' ty p left q right) = IsWide set ty × IsCondition set left × IsCondition set right × (ignores_context right ≡ true)
+IsCondition set (T.LogicalAnd' ty p left q right) = IsWide set ty × IsCondition set left × IsCondition set right × (ignores_context right ≡ true)
+IsCondition set (T.Binary' ty place op p left q right) = IsWide set ty × (IsRelation set op left right ⊎ ((relates op ≡ false) × HasItsKind set (T.Binary' ty place op p left q right)))
+IsCondition set e = HasItsKind set e
 
--- a condition of `where`: such a one, or any value
-abbrev pub IsCondition : ℕ → TExpr → Type 0
-IsCondition set e = IsInnerCondition set e ⊎ HasItsKind set e
-
--- A truth value that goes to so many bits: a relation, `!` of a condition, two conditions joined, or one of these
--- converted.
+-- A truth value that goes to so many bits: a relation, `!` of a condition, two conditions joined, one of these converted,
+-- or a condition of more than one bit that is converted to `bool`.
 unfoldable pub IsTruth : ℕ → ℕ → TExpr → Type 0
 IsTruth set bits (T.Brackets' ty p inner) = (ty ≡ type_of inner) × IsTruth set bits inner
-IsTruth set bits (T.Convert' ty p operand) = (ty.shape ≡ Some set) × (bits ≤ ty.elem.bits) × IsTruth set bits operand
+IsTruth set bits (T.Convert' ty p operand) = (ty.shape ≡ Some set) × (((bits ≤ ty.elem.bits) × IsTruth set bits operand) ⊎ ((ty.elem.bits ≡ 1) × ((bits_of (kind_of operand) == 1) ≡ false) × IsCondition set operand))
 IsTruth set bits (T.Unary' ty op p operand) = IsWide set ty × (negates op ≡ true) × IsCondition set operand
-IsTruth set bits (T.LogicalOr' ty p left q right) = IsInnerCondition set (T.LogicalOr' ty p left q right)
-IsTruth set bits (T.LogicalAnd' ty p left q right) = IsInnerCondition set (T.LogicalAnd' ty p left q right)
-IsTruth set bits (T.Binary' ty place op p left q right) = (relates op ≡ true) × IsInnerCondition set (T.Binary' ty place op p left q right)
+IsTruth set bits (T.LogicalOr' ty p left q right) = IsCondition set (T.LogicalOr' ty p left q right)
+IsTruth set bits (T.LogicalAnd' ty p left q right) = IsCondition set (T.LogicalAnd' ty p left q right)
+IsTruth set bits (T.Binary' ty place op p left q right) = (relates op ≡ true) × IsCondition set (T.Binary' ty place op p left q right)
 IsTruth set bits _ = ⊥
 
 -- what is assigned is an operand or, without an operator, such a truth value

@@ -17,10 +17,10 @@ ghost use Rattle.fields_follow.specs.Laws.{ParallelCodeMeansSource};
 /// constants and of scalar variables, converted to other types than `bool`, but scalar variables from one type of 32 bits
 /// to another alone, with the operators `+ - * / % %% & | ^ ~ << >> <? >?`, but for a division by the constant 0; where a
 /// divisor is 0 at an active position, both end with that fault at the least such one. Truth values of relations, `!`,
-/// `&&` and `||` are assigned, too, to variables of all types; a right operand of `&&` and `||` has no get and no quotient.
+/// `&&` and `||`, and values converted to `bool`, are assigned, too, to variables of all types; a right operand of `&&` and
+/// `||` has no get and no quotient.
 /// What is tested, compared or folded are values of any types, but for bitwise operations on a narrow one and a constant
-/// that is converted to a narrow type; values of `bool` alone are conditions of `where` and operands of `!`, and of `&&`
-/// and `||` the variables among them.
+/// that is converted to a narrow type; those of `bool` are conditions and operands of `!`, `&&` and `||` as others are.
 pub fn parallel_code_means_source()
     ensures { ParallelCodeMeansSource }
 {}
