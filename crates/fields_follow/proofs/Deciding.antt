@@ -53,7 +53,7 @@ use Rattle.code_follows.proofs.Settings.{At, Setting, Within, and_one, layout}
 use Rattle.constant_trees.proofs.Words.{from_bool_below}
 use Rattle.fields_follow.specs.Fields.{IsElement}
 use Rattle.cstar_tree.specs.Typed.{type_of}
-use Rattle.fields_follow.specs.Fragment.{IsCondition, IsTruth}
+use Rattle.fields_follow.specs.Fragment.{HasItsKind, IsCondition, IsTruth}
 use Rattle.fields_follow.proofs.Clearing.{field_at, joined_behind, joined_more, truths_taken}
 use Rattle.fields_follow.proofs.Conditions.{HaveTheirCode, and_codes, condition_kept, conditions_join, or_codes}
 use Rattle.fields_follow.proofs.Sizes.{brackets_part, convert_part, unary_part}
@@ -62,15 +62,18 @@ use Rattle.fields_follow.proofs.Testing.{and_ended, and_given, both_flagged, con
 use Rattle.fields_follow.proofs.Expressions.{convert_ended, convert_means, unary_ended}
 use Rattle.fields_follow.proofs.Lengths.{relates_plainly}
 use Rattle.fields_follow.proofs.Outcomes.{Ended, meant, then_known}
-use Rattle.fields_follow.proofs.TruthValues.{bool_nonzero, truth_bit, truth_converted, truth_flag, truth_word}
+use Rattle.fields_follow.proofs.TruthValues.{condition_or_truth, bool_nonzero, truth_bit, truth_converted, truth_flag, truth_word}
+use Rattle.fields_follow.proofs.Effects.{computed_last}
+use Rattle.fields_follow.proofs.NarrowKinds.{zero_told}
+use Rattle.std.proofs.lemmas.Nat.{mod_below}
 use Rattle.fields_follow.proofs.Truths.{either_or_both, joined_bits, truth_still}
 use Rattle.fields_follow.proofs.ConditionCode.{Bit, Truth, flag_after, put_in, relation_put, stored_behind, zero_put}
 use Rattle.fields_follow.proofs.Forms.{HasItsCode}
-use Rattle.fields_follow.proofs.Instructions.{Puts, extents, number_in, place, shapes}
-use Rattle.fields_follow.proofs.Meaning.{unary_means, value_in}
+use Rattle.fields_follow.proofs.Instructions.{AreAlike, Puts, extents, number_in, place, puts_alike, shapes}
+use Rattle.fields_follow.proofs.Meaning.{unary_means, value_in, word_at}
 use Rattle.fields_follow.proofs.Leaving.{PassesTests}
 use Rattle.fields_follow.proofs.Passing.{After, Behind, after_same, code_longer, flags_of, made_after, names_second, names_third}
-use Rattle.fields_follow.proofs.PassingTests.{tests_on}
+use Rattle.fields_follow.proofs.PassingTests.{tests_on, tests_passed}
 use Rattle.fields_follow.proofs.Writing.{TakesBehind, entry_and_below, instr_takes}
 use Rattle.fields_follow.proofs.TestFlags.{LeavesTests}
 
@@ -282,6 +285,10 @@ module _ (g : Setting) where
           let file : IsFileField g k 0 f = entry (with_instr i e2) (p.grown.0 + 1) (extended d e2 (with_instr i e2) p.grown.0 1 p.grown.1 (and_one g i e2)) within in
           instr_takes g set i f e2 p.t v (entry_and_below g places fields alive set k 0 info f is_element word file refl) within p.at (subst (λ (m : ℕ). Puts g set i (field_at set offset m) p.t v) same puts)
 
+      is_bit : (n : ℕ) → n < 2 ^ 1 → (b : Bool) → (n == 0) ≡ b → n ≡ from_bool (not (n == 0))
+      is_bit n few true e = eqb-true n 0 e ∙ sym (ap (λ (b : Bool). from_bool (not b)) e)
+      is_bit n few false e = (let one : n ≡ 1 = grind (arith, nat_tests, few, e) in one) ∙ sym (ap (λ (b : Bool). from_bool (not b)) e)
+
       -- by its test, and a bit that is moved, or the flags
       by_tests : (e inner : TExpr) → IsCondition set inner → HasItsCode g.typed g.instance alive n inner → ((q : ℕ) → words_of e q ≡ from_bool (nonzero (words_of e q))) → ((q : ℕ) → q < processors (shapes g) set → nonzero (words_of inner q) ≡ nonzero (words_of e q))
           → (IsGiven inner → IsGiven e) → (Ended g s (meant g fields inner st) → Ended g s (meant g fields e st)) → computed_to g.typed (layout g) (O.Field f) e d ≡ then_make (tested g.typed (layout g) inner d) (put_in f) → Last e → Ends e → After g Q (computed_to g.typed (layout g) (O.Field f) e d)
@@ -380,7 +387,7 @@ module _ (g : Setting) where
               last (gives given exists) e2 (joined_behind is_or set offset bits a b e2) (Unit {0}) within passes tt (subst (λ (v : ℕ → ℕ). TakesBehind g set f e2 (joined_behind is_or set offset bits a b e2) passes.t v) value takes))) (λ early. ended (ends early)))
 
       truth_computed : (e : TExpr) → IsTruth set bits e → HasItsCode g.typed g.instance alive n e → Last e → Ends e → After g Q (computed_to g.typed (layout g) (O.Field f) e d)
-      unfolding IsTruth IsCondition computed_to value_in has_truth goes_unchanged keeps_bits negates unary_of evaluated converted_to cast_to truth_put
+      unfolding IsTruth IsCondition computed_to value_in has_truth goes_unchanged keeps_bits negates unary_of evaluated converted_to cast_to truth_put tests_passed
       truth_computed (T.Brackets' ty p inner) is c last ended = truth_computed inner is.1 (brackets_part g alive n places fields ty p inner c) last ended
       truth_computed (T.Convert' ty p inner) is c last ended = by is.1 (λ part code final early. truth_computed inner part code final early)
         where
@@ -396,25 +403,75 @@ module _ (g : Setting) where
           goes : Bool → Made Out
           goes b = if b then computed_to g.typed (layout g) (O.Field f) inner d else converted_to g.typed (layout g) (O.Field f) whole ty.elem inner d
 
-          not_kept : (a b c : Bool) → b ≡ true → c ≡ false → (a && (not b || c)) ≡ false
-          not_kept true true false e h = refl
-          not_kept false b c e h = refl
-          not_kept true true true e h = cc
-          not_kept true false c e h = cc
+          unchanged : Bool
+          unchanged = nat_le bits ty.elem.bits && (not (ty.elem.bits == 1) || bits_of (kind_of inner) == 1)
 
-          by : ((bits ≤ ty.elem.bits) × IsTruth set bits inner) ⊎ ((ty.elem.bits ≡ 1) × ((bits_of (kind_of inner) == 1) ≡ false) × IsCondition set inner) → (IsTruth set bits inner → HasItsCode g.typed g.instance alive n inner → Last inner → Ends inner → After g Q (computed_to g.typed (layout g) (O.Field f) inner d)) → After g Q (computed_to g.typed (layout g) (O.Field f) whole d)
-          by (inl part) of_inner =
+          both_so : (a b c : Bool) → b ≡ true → (a && (not b || c)) ≡ true → (a ≡ true) × (c ≡ true)
+          both_so true true true e h = (refl, refl)
+          both_so a false c e h = cc
+          both_so false true c e h = cc
+          both_so true true false e h = cc
+
+          OfInner : Type 1
+          OfInner = IsTruth set bits inner → HasItsCode g.typed g.instance alive n inner → Last inner → Ends inner → After g Q (computed_to g.typed (layout g) (O.Field f) inner d)
+
+          of_truth : (bits ≤ ty.elem.bits) × IsTruth set bits inner → OfInner → After g Q (computed_to g.typed (layout g) (O.Field f) whole d)
+          of_truth part of_inner =
               after_same g Q (ap (λ (b : Bool). if b then computed_to g.typed (layout g) (O.Field f) inner d else converted_to g.typed (layout g) (O.Field f) (T.Convert' ty p inner) ty.elem inner d) (kept (nat_le bits ty.elem.bits) (let long = part.0 in grind (arith, nat_tests, long)) (not (ty.elem.bits == 1)) (bits_of (kind_of inner) == 1) (truth_flag set bits inner part.1)))
               (of_inner part.1 (convert_part g alive n places fields ty p inner c)
               (λ given e2 f2 used within passes wanted takes. last (convert_means g has alive n ready places fields set ty p inner st is.0 given) e2 f2 used within passes wanted (subst (λ (v : ℕ → ℕ). TakesBehind g set f e2 f2 passes.t v) (λ j q. sym (truth_converted (extents g set) st set bits ty.elem inner q part.1) j) takes)) (λ early. ended (convert_ended g has alive n ready places fields ty p inner s st early)))
-          by (inr bool_of) of_inner =
-              by_tests whole inner bool_of.2 (convert_part g alive n places fields ty p inner c) (λ q. truth_bit (extents g set) st set bits whole q is)
-              (λ q below. bool_nonzero ty.elem (type_of inner).elem (words_of inner q) bool_of.0 (condition_small g has alive n ready places fields set inner st s sim bool_of.2 (convert_part g alive n places fields ty p inner c) q below))
+
+          part_code : HasItsCode g.typed g.instance alive n inner
+          part_code = convert_part g alive n places fields ty p inner c
+
+          -- of more than one bit, by its test
+          by_bool : (ty.elem.bits ≡ 1) × IsCondition set inner → unchanged ≡ false → After g Q (computed_to g.typed (layout g) (O.Field f) whole d)
+          by_bool bool_of changed =
+              by_tests whole inner bool_of.1 part_code (λ q. truth_bit (extents g set) st set bits whole q is)
+              (λ q below. bool_nonzero ty.elem (type_of inner).elem (words_of inner q) bool_of.0 (condition_small g has alive n ready places fields set inner st s sim bool_of.1 part_code q below))
               (λ given. convert_means g has alive n ready places fields set ty p inner st is.0 given) (λ early. convert_ended g has alive n ready places fields ty p inner s st early)
-              (ap goes (not_kept (nat_le bits ty.elem.bits) (ty.elem.bits == 1) (bits_of (kind_of inner) == 1) (ap (λ (m : ℕ). m == 1) bool_of.0) bool_of.1)
-              ∙ ap (λ (b : Bool). if b then moved g.typed (layout g) (O.Field f) whole d else if ty.elem.bits == 1 then truth_put f (tested g.typed (layout g) inner) d else extended_of ty.elem.signed f (next_of g.typed (layout g) ty.elem.bits true inner) d) (condition_kept set inner bool_of.2)
+              (ap goes changed
+              ∙ ap (λ (b : Bool). if b then moved g.typed (layout g) (O.Field f) whole d else if ty.elem.bits == 1 then truth_put f (tested g.typed (layout g) inner) d else extended_of ty.elem.signed f (next_of g.typed (layout g) ty.elem.bits true inner) d) (condition_kept set inner bool_of.1)
               ∙ ap (λ (m : ℕ). if m == 1 then truth_put f (tested g.typed (layout g) inner) d else extended_of ty.elem.signed f (next_of g.typed (layout g) ty.elem.bits true inner) d) bool_of.0)
               last ended
+
+          -- of one bit, as that is computed
+          by_bit : (ty.elem.bits ≡ 1) × IsCondition set inner → HasItsKind set inner → unchanged ≡ true → bits ≡ 1 → bits_of (kind_of inner) ≡ 1 → After g Q (computed_to g.typed (layout g) (O.Field f) whole d)
+          by_bit bool_of kinded stays one flag =
+              after_same g Q (ap goes stays)
+              (computed_last g has alive n ready places fields set offset bits inner (omega (arith, one)) kinded.0 part_code d s st here sim Q
+              (λ given e2 i within passes puts. last (convert_means g has alive n ready places fields set ty p inner st is.0 given) e2 (with_instr i e2) (Unit {0}) within (tests_passed g alive (length d.fields) d e2 s st (Unit {0}) (omega arith) passes) tt
+              (takes_behind bits refl i e2 (words_of whole) (Unit {0}) (tests_passed g alive (length d.fields) d e2 s st (Unit {0}) (omega arith) passes) within (puts_alike g set i f passes.t (λ q. word_at (extents g set) st inner q) (words_of whole) alike puts)))
+              (λ early. ended (convert_ended g has alive n ready places fields ty p inner s st early)))
+            where
+              alike : AreAlike g bits set (λ q. word_at (extents g set) st inner q) (words_of whole)
+              alike q below few =
+                  let m : ℕ = word_at (extents g set) st inner q % 2 ^ 1 in
+                  let tells : (m == 0) ≡ (words_of inner q == 0) = ap (λ (k : ℕ). word_at (extents g set) st inner q % 2 ^ k == 0) (sym flag) ∙ zero_told g alive n places fields set inner st s sim kinded part_code q below in
+                  let is_m : words_of whole q ≡ m =
+                  truth_bit (extents g set) st set bits whole q is ∙ ap from_bool (sym (bool_nonzero ty.elem (type_of inner).elem (words_of inner q) bool_of.0 (condition_small g has alive n ready places fields set inner st s sim bool_of.1 part_code q below)))
+                  ∙ ap (λ (b : Bool). from_bool (not b)) (sym tells) ∙ sym (is_bit m (mod_below (word_at (extents g set) st inner q) (2 ^ 1) (omega arith)) (m == 0) refl) in (
+                    ap (λ (k : ℕ). k % 2 ^ bits) is_m ∙ ap (λ (k : ℕ). m % 2 ^ k) one ∙ cut_cut (word_at (extents g set) st inner q) 1 1 (omega arith) ∙ ap (λ (k : ℕ). word_at (extents g set) st inner q % 2 ^ k) (sym one),
+                    (let low = mod_below (word_at (extents g set) st inner q) (2 ^ 1) (omega arith) in omega (arith, is_m, low)),
+                  )
+
+          by : ((bits ≤ ty.elem.bits) × IsTruth set bits inner) ⊎ ((ty.elem.bits ≡ 1) × IsCondition set inner) → OfInner → After g Q (computed_to g.typed (layout g) (O.Field f) whole d)
+          by (inl part) of_inner = of_truth part of_inner
+          by (inr bool_of) of_inner = chosen unchanged refl
+            where
+              chosen : (b : Bool) → unchanged ≡ b → After g Q (computed_to g.typed (layout g) (O.Field f) whole d)
+              chosen false changed = by_bool bool_of changed
+              chosen true stays = kind_of_it (condition_or_truth set bits inner bool_of.1)
+                where
+                  so : (nat_le bits ty.elem.bits ≡ true) × ((bits_of (kind_of inner) == 1) ≡ true)
+                  so = both_so (nat_le bits ty.elem.bits) (ty.elem.bits == 1) (bits_of (kind_of inner) == 1) (ap (λ (m : ℕ). m == 1) bool_of.0) stays
+
+                  less : bits ≤ ty.elem.bits
+                  less = let long = so.0 in grind (arith, nat_tests, long)
+
+                  kind_of_it : HasItsKind set inner ⊎ IsTruth set bits inner → After g Q (computed_to g.typed (layout g) (O.Field f) whole d)
+                  kind_of_it (inl kinded) = by_bit bool_of kinded stays (let wide = bool_of.0 in omega (arith, less, some, wide)) (eqb-true (bits_of (kind_of inner)) 1 so.1)
+                  kind_of_it (inr truth) = of_truth (less, truth) of_inner
       truth_computed (T.Unary' ty op p operand) is c last ended = by (bits == 1) (bits_of (kind_of operand) == 1) refl refl
         where
           whole : TExpr

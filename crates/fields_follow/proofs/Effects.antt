@@ -249,7 +249,7 @@ module _ (g : Setting) (has : HasRegisters g) (alive : Variable → Type 0) (n :
       (get_last g alive n places fields ty place p indexes k of set offset bits (λ after. spot_of g.typed (layout g) (T.LeftIndex' ty place p indexes (V.File k) of) after) (length d.fields) d s st most shaped same are c.code.names.0 (get_names g.typed g.instance n of set indexes same are c.code.names.1 c.code.names.2) (omega arith) here sim (λ out e. Q (O.Field (field_at set offset bits)) e)
       (last (get_gives g places fields n ty place p indexes k of set st shaped same are c.code.names.0 (get_names g.typed g.instance n of set indexes same are c.code.names.1 c.code.names.2))))
 
-  computed_last : (set offset bits : ℕ) (e : TExpr) → bits ≤ 32 → IsPure set e → HasItsCode g.typed g.instance alive n e → PutsWords set offset bits e
+  pub computed_last : (set offset bits : ℕ) (e : TExpr) → bits ≤ 32 → IsPure set e → HasItsCode g.typed g.instance alive n e → PutsWords set offset bits e
   unfolding IsPure computed_to value_in NamesVariables evaluated
   computed_last set offset bits (T.Variable ty (V.File k)) most is c = copied_last set k offset bits ty most is c.code.names
   computed_last set offset bits (T.Brackets' ty p inner) most is c =

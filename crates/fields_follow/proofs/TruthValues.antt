@@ -14,7 +14,7 @@ use Rattle.cstar_tree.specs.declared.typed.TExpr as T
 use Rattle.cstar_tree.specs.declared.typed.UnaryOp.{UnaryOp}
 use Rattle.cstar_tree.specs.declared.typed.UnaryOp.TheVariants as U
 use Rattle.lower_base.specs.Kinds.{binary_kind, bits_of, common_kind, converted_kind, has_all, is_bitwise, kind_of, narrow, truth_type as truth_kind}
-use Rattle.lower_base.specs.Operators.{negates}
+use Rattle.lower_base.specs.Operators.{negates, relates}
 use Rattle.lower_expr.specs.Steps.{word_of}
 use Rattle.lower_expr.specs.Values.{flag_of}
 use Rattle.short_values.proofs.NarrowTypes.{bool_unsigned}
@@ -22,7 +22,7 @@ use Rattle.source_meaning.specs.State.{State}
 use Rattle.source_meaning.specs.Values.{nonzero, unary_of}
 use Rattle.code_follows.proofs.Numbers.{zero_converted}
 use Rattle.cstar_tree.specs.Typed.{type_of}
-use Rattle.fields_follow.specs.Fragment.{IsCondition, IsTruth}
+use Rattle.fields_follow.specs.Fragment.{HasItsKind, IsCondition, IsNarrowed, IsPure, IsRelation, IsTruth}
 use Rattle.fields_follow.proofs.Instructions.{extents, place}
 use Rattle.fields_follow.proofs.Meaning.{value_in}
 use Rattle.fields_follow.proofs.TestFlags.{is_truth, truth_is}
@@ -143,7 +143,7 @@ truth_bit extents st set bits (T.Convert' ty p inner) x is = by is.1 (λ part. t
     v : ℕ
     v = value_in extents st inner x
 
-    by : ((bits ≤ ty.elem.bits) × IsTruth set bits inner) ⊎ ((ty.elem.bits ≡ 1) × ((bits_of (kind_of inner) == 1) ≡ false) × IsCondition set inner) → (IsTruth set bits inner → v ≡ from_bool (nonzero v)) → converted ty.elem (type_of inner).elem v ≡ from_bool (nonzero (converted ty.elem (type_of inner).elem v))
+    by : ((bits ≤ ty.elem.bits) × IsTruth set bits inner) ⊎ ((ty.elem.bits ≡ 1) × IsCondition set inner) → (IsTruth set bits inner → v ≡ from_bool (nonzero v)) → converted ty.elem (type_of inner).elem v ≡ from_bool (nonzero (converted ty.elem (type_of inner).elem v))
     by (inl part) bit_of =
         let bit = bit_of part.1 in
         ap (λ (w : ℕ). converted ty.elem (type_of inner).elem w) bit ∙ bit_converted ty.elem (type_of inner).elem (nonzero v) ∙ truth_is (nonzero v)
@@ -183,7 +183,7 @@ unfolding IsTruth kind_of binary_kind bits_of converted_kind
 truth_flag set bits (T.Brackets' ty p inner) is = truth_flag set bits inner is.1
 truth_flag set bits (T.Convert' ty p inner) is = by is.1 (λ part. truth_flag set bits inner part)
   where
-    by : ((bits ≤ ty.elem.bits) × IsTruth set bits inner) ⊎ ((ty.elem.bits ≡ 1) × ((bits_of (kind_of inner) == 1) ≡ false) × IsCondition set inner) → (IsTruth set bits inner → (bits_of (kind_of inner) == 1) ≡ true) → (bits_of (converted_kind ty.elem (kind_of inner)) == 1) ≡ true
+    by : ((bits ≤ ty.elem.bits) × IsTruth set bits inner) ⊎ ((ty.elem.bits ≡ 1) × IsCondition set inner) → (IsTruth set bits inner → (bits_of (kind_of inner) == 1) ≡ true) → (bits_of (converted_kind ty.elem (kind_of inner)) == 1) ≡ true
     by (inl part) flag_of = converted_flag ty.elem (kind_of inner) (flag_of part.1)
     by (inr whole) flag_of = bool_flag ty.elem (kind_of inner) whole.0
 truth_flag set bits (T.Unary' ty op p operand) is = ap (λ (b : Bool). bits_of (if b then Some truth_kind else None) == 1) is.1
@@ -191,3 +191,25 @@ truth_flag set bits (T.LogicalOr' ty p left q right) is = refl
 truth_flag set bits (T.LogicalAnd' ty p left q right) is = refl
 truth_flag set bits (T.Binary' ty place op p left q right) is = ap (λ (b : Bool). bits_of (if b then Some truth_kind else if is_bitwise op then common_kind (kind_of left) (kind_of right) else None) == 1) is.0
 truth_flag set bits _ is = absurd is
+
+-- a condition is a value of its own kind, or a truth value
+pub condition_or_truth : (set bits : ℕ) (e : TExpr) → IsCondition set e → HasItsKind set e ⊎ IsTruth set bits e
+unfolding IsCondition IsTruth IsPure IsNarrowed kind_of
+condition_or_truth set bits (T.Brackets' ty p inner) is = by (condition_or_truth set bits inner is.1)
+  where
+    by : HasItsKind set inner ⊎ IsTruth set bits inner → HasItsKind set (T.Brackets' ty p inner) ⊎ IsTruth set bits (T.Brackets' ty p inner)
+    by (inl kinded) = inl ((is.0, kinded.0), kinded.1)
+    by (inr truth) = inr (is.0, truth)
+condition_or_truth set bits (T.Unary' ty op p operand) is = by is.1
+  where
+    by : ((negates op ≡ true) × IsCondition set operand) ⊎ ((negates op ≡ false) × IsPure set (T.Unary' ty op p operand)) → HasItsKind set (T.Unary' ty op p operand) ⊎ IsTruth set bits (T.Unary' ty op p operand)
+    by (inl h) = inr (is.0, h.0, h.1)
+    by (inr h) = inl (h.1, inl (ap (λ (b : Bool). if b then Some truth_kind else None) h.0))
+condition_or_truth set bits (T.LogicalOr' ty p left q right) is = inr is
+condition_or_truth set bits (T.LogicalAnd' ty p left q right) is = inr is
+condition_or_truth set bits (T.Binary' ty place op p left q right) is = by is.1
+  where
+    by : IsRelation set op left right ⊎ ((relates op ≡ false) × HasItsKind set (T.Binary' ty place op p left q right)) → HasItsKind set (T.Binary' ty place op p left q right) ⊎ IsTruth set bits (T.Binary' ty place op p left q right)
+    by (inl relation) = inr (relation.0, is)
+    by (inr plain) = inl plain.1
+condition_or_truth set bits e is = inl is

@@ -21,7 +21,7 @@ use Rattle.cstar_tree.specs.declared.typed.VarInfo.{VarInfo}
 use Rattle.cstar_tree.specs.declared.typed.Variable.TheVariants as V
 use Rattle.cstar_tree.specs.Typed.{type_of}
 use Rattle.lower_base.specs.Operators.{assign_op_of, negates, relates}
-use Rattle.lower_base.specs.Kinds.{bits_of, is_bitwise, kind_of}
+use Rattle.lower_base.specs.Kinds.{is_bitwise, kind_of}
 use Rattle.lower_comm.specs.declared.news.NewsStep.{NewsStep}
 use Rattle.lower_comm.specs.News.{step_of}
 use Rattle.lower_expr.specs.Kinds.{operation_bits, relation_kind}
@@ -159,10 +159,10 @@ IsCondition set (T.Binary' ty place op p left q right) = IsWide set ty × (IsRel
 IsCondition set e = HasItsKind set e
 
 -- A truth value that goes to so many bits: a relation, `!` of a condition, two conditions joined, one of these converted,
--- or a condition of more than one bit that is converted to `bool`.
+-- or any condition that is converted to `bool`.
 unfoldable pub IsTruth : ℕ → ℕ → TExpr → Type 0
 IsTruth set bits (T.Brackets' ty p inner) = (ty ≡ type_of inner) × IsTruth set bits inner
-IsTruth set bits (T.Convert' ty p operand) = (ty.shape ≡ Some set) × (((bits ≤ ty.elem.bits) × IsTruth set bits operand) ⊎ ((ty.elem.bits ≡ 1) × ((bits_of (kind_of operand) == 1) ≡ false) × IsCondition set operand))
+IsTruth set bits (T.Convert' ty p operand) = (ty.shape ≡ Some set) × (((bits ≤ ty.elem.bits) × IsTruth set bits operand) ⊎ ((ty.elem.bits ≡ 1) × IsCondition set operand))
 IsTruth set bits (T.Unary' ty op p operand) = IsWide set ty × (negates op ≡ true) × IsCondition set operand
 IsTruth set bits (T.LogicalOr' ty p left q right) = IsCondition set (T.LogicalOr' ty p left q right)
 IsTruth set bits (T.LogicalAnd' ty p left q right) = IsCondition set (T.LogicalAnd' ty p left q right)
