@@ -16,3 +16,5 @@ pub mod LoopPieces
 pub mod StatementControl
 pub mod EndedCode
 pub mod UnitControl
+pub mod UnitPlaces
+pub mod LinkedControl
