@@ -18,3 +18,4 @@ pub mod EndedCode
 pub mod UnitControl
 pub mod UnitPlaces
 pub mod LinkedControl
+pub mod PlacedControl
