@@ -16,3 +16,6 @@ pub mod LoopPieces
 pub mod StatementControl
 pub mod EndedCode
 pub mod UnitControl
+pub mod UnitPlaces
+pub mod LinkedControl
+pub mod PlacedControl
