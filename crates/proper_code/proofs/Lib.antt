@@ -19,3 +19,4 @@ pub mod UnitControl
 pub mod UnitPlaces
 pub mod LinkedControl
 pub mod PlacedControl
+pub mod TypedLoops

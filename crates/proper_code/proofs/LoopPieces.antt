@@ -115,8 +115,9 @@ loop_written t i l numbers n m long is_main P back d begun made more test turn n
 abbrev pub Writes : Typed → Bool → (ℕ → Type 0) → (ℕ → Type 0) → Draft → Made ℕ → Type 1
 Writes t is_main P back d made = (Q turns : ℕ → Type 0) → IsWritten (passing t is_main (λ target. P target ⊎ Q target) (λ target. back target ⊎ turns target)) d made
 
-abbrev None_turns : ℕ → Type 0
-None_turns target = ⊥
+-- none of them back
+abbrev NoTurns : ℕ → Type 0
+NoTurns target = ⊥
 
 -- an `if` without an `else`
 pub one_way : (t : Typed) (i : Instance) (l : Layout) → NumbersVariables i l → (n m long : ℕ) (is_main : Bool) (P back : ℕ → Type 0) (d : Draft) (test : TExpr) (first : Draft → Made ℕ) → IsCondition t i n test → HasDeclared t i l n d →
@@ -138,9 +139,9 @@ one_way t i l numbers n m long is_main P back d test first code y lead body =
         let c : Draft = with_step jump after in
         let there = still_declared t i l n after c 1 (and_step jump after after 0 (as_it_was after)) known in
         let far = one_further jump after in
-        let start = jump_ahead t is_main (λ target. P target ⊎ (target ≡ end)) (λ target. back target ⊎ None_turns target) jump end d after (if_zero r end) (omega arith) (inr refl) (also_to t is_main P (λ target. target ≡ end) back None_turns d after wrote) in
-        statement_then t i l m long _ W c c d _ _ (lead c there) (body c there (omega (arith, far, is)) (λ target. target ≡ end) None_turns) (λ e _ at x.
-        made_so W m d e (places_within t is_main P (λ target. target ≡ end) back None_turns d e (λ target same. ends_there e target (omega (arith, same, at, far))) (λ target no. absurd no) (written_on _ d c e start x)))
+        let start = jump_ahead t is_main (λ target. P target ⊎ (target ≡ end)) (λ target. back target ⊎ NoTurns target) jump end d after (if_zero r end) (omega arith) (inr refl) (also_to t is_main P (λ target. target ≡ end) back NoTurns d after wrote) in
+        statement_then t i l m long _ W c c d _ _ (lead c there) (body c there (omega (arith, far, is)) (λ target. target ≡ end) NoTurns) (λ e _ at x.
+        made_so W m d e (places_within t is_main P (λ target. target ≡ end) back NoTurns d e (λ target same. ends_there e target (omega (arith, same, at, far))) (λ target no. absurd no) (written_on _ d c e start x)))
 
 -- where the second way begins, and where it ends
 both_land : (w : Ways) (b e : Draft) (other end : ℕ) → other ≡ here b → end ≡ here e → Wrote w b e → (target : ℕ) → (target ≡ other) ⊎ (target ≡ end) → (target ≤ here e) × IsNoCall e.code target
@@ -171,13 +172,13 @@ two_ways t i l numbers n m k long last is_main P back d test first second code y
         let c : Draft = with_step jump after in
         let there = still_declared t i l n after c 1 (and_step jump after after 0 (as_it_was after)) known in
         let far = one_further jump after in
-        let start = jump_ahead t is_main (λ target. P target ⊎ Q target) (λ target. back target ⊎ None_turns target) jump other d after (if_zero r other) (omega arith) (inr (inl refl)) (also_to t is_main P Q back None_turns d after wrote) in
-        statement_then t i l m long _ W c c d _ _ (lead c there) (body c there (omega (arith, far, is)) Q None_turns) (λ half declared at x.
+        let start = jump_ahead t is_main (λ target. P target ⊎ Q target) (λ target. back target ⊎ NoTurns target) jump other d after (if_zero r other) (omega arith) (inr (inl refl)) (also_to t is_main P Q back NoTurns d after wrote) in
+        statement_then t i l m long _ W c c d _ _ (lead c there) (body c there (omega (arith, far, is)) Q NoTurns) (λ half declared at x.
         let over : Step = Plain (I.FrontJump end) in
         let b : Draft = with_step over half in
         let there' = still_declared t i l m half b 1 (and_step over half half 0 (as_it_was half)) declared in
         let further = one_further over half in
-        let begun = jump_ahead t is_main (λ target. P target ⊎ Q target) (λ target. back target ⊎ None_turns target) over end d half (always end) (omega (arith, at, far)) (inr (inr refl)) (written_on _ d c half start x) in
+        let begun = jump_ahead t is_main (λ target. P target ⊎ Q target) (λ target. back target ⊎ NoTurns target) over end d half (always end) (omega (arith, at, far)) (inr (inr refl)) (written_on _ d c half start x) in
         subst (λ (made : Made ℕ). IsWritten W d made) (sym (same b))
-        (leads_to (Declares t i l k) last _ W b b d (second b) (lead' b there') (body' b there' (omega (arith, at, far, further, is)) Q None_turns) (λ e at' z.
-        places_within t is_main P Q back None_turns d e (both_land _ b e other end (omega (arith, at, far, further)) (omega (arith, at, far, further, at')) z) (λ target no. absurd no) (written_on _ d b e begun z))))
+        (leads_to (Declares t i l k) last _ W b b d (second b) (lead' b there') (body' b there' (omega (arith, at, far, further, is)) Q NoTurns) (λ e at' z.
+        places_within t is_main P Q back NoTurns d e (both_land _ b e other end (omega (arith, at, far, further)) (omega (arith, at, far, further, at')) z) (λ target no. absurd no) (written_on _ d b e begun z))))

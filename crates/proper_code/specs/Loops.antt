@@ -1,9 +1,11 @@
 -- Each `break` and each `continue` of a typed statement stands in a loop, as typing has it.
 use Rattle.std.specs.Prelude.{◌≡◌, Bool, true, false}
+use Rattle.cstar_tree.specs.declared.syntax.Tree.{Tree}
 use Rattle.cstar_tree.specs.declared.typed.Instance.{Instance}
 use Rattle.cstar_tree.specs.declared.typed.TStmt.{TStmt, Row_of-TStmt, end_of-TStmt, more_of-TStmt, Held-TStmt-If-2, None', Some'}
 use Rattle.cstar_tree.specs.declared.typed.TStmt as S
 use Rattle.cstar_tree.specs.declared.typed.Typed.{Typed}
+use Rattle.cstar_tree.specs.ProgramTypes.{TypesFile}
 use Rattle.std.specs.List.{All}
 
 unfoldable mutual
@@ -32,3 +34,7 @@ unfoldable mutual
 -- so it is in the body of each instance
 abbrev pub BreaksStandInLoops : Typed → Type 0
 BreaksStandInLoops t = All (λ (i : Instance). LeavesLoops false i.body) t.instances.items
+
+-- what the rules of typing give a file does
+abbrev pub TypedFilesStayInLoops : Type 0
+TypedFilesStayInLoops = (tree : Tree) (typed : Typed) → TypesFile tree typed → BreaksStandInLoops typed

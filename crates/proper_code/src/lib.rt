@@ -4,6 +4,7 @@
 
 ghost use Rattle.proper_code.specs.Control.{UnitsKeepControl};
 ghost use Rattle.proper_code.specs.Links.{CompiledKeepWays, LinksKeepWays};
+ghost use Rattle.proper_code.specs.Loops.{TypedFilesStayInLoops};
 
 /// In the unit of each instance that has code every jump leads to an instruction of the unit, and to a turn
 /// where it does not lead forward. A call is of a unit of the program and stands directly behind a turn, and
@@ -24,4 +25,9 @@ pub fn links_keep_ways()
 /// is their link.
 pub fn compiled_images_keep_ways()
     ensures { CompiledKeepWays }
+{}
+
+/// What the rules of typing make of a file has each `break` and each `continue` in a loop, as these laws ask.
+pub fn typed_files_stay_in_loops()
+    ensures { TypedFilesStayInLoops }
 {}
