@@ -1,13 +1,10 @@
--- The units of an image are those of the program of its text, and scalar code means it.
+-- The units of an image are those of the program of its text, control stays within them, and scalar code means it.
 use Rattle.std.proofs.Common.{◌≡◌, ℕ, suc, ◌+◌, ◌<◌, List, [], ◌∷◌, length, map, refl, sym, ap, ◌∙◌, subst, arith}
 use Rattle.std.proofs.lemmas.List.{length-map}
 use Rattle.lower_base.specs.Drafts.{draft}
 use Rattle.cstar_tree.specs.declared.typed.Typed.{Typed}
-use Rattle.paris_code.specs.declared.program.Entry.{Entry}
 use Rattle.paris_code.specs.declared.program.Image.{Image}
 use Rattle.paris_code.specs.declared.program.Unit.{Unit}
-use Rattle.paris_code.specs.RuleTarget.{AreStarts, HasUnits}
-use Rattle.paris_code.specs.Units.{start_of}
 use Rattle.plain_texts.proofs.PlainTrees.{tree_is_plain}
 use Rattle.plain_texts.proofs.Words.{text_has_words}
 use Rattle.cstar_link.specs.Linked.{entries_from}
@@ -21,7 +18,9 @@ use Rattle.shaped_trees.proofs.NamedFiles.{file_code}
 use Rattle.shaped_trees.proofs.SpelledCasts.{spelled}
 use Rattle.code_follows.proofs.Programs.{means_source}
 use Rattle.scalar_texts.proofs.WholeFiles.{files_are_scalar}
-use Rattle.accepted_code.specs.Laws.{AcceptedProgramsHaveCode, ImagesHaveEveryUnit, ScalarImagesMeanTheirText}
+use Rattle.proper_code.proofs.PlacedControl.{compiled_keep}
+use Rattle.proper_code.proofs.TypedLoops.{files_stay}
+use Rattle.accepted_code.specs.Laws.{AcceptedImagesKeepWays, AcceptedProgramsHaveCode, ImagesHaveEveryUnit, ScalarImagesMeanTheirText}
 
 -- each function of the program of a text has code
 pub codable : (text : List ℕ) (typed : Typed) → IsProgramOf text typed → IsCodable typed
@@ -51,18 +50,12 @@ every_unit text typed image is compiled =
     ∙ placed_long compiled.placed.placed.places 0 compiled.before.units.items compiled.after.units.items compiled.placed.placed.units
     ∙ sym (length-map compiled.before.units.items draft) ∙ ap length compiled.lowered.as_described.units ∙ own.all
 
--- an image that keeps the image rules has a unit
-some_units : (image : Image) → HasUnits image → 0 < length image.units.items
-some_units image units = by image.units.items refl
-  where
-    by : (list : List Entry) → image.units.items ≡ list → 0 < length list
-    by [] none = absurd (subst (λ (starts : List ℕ). AreStarts starts (length image.code.items)) (ap (map start_of) none) units)
-    by (u ∷ us) is = omega arith
+-- and goes where it may
+pub keeps_ways : AcceptedImagesKeepWays
+keeps_ways text typed image is compiled = compiled_keep typed image compiled (codable text typed is) (files_stay is.tree typed is.types) is.typed.main
 
 pub scalar_means : ScalarImagesMeanTheirText
-scalar_means text typed image short is none compiled sound =
+scalar_means text typed image short is none compiled =
     let named = spelled is.tokens is.tree is.spelled in
     let plain = tree_is_plain is.tokens is.tree (text_has_words text is.tokens.list.items short is.read) is.spelled in
-    let units = some_units image sound.units in
-    let as_many = every_unit text typed image is compiled in
-    means_source typed image (files_are_scalar is.tree typed named plain is.types (omega (arith, units, as_many)) none) (codable text typed is) compiled
+    means_source typed image (files_are_scalar is.tree typed named plain is.types is.typed.main none) (codable text typed is) compiled

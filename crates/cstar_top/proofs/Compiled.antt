@@ -8,6 +8,7 @@ use Rattle.cstar_tree.specs.declared.syntax.Tree.{Tree}
 use Rattle.cstar_tree.specs.declared.token.Tokens.{Tokens}
 use Rattle.cstar_tree.specs.FileFaults.{IsAccepted}
 use Rattle.cstar_tree.specs.FileScopes.{file_known}
+use Rattle.cstar_tree.specs.IsTyped.{IsTyped}
 use Rattle.cstar_tree.specs.Items.{IsTree}
 use Rattle.cstar_tree.specs.Nodes.{tree_nodes}
 use Rattle.cstar_tree.specs.ProgramTypes.{TypesFile}
@@ -22,8 +23,8 @@ use Rattle.cstar_top.specs.Accepted.{IsImageOf, IsProgramOf}
 -- a program that the rules give the tree of a text is the text's
 pub program_of_text : (text : List ℕ) (tokens : Tokens) (tree : Tree) (typed : Typed) → length text ≤ 1048576 → IsText text tokens.list.items → IsTree tokens tree
     → (length (file_known tree).names < 2 ^ 32 → IsPlainTree tree → TypesFile tree typed) → (length (file_known tree).names < 2 ^ 32 → IsPlainTree tree → HaveOwnNames tree typed.shapes.items typed.vars.items)
-    → HasRoom typed.shapes.items typed.need.items → (length (file_known tree).names < 2 ^ 32 → IsPlainTree tree → tree_nodes tree ≤ 2 ^ 20 → IsAccepted tree typed) → IsProgramOf text typed
-program_of_text text tokens tree typed short read spelled types new room accepted =
+    → HasRoom typed.shapes.items typed.need.items → (length (file_known tree).names < 2 ^ 32 → IsPlainTree tree → tree_nodes tree ≤ 2 ^ 20 → IsAccepted tree typed) → IsTyped typed → IsProgramOf text typed
+program_of_text text tokens tree typed short read spelled types new room accepted typed_so =
     let words = text_has_words text tokens.list.items (omega (arith, short)) read in
     record {
       tokens = tokens;
@@ -31,6 +32,7 @@ program_of_text text tokens tree typed short read spelled types new room accepte
       read = read;
       spelled = spelled;
       types = types (few_names tokens tree words spelled) (tree_is_plain tokens tree words spelled);
+      typed = typed_so;
       new = new (few_names tokens tree words spelled) (tree_is_plain tokens tree words spelled);
       room = room;
       accepted = accepted (few_names tokens tree words spelled) (tree_is_plain tokens tree words spelled);

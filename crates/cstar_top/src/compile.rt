@@ -11,8 +11,10 @@ ghost use Rattle.point_runs.specs.declared.refusal.NoImage.TheVariants as N;
 ghost use Rattle.point_runs.specs.Refusals.{file_start};
 ghost use Rattle.cstar_compile.specs.Compiled.{IsCompiled};
 ghost use Rattle.lower_stmt.specs.Programs.{HasEveryUnit};
+ghost use Rattle.cstar_tree.specs.FileFaults.{IsAccepted};
 ghost use Rattle.cstar_tree.specs.FileScopes.{file_known};
 ghost use Rattle.cstar_tree.specs.Items.{IsTree};
+ghost use Rattle.cstar_tree.specs.Nodes.{tree_nodes};
 ghost use Rattle.cstar_tree.specs.ProgramTypes.{TypesFile};
 ghost use Rattle.cstar_tree.specs.Room.{HasRoom};
 ghost use Rattle.shape_types.specs.Plain.{IsPlainTree};
@@ -187,6 +189,7 @@ fn typed_of(alloc: Global, tree: &Tree) -> Result<Typed, NoImage>
     ensures exact { length (file_known tree.now).names < 2 ^ 32 → IsPlainTree tree.now → IfOk result (TypesFile tree.now) }
     ensures new { length (file_known tree.now).names < 2 ^ 32 → IsPlainTree tree.now → IfOk result (λ typed. HaveOwnNames tree.now typed.shapes.items typed.vars.items) }
     ensures room { IfOk result (λ typed. HasRoom typed.shapes.items typed.need.items) }
+    ensures accepted { length (file_known tree.now).names < 2 ^ 32 → IsPlainTree tree.now → tree_nodes tree.now ≤ 2 ^ 20 → IfOk result (IsAccepted tree.now) }
     ensures refused { IfErr result (NamesOnly IsOfText) }
 {
     match check(alloc, tree) {

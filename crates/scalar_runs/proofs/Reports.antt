@@ -161,6 +161,6 @@ went_on image options held left course answer are goes feeds answers whole =
     }
 
 pub scalar_reports : ScalarReportsMeanTheirText
-scalar_reports text typed image short is none compiled sound options held left course answer are goes feeds answers whole =
+scalar_reports text typed image short is none compiled options held left course answer are goes feeds answers whole =
     let input : WentOn image options held left course answer = went_on image options held left course answer are goes feeds answers whole in
-    (input.given, (input.rest, input.so (meaning typed input.given input.rest options.turns options.winner) (scalar_runs text typed image short is none compiled sound options.winner input.given input.rest options.turns course input.are input.on)))
+    (input.given, (input.rest, input.so (meaning typed input.given input.rest options.turns options.winner) (scalar_runs text typed image short is none compiled options.winner input.given input.rest options.turns course input.are input.on)))

@@ -79,5 +79,5 @@ module _ (from : Origin) (given : Rest) (turns : ℕ) (course : Course) (on : Ru
   same_bits = subst (λ (x : CodeState). SameBits (shapes_of from.image) course.memory x.memory) state at.same.bits
 
 pub scalar_runs : ScalarRunsMeanTheirText
-scalar_runs text typed image short is none compiled sound winner input rest turns course are on =
-    is_run (new_start image winner) (record { bytes = input; mark = mark_of rest }) turns course on (meaning typed input rest turns winner) (scalar_means text typed image short is none compiled sound on.ran.begun input rest turns winner are)
+scalar_runs text typed image short is none compiled winner input rest turns course are on =
+    is_run (new_start image winner) (record { bytes = input; mark = mark_of rest }) turns course on (meaning typed input rest turns winner) (scalar_means text typed image short is none compiled on.ran.begun input rest turns winner are)

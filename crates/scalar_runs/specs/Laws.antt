@@ -6,7 +6,6 @@ use Rattle.cstar_compile.specs.Compiled.{IsCompiled}
 use Rattle.cstar_top.specs.Accepted.{IsProgramOf}
 use Rattle.cstar_tree.specs.declared.typed.Typed.{Typed}
 use Rattle.paris_code.specs.declared.program.Image.{Image}
-use Rattle.paris_code.specs.Sound.{IsSound}
 use Rattle.paris_machine.specs.declared.outcome.End.{End as RunEnd}
 use Rattle.paris_machine.specs.declared.outcome.End.TheVariants as E
 use Rattle.point_runs.specs.Courses.{Course}
@@ -34,6 +33,6 @@ pub record IsRunOf (run : Run) (course : Course) : Type 0 where
 -- the text's meaning
 abbrev pub ScalarRunsMeanTheirText : Type 0
 ScalarRunsMeanTheirText =
-    (text : List ℕ) (typed : Typed) (image : Image) → length text < 2 ^ 32 → IsProgramOf text typed → HasNoShapes typed → IsCompiled typed image → IsSound image →
+    (text : List ℕ) (typed : Typed) (image : Image) → length text < 2 ^ 32 → IsProgramOf text typed → HasNoShapes typed → IsCompiled typed image →
     (winner : Winner) (input : List ℕ) (rest : Source.Rest) (turns : ℕ) (course : Course) → AreBytes input →
     RunsOn (new_start image winner) (record { bytes = input; mark = mark_of rest }) turns course → IsRunOf (meaning typed input rest turns winner) course

@@ -11,7 +11,6 @@ use Rattle.cstar_tree.specs.declared.typed.Typed.{Typed}
 use Rattle.cstar_words.specs.declared.options.Options.{Options}
 use Rattle.paris_code.specs.declared.program.Image.{Image}
 use Rattle.paris_code.specs.Listing.{listing}
-use Rattle.paris_code.specs.Sound.{IsSound}
 use Rattle.point_runs.specs.Courses.{Course, Feeds, IsCourse}
 use Rattle.point_runs.specs.Starts.{new_start}
 use Rattle.source_meaning.specs.Programs.{End, EndsEarly, Run, meaning}
@@ -39,7 +38,7 @@ IsGiven held left given rest end = (given ≡ held) × (rest ≡ Source.InputEnd
 -- shape, the answer and the report are those of the run that the text means.
 abbrev pub ScalarReportsMeanTheirText : Type 0
 ScalarReportsMeanTheirText =
-    (text : List ℕ) (typed : Typed) (image : Image) → length text < 2 ^ 32 → IsProgramOf text typed → HasNoShapes typed → IsCompiled typed image → IsSound image →
+    (text : List ℕ) (typed : Typed) (image : Image) → length text < 2 ^ 32 → IsProgramOf text typed → HasNoShapes typed → IsCompiled typed image →
     (options : Options) (held : List ℕ) (left : Option (List ℕ)) (course : Course) (answer : Answer) → AreBytes held →
     IsCourse (new_start image options.winner) options.turns course → Feeds (new_start image options.winner) course (Some held) left →
     Answers options.turns course.end answer → IsWhole (status_of answer) →
