@@ -33,7 +33,6 @@ use Rattle.paris_code.specs.declared.instr.Instr.TheVariants as I
 use Rattle.paris_code.specs.declared.operands.Field.{Field}
 use Rattle.paris_code.specs.declared.program.Owner.TheVariants as W
 use Rattle.paris_code.specs.Code.{CodeState}
-use Rattle.paris_code.specs.Memory.{processors}
 use Rattle.source_meaning.specs.Constants.{is_constant}
 use Rattle.source_meaning.specs.Expressions.{evaluated}
 use Rattle.source_meaning.specs.Narrowing.{and_then, or_then, where_nonzero, where_zero}
@@ -159,7 +158,7 @@ module _ (g : Setting) (has : HasRegisters g) (alive : Variable → Type 0) (n :
   pure_told set e kinded c d s st here sim =
       let bits : ℕ = bits_of (kind_of e) in
       given_weaker g s (meant g fields e st) (numbers_of set e st) st (Gives g has alive n ready places fields (IsFlag e) bits (length d.fields) d s set st (λ q. word_at (extents g set) st e q)) (Told g alive places fields d s set st (numbers_of set e st)) (operand bits true e d)
-      (λ x e1 (a, (is, (gives, apart))). (a, (is, field_told g alive places fields bits d s set st (λ q. word_at (extents g set) st e q) (numbers_of set e st) a e1 (λ q below. zero_told g alive n places fields set e st s sim kinded c q below) gives)))
+      (λ x e1 (a, (is, (gives, apart))). (a, (is, field_told g alive places fields bits d s set st (λ q. word_at (extents g set) st e q) (numbers_of set e st) a e1 (λ q below. zero_told g alive n places fields set e st s sim kinded c q) gives)))
       (operand_after g has alive n ready places fields bits set e true kinded.0 c.code.names (pure_after g has alive n ready places fields bits set e (kind_most g alive n places fields set e kinded) kinded.0 c) d s st here sim)
 
   -- a variable of the file, where it stands
@@ -226,7 +225,7 @@ module _ (g : Setting) (has : HasRegisters g) (alive : Variable → Type 0) (n :
         (
           is,
           field_truth g alive places fields d s set st (λ q. word_at (extents g set) st e q) (numbers_of set e st) a e1
-              (λ q below. ap (λ (m : ℕ). word_at (extents g set) st e q % 2 ^ m == 0) (sym is_one) ∙ zero_told g alive n places fields set e st s sim kinded c q below) (apart is_one) gives,
+              (λ q below. ap (λ (m : ℕ). word_at (extents g set) st e q % 2 ^ m == 0) (sym is_one) ∙ zero_told g alive n places fields set e st s sim kinded c q) (apart is_one) gives,
         ),
       ))
       (operand_after g has alive n ready places fields 1 set e true kinded.0 c.code.names (pure_after g has alive n ready places fields 1 set e (omega arith) kinded.0 c) d s st here sim)
@@ -460,10 +459,10 @@ module _ (g : Setting) (has : HasRegisters g) (alive : Variable → Type 0) (n :
   known set e is c = pure_known set e is refl c
 
   -- its numbers are those of its type
-  pub condition_small : (set : ℕ) (e : TExpr) (st : State) (s : CodeState) → Sim g alive st s → IsCondition set e → HasItsCode g.typed g.instance alive n e → (q : ℕ) → q < processors (shapes g) set → value_in (extents g set) st e q < 2 ^ (type_of e).elem.bits
+  pub condition_small : (set : ℕ) (e : TExpr) (st : State) (s : CodeState) → Sim g alive st s → IsCondition set e → HasItsCode g.typed g.instance alive n e → (q : ℕ) → value_in (extents g set) st e q < 2 ^ (type_of e).elem.bits
   unfolding IsCondition value_in unary_of negates
-  condition_small set (T.Brackets' ty p inner) st s sim is c q below = subst (λ (y : ValueType). value_in (extents g set) st inner q < 2 ^ y.elem.bits) (sym is.0) (condition_small set inner st s sim is.1 (brackets_part g alive n places fields ty p inner c) q below)
-  condition_small set (T.Unary' ty op p operand) st s sim is c q below = by op is.1 c
+  condition_small set (T.Brackets' ty p inner) st s sim is c q = subst (λ (y : ValueType). value_in (extents g set) st inner q < 2 ^ y.elem.bits) (sym is.0) (condition_small set inner st s sim is.1 (brackets_part g alive n places fields ty p inner c) q)
+  condition_small set (T.Unary' ty op p operand) st s sim is c q = by op is.1 c
     where
       by : (op : UnaryOp) → ((negates op ≡ true) × IsCondition set operand) ⊎ ((negates op ≡ false) × IsPure set (T.Unary' ty op p operand)) → HasItsCode g.typed g.instance alive n (T.Unary' ty op p operand) → value_in (extents g set) st (T.Unary' ty op p operand) q < 2 ^ ty.elem.bits
       by op (inr h) c = value_small g alive n places fields set (T.Unary' ty op p operand) st s sim h.1 c q
@@ -471,9 +470,9 @@ module _ (g : Setting) (has : HasRegisters g) (alive : Variable → Type 0) (n :
       by U.Plus (inl h) c = let wrong = h.0 in cc
       by U.Minus (inl h) c = let wrong = h.0 in cc
       by U.Complement (inl h) c = let wrong = h.0 in cc
-  condition_small set (T.LogicalOr' ty p left r right) st s sim is c q below = subst (λ (m : ℕ). from_bool (nonzero (value_in (extents g set) st left q) || nonzero (value_in (extents g set) st right q)) < 2 ^ m) (sym is.0.1) (from_bool_below _)
-  condition_small set (T.LogicalAnd' ty p left r right) st s sim is c q below = subst (λ (m : ℕ). from_bool (nonzero (value_in (extents g set) st left q) && nonzero (value_in (extents g set) st right q)) < 2 ^ m) (sym is.0.1) (from_bool_below _)
-  condition_small set (T.Binary' ty place op p left r right) st s sim is c q below = by is.1
+  condition_small set (T.LogicalOr' ty p left r right) st s sim is c q = subst (λ (m : ℕ). from_bool (nonzero (value_in (extents g set) st left q) || nonzero (value_in (extents g set) st right q)) < 2 ^ m) (sym is.0.1) (from_bool_below _)
+  condition_small set (T.LogicalAnd' ty p left r right) st s sim is c q = subst (λ (m : ℕ). from_bool (nonzero (value_in (extents g set) st left q) && nonzero (value_in (extents g set) st right q)) < 2 ^ m) (sym is.0.1) (from_bool_below _)
+  condition_small set (T.Binary' ty place op p left r right) st s sim is c q = by is.1
     where
       v : ℕ
       v = value_in (extents g set) st (T.Binary' ty place op p left r right) q
@@ -481,7 +480,7 @@ module _ (g : Setting) (has : HasRegisters g) (alive : Variable → Type 0) (n :
       by : IsRelation set op left right ⊎ ((relates op ≡ false) × HasItsKind set (T.Binary' ty place op p left r right)) → v < 2 ^ ty.elem.bits
       by (inl relation) = subst (λ (m : ℕ). v < 2 ^ m) (sym is.0.1) (subst (λ (w : ℕ). w < 2 ^ 32) (sym (is_truth op 32 _ _ _ relation.0)) (from_bool_below _))
       by (inr plain_one) = value_small g alive n places fields set (T.Binary' ty place op p left r right) st s sim plain_one.1.0 c q
-  condition_small set e st s sim is c q below = value_small g alive n places fields set e st s sim is.0 c q
+  condition_small set e st s sim is c q = value_small g alive n places fields set e st s sim is.0 c q
 
   -- the code of a condition
   pub condition_tested : (set : ℕ) (e : TExpr) → IsCondition set e → HasItsCode g.typed g.instance alive n e → (d : Draft) (s : CodeState) (st : State) → At g s (length d.code) → Sim g alive st s
