@@ -39,7 +39,8 @@ module _ (g : Setting) where
   -- entry of an element is at its field, which ends below them too, and is apart from those of other elements and
   -- from own entries; two own entries are apart where each is named at an instruction, or before it, and behind it;
   -- both are apart from what stands below the unit's entries, as an own entry that is named before a call and behind it
-  -- stands below those of what is called; and the shapes have few positions, and are grids with the extents of the source.
+  -- stands below those of what is called; and the coordinates of any number are words, and the shapes are grids with the
+  -- extents of the source.
   pub record PlacesFields : Type 0 where
     pub ends : (at : ℕ) (i : Instr) (f : Field) (others : List Field) → StandsAt g.unit at i → step_of i ≡ Plain i → NamesFields i → fields_of i ≡ f ∷ others → (f.set < length (shapes g)) × ((place g f).offset + f.len ≤ bits_at (shapes g) f.set)
     pub exists : (k element set : ℕ) (info : VarInfo) → IsElement g.typed k info set element → set < length (shapes g)
