@@ -4,6 +4,7 @@ use Rattle.std.specs.Prelude.{is_none}
 use Rattle.std.proofs.lemmas.Bool.{eq-eqb}
 use Rattle.std.specs.Int.{from_bool}
 use Rattle.std.proofs.Math.Nat.{mod-eq_of_lt, pow-le-pow_right}
+use Rattle.std.proofs.lemmas.Nat.{mod_below, pow_pos}
 use Rattle.source_meaning.specs.Values.{nonzero}
 use Rattle.cstar_base.specs.declared.elem.Elem.{Elem}
 use Rattle.cstar_base.specs.declared.operators.Op.{Op}
@@ -56,6 +57,7 @@ use Rattle.cstar_base.proofs.NumberLaws.{kind_bits}
 use Rattle.code_follows.proofs.Following.{HasRegisters, Sim, held}
 use Rattle.code_follows.proofs.Growing.{Extended, extended}
 use Rattle.code_follows.proofs.Settings.{At, Setting, Within, and_one, layout, onto}
+use Rattle.code_follows.proofs.Words.{below_word}
 use Rattle.fields_follow.specs.Fragment.{HasOperation, IsOperand, IsOperandOrTruth, IsOperation, IsTarget, IsUpdate, IsWide}
 use Rattle.fields_follow.specs.Fields.{IsElement, file_number}
 use Rattle.fields_follow.proofs.Deciding.{truth_last}
@@ -63,7 +65,7 @@ use Rattle.fields_follow.proofs.TruthValues.{truth_bit}
 use Rattle.fields_follow.proofs.Dividing.{zero_at, zero_there}
 use Rattle.fields_follow.proofs.Forms.{HasItsCode, field_is, operand_shape}
 use Rattle.fields_follow.proofs.Lengths.{held_first, modular_keeps}
-use Rattle.fields_follow.proofs.Instructions.{Puts, extents, puts_operate_constant, shapes, word_in}
+use Rattle.fields_follow.proofs.Instructions.{Puts, extents, operation_below, puts_operate_constant, shapes, word_in}
 use Rattle.fields_follow.proofs.Meaning.{value_in, word_at}
 use Rattle.fields_follow.proofs.Outcomes.{Ended, meant, outcome_follows}
 use Rattle.fields_follow.proofs.Leaving.{Leaves, PassesTests, UpdateLeaves}
@@ -72,6 +74,7 @@ use Rattle.fields_follow.proofs.PassingTests.{tests_passed}
 use Rattle.fields_follow.proofs.Places.{HoldsTheFields, IsFileField, PlacesFields}
 use Rattle.fields_follow.proofs.Updates.{IsFileTarget, assign_ends, assign_means, assigned_divides, assigned_is, divides_as, divides_never, file_target, promoted_wide, step_means, updated_is}
 use Rattle.fields_follow.proofs.Sizes.{operand_small}
+use Rattle.fields_follow.proofs.Totals.{held_below}
 use Rattle.fields_follow.proofs.Values.{and_entry, next_field, one_more, taken, variable_has, with_entry}
 use Rattle.fields_follow.proofs.Writing.{TakesBehind, entry_and_below, entry_ends, few, file_sim, instr_takes, own_stays}
 use Rattle.fields_follow.proofs.Effects.{IsEntryFor, in_place_last, put_last}
@@ -91,9 +94,9 @@ module _ (g : Setting) (has : HasRegisters g) (alive : Variable → Type 0) (n :
     entry_for : IsEntryFor g has alive n ready places fields k variable entered
     entry_for e m longer within = taken g set info.elem.bits (W.File (file_number g.typed k 0)) d e m within longer
 
-    -- the numbers are the lowest bits of the words that are put
+    -- the numbers are the lowest bits of the words that are put, and beyond the positions too they are of the type
     abbrev AreStored : (ℕ → ℕ) → (ℕ → ℕ) → Type 0
-    AreStored v w = (p : ℕ) → p < processors (shapes g) set → v p < 2 ^ 32 → w p ≡ v p % 2 ^ info.elem.bits
+    AreStored v w = ((p : ℕ) → p < processors (shapes g) set → v p < 2 ^ 32 → w p ≡ v p % 2 ^ info.elem.bits) × ((p : ℕ) → w p < 2 ^ info.elem.bits)
 
     leaves : (v w : ℕ → ℕ) → AreStored v w → (e2 f : Draft) (used : Type 0) → Within g f → (p : PassesTests g alive entered e2 s st used) → used → TakesBehind g set variable e2 f p.t v
         → Leaves g alive d f s (with_positions (V.File k) 0 (fields.active set) w st)
@@ -110,7 +113,7 @@ module _ (g : Setting) (has : HasRegisters g) (alive : Variable → Type 0) (n :
           at = last.at;
           registers = p.registers;
           sim = file_sim g places fields alive set variable p.t st v p.sim refl ends.0 ends.1 last.takes k 0 info is refl file last.place (fields.active set) w (λ q below. refl)
-              (λ q below on. same q below (few g places fields alive set variable p.t st v p.sim refl ends.0 ends.1 last.takes q below on));
+              (λ q below on. same.0 q below (few g places fields alive set variable p.t st v p.sim refl ends.0 ends.1 last.takes q below on)) same.1;
           stays = λ u h first final q below own ends_below before low after high.
               own_stays g places fields alive set variable p.t st v p.sim refl ends.0 ends.1 last.takes k 0 info is refl file h q own
               ∙ p.stays wanted h first final q (omega (arith, below, more)) own ends_below before low after (omega (arith, high, longer));
@@ -243,7 +246,7 @@ module _ (g : Setting) (has : HasRegisters g) (alive : Variable → Type 0) (n :
       divided_so x (is, (known, is_operand)) given there divided =
           stored_then given
           ∙ assigned_divides fields.scope fields.active set h.k place op ty (type_of value) number st shaped (λ y. divides_as op x (number y) is ∙ ap (λ (c : Bool). c && number y == 0) divided)
-          ∙ ap by_zero (zero_there g fields set number (λ y. word_at (extents g set) st value y) there (λ y below. operand_at g has alive n ready places fields set value st s sim is_operand (operand_shape set value is_operand, known.1) c y below))
+          ∙ ap by_zero (zero_there g fields set number (λ y. word_at (extents g set) st value y) there (λ y below. operand_at g has alive n ready places fields set value st s sim is_operand (operand_shape set value is_operand, known.1) c y))
 
       operator_given : (x : Op) → WithOperator x → IsGiven → set < length (shapes g) → (divides x ≡ true → zero_at g fields set (λ y. word_at (extents g set) st value y) ≡ None) → o ≡ Gives (Parallel w) u
       operator_given x so given there never = by (divides x) refl
@@ -271,39 +274,46 @@ module _ (g : Setting) (has : HasRegisters g) (alive : Variable → Type 0) (n :
           by false least = omega (arith, least)
 
       -- what is stored without an operator
-      plain_stored : assign_op_of op ≡ None → (type_of value).elem.bits ≡ bits → IsOperand set value → (x : ℕ) → x < processors (shapes g) set → w x ≡ word_at (extents g set) st value x % 2 ^ bits
-      plain_stored none long is_operand x below =
-          let small : number x < 2 ^ (type_of value).elem.bits = operand_small g alive n places fields set value st s sim is_operand c x below in
-          plainly op ty.elem (type_of value).elem (old x) (number x) none
-          ∙ sym (held_first (type_of value).elem (number x) bits small (omega (arith, long)) ∙ mod-eq_of_lt (subst (λ (b : ℕ). number x < 2 ^ b) long small))
+      plain_stored : assign_op_of op ≡ None → (type_of value).elem.bits ≡ bits → IsOperand set value → (x : ℕ) → (w x ≡ word_at (extents g set) st value x % 2 ^ bits) × (w x < 2 ^ bits)
+      plain_stored none long is_operand x =
+          let small : number x < 2 ^ (type_of value).elem.bits = operand_small g alive n places fields set value st s sim is_operand c x in
+          let few : number x < 2 ^ bits = subst (λ (b : ℕ). number x < 2 ^ b) long small in
+          let stored : w x ≡ number x = plainly op ty.elem (type_of value).elem (old x) (number x) none in (
+            stored ∙ sym (held_first (type_of value).elem (number x) bits small (omega (arith, long)) ∙ mod-eq_of_lt few),
+            subst (λ (m : ℕ). m < 2 ^ bits) (sym stored) few,
+          )
 
       by : (o : Option Op) → assign_op_of op ≡ o → (elim o as (λ _. Type 0) [ None ↦ (type_of value).elem.bits ≡ bits | Some o ↦ IsOperation o value × ((type_of value).elem.bits ≡ 32) × ((bits == 1) ≡ false) × (operation_bits bits o value ≡ bits) ]) → IsOperandOrTruth set bits op value
           → After g Q (code (assign_op_of op))
       by None is known (inl is_operand) =
           after_same g Q (ap code is)
           (put_last g has alive n ready places fields set (length d.fields) bits value most is_operand c d1 s st here sim Q
-          (λ given e2 i within passes puts. inl (plain_given is given, leaves_value set h.k h.info h.is d s st (λ x. word_at (extents g set) st value x) w (λ x below small. plain_stored is known is_operand x below) e2 i within passes puts)) (λ early out e. inr (value_ended early)))
+          (λ given e2 i within passes puts. inl (plain_given is given, leaves_value set h.k h.info h.is d s st (λ x. word_at (extents g set) st value x) w (λ x below small. (plain_stored is known is_operand x).0, λ x. (plain_stored is known is_operand x).1) e2 i within passes puts)) (λ early out e. inr (value_ended early)))
       by None is known (inr truth) =
           let few : (x : ℕ) → number x < 2 ^ bits = λ x. subst (λ (m : ℕ). m < 2 ^ bits) (sym (truth_bit (extents g set) st set bits value x truth.1)) (bit_below (nonzero (number x))) in
+          let stored : (x : ℕ) → w x ≡ number x = λ x. plainly op ty.elem (type_of value).elem (old x) (number x) is in
           after_same g Q (ap code is)
           (truth_last g has alive n ready places fields set h.k (length d.fields) bits h.info h.is (kind_bits h.info.elem.bits h.info.elem.signed h.info.elem.kind).0 refl d1 s st here sim (entry_for set h.k h.info h.is d s st) Q value truth.1 c
-          (λ given e2 f2 used within passes wanted last. inl (plain_given is given, leaves set h.k h.info h.is d s st number w (λ x below small. plainly op ty.elem (type_of value).elem (old x) (number x) is ∙ sym (mod-eq_of_lt (few x))) e2 f2 used within passes wanted last)) (λ early out e. inr (value_ended early)))
+          (λ given e2 f2 used within passes wanted last. inl (plain_given is given, leaves set h.k h.info h.is d s st number w (λ x below small. stored x ∙ sym (mod-eq_of_lt (few x)), λ x. subst (λ (m : ℕ). m < 2 ^ bits) (sym (stored x)) (few x)) e2 f2 used within passes wanted last)) (λ early out e. inr (value_ended early)))
       by (Some x) is known (inl is_operand) =
           let signed : Bool = assigned_signed x (type_of target).elem (type_of value).elem in
           let wide : IsWide set (type_of value) = (operand_shape set value is_operand, known.1) in
+          let given_by : ℕ → ℕ = λ y. outcome x 32 (not (assigned_signed x h.info.elem (type_of value).elem)) (held h.info.elem (old y)) (number y) in
+          let operated : (y : ℕ) → w y ≡ given_by y % 2 ^ bits = λ y.
+          ap (λ (e : Elem). updated op e (type_of value).elem (old y) (number y)) is_elem
+          ∙ updated_is op x h.info.elem (type_of value).elem (old y) (number y) is known.2 known.1
+          (operation_below x (assigned_signed x h.info.elem (type_of value).elem) (held h.info.elem (old y)) (number y) known.0.0 (held_below h.info.elem (old y)) (below_word (type_of value).elem.bits _ known.1 (operand_small g alive n places fields set value st s sim is_operand c y))) in
           after_same g Q (ap code is)
           (in_place_last g has alive n ready places fields set (length d.fields) h.k h.info x signed place value d1 s st h.is (entry_for set h.k h.info h.is d s st) known.0 known.3 is_operand c here sim Q
           (λ given there never e2 i within passes puts. inl (
             operator_given x (is, (known, is_operand)) given there never,
-            leaves_value set h.k h.info h.is d s st (λ y. outcome x 32 (not signed) (held h.info.elem (old y)) (word_at (extents g set) st value y)) w
-                (λ y below small.
-                let is_word : word_at (extents g set) st value y ≡ number y = operand_at g has alive n ready places fields set value st s sim is_operand wide c y below in
-                let few : outcome x 32 (not (assigned_signed x h.info.elem (type_of value).elem)) (held h.info.elem (old y)) (number y) < 2 ^ 32 =
-                subst (λ (m : ℕ). outcome x 32 (not (assigned_signed x h.info.elem (type_of value).elem)) (held h.info.elem (old y)) m < 2 ^ 32) is_word (subst (λ (e : Elem). outcome x 32 (not (assigned_signed x e (type_of value).elem)) (held h.info.elem (old y)) (word_at (extents g set) st value y) < 2 ^ 32) h.elem small) in
-                ap (λ (e : Elem). updated op e (type_of value).elem (old y) (number y)) is_elem
-                ∙ updated_is op x h.info.elem (type_of value).elem (old y) (number y) is known.2 known.1 few
-                ∙ ap (λ (m : ℕ). outcome x 32 (not (assigned_signed x h.info.elem (type_of value).elem)) (held h.info.elem (old y)) m % 2 ^ bits) (sym is_word)
-                ∙ ap (λ (e : Elem). outcome x 32 (not (assigned_signed x e (type_of value).elem)) (held h.info.elem (old y)) (word_at (extents g set) st value y) % 2 ^ bits) (sym h.elem)) e2 i within passes puts,
+            leaves_value set h.k h.info h.is d s st (λ y. outcome x 32 (not signed) (held h.info.elem (old y)) (word_at (extents g set) st value y)) w (
+              λ y below small.
+                  operated y
+                  ∙ ap (λ (m : ℕ). outcome x 32 (not (assigned_signed x h.info.elem (type_of value).elem)) (held h.info.elem (old y)) m % 2 ^ bits) (sym (operand_at g has alive n ready places fields set value st s sim is_operand wide c y))
+                  ∙ ap (λ (e : Elem). outcome x 32 (not (assigned_signed x e (type_of value).elem)) (held h.info.elem (old y)) (word_at (extents g set) st value y) % 2 ^ bits) (sym h.elem),
+              λ y. subst (λ (m : ℕ). m < 2 ^ bits) (sym (operated y)) (mod_below (given_by y) (2 ^ bits) (pow_pos bits)),
+            ) e2 i within passes puts,
           )) (λ early out e. inr (value_ended early))
           (λ given there divided y none ends out e. inr (record { early = Source.Fault DivZero place (Some y); state = st; is = divided_so x (is, (known, is_operand)) given there divided ∙ ap by_zero none; finishes = ends })))
       by (Some x) is known (inr truth) = absurd (let none = truth.0 in cc)
@@ -357,7 +367,7 @@ module _ (g : Setting) (has : HasRegisters g) (alive : Variable → Type 0) (n :
       inl (
         means.1,
         leaves_value set h.k h.info h.is d s st (λ x. outcome (stepping op) 32 (not signed) (held elem (old x)) 1) w
-            (λ x below small. ap (λ (e : Elem). updated (step_op op) e (promoted e) (old x) 1) is_elem ∙ updated_is (step_op op) (stepping op) elem (promoted elem) (old x) 1 (step_assigns op) (ap (λ (e : Elem). e.bits == 1) (sym is_elem) ∙ no_truth) (promoted_wide elem) small)
+            (λ x below small. moved x, λ x. subst (λ (m : ℕ). m < 2 ^ elem.bits) (sym (moved x)) (mod_below (given_by x) (2 ^ elem.bits) (pow_pos elem.bits)))
             d1 i within (passes_all g alive (length d1.fields) d1 s st (Unit {0}) here sim)
             (puts_operate_constant g elem.bits set (stepping op) signed f f (K.Imm 1) s (λ q. held elem (old q)) (step_known op) (modular_keeps (stepping op) signed elem.bits 1 (step_modular op) (kind_bits elem.bits elem.signed elem.kind).1) refl numbers.0 (omega arith)),
       ))))
@@ -391,6 +401,14 @@ module _ (g : Setting) (has : HasRegisters g) (alive : Variable → Type 0) (n :
 
       i : Instr
       i = I.OperateConstant (operation_of (stepping op) signed) f f (K.Imm 1)
+
+      given_by : ℕ → ℕ
+      given_by = λ x. outcome (stepping op) 32 (not signed) (held elem (old x)) 1
+
+      moved : (x : ℕ) → w x ≡ given_by x % 2 ^ elem.bits
+      moved x =
+          ap (λ (e : Elem). updated (step_op op) e (promoted e) (old x) 1) is_elem
+          ∙ updated_is (step_op op) (stepping op) elem (promoted elem) (old x) 1 (step_assigns op) (ap (λ (e : Elem). e.bits == 1) (sym is_elem) ∙ no_truth) (promoted_wide elem) (operation_below (stepping op) signed (held elem (old x)) 1 (step_known op) (held_below elem (old x)) (omega arith))
 
       means : (v : Value) × (meant g fields (T.Step' ty op order p target) st ≡ Gives v u)
       means = step_means fields.scope fields.active set ty op order p target h.k st (ap (λ (y : ValueType). y.shape) same ∙ h.shape) (h.means fields.scope fields.active st)

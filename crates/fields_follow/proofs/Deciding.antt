@@ -48,7 +48,6 @@ use Rattle.source_meaning.specs.Values.{Parallel, nonzero, unary_of}
 use Rattle.source_meaning.proofs.ConstantLaws.{Boxed}
 use Rattle.code_follows.proofs.Following.{Extends, HasRegisters, Sim}
 use Rattle.code_follows.proofs.Growing.{Extended, extended}
-use Rattle.code_follows.proofs.Numbers.{zero_converted}
 use Rattle.code_follows.proofs.Settings.{At, Setting, Within, and_one, layout}
 use Rattle.constant_trees.proofs.Words.{from_bool_below}
 use Rattle.fields_follow.specs.Fields.{IsElement}
@@ -428,7 +427,7 @@ module _ (g : Setting) where
           by_bool : (ty.elem.bits ≡ 1) × IsCondition set inner → unchanged ≡ false → After g Q (computed_to g.typed (layout g) (O.Field f) whole d)
           by_bool bool_of changed =
               by_tests whole inner bool_of.1 part_code (λ q. truth_bit (extents g set) st set bits whole q is)
-              (λ q below. bool_nonzero ty.elem (type_of inner).elem (words_of inner q) bool_of.0 (condition_small g has alive n ready places fields set inner st s sim bool_of.1 part_code q below))
+              (λ q below. bool_nonzero ty.elem (type_of inner).elem (words_of inner q) bool_of.0 (condition_small g has alive n ready places fields set inner st s sim bool_of.1 part_code q))
               (λ given. convert_means g has alive n ready places fields set ty p inner st is.0 given) (λ early. convert_ended g has alive n ready places fields ty p inner s st early)
               (ap goes changed
               ∙ ap (λ (b : Bool). if b then moved g.typed (layout g) (O.Field f) whole d else if ty.elem.bits == 1 then truth_put f (tested g.typed (layout g) inner) d else extended_of ty.elem.signed f (next_of g.typed (layout g) ty.elem.bits true inner) d) (condition_kept set inner bool_of.1)
@@ -447,9 +446,9 @@ module _ (g : Setting) where
               alike : AreAlike g bits set (λ q. word_at (extents g set) st inner q) (words_of whole)
               alike q below few =
                   let m : ℕ = word_at (extents g set) st inner q % 2 ^ 1 in
-                  let tells : (m == 0) ≡ (words_of inner q == 0) = ap (λ (k : ℕ). word_at (extents g set) st inner q % 2 ^ k == 0) (sym flag) ∙ zero_told g alive n places fields set inner st s sim kinded part_code q below in
+                  let tells : (m == 0) ≡ (words_of inner q == 0) = ap (λ (k : ℕ). word_at (extents g set) st inner q % 2 ^ k == 0) (sym flag) ∙ zero_told g alive n places fields set inner st s sim kinded part_code q in
                   let is_m : words_of whole q ≡ m =
-                  truth_bit (extents g set) st set bits whole q is ∙ ap from_bool (sym (bool_nonzero ty.elem (type_of inner).elem (words_of inner q) bool_of.0 (condition_small g has alive n ready places fields set inner st s sim bool_of.1 part_code q below)))
+                  truth_bit (extents g set) st set bits whole q is ∙ ap from_bool (sym (bool_nonzero ty.elem (type_of inner).elem (words_of inner q) bool_of.0 (condition_small g has alive n ready places fields set inner st s sim bool_of.1 part_code q)))
                   ∙ ap (λ (b : Bool). from_bool (not b)) (sym tells) ∙ sym (is_bit m (mod_below (word_at (extents g set) st inner q) (2 ^ 1) (omega arith)) (m == 0) refl) in (
                     ap (λ (k : ℕ). k % 2 ^ bits) is_m ∙ ap (λ (k : ℕ). m % 2 ^ k) one ∙ cut_cut (word_at (extents g set) st inner q) 1 1 (omega arith) ∙ ap (λ (k : ℕ). word_at (extents g set) st inner q % 2 ^ k) (sym one),
                     (let low = mod_below (word_at (extents g set) st inner q) (2 ^ 1) (omega arith) in omega (arith, is_m, low)),

@@ -1,6 +1,6 @@
 -- Division by a value that may be 0 at an active position: the code checks the divisor, and where it is 0 both end at the
 -- least such position.
-use Rattle.std.proofs.Common.{◌≡◌, ◌∙◌, ℕ, zero, suc, [], ◌+◌, ◌<◌, ◌==◌, ◌&&◌, Bool, true, false, not, List, length, Option, Some, None, refl, sym, ap, subst, arith, if◌then◌else◌}
+use Rattle.std.proofs.Common.{◌≡◌, ◌∙◌, ℕ, zero, suc, [], ◌<◌, ◌==◌, ◌&&◌, Bool, true, false, not, List, length, Option, Some, None, refl, sym, ap, subst, arith, if◌then◌else◌}
 use Rattle.cstar_base.specs.declared.faults.RunFault.TheVariants.{DivZero}
 use Rattle.cstar_base.specs.declared.operators.Op.{Op}
 use Rattle.cstar_base.specs.declared.operators.Place.{Place}
@@ -29,10 +29,9 @@ use Rattle.source_meaning.specs.State.{Outcome, State, then_do}
 use Rattle.source_meaning.specs.Values.{Parallel, Value, at, positions}
 use Rattle.source_meaning.proofs.ConstantLaws.{Boxed}
 use Rattle.vp_sets.specs.Positions.{position_count}
-use Rattle.code_follows.proofs.Following.{Finishes, Sim, finishes_later}
-use Rattle.code_follows.proofs.Growing.{extended}
-use Rattle.code_follows.proofs.Settings.{Reaches, Setting, Within, and_one, at_next, begins_here, code_more, earlier, ends_now, one, onto, placed_instr}
-use Rattle.code_follows.proofs.Besides.{sim_saying}
+use Rattle.code_follows.proofs.Following.{Finishes, Sim}
+use Rattle.code_follows.proofs.Settings.{Reaches, Setting, Within, and_one, begins_here, earlier, one, placed_instr}
+use Rattle.fields_follow.proofs.Checks.{check_ends, check_passes}
 use Rattle.fields_follow.proofs.Instructions.{HasNumbers, Puts, has_words, number_in, puts_operate, shapes}
 use Rattle.fields_follow.proofs.Lengths.{Keeps}
 use Rattle.fields_follow.proofs.Meaning.{binary_means, binary_so, divided_is}
@@ -141,7 +140,7 @@ module _ (g : Setting) (fields : HoldsTheFields g) where
       pub divided_after : (Q : Type 0) → relates op ≡ false → ((q : ℕ) → Keeps op signed bits (w q)) → dest.len ≡ bits → HasBoth g alive bits set bound a b d e s st v w → Within g (with_instr operate checks)
           → (zero_at set w ≡ None → (p : Passes g alive bound d checks s st (Unit {0})) → Puts g set operate dest p.t (λ q. outcome op 32 (not signed) (v q) (w q)) → Q)
           → ((q : ℕ) → zero_at set w ≡ Some q → Finishes g (Source.Fault DivZero place_of (Some q)) st s → Q) → Q
-      unfolding step_of
+      unfolding step_of check_passes
       divided_after Q operates keeps long both within given ends = by (zero_at set w) refl
         where
           early : Within g checks
@@ -152,23 +151,6 @@ module _ (g : Setting) (fields : HoldsTheFields g) where
 
           by : (o : Option ℕ) → zero_at set w ≡ o → Q
           by None none =
-              given none (record {
-                grown = (both.passes.grown.0 + 1, extended d e checks both.passes.grown.0 1 both.passes.grown.1 (and_one g (I.CheckDivisor place_of b) e));
-                t = Machine.onward both.passes.t;
-                go = onto g s both.passes.t (Machine.onward both.passes.t) both.passes.go (one g both.passes.t (Machine.onward both.passes.t) (begins_here g (I.CheckDivisor place_of b) e both.passes.t early refl both.passes.at ∙ begins None none) refl);
-                at = at_next g (I.CheckDivisor place_of b) e both.passes.t (both.passes.t.at + 1) both.passes.at refl;
-                registers = both.passes.registers;
-                sim = sim_saying g alive st both.passes.t (both.passes.t.at + 1) both.passes.t.memory (g.held.onward both.passes.t.at (both.passes.t.at + 1) st both.passes.t.memory (omega arith) both.passes.sim.memory) both.passes.sim;
-                stays = λ u h first last q below own before low after high. both.passes.stays u h first last q below own before low after (let l = code_more g (I.CheckDivisor place_of b) e in omega (arith, high, l));
-              })
+              given none (check_passes g alive (I.CheckDivisor place_of b) bound d e s st both.passes (begins_here g (I.CheckDivisor place_of b) e both.passes.t early refl both.passes.at ∙ begins None none))
               (puts_operate g bits set op signed dest a b (Machine.onward both.passes.t) v w operates keeps long (has_onward bits set a both.passes.t v both.left) (has_onward bits set b both.passes.t w both.right))
-          by (Some q) some =
-              ends q some
-              (finishes_later g (Source.Fault DivZero place_of (Some q)) st s both.passes.t both.passes.go (record {
-                t = Machine.onward both.passes.t;
-                ends = ends_now g both.passes.t (Machine.onward both.passes.t) (Machine.Fault DivZero place_of (Some q)) (begins_here g (I.CheckDivisor place_of b) e both.passes.t early refl both.passes.at ∙ begins (Some q) some);
-                turns = both.passes.sim.turns;
-                output = both.passes.sim.output;
-                input = both.passes.sim.input;
-                memory = g.held.finally both.passes.t.at st both.passes.t.memory both.passes.sim.memory;
-              }))
+          by (Some q) some = ends q some (check_ends g alive (I.CheckDivisor place_of b) bound d e s st both.passes DivZero place_of q (begins_here g (I.CheckDivisor place_of b) e both.passes.t early refl both.passes.at ∙ begins (Some q) some))

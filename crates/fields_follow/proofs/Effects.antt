@@ -61,7 +61,7 @@ use Rattle.fields_follow.proofs.News.{get_last}
 use Rattle.fields_follow.proofs.Operands.{GivesRight, Takes, fields_after, operated_after, operated_extends, register_has, register_is, right_after, right_extends}
 use Rattle.fields_follow.proofs.Passing.{After, Behind, GivesField, Passes, after_same, fields_longer, made_after, passes_all, passes_from, then_after}
 use Rattle.fields_follow.proofs.Places.{HoldsTheFields, IsFileField, PlacesFields, stands_here}
-use Rattle.fields_follow.proofs.Sizes.{binary_parts, brackets_part, convert_part, coordinates_small, unary_part}
+use Rattle.fields_follow.proofs.Sizes.{binary_parts, brackets_part, convert_part, unary_part}
 use Rattle.fields_follow.proofs.Totals.{held_below}
 use Rattle.fields_follow.proofs.Values.{and_entry, next_field, one_more, operand_of, taken, variable_has, with_entry}
 use Rattle.fields_follow.proofs.Expressions.{IsMeant, binary_at, convert_alike, convert_ended, convert_means, coordinate_means, operand_at, unary_ended, extended_after, from_operand, negated_after, operand_grows, operands_keep, plus_alike, pure_after, signed_as, unary_at, wide_operands}
@@ -131,10 +131,10 @@ module _ (g : Setting) (has : HasRegisters g) (alive : Variable → Type 0) (n :
       (λ st given. unary_means fields.scope fields.active set ty U.Plus p inner (λ q. value_in (extents g set) st inner q) st is.0.0 given) (λ s st early. unary_ended g has alive n ready places fields ty U.Plus p inner s st early) (λ st s sim. plus_alike g has alive n ready places fields bits set ty p inner st s sim is c) whole d s st here sim Q last ended
   negated_last set offset bits ty U.Minus p inner most is c whole d s st here sim Q last ended =
       negated_after g has alive n ready places fields bits set ty U.Minus p (field_at set offset bits) inner (length d.fields) d s st is.0.0 most (refl, refl) refl is.2 is.3 (unary_part g alive n places fields ty U.Minus p inner c) (pure_after g has alive n ready places fields bits set inner most is.2 (unary_part g alive n places fields ty U.Minus p inner c)) (omega arith) here sim Q
-      (λ given e1 i within passes puts. last given e1 i within passes (puts_same g set i (field_at set offset bits) passes.t _ (words_of set (T.Unary' ty U.Minus p inner) st) (λ q below. unary_at g has alive n ready places fields set ty U.Minus p inner st passes.t passes.sim is c q below) puts)) ended
+      (λ given e1 i within passes puts. last given e1 i within passes (puts_same g set i (field_at set offset bits) passes.t _ (words_of set (T.Unary' ty U.Minus p inner) st) (λ q below. unary_at g has alive n ready places fields set ty U.Minus p inner st passes.t passes.sim is c q) puts)) ended
   negated_last set offset bits ty U.Complement p inner most is c whole d s st here sim Q last ended =
       negated_after g has alive n ready places fields bits set ty U.Complement p (field_at set offset bits) inner (length d.fields) d s st is.0.0 most (refl, refl) refl is.2 is.3 (unary_part g alive n places fields ty U.Complement p inner c) (pure_after g has alive n ready places fields bits set inner most is.2 (unary_part g alive n places fields ty U.Complement p inner c)) (omega arith) here sim Q
-      (λ given e1 i within passes puts. last given e1 i within passes (puts_same g set i (field_at set offset bits) passes.t _ (words_of set (T.Unary' ty U.Complement p inner) st) (λ q below. unary_at g has alive n ready places fields set ty U.Complement p inner st passes.t passes.sim is c q below) puts)) ended
+      (λ given e1 i within passes puts. last given e1 i within passes (puts_same g set i (field_at set offset bits) passes.t _ (words_of set (T.Unary' ty U.Complement p inner) st) (λ q below. unary_at g has alive n ready places fields set ty U.Complement p inner st passes.t passes.sim is c q) puts)) ended
   negated_last set offset bits ty U.Not p inner most is c whole d s st here sim Q last ended = let wrong = is.1 in cc
 
   -- a value of as many bits that is moved
@@ -180,11 +180,11 @@ module _ (g : Setting) (has : HasRegisters g) (alive : Variable → Type 0) (n :
           ∙ ap (λ (k : ℕ). then_make (a_field set k d) (λ spare after. fields_by op (reads_signed op left right) place f spare (operand_by g.typed (layout g) k (value_of g.typed (layout g) k left) (is_quiet right) left) left (operand_by g.typed (layout g) k (value_of g.typed (layout g) k right) true right) right after)) (wide_operands bits op left right is.1.0 ∙ works)
           ∙ ap (λ (signed : Bool). fields_by op signed place f (next_field set bits d) (operand bits (is_quiet right) left) left (operand bits true right) right (with_entry set bits W.Own d)) (signed_as op left right is.1.0 is.3.1))
           (fields_after g has alive n ready places fields bits set ty place op p q f left right d s st is.0.0 is.1 (λ divided. sym works ∙ divides_wide bits op right divided) (λ x. subst (λ (k : ℕ). Keeps op (type_of left).elem.signed k (word_at (extents g set) st right x)) works (operands_keep g has alive n ready places fields bits set op (type_of left).elem.signed right st most is.1 (right_of set left right is.2) parts.1 x))
-          (λ x below. operand_at g has alive n ready places fields set right st s sim (right_of set left right is.2) is.4 parts.1 x below) refl is.2 parts.0 parts.1
+          (λ x below. operand_at g has alive n ready places fields set right st s sim (right_of set left right is.2) is.4 parts.1 x) refl is.2 parts.0 parts.1
           (λ pure. pure_after g has alive n ready places fields bits set left most pure parts.0) (λ pure. pure_after g has alive n ready places fields bits set right most pure parts.1)
           (operand_grows g has alive n ready places fields bits left parts.0) (operand_grows g has alive n ready places fields bits right parts.1) here sim Q
           (λ given e2 i within passes puts. last given e2 i within (passes_from g alive (length d.fields) d (with_entry set bits W.Own d) e2 s st (Unit {0}) (and_entry set bits W.Own d) passes)
-          (puts_same g set i f passes.t _ (words_of set whole st) (λ x below. binary_at g has alive n ready places fields set ty place op p q left right st passes.t passes.sim is c x below) puts)) ended)
+          (puts_same g set i f passes.t _ (words_of set whole st) (λ x below. binary_at g has alive n ready places fields set ty place op p q left right st passes.t passes.sim is c x) puts)) ended)
       by false other = after_same g Q (chosen false other) (moved_last set offset bits whole most is c d s st here sim Q last ended)
 
   -- the own coordinates
@@ -194,8 +194,8 @@ module _ (g : Setting) (has : HasRegisters g) (alive : Variable → Type 0) (n :
       made_after g Q (O.Field f) (with_instr (I.MyNewsCoordinate f axis) d) (λ within.
       last (coordinate_means g has alive n ready places fields set axis ty st wide.0 (places.ends (length d.code) (I.MyNewsCoordinate f axis) f [] (stands_here g (I.MyNewsCoordinate f axis) d within refl) refl tt refl).0) d (I.MyNewsCoordinate f axis) within
       (passes_all g alive (length d.fields) d s st (Unit {0}) here sim)
-      (puts_same g set (I.MyNewsCoordinate f axis) f s (λ q. coordinate (extents g set) q axis) (words_of set (T.Pcoord ty axis) st) (λ q below. sym (held_wide ty.elem (coordinate (extents g set) q axis) wide.1 (coordinates_small g alive n places fields set axis q below)))
-      (puts_coordinate g set axis f s refl (λ p below. coordinates_small g alive n places fields set axis p below))))
+      (puts_same g set (I.MyNewsCoordinate f axis) f s (λ q. coordinate (extents g set) q axis) (words_of set (T.Pcoord ty axis) st) (λ q below. sym (held_wide ty.elem (coordinate (extents g set) q axis) wide.1 (places.few set axis q)))
+      (puts_coordinate g set axis f s refl (λ p below. places.few set axis p))))
     where
       f : Field
       f = field_at set offset bits

@@ -30,7 +30,6 @@ use Rattle.paris_code.specs.declared.operands.Field.{Field}
 use Rattle.paris_code.specs.declared.program.Owner.TheVariants as W
 use Rattle.paris_code.specs.Code.{CodeState}
 use Rattle.paris_code.specs.Spans.{StandsAt, fields_of}
-use Rattle.paris_code.specs.Memory.{processors}
 use Rattle.source_meaning.specs.Expressions.{evaluated, mapped}
 use Rattle.source_meaning.specs.State as Source
 use Rattle.source_meaning.specs.State.{Outcome, State, then_do}
@@ -58,7 +57,7 @@ use Rattle.fields_follow.proofs.Outcomes.{Ended, Given, Known, ended_on, follows
 use Rattle.fields_follow.proofs.Pure.{get_gives}
 use Rattle.fields_follow.proofs.Passing.{After, Behind, GivesField, Passes, after_same, fields_longer, gives_alike, gives_from, gives_numbers, gives_on, made_after, names_second, passes_all, puts_own}
 use Rattle.fields_follow.proofs.Places.{HoldsTheFields, PlacesFields, stands_here}
-use Rattle.fields_follow.proofs.Sizes.{binary_parts, brackets_part, convert_part, coordinates_small, promoted_small, pure_at, unary_part}
+use Rattle.fields_follow.proofs.Sizes.{binary_parts, brackets_part, convert_part, promoted_small, pure_at, unary_part}
 use Rattle.fields_follow.proofs.Totals.{held_below}
 use Rattle.fields_follow.proofs.Values.{Gives, IsFlag, Valued, and_entry, code_of, first_given, next_field, one_more, operand_after, operand_of, taken, variable_after, with_entry}
 use Rattle.cstar_base.specs.Numbers.{converted}
@@ -212,7 +211,7 @@ module _ (g : Setting) (has : HasRegisters g) (alive : Variable → Type 0) (n :
       from_operand bits set inner dest (λ a. negating op dest a) (λ v after. negated (layout g) op (O.Field dest) v after) bound d s st (λ q. unary_of op (value_in (extents g set) st inner q)) (λ a. plain op a sign) (λ a. both op a sign) grows (λ a after. negated_is op dest a after sign)
       (λ a t numbers sim_there.
       puts_negating bits set op dest a t (λ q. value_in (extents g set) st inner q) most sign long
-      (has_alike g bits set a t (λ q. word_at (extents g set) st inner q) (λ q. value_in (extents g set) st inner q) (alike_same g bits set _ _ (λ q below few. sym (pure_at g alive n places fields set inner st t sim_there pure wide c q below))) numbers))
+      (has_alike g bits set a t (λ q. word_at (extents g set) st inner q) (λ q. value_in (extents g set) st inner q) (alike_same g bits set _ _ (λ q below few. sym (pure_at g alive n places fields set inner st t sim_there pure wide c q))) numbers))
       pure c whole less here sim Q (λ is. last (unary_means fields.scope fields.active set ty op p inner (number set inner st) st shaped is)) (λ early. ended (unary_ended ty op p inner s st early))
     where
       one_more_instr : (op : UnaryOp) (f : Field) (after : Draft) → IsSign op → Extends g after (field_negated op dest f after)
@@ -236,10 +235,10 @@ module _ (g : Setting) (has : HasRegisters g) (alive : Variable → Type 0) (n :
       both U.Not a is = refl
 
   -- the word of an operator's result is what it gives
-  pub unary_at : (set : ℕ) (ty : ValueType) (op : UnaryOp) (p : Boxed) (inner : TExpr) (st : State) (s : CodeState) → Sim g alive st s → IsPure set (T.Unary' ty op p inner) → HasItsCode g.typed g.instance alive n (T.Unary' ty op p inner) → (q : ℕ) → q < processors (shapes g) set
+  pub unary_at : (set : ℕ) (ty : ValueType) (op : UnaryOp) (p : Boxed) (inner : TExpr) (st : State) (s : CodeState) → Sim g alive st s → IsPure set (T.Unary' ty op p inner) → HasItsCode g.typed g.instance alive n (T.Unary' ty op p inner) → (q : ℕ)
       → unary_of op (value_in (extents g set) st inner q) ≡ word_at (extents g set) st (T.Unary' ty op p inner) q
   unfolding IsPure value_in
-  unary_at set ty op p inner st s sim is c q below = sym (pure_at g alive n places fields set (T.Unary' ty op p inner) st s sim is is.0 c q below)
+  unary_at set ty op p inner st s sim is c q = sym (pure_at g alive n places fields set (T.Unary' ty op p inner) st s sim is is.0 c q)
 
   -- an operator other than `!` is done as it is
   done_as_it_is : (bits : ℕ) (op : UnaryOp) (operand : TExpr) → negates op ≡ false → done_as bits op operand ≡ op
@@ -256,7 +255,7 @@ module _ (g : Setting) (has : HasRegisters g) (alive : Variable → Type 0) (n :
       ∙ ap (λ (b : Bool). then_make (fresh_for ty.shape bits d) (λ dest between. then_make (operand_by g.typed (layout g) (if b then bits_of (kind_of inner) else bits) (value_of g.typed (layout g) (if b then bits_of (kind_of inner) else bits) inner) true inner between) (λ x after. negated (layout g) op dest x after))) sign.1
       ∙ ap (λ (o : Option ℕ). then_make (fresh_for o bits d) (λ dest between. then_make (operand bits true inner between) (λ x after. negated (layout g) op dest x after))) is.0.0)
       (negated_after bits set ty op p (next_field set bits d) inner (length d.fields) (with_entry set bits W.Own d) s st is.0.0 most sign refl is.2 is.3 (unary_part g alive n places fields ty op p inner c) whole (let one = one_more set bits W.Own d in omega (arith, one)) here sim (Knows bits d s set st (T.Unary' ty op p inner))
-      (λ is_meant e1 i within passes puts. inl (is_meant, own_result bits set d e1 s st v i within passes (puts_same g set i (next_field set bits d) passes.t _ v (λ q below. unary_at set ty op p inner st passes.t passes.sim is c q below) puts))) (λ early x f. inr early)))
+      (λ is_meant e1 i within passes puts. inl (is_meant, own_result bits set d e1 s st v i within passes (puts_same g set i (next_field set bits d) passes.t _ v (λ q below. unary_at set ty op p inner st passes.t passes.sim is c q) puts))) (λ early x f. inr early)))
     where
       v : ℕ → ℕ
       v = λ q. word_at (extents g set) st (T.Unary' ty op p inner) q
@@ -267,8 +266,8 @@ module _ (g : Setting) (has : HasRegisters g) (alive : Variable → Type 0) (n :
   unfolding value_in unary_of IsPure
   plus_alike bits set ty p inner st s sim is c =
       alike_same g bits set _ _ (λ q below few.
-      pure_at g alive n places fields set (T.Unary' ty U.Plus p inner) st s sim is is.0 c q below
-      ∙ sym (pure_at g alive n places fields set inner st s sim is.2 is.3 (unary_part g alive n places fields ty U.Plus p inner c) q below))
+      pure_at g alive n places fields set (T.Unary' ty U.Plus p inner) st s sim is is.0 c q
+      ∙ sym (pure_at g alive n places fields set inner st s sim is.2 is.3 (unary_part g alive n places fields ty U.Plus p inner c) q))
 
   -- words that are alike are given alike
   pub answers_alike : (one other : Type 0) → (other → one) → (bits bound : ℕ) (d : Draft) (s : CodeState) (set : ℕ) (st : State) (v w : ℕ → ℕ) → AreAlike g bits set v w → (out : Out) (e : Draft) → Answers one bits bound d s set st v out e → Answers other bits bound d s set st w out e
@@ -286,9 +285,9 @@ module _ (g : Setting) (has : HasRegisters g) (alive : Variable → Type 0) (n :
   unary_after bits set ty U.Not p inner most is c whole d s st here sim = let wrong = is.1 in cc
 
   -- an operand of 32 bits is its word
-  pub operand_at : (set : ℕ) (e : TExpr) (st : State) (s : CodeState) → Sim g alive st s → IsPure set e ⊎ IsPromoted set e → IsWide set (type_of e) → HasItsCode g.typed g.instance alive n e → (q : ℕ) → q < processors (shapes g) set → word_at (extents g set) st e q ≡ value_in (extents g set) st e q
-  operand_at set e st s sim (inl pure) wide c q below = pure_at g alive n places fields set e st s sim pure wide c q below
-  operand_at set e st s sim (inr promoted) wide c q below = held_wide (type_of e).elem (value_in (extents g set) st e q) wide.1 (below_word (type_of e).elem.bits _ wide.1 (promoted_small g alive n places fields set e st s sim promoted c.code.names c.among q))
+  pub operand_at : (set : ℕ) (e : TExpr) (st : State) (s : CodeState) → Sim g alive st s → IsPure set e ⊎ IsPromoted set e → IsWide set (type_of e) → HasItsCode g.typed g.instance alive n e → (q : ℕ) → word_at (extents g set) st e q ≡ value_in (extents g set) st e q
+  operand_at set e st s sim (inl pure) wide c q = pure_at g alive n places fields set e st s sim pure wide c q
+  operand_at set e st s sim (inr promoted) wide c q = held_wide (type_of e).elem (value_in (extents g set) st e q) wide.1 (below_word (type_of e).elem.bits _ wide.1 (promoted_small g alive n places fields set e st s sim promoted c.code.names c.among q))
 
   -- a constant operand has its word
   pub constant_at : (set : ℕ) (e : TExpr) (st : State) → IsPure set e ⊎ IsPromoted set e → HasItsCode g.typed g.instance alive n e → (q word : ℕ) → word_of e ≡ Some word → word_at (extents g set) st e q ≡ word
@@ -305,14 +304,14 @@ module _ (g : Setting) (has : HasRegisters g) (alive : Variable → Type 0) (n :
       operation_keeps bits op signed right (word_at (extents g set) st right q) most (λ word is_word. constant_at set right st operand c q word is_word)
       (whole_keeps op signed (word_at (extents g set) st right q) is.0)
 
-  pub binary_at : (set : ℕ) (ty : ValueType) (place : Place) (op : Op) (p q : Boxed) (left right : TExpr) (st : State) (s : CodeState) → Sim g alive st s → IsPure set (T.Binary' ty place op p left q right) → HasItsCode g.typed g.instance alive n (T.Binary' ty place op p left q right) → (x : ℕ) → x < processors (shapes g) set
+  pub binary_at : (set : ℕ) (ty : ValueType) (place : Place) (op : Op) (p q : Boxed) (left right : TExpr) (st : State) (s : CodeState) → Sim g alive st s → IsPure set (T.Binary' ty place op p left q right) → HasItsCode g.typed g.instance alive n (T.Binary' ty place op p left q right) → (x : ℕ)
       → outcome op 32 (not (type_of left).elem.signed) (word_at (extents g set) st left x) (word_at (extents g set) st right x) ≡ word_at (extents g set) st (T.Binary' ty place op p left q right) x
   unfolding IsPure value_in
-  binary_at set ty place op p q left right st s sim is c x below =
+  binary_at set ty place op p q left right st s sim is c x =
       let parts = binary_parts g alive n places fields ty place op p q left right c in
-      ap (λ (a : ℕ). outcome op 32 (not (type_of left).elem.signed) a (word_at (extents g set) st right x)) (operand_at set left st s sim (left_of set left right is.2) is.3 parts.0 x below)
-      ∙ ap (λ (b : ℕ). outcome op 32 (not (type_of left).elem.signed) (value_in (extents g set) st left x) b) (operand_at set right st s sim (right_of set left right is.2) is.4 parts.1 x below)
-      ∙ sym (pure_at g alive n places fields set (T.Binary' ty place op p left q right) st s sim is is.0 c x below)
+      ap (λ (a : ℕ). outcome op 32 (not (type_of left).elem.signed) a (word_at (extents g set) st right x)) (operand_at set left st s sim (left_of set left right is.2) is.3 parts.0 x)
+      ∙ ap (λ (b : ℕ). outcome op 32 (not (type_of left).elem.signed) (value_in (extents g set) st left x) b) (operand_at set right st s sim (right_of set left right is.2) is.4 parts.1 x)
+      ∙ sym (pure_at g alive n places fields set (T.Binary' ty place op p left q right) st s sim is is.0 c x)
 
   binary_after : (bits set : ℕ) (ty : ValueType) (place : Place) (op : Op) (p q : Boxed) (left right : TExpr) → bits ≤ 32 → IsPure set (T.Binary' ty place op p left q right) → HasItsCode g.typed g.instance alive n (T.Binary' ty place op p left q right)
       → (IsPure set left → IsValued (operation_bits bits op right) set left) → (IsPure set right → IsValued (operation_bits bits op right) set right) → IsValued bits set (T.Binary' ty place op p left q right)
@@ -322,8 +321,8 @@ module _ (g : Setting) (has : HasRegisters g) (alive : Variable → Type 0) (n :
       (after_same g (Knows bits d s set st whole) (binary_code bits set ty place op p q left right d is.0.0 is.1.0 is.3.1)
       (first_given g has alive n ready places fields works bits (length d.fields) d s set st v (IsFlag whole) (IsMeant set whole st) (Ended g s (meant g fields whole st)) made (operation_most bits op right most).0
       (fields_after g has alive n ready places fields works set ty place op p q (next_field set works d) left right d s st is.0.0 is.1 (divides_wide bits op right) (λ x. operands_keep bits set op (type_of left).elem.signed right st most is.1 (right_of set left right is.2) parts.1 x)
-      (λ x below. operand_at set right st s sim (right_of set left right is.2) is.4 parts.1 x below) refl is.2 parts.0 parts.1 whole_left whole_right (operand_grows works left parts.0) (operand_grows works right parts.1) here sim (Knows works d s set st whole)
-      (λ is_meant e2 i within passes puts. inl (is_meant, own_result works set d e2 s st v i within passes (puts_same g set i (next_field set works d) passes.t _ v (λ x below. binary_at set ty place op p q left right st passes.t passes.sim is c x below) puts)))
+      (λ x below. operand_at set right st s sim (right_of set left right is.2) is.4 parts.1 x) refl is.2 parts.0 parts.1 whole_left whole_right (operand_grows works left parts.0) (operand_grows works right parts.1) here sim (Knows works d s set st whole)
+      (λ is_meant e2 i within passes puts. inl (is_meant, own_result works set d e2 s st v i within passes (puts_same g set i (next_field set works d) passes.t _ v (λ x below. binary_at set ty place op p q left right st passes.t passes.sim is c x) puts)))
       (λ early x f. inr early))))
     where
       whole : TExpr
@@ -353,7 +352,7 @@ module _ (g : Setting) (has : HasRegisters g) (alive : Variable → Type 0) (n :
       (after_same g (Knows bits d s set st (T.Pcoord ty axis)) (ap (λ (o : Option ℕ). coordinate_in o bits axis d) wide.0)
       (made_after g (Knows bits d s set st (T.Pcoord ty axis)) (O.Field dest) (with_instr i d1) (λ within.
       let given = own_result {flag = IsFlag (T.Pcoord ty axis)} bits set d d1 s st v i within (passes_all g alive (length d.fields) d1 s st (Unit {0}) here sim)
-      (puts_same g set i dest s (λ q. coordinate (extents g set) q axis) v (λ q below. sym (held_wide ty.elem (coordinate (extents g set) q axis) wide.1 (coordinates_small g alive n places fields set axis q below))) (puts_coordinate g set axis dest s refl (λ p below. coordinates_small g alive n places fields set axis p below))) in
+      (puts_same g set i dest s (λ q. coordinate (extents g set) q axis) v (λ q below. sym (held_wide ty.elem (coordinate (extents g set) q axis) wide.1 (places.few set axis q))) (puts_coordinate g set axis dest s refl (λ p below. places.few set axis p))) in
       inl (coordinate_means set axis ty st wide.0 (gives_numbers g alive places fields bits (length d.fields) d s set st v given.0 (with_instr i d1) given.1.1.0).exists, given))))
     where
       d1 : Draft
@@ -501,5 +500,5 @@ module _ (g : Setting) (has : HasRegisters g) (alive : Variable → Type 0) (n :
       → Follows g (Given g (number set e st) st (λ out f. (h : Field) × ((out ≡ O.Field h) × GivesField g alive bits (length d.fields) d s set st (λ q. value_in (extents g set) st e q) h f))) s (meant g fields e st) (operand bits quiet e d)
   whole_after bits set e quiet most pure wide c d s st here sim =
       given_weaker g s (meant g fields e st) (number set e st) st (Answers (IsFlag e) bits (length d.fields) d s set st (λ q. word_at (extents g set) st e q)) (λ out f. (h : Field) × ((out ≡ O.Field h) × GivesField g alive bits (length d.fields) d s set st (λ q. value_in (extents g set) st e q) h f)) (operand bits quiet e d)
-      (λ out f (h, (is, (gives, apart))). (h, (is, gives_alike g alive places fields bits (length d.fields) d s set st (λ q. word_at (extents g set) st e q) (λ q. value_in (extents g set) st e q) h f (alike_same g bits set _ _ (λ q below few. sym (pure_at g alive n places fields set e st s sim pure wide c q below))) gives)))
+      (λ out f (h, (is, (gives, apart))). (h, (is, gives_alike g alive places fields bits (length d.fields) d s set st (λ q. word_at (extents g set) st e q) (λ q. value_in (extents g set) st e q) h f (alike_same g bits set _ _ (λ q below few. sym (pure_at g alive n places fields set e st s sim pure wide c q))) gives)))
       (operand_after g has alive n ready places fields bits set e quiet pure c.code.names (pure_after bits set e most pure c) d s st here sim)

@@ -12,11 +12,11 @@ use Rattle.code_follows.proofs.Settings.{Held}
 use Rattle.fields_follow.specs.Fields.{IsElement, file_field}
 use Rattle.fields_follow.proofs.Bits.{AreBits}
 
--- At every position the fields have the numbers of the variables, which are numbers of their types; these positions
--- are active; every bit is 0 or 1.
+-- At every position the fields have the numbers of the variables; these are numbers of their types, beyond the positions
+-- too; these positions are active; every bit is 0 or 1.
 pub record HoldsFields (t : Typed) (image : Image) (active : Active) (st : State) (m : BitMemory) : Type 0 where
   pub numbers : (k element set p : ℕ) (info : VarInfo) → IsElement t k info set element → p < processors (shapes_of image) set → field_number m (file_field t image k element) p ≡ st.parallel (V.File k) element p
-  pub small : (k element set p : ℕ) (info : VarInfo) → IsElement t k info set element → p < processors (shapes_of image) set → st.parallel (V.File k) element p < 2 ^ info.elem.bits
+  pub small : (k element set p : ℕ) (info : VarInfo) → IsElement t k info set element → st.parallel (V.File k) element p < 2 ^ info.elem.bits
   pub flags : (set p : ℕ) → set < length (shapes_of image) → p < processors (shapes_of image) set → is_active (shapes_of image) m set p ≡ active set p
   pub winner : m.winner ≡ st.winner
   pub bits : AreBits (shapes_of image) m
@@ -34,7 +34,7 @@ fields_held t image active = record {
   finally = λ at st m h. h.numbers;
   still = λ at st u m same winner h. record {
     numbers = λ k e set p info is below. h.numbers k e set p info is below ∙ sym (same k e p);
-    small = λ k e set p info is below. subst (λ (n : ℕ). n < 2 ^ info.elem.bits) (sym (same k e p)) (h.small k e set p info is below);
+    small = λ k e set p info is. subst (λ (n : ℕ). n < 2 ^ info.elem.bits) (sym (same k e p)) (h.small k e set p info is);
     flags = h.flags;
     winner = h.winner ∙ sym winner;
     bits = h.bits;

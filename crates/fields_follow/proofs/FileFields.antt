@@ -1,7 +1,6 @@
 -- Where the fields of the file's parallel variables stand in an image. Each final of a program is one element of
 -- one variable, in the order of the variables.
-use Rattle.std.proofs.Common.{◌≡◌, ◌≢◌, ◌∙◌, ℕ, zero, suc, ◌+◌, ◌*◌, ◌/◌, ◌^◌, ◌<◌, ◌≤◌, ◌==◌, ◌⊎◌, inl, inr, Bool, true, false, if◌then◌else◌, List, [], ◌∷◌, ◌++◌, length, map, slice_get, slice_index, Option, Some, None, refl, sym, ap, subst, arith}
-use native.Mathlib.Nat.{div-le_self, mod-le}
+use Rattle.std.proofs.Common.{◌≡◌, ◌≢◌, ◌∙◌, ℕ, zero, suc, ◌+◌, ◌*◌, ◌^◌, ◌<◌, ◌≤◌, ◌==◌, ◌⊎◌, inl, inr, Bool, true, false, if◌then◌else◌, List, [], ◌∷◌, ◌++◌, length, map, slice_get, slice_index, Option, Some, None, refl, sym, ap, subst, arith}
 use Rattle.std.specs.Prelude.{All}
 use Rattle.std.specs.List.{AllZip, slice_index_or}
 use Rattle.std.proofs.lemmas.Bool.{cases_eq, cases_lt, eqb-true}
@@ -28,9 +27,10 @@ use Rattle.paris_code.specs.RuleSet.{FieldExists}
 use Rattle.paris_code.specs.Shapes.{SetShape, bits_at, extents_at, shape_of, shapes_of}
 use Rattle.paris_code.specs.Sound.{IsShape, IsSound, field_of}
 use Rattle.source_meaning.specs.Programs.{extents_of}
-use Rattle.vp_sets.specs.Positions.{coordinate, coordinates, position_count, is_geometry, positions_fit}
+use Rattle.vp_sets.specs.Positions.{are_positive, coordinate, coordinates, position_count, is_geometry, positions_fit}
 use Rattle.std.proofs.lemmas.Bool.Decides.{nat_tests}
-use Rattle.vp_sets.proofs.PositionLaws.{geometry_parts}
+use Rattle.vp_sets.proofs.PositionLaws.{extent_bound, geometry_parts, later_count, later_positive}
+use Rattle.phase_meaning.proofs.Alike.{coordinate_below}
 use Rattle.code_follows.proofs.Standing.{some_same}
 use Rattle.fields_follow.specs.Fields.{IsElement, field_or_none, file_field, file_number, positions_of}
 
@@ -240,25 +240,27 @@ geometry_fits : (xs : List ℕ) → is_geometry xs ≡ true → positions_fit xs
 unfolding is_geometry
 geometry_fits xs is = grind (arith, nat_tests, is)
 
--- a grid has few positions
-few_at : (shapes : List SetShape) (set : ℕ) → All IsShape shapes → processors shapes set ≤ 2 ^ 20
-unfolding position_count
-few_at [] set all = omega arith
-few_at (x ∷ shapes) zero all = (geometry_parts x.extents (all 0 x (omega arith)).0).3
-few_at (x ∷ shapes) (suc set) all = few_at shapes set (λ k d below. all (suc k) d (omega (arith, below)))
-
 -- each shape is a grid of few positions
 fits_at : (shapes : List SetShape) (set : ℕ) → All IsShape shapes → set < length shapes → positions_fit (extents_at shapes set) ≡ true
 fits_at [] set all exists = absurd (omega (arith, exists))
 fits_at (x ∷ shapes) zero all exists = geometry_fits x.extents (all 0 x (omega arith)).0
 fits_at (x ∷ shapes) (suc set) all exists = fits_at shapes set (λ k d below. all (suc k) d (omega (arith, below))) (omega (arith, exists))
 
--- a coordinate is not above the number of its position
-pub coordinate_least : (xs : List ℕ) (n axis : ℕ) → coordinate xs n axis ≤ n
+-- a coordinate is below the number of positions, beyond them too
+coordinate_most : (xs : List ℕ) (n axis : ℕ) → are_positive xs ≡ true → coordinate xs n axis < position_count xs
+unfolding coordinate coordinates position_count
+coordinate_most [] n axis positive = omega arith
+coordinate_most (x ∷ xs) n zero positive =
+    let low : coordinate (x ∷ xs) n zero < x = coordinate_below (x ∷ xs) n zero positive (omega arith) in let high : x ≤ position_count (x ∷ xs) = extent_bound (x ∷ xs) zero positive (omega arith) in omega (arith, low, high)
+coordinate_most (x ∷ xs) n (suc axis) positive = let rest = coordinate_most xs n axis (later_positive 1 (x ∷ xs) positive) in let more : position_count xs ≤ position_count (x ∷ xs) = later_count 1 (x ∷ xs) positive in omega (arith, rest, more)
+
+-- so each is a word
+few_at : (shapes : List SetShape) (set n axis : ℕ) → All IsShape shapes → coordinate (extents_at shapes set) n axis < 2 ^ 32
 unfolding coordinate coordinates
-coordinate_least [] n axis = omega arith
-coordinate_least (x ∷ xs) n zero = let a = mod-le (n / position_count xs) x in let b = div-le_self n (position_count xs) in omega (arith, a, b)
-coordinate_least (x ∷ xs) n (suc axis) = coordinate_least xs n axis
+few_at [] set n axis all = omega arith
+few_at (x ∷ shapes) zero n axis all =
+    let fits = geometry_parts x.extents (all 0 x (omega arith)).0 in let low = coordinate_most x.extents n axis fits.2 in let few = fits.3 in omega (arith, low, few)
+few_at (x ∷ shapes) (suc set) n axis all = few_at shapes set n axis (λ k d below. all (suc k) d (omega (arith, below)))
 
 module _ (t : Typed) (words : List ℕ) (before after : Program) (image : Image) (c : IsTranslated t words before after image) where
   -- as many sets as before placing
@@ -280,8 +282,8 @@ module _ (t : Typed) (words : List ℕ) (before after : Program) (image : Image)
   pub processors_of : (set : ℕ) → set < length (shapes_of image) → processors (shapes_of image) set ≡ positions_of t set
   processors_of set within = ap position_count (extents_are set within)
 
-  pub few_positions : (set : ℕ) → processors (shapes_of image) set ≤ 2 ^ 20
-  few_positions set = few_at (shapes_of image) set c.sound.shapes.1
+  pub few_coordinates : (set axis p : ℕ) → coordinate (extents_at (shapes_of image) set) p axis < 2 ^ 32
+  few_coordinates set axis p = few_at (shapes_of image) set p axis c.sound.shapes.1
 
   pub grid_fits : (set : ℕ) → set < length (shapes_of image) → positions_fit (extents_at (shapes_of image) set) ≡ true
   grid_fits set exists = fits_at (shapes_of image) set c.sound.shapes.1 exists

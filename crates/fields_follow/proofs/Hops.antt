@@ -93,11 +93,6 @@ module _ (g : Setting) where
   origin set [] q = q
   origin set (step ∷ steps) q = neighbour set step.axis (konst_number step.step []) (origin set steps q)
 
-  pub origin_below : (set : ℕ) (steps : List GridStep) (q : ℕ) → AreMoves set steps → q < processors (shapes g) set → origin set steps q < processors (shapes g) set
-  unfolding AreMoves origin
-  origin_below set [] q are below = below
-  origin_below set (step ∷ steps) q are below = shifted_below (extents g set) (origin set steps q) step.axis (number_of 32 true (konst_number step.step [])) are.1.0 (origin_below set steps q are.2 below) are.1.1
-
   -- the same numbers at the positions that there are
   pub puts_same : (set : ℕ) (i : Instr) (d : Field) (s : CodeState) (v w : ℕ → ℕ) → ((p : ℕ) → p < processors (shapes g) set → v p ≡ w p) → Puts g set i d s v → Puts g set i d s w
   puts_same set i d s v w same h = record {

@@ -12,7 +12,7 @@ use Rattle.paris_code.specs.Spans.{StandsAt, fields_of}
 use Rattle.code_follows.proofs.Settings.{Setting}
 use Rattle.fields_follow.specs.Fields.{file_number}
 use Rattle.fields_follow.proofs.FileFields as Files
-use Rattle.fields_follow.proofs.FileFields.{IsTranslated, apart_back, extents_are, few_positions, file_ends, file_exists, grid_fits}
+use Rattle.fields_follow.proofs.FileFields.{IsTranslated, apart_back, extents_are, few_coordinates, file_ends, file_exists, grid_fits}
 use Rattle.fields_follow.proofs.Placing as Placing
 use Rattle.fields_follow.proofs.Placing.{IsThere, at_bits, file_and_below, file_moved, own_and_below, own_and_file, own_below_called, written_apart}
 use Rattle.fields_follow.proofs.Places.{IsOwnField, PlacesFields}
@@ -41,6 +41,6 @@ module _ (g : Setting) (made : IsTranslated g.typed g.words g.before g.after g.i
     own_and_below = λ f below own there. own_and_below g made f below (own_field f own) there;
     file_and_below = λ k element set info below is there. file_and_below g made k info set element below is there;
     own_below_called = λ f first at last index own exists ends before early after late stands. own_below_called g made f first at last index (own_field f own) exists ends before early after late stands;
-    few = λ set. few_positions g.typed g.words g.before g.after g.image made set;
+    few = few_coordinates g.typed g.words g.before g.after g.image made;
     grids = λ set exists. (sym (extents_are g.typed g.words g.before g.after g.image made set exists), grid_fits g.typed g.words g.before g.after g.image made set exists);
   }

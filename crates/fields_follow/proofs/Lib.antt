@@ -1,6 +1,7 @@
 pub mod Assigning
 pub mod Besides
 pub mod Bits
+pub mod Checks
 pub mod Clearing
 pub mod ConditionCode
 pub mod Conditions

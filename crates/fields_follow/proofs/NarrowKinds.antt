@@ -112,15 +112,15 @@ both_pure set left right (inl (one, inr promoted)) so also = absurd (not_promote
 both_pure set left right (inr (promoted, other)) so also = absurd (not_promoted set left promoted so)
 
 module _ (g : Setting) (alive : Variable → Type 0) (n : ℕ) (places : PlacesFields g) (fields : HoldsTheFields g) where
-  pub kind_has : (set : ℕ) (e : TExpr) (st : State) (s : CodeState) → Sim g alive st s → IsPure set e → IsNarrowed e → HasItsCode g.typed g.instance alive n e → (q : ℕ) → q < processors (shapes g) set → (kind : Elem) → kind_of e ≡ Some kind → HasWord kind (word_at (extents g set) st e q)
+  pub kind_has : (set : ℕ) (e : TExpr) (st : State) (s : CodeState) → Sim g alive st s → IsPure set e → IsNarrowed e → HasItsCode g.typed g.instance alive n e → (q : ℕ) → (kind : Elem) → kind_of e ≡ Some kind → HasWord kind (word_at (extents g set) st e q)
   unfolding IsPure IsNarrowed kind_of value_in converted_kind binary_kind
-  kind_has set (T.Variable ty (V.File k)) st s sim is so c q below kind is_kind = narrow_has ty.elem kind _ (value_small g alive n places fields set (T.Variable ty (V.File k)) st s sim is c q below) is_kind
-  kind_has set (T.LeftIndex' ty place p indexes (V.File k) of) st s sim is so c q below kind is_kind =
-      narrow_has ty.elem kind _ (value_small g alive n places fields set (T.LeftIndex' ty place p indexes (V.File k) of) st s sim is c q below) is_kind
-  kind_has set (T.Brackets' ty p inner) st s sim is so c q below kind is_kind =
-      subst (λ (y : ValueType). HasWord kind (held y.elem (value_in (extents g set) st inner q))) (sym is.0) (kind_has set inner st s sim is.1 so (brackets_part g alive n places fields ty p inner c) q below kind is_kind)
-  kind_has set (T.Convert' ty p operand) st s sim is so c q below kind is_kind =
-      by (kind_of operand) refl so is_kind (λ narrowed k is_k. kind_has set operand st s sim is.2 narrowed part q below k is_k)
+  kind_has set (T.Variable ty (V.File k)) st s sim is so c q kind is_kind = narrow_has ty.elem kind _ (value_small g alive n places fields set (T.Variable ty (V.File k)) st s sim is c q) is_kind
+  kind_has set (T.LeftIndex' ty place p indexes (V.File k) of) st s sim is so c q kind is_kind =
+      narrow_has ty.elem kind _ (value_small g alive n places fields set (T.LeftIndex' ty place p indexes (V.File k) of) st s sim is c q) is_kind
+  kind_has set (T.Brackets' ty p inner) st s sim is so c q kind is_kind =
+      subst (λ (y : ValueType). HasWord kind (held y.elem (value_in (extents g set) st inner q))) (sym is.0) (kind_has set inner st s sim is.1 so (brackets_part g alive n places fields ty p inner c) q kind is_kind)
+  kind_has set (T.Convert' ty p operand) st s sim is so c q kind is_kind =
+      by (kind_of operand) refl so is_kind (λ narrowed k is_k. kind_has set operand st s sim is.2 narrowed part q k is_k)
     where
       part : HasItsCode g.typed g.instance alive n operand
       part = convert_part g alive n places fields ty p operand c
@@ -143,11 +143,11 @@ module _ (g : Setting) (alive : Variable → Type 0) (n : ℕ) (places : PlacesF
           all : (b : Bool) → has_all ty.elem k ≡ b → (if has_all ty.elem k then Some k else narrow ty.elem) ≡ Some kind → HasWord kind (held ty.elem (converted ty.elem (type_of operand).elem x))
           all true it_has h =
               let same : k ≡ kind = some_same k kind (ap (λ (b : Bool). if b then Some k else narrow ty.elem) (sym it_has) ∙ h) in
-              let small : x < 2 ^ (type_of operand).elem.bits = value_small g alive n places fields set operand st s sim is.2 part q below in
+              let small : x < 2 ^ (type_of operand).elem.bits = value_small g alive n places fields set operand st s sim is.2 part q in
               subst (λ (w : ℕ). HasWord kind w) (sym (converted_has ty.elem (type_of operand).elem k x small it_has has.0)) (subst (λ (e : Elem). HasWord e (held (type_of operand).elem x)) same has)
           all false other h = cut (ap (λ (b : Bool). if b then Some k else narrow ty.elem) (sym other) ∙ h)
-  kind_has set (T.Binary' ty place op p left r right) st s sim is so c q below kind is_kind =
-      by (λ k is_k. kind_has set left st s sim pure.0 so.1 parts.0 q below k is_k) (λ k is_k. kind_has set right st s sim pure.1 so.2 parts.1 q below k is_k)
+  kind_has set (T.Binary' ty place op p left r right) st s sim is so c q kind is_kind =
+      by (λ k is_k. kind_has set left st s sim pure.0 so.1 parts.0 q k is_k) (λ k is_k. kind_has set right st s sim pure.1 so.2 parts.1 q k is_k)
     where
       v : ℕ
       v = value_in (extents g set) st left q
@@ -166,13 +166,13 @@ module _ (g : Setting) (alive : Variable → Type 0) (n : ℕ) (places : PlacesF
       by one other =
           let both : HasWord kind v × HasWord kind w =
           common_has (kind_of left) (kind_of right) kind v w (joined_kind op (kind_of left) (kind_of right) kind is.1.0 so.0 is_kind)
-          (λ k is_k. subst (λ (x : ℕ). HasWord k x) (pure_at g alive n places fields set left st s sim pure.0 is.3 parts.0 q below) (one k is_k))
-          (λ k is_k. subst (λ (x : ℕ). HasWord k x) (pure_at g alive n places fields set right st s sim pure.1 is.4 parts.1 q below) (other k is_k)) in
-          subst (λ (x : ℕ). HasWord kind x) (sym (pure_at g alive n places fields set (T.Binary' ty place op p left r right) st s sim is is.0 c q below))
+          (λ k is_k. subst (λ (x : ℕ). HasWord k x) (pure_at g alive n places fields set left st s sim pure.0 is.3 parts.0 q) (one k is_k))
+          (λ k is_k. subst (λ (x : ℕ). HasWord k x) (pure_at g alive n places fields set right st s sim pure.1 is.4 parts.1 q) (other k is_k)) in
+          subst (λ (x : ℕ). HasWord kind x) (sym (pure_at g alive n places fields set (T.Binary' ty place op p left r right) st s sim is is.0 c q))
           (bitwise_has op kind (not (type_of left).elem.signed) v w so.0 both.0.1 both.0.0 both.1.0, both.0.1)
-  kind_has set (T.Variable ty x) st s sim is so c q below kind is_kind = absurd is
-  kind_has set (T.LeftIndex' ty place p indexes x of) st s sim is so c q below kind is_kind = absurd is
-  kind_has set _ st s sim is so c q below kind is_kind = absurd so
+  kind_has set (T.Variable ty x) st s sim is so c q kind is_kind = absurd is
+  kind_has set (T.LeftIndex' ty place p indexes x of) st s sim is so c q kind is_kind = absurd is
+  kind_has set _ st s sim is so c q kind is_kind = absurd so
 
   pub kind_narrow : (set : ℕ) (e : TExpr) → IsPure set e → IsNarrowed e → (kind : Elem) → kind_of e ≡ Some kind → kind.bits < 32
   unfolding IsPure IsNarrowed kind_of converted_kind binary_kind
@@ -207,10 +207,10 @@ module _ (g : Setting) (alive : Variable → Type 0) (n : ℕ) (places : PlacesF
       by None = omega arith
       by (Some kind) = (kind_bits kind.bits kind.signed kind.kind).1
 
-  pub zero_told : (set : ℕ) (e : TExpr) (st : State) (s : CodeState) → Sim g alive st s → HasItsKind set e → HasItsCode g.typed g.instance alive n e → (q : ℕ) → q < processors (shapes g) set
+  pub zero_told : (set : ℕ) (e : TExpr) (st : State) (s : CodeState) → Sim g alive st s → HasItsKind set e → HasItsCode g.typed g.instance alive n e → (q : ℕ)
       → (word_at (extents g set) st e q % 2 ^ bits_of (kind_of e) == 0) ≡ (value_in (extents g set) st e q == 0)
   unfolding bits_of
-  zero_told set e st s sim is c q below = by (kind_of e) refl is.1 ∙ held_zero (type_of e).elem (value_in (extents g set) st e q) (value_small g alive n places fields set e st s sim is.0 c q below)
+  zero_told set e st s sim is c q = by (kind_of e) refl is.1 ∙ held_zero (type_of e).elem (value_in (extents g set) st e q) (value_small g alive n places fields set e st s sim is.0 c q)
     where
       w : ℕ
       w = word_at (extents g set) st e q
@@ -218,7 +218,7 @@ module _ (g : Setting) (alive : Variable → Type 0) (n : ℕ) (places : PlacesF
       by : (o : Option Elem) → kind_of e ≡ o → (kind_of e ≡ None) ⊎ IsNarrowed e → (w % 2 ^ bits_of (kind_of e) == 0) ≡ (w == 0)
       by None none any = ap (λ (o : Option Elem). w % 2 ^ bits_of o == 0) none ∙ ap (λ (m : ℕ). m == 0) (mod-eq_of_lt (held_below (type_of e).elem (value_in (extents g set) st e q)))
       by (Some kind) some (inl none) = let wrong = sym none ∙ some in cc
-      by (Some kind) some (inr narrowed) = ap (λ (o : Option Elem). w % 2 ^ bits_of o == 0) some ∙ zero_test kind (w % 2 ^ kind.bits) w (kind_has set e st s sim is.0 narrowed c q below kind some).0 refl
+      by (Some kind) some (inr narrowed) = ap (λ (o : Option Elem). w % 2 ^ bits_of o == 0) some ∙ zero_test kind (w % 2 ^ kind.bits) w (kind_has set e st s sim is.0 narrowed c q kind some).0 refl
 
   -- ---- the two sides of a relation
 
@@ -244,7 +244,7 @@ module _ (g : Setting) (alive : Variable → Type 0) (n : ℕ) (places : PlacesF
   side_has : (set : ℕ) (e : TExpr) (st : State) (s : CodeState) → Sim g alive st s → HasItsKind set e ⊎ IsPromoted set e → (type_of e).elem.bits ≡ 32 → HasItsCode g.typed g.instance alive n e → word_of e ≡ None → (q : ℕ) → q < processors (shapes g) set → (kind : Elem) → kind_of e ≡ Some kind
       → HasWord kind (word_at (extents g set) st e q)
   side_has set e st s sim (inl (pure, inl none)) wide c no_word q below kind is = let wrong = sym none ∙ is in cc
-  side_has set e st s sim (inl (pure, inr narrowed)) wide c no_word q below kind is = kind_has set e st s sim pure narrowed c q below kind is
+  side_has set e st s sim (inl (pure, inr narrowed)) wide c no_word q below kind is = kind_has set e st s sim pure narrowed c q kind is
   side_has set e st s sim (inr promoted) wide c no_word q below kind is = let wrong = sym (promoted_kind set e promoted wide no_word) ∙ is in cc
 
   kind_given : (o : Option Elem) (word : ℕ) (kind : Elem) → kind_with o word ≡ Some kind → (o ≡ Some kind) × (has_number kind word ≡ true)

@@ -41,7 +41,7 @@ use Rattle.fields_follow.proofs.Extents.{NameExtents, extents_in}
 use Rattle.fields_follow.specs.Fields.{IsElement, file_number}
 use Rattle.fields_follow.proofs.Forms.{element_is, field_is}
 use Rattle.fields_follow.proofs.Gets.{names_long, steps_lead, steps_move, wrapping_goes, wrapping_unchecked}
-use Rattle.fields_follow.proofs.Hops.{HasEverywhere, MovesLast, Reads, moves_last, origin, origin_below, puts_same, steps_extend}
+use Rattle.fields_follow.proofs.Hops.{HasEverywhere, MovesLast, Reads, moves_last, origin, puts_same, steps_extend}
 use Rattle.fields_follow.proofs.Instructions.{Puts, extents, number_in, shapes}
 use Rattle.fields_follow.proofs.Lengths.{held_has}
 use Rattle.fields_follow.proofs.Meaning.{coordinates_behind, value_in, word_at}
@@ -128,17 +128,6 @@ module _ (g : Setting) where
       e = T.LeftIndex' ty place p indexes (V.File k) of
 
   module _ (alive : Variable → Type 0) (n : ℕ) (places : PlacesFields g) (fields : HoldsTheFields g) where
-    -- the position that a get leads to is one
-    pub get_below : {m : _} (k of set : ℕ) (info : VarInfo) (indexes : Row_of-TExpr m) → IsElement g.typed k info set 0 → of ≡ set → AreWrapping set 0 indexes → NameExtents (extents_in g.typed of) indexes → (q : ℕ) → q < processors (shapes g) set
-        → number_at (extents g set) (coordinates_behind (extents g set) of 0 (items-the_row-TExpr _ indexes) q) < processors (shapes g) set
-    get_below k of set info indexes is same are names q below =
-        let exists : set < length (shapes g) = places.exists k 0 set info is in
-        let positive : are_positive (extents g set) ≡ true = fit_positive (extents g set) (places.grids set exists).1 in
-        let long : length (items-the_row-TExpr _ indexes) ≡ length (extents g set) = names_long (extents g set) indexes (subst (λ (xs : List ℕ). NameExtents xs indexes) (ap (extents_in g.typed) same ∙ (places.grids set exists).0) names) in
-        subst (λ (n : ℕ). n < processors (shapes g) set)
-        (steps_lead g set positive indexes q are long below ∙ ap (λ (m : ℕ). number_at (extents g set) (coordinates_behind (extents g set) m 0 (items-the_row-TExpr _ indexes) q)) (sym same))
-        (origin_below g set (moving_steps set 0 (items-the_row-TExpr _ indexes)) q (steps_move g set positive indexes are long) below)
-
     -- the variable has its words at every position
     file_everywhere : (bits set k : ℕ) (info : VarInfo) (f : Field) (s : CodeState) (st : State) → IsElement g.typed k info set 0 → IsFileField g k 0 (record f { len = info.elem.bits }) → f.set ≡ set → f.len ≡ bits → bits ≤ info.elem.bits → Sim g alive st s
         → HasEverywhere g bits set f s (λ q. held info.elem (st.parallel (V.File k) 0 q))
@@ -227,7 +216,7 @@ module _ (g : Setting) where
         moves : Within g made → MovesLast g places fields alive ty.elem f read reads bound set steps hop numbers d3 s st
         moves within =
             moves_last g places fields alive ty.elem f read reads bound set steps hop numbers d3 s st (steps_move g set positive indexes are long)
-            (λ q below. held_has ty.elem (st.parallel (V.File k) 0 q) (small_there g alive places fields set k info st s is sim q below))
+            (λ q below. held_has ty.elem (st.parallel (V.File k) 0 q) (small_there g alive places fields set k info st s is sim q))
             (let one = one_more set info.elem.bits (owner_of k) d in omega (arith, less, one), taken g set read W.Own d1 made (0 + more.0) within behind2, refl, refl)
             (let one = one_more set info.elem.bits (owner_of k) d in let two = one_more set read W.Own d1 in omega (arith, less, one, two), taken g set read W.Own d2 made more.0 within more.1, refl, refl)
             (file_everywhere read set k info (next_field set read d) s st is (taken g set info.elem.bits (owner_of k) d made (0 + (0 + more.0)) within behind1) refl refl fits sim) within here sim

@@ -185,8 +185,8 @@ module _ (g : Setting) where
       flags_of st t set p sim exists below = (fields.opens t.at st t.memory sim.memory).flags set p exists below
 
       -- the number of a variable is one of its type
-      pub small_there : (set k : ℕ) (info : VarInfo) (st : State) (t : CodeState) → IsElement g.typed k info set 0 → Sim g alive st t → (p : ℕ) → p < processors (shapes g) set → st.parallel (V.File k) 0 p < 2 ^ info.elem.bits
-      small_there set k info st t is sim p below = (fields.opens t.at st t.memory sim.memory).small k 0 set p info is below
+      pub small_there : (set k : ℕ) (info : VarInfo) (st : State) (t : CodeState) → IsElement g.typed k info set 0 → Sim g alive st t → (p : ℕ) → st.parallel (V.File k) 0 p < 2 ^ info.elem.bits
+      small_there set k info st t is sim p = (fields.opens t.at st t.memory sim.memory).small k 0 set p info is
 
       -- first bits of a field have the lowest bits of its number
       pub first_there : (set : ℕ) (f : Field) (long : ℕ) (st : State) (t : CodeState) → Sim g alive st t → f.set ≡ set → set < length (shapes g) → f.len ≤ long → (place g f).offset + long ≤ bits_at (shapes g) f.set → (p : ℕ) → p < processors (shapes g) set
@@ -203,7 +203,7 @@ module _ (g : Setting) where
             first_there set f h.info.elem.bits st t sim h.of_set exists h.fits ends p below
                 ∙ ap (λ (x : Field). field_number t.memory x p % 2 ^ f.len) at_file
                 ∙ ap (λ (n : ℕ). n % 2 ^ f.len) ((fields.opens t.at st t.memory sim.memory).numbers h.k 0 set p h.info h.is below)
-                ∙ sym (held_first h.info.elem (st.parallel (V.File h.k) 0 p) f.len (small_there set h.k h.info st t h.is sim p below) h.fits)
+                ∙ sym (held_first h.info.elem (st.parallel (V.File h.k) 0 p) f.len (small_there set h.k h.info st t h.is sim p) h.fits)
                 ∙ ap (λ (n : ℕ). held h.info.elem (st.parallel (V.File h.k) 0 p) % 2 ^ n) h.len ∙ sym (h.same p below).0,
             (h.same p below).1,
           )

@@ -8,7 +8,7 @@ use Rattle.paris_code.specs.declared.instr.Instr.TheVariants as I
 use Rattle.paris_code.specs.declared.operands.Field.{Field}
 use Rattle.paris_code.specs.declared.program.Owner.TheVariants as W
 use Rattle.paris_code.specs.declared.program.Virtual.{Virtual}
-use Rattle.paris_code.specs.Memory.{BitMemory, processors}
+use Rattle.paris_code.specs.Memory.{BitMemory}
 use Rattle.paris_code.specs.Proper.{IsEntry, IsOwn}
 use Rattle.paris_code.specs.Shapes.{bits_at}
 use Rattle.paris_code.specs.Spans.{IsNamedAt, StandsAt, entry_of, fields_of}
@@ -16,7 +16,7 @@ use Rattle.source_meaning.specs.State.{State}
 use Rattle.source_meaning.specs.Values.{Active, Scope}
 use Rattle.code_follows.proofs.Settings.{Setting, StandsBelow, Within, stands_here as stands_so}
 use Rattle.fields_follow.proofs.Fields.{HoldsFields}
-use Rattle.vp_sets.specs.Positions.{positions_fit}
+use Rattle.vp_sets.specs.Positions.{coordinate, positions_fit}
 use Rattle.fields_follow.proofs.Extents.{extents_in}
 use Rattle.fields_follow.specs.Fields.{IsElement, file_field, file_number}
 use Rattle.fields_follow.proofs.FileFields.{Apart}
@@ -39,7 +39,8 @@ module _ (g : Setting) where
   -- entry of an element is at its field, which ends below them too, and is apart from those of other elements and
   -- from own entries; two own entries are apart where each is named at an instruction, or before it, and behind it;
   -- both are apart from what stands below the unit's entries, as an own entry that is named before a call and behind it
-  -- stands below those of what is called; and the shapes have few positions, and are grids with the extents of the source.
+  -- stands below those of what is called; and the coordinates of any number are words, and the shapes are grids with the
+  -- extents of the source.
   pub record PlacesFields : Type 0 where
     pub ends : (at : ℕ) (i : Instr) (f : Field) (others : List Field) → StandsAt g.unit at i → step_of i ≡ Plain i → NamesFields i → fields_of i ≡ f ∷ others → (f.set < length (shapes g)) × ((place g f).offset + f.len ≤ bits_at (shapes g) f.set)
     pub exists : (k element set : ℕ) (info : VarInfo) → IsElement g.typed k info set element → set < length (shapes g)
@@ -53,7 +54,7 @@ module _ (g : Setting) where
     pub file_and_below : (k element set : ℕ) (info : VarInfo) (below : Field) → IsElement g.typed k info set element → StandsBelow g.image g.placed g.number below → Apart (of_file k element) below
     pub own_below_called : (f : Field) (first at last index : ℕ) → IsOwnField f → f.set < length (shapes g) → (place g f).offset + f.len ≤ bits_at (shapes g) f.set → IsNamedAt g.unit f.offset first → first < at → IsNamedAt g.unit f.offset last → at ≤ last → StandsAt g.unit at (I.FrontCall index)
         → StandsBelow g.image g.placed index (place g f)
-    pub few : (set : ℕ) → processors (shapes g) set ≤ 2 ^ 20
+    pub few : (set axis p : ℕ) → coordinate (extents g set) p axis < 2 ^ 32
     pub grids : (set : ℕ) → set < length (shapes g) → (extents_in g.typed set ≡ extents g set) × (positions_fit (extents g set) ≡ true)
 
   -- what the memory holds of the source's state is the numbers of the fields, where these positions are active; and the

@@ -128,7 +128,7 @@ module _ (t : Typed) (image : Image) (p : IsParallelProgram t) (codable : IsCoda
   unfolding start_state
   holds_at_first input rest turns winner m new = record {
     numbers = λ k e set q info is below. fresh_file t compiled.lowered.words compiled.before compiled.after image made m k info set e q new.bits is below ∙ sym (begins_at_zero k info set is.known is.parallel);
-    small = λ k e set q info is below. subst (λ (n : ℕ). n < 2 ^ info.elem.bits) (sym (begins_at_zero k info set is.known is.parallel)) (pow_pos info.elem.bits);
+    small = λ k e set q info is. subst (λ (n : ℕ). n < 2 ^ info.elem.bits) (sym (begins_at_zero k info set is.known is.parallel)) (pow_pos info.elem.bits);
     flags = λ set q exists below. fresh_active (shapes_of image) m set q new.bits exists below;
     winner = new.winner;
     bits = λ set q index exists below low. subst (λ (b : ℕ). b < 2) (sym (fresh_bit (shapes_of image) m set q index new.bits exists below low)) (omega arith);

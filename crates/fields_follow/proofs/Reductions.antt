@@ -111,7 +111,7 @@ module _ (g : Setting) (alive : Variable → Type 0) where
         by (Some kind) some (inr narrowed) =
             subst Folds (sym some)
             (narrow_whole g alive op signed places fields set v kind (kind_narrow g alive n places fields set operand kinded.0 narrowed kind some)
-            (λ q below. subst (λ (w : ℕ). has_number kind w ≡ true) (pure_at g alive n places fields set operand st s sim kinded.0 wide c q below) (kind_has g alive n places fields set operand st s sim kinded.0 narrowed c q below kind some).0))
+            (λ q below. subst (λ (w : ℕ). has_number kind w ≡ true) (pure_at g alive n places fields set operand st s sim kinded.0 wide c q) (kind_has g alive n places fields set operand st s sim kinded.0 narrowed c q kind some).0))
 
     -- it takes no more than 32
     pub folded_most : (combiner : Reduction) (set : ℕ) (e : TExpr) → HasItsKind set e → folded_bits combiner (kind_of e) ≤ 32

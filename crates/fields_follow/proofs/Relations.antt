@@ -210,8 +210,8 @@ module _ (g : Setting) (has : HasRegisters g) (alive : Variable → Type 0) (n :
     words_compare q below =
         c.same bits (v q % 2 ^ bits) (w q % 2 ^ bits) ∙ ap (λ (b : Bool). outcome op bits (not b) (v q % 2 ^ bits) (w q % 2 ^ bits)) (read_as op left right is.0)
         ∙ by (relation_kind left right) refl
-        ∙ ap (λ (m : ℕ). outcome op 32 unsigned m (w q)) (operand_at g has alive n ready places fields set left st s sim (left_of set left right operands) is.2 c_left q below)
-        ∙ ap (λ (m : ℕ). outcome op 32 unsigned (value_in (extents g set) st left q) m) (operand_at g has alive n ready places fields set right st s sim (right_of set left right operands) is.3 c_right q below)
+        ∙ ap (λ (m : ℕ). outcome op 32 unsigned m (w q)) (operand_at g has alive n ready places fields set left st s sim (left_of set left right operands) is.2 c_left q)
+        ∙ ap (λ (m : ℕ). outcome op 32 unsigned (value_in (extents g set) st left q) m) (operand_at g has alive n ready places fields set right st s sim (right_of set left right operands) is.3 c_right q)
         ∙ is_truth op 32 unsigned (value_in (extents g set) st left q) (value_in (extents g set) st right q) is.0
       where
         operands : AreOperands set left right

@@ -1,5 +1,5 @@
 -- The numbers of parallel values are numbers of their types.
-use Rattle.std.proofs.Common.{◌≡◌, ◌∙◌, ℕ, ◌<◌, ◌^◌, Option, Some, None, ◌⊎◌, inl, inr, sym, ap, subst, arith}
+use Rattle.std.proofs.Common.{◌≡◌, ◌∙◌, ℕ, ◌<◌, ◌^◌, Option, Some, None, ◌⊎◌, inl, inr, sym, ap, subst}
 use Rattle.cstar_base.specs.declared.elem.Elem.{Elem}
 use Rattle.cstar_base.specs.declared.operators.Op.{Op}
 use Rattle.cstar_base.specs.declared.operators.Place.{Place}
@@ -17,21 +17,16 @@ use Rattle.code_lengths.specs.Naming.{NamesVariables, plain}
 use Rattle.code_lengths.specs.Shaped.{IsShaped}
 use Rattle.constant_trees.proofs.Words.{converted_below, unary_below}
 use Rattle.paris_code.specs.Code.{CodeState}
-use Rattle.paris_code.specs.Memory.{processors}
 use Rattle.source_meaning.specs.State.{State}
 use Rattle.source_meaning.proofs.ConstantLaws.{Boxed}
-use Rattle.vp_sets.specs.Positions.{coordinate}
 use Rattle.code_follows.specs.Fragment.{ScalarsAmong}
 use Rattle.code_follows.proofs.Following.{Sim}
 use Rattle.code_follows.proofs.Settings.{Setting}
 use Rattle.code_follows.proofs.Words.{below_bits, below_word, held_wide}
 use Rattle.fields_follow.specs.Fragment.{IsConstant, IsPromoted, IsPure, IsScalarName, IsWide}
-use Rattle.fields_follow.proofs.Extents.{get_names}
-use Rattle.fields_follow.proofs.FileFields.{coordinate_least}
 use Rattle.fields_follow.proofs.Forms.{HasItsCode, element_is}
-use Rattle.fields_follow.proofs.Instructions.{extents, operation_below, shapes}
+use Rattle.fields_follow.proofs.Instructions.{extents, operation_below}
 use Rattle.fields_follow.proofs.Meaning.{no_constant, scalar_constant, scalar_in, value_in, variable_in, word_at}
-use Rattle.fields_follow.proofs.News.{get_below}
 use Rattle.fields_follow.proofs.Passing.{small_there}
 use Rattle.fields_follow.proofs.Places.{HoldsTheFields, PlacesFields}
 
@@ -53,10 +48,6 @@ module _ (g : Setting) (alive : Variable → Type 0) (n : ℕ) (places : PlacesF
   unfolding IsShaped IsLowerable NamesVariables ScalarsAmong
   convert_part ty p inner h = record { code = record { shaped = h.code.shaped.1; lowerable = h.code.lowerable.1; names = h.code.names }; among = h.among }
 
-  -- a coordinate is below the number of positions
-  pub coordinates_small : (set axis p : ℕ) → p < processors (shapes g) set → coordinate (extents g set) p axis < 2 ^ 32
-  coordinates_small set axis p below = let low = coordinate_least (extents g set) p axis in let few = places.few set in omega (arith, low, few, below)
-
   -- a scalar is one of its type
   name_small : (e : TExpr) (st : State) (s : CodeState) → Sim g alive st s → IsScalarName e → (type_of e).shape ≡ None → NamesVariables g.typed g.instance n e → ScalarsAmong alive e → variable_in st e < 2 ^ (type_of e).elem.bits
   unfolding IsScalarName variable_in NamesVariables ScalarsAmong
@@ -77,18 +68,18 @@ module _ (g : Setting) (alive : Variable → Type 0) (n : ℕ) (places : PlacesF
   promoted_small set (T.Brackets' ty p inner) st s sim is names among q = subst (λ (y : ValueType). value_in (extents g set) st inner q < 2 ^ y.elem.bits) (sym is.0) (promoted_small set inner st s sim is.1 names among q)
   promoted_small set _ st s sim is names among q = absurd is
 
-  pub value_small : (set : ℕ) (e : TExpr) (st : State) (s : CodeState) → Sim g alive st s → IsPure set e → HasItsCode g.typed g.instance alive n e → (q : ℕ) → q < processors (shapes g) set → value_in (extents g set) st e q < 2 ^ (type_of e).elem.bits
+  pub value_small : (set : ℕ) (e : TExpr) (st : State) (s : CodeState) → Sim g alive st s → IsPure set e → HasItsCode g.typed g.instance alive n e → (q : ℕ) → value_in (extents g set) st e q < 2 ^ (type_of e).elem.bits
   unfolding IsPure value_in NamesVariables
-  value_small set (T.Variable ty (V.File k)) st s sim is c q below =
-      small_there g alive places fields set k (variable_info c.code.names.word (plain ty) c.code.names.start) st s (element_is g.typed g.instance n k set ty is c.code.names) sim q below
-  value_small set (T.Brackets' ty p inner) st s sim is c q below = subst (λ (y : ValueType). value_in (extents g set) st inner q < 2 ^ y.elem.bits) (sym is.0) (value_small set inner st s sim is.1 (brackets_part ty p inner c) q below)
-  value_small set (T.Unary' ty op p operand) st s sim is c q below =
-      below_bits ty.elem.bits _ is.0.1 (unary_below op (value_in (extents g set) st operand q) (below_word (type_of operand).elem.bits _ is.3.1 (value_small set operand st s sim is.2 (unary_part ty op p operand c) q below)))
-  value_small set (T.Binary' ty place op p left r right) st s sim is c q below =
+  value_small set (T.Variable ty (V.File k)) st s sim is c q =
+      small_there g alive places fields set k (variable_info c.code.names.word (plain ty) c.code.names.start) st s (element_is g.typed g.instance n k set ty is c.code.names) sim q
+  value_small set (T.Brackets' ty p inner) st s sim is c q = subst (λ (y : ValueType). value_in (extents g set) st inner q < 2 ^ y.elem.bits) (sym is.0) (value_small set inner st s sim is.1 (brackets_part ty p inner c) q)
+  value_small set (T.Unary' ty op p operand) st s sim is c q =
+      below_bits ty.elem.bits _ is.0.1 (unary_below op (value_in (extents g set) st operand q) (below_word (type_of operand).elem.bits _ is.3.1 (value_small set operand st s sim is.2 (unary_part ty op p operand c) q)))
+  value_small set (T.Binary' ty place op p left r right) st s sim is c q =
       let parts = binary_parts ty place op p r left right c in
       below_bits ty.elem.bits _ is.0.1
       (operation_below op (type_of left).elem.signed (value_in (extents g set) st left q) (value_in (extents g set) st right q) is.1.0
-      (left_small is.2 parts.0 (λ pure. value_small set left st s sim pure parts.0 q below)) (right_small is.2 parts.1 (λ pure. value_small set right st s sim pure parts.1 q below)))
+      (left_small is.2 parts.0 (λ pure. value_small set left st s sim pure parts.0 q)) (right_small is.2 parts.1 (λ pure. value_small set right st s sim pure parts.1 q)))
     where
       Operands : Type 0
       Operands = (IsPure set left × (IsPure set right ⊎ IsPromoted set right)) ⊎ (IsPromoted set left × IsPure set right)
@@ -107,18 +98,17 @@ module _ (g : Setting) (alive : Variable → Type 0) (n : ℕ) (places : PlacesF
 
       right_small : Operands → HasItsCode g.typed g.instance alive n right → (IsPure set right → value_in (extents g set) st right q < 2 ^ (type_of right).elem.bits) → value_in (extents g set) st right q < 2 ^ 32
       right_small h code small = pure_or_not (by_right h) code small
-  value_small set (T.Convert' ty p operand) st s sim is c q below = converted_below ty.elem (type_of operand).elem (value_in (extents g set) st operand q)
-  value_small set (T.Pcoord ty axis) st s sim is c q below = below_bits ty.elem.bits _ is.1 (coordinates_small set axis q below)
-  value_small set (T.LeftIndex' ty place p indexes (V.File k) of) st s sim is c q below =
+  value_small set (T.Convert' ty p operand) st s sim is c q = converted_below ty.elem (type_of operand).elem (value_in (extents g set) st operand q)
+  value_small set (T.Pcoord ty axis) st s sim is c q = below_bits ty.elem.bits _ is.1 (places.few set axis q)
+  value_small set (T.LeftIndex' ty place p indexes (V.File k) of) st s sim is c q =
       let info = variable_info c.code.names.0.word (plain (parallel ty.elem of)) c.code.names.0.start in
-      let there = element_is g.typed g.instance n k set (parallel ty.elem of) (ap Some is.1) c.code.names.0 in
-      small_there g alive places fields set k info st s there sim _ (get_below g alive n places fields k of set info indexes there is.1 is.2 (get_names g.typed g.instance n of set indexes is.1 is.2 c.code.names.1 c.code.names.2) q below)
-  value_small set _ st s sim is c q below = absurd is
+      small_there g alive places fields set k info st s (element_is g.typed g.instance n k set (parallel ty.elem of) (ap Some is.1) c.code.names.0) sim _
+  value_small set _ st s sim is c q = absurd is
 
   -- so one of a type of 32 bits is its word
-  pub pure_at : (set : ℕ) (e : TExpr) (st : State) (s : CodeState) → Sim g alive st s → IsPure set e → IsWide set (type_of e) → HasItsCode g.typed g.instance alive n e → (q : ℕ) → q < processors (shapes g) set → word_at (extents g set) st e q ≡ value_in (extents g set) st e q
-  pure_at set e st s sim is wide c q below = held_wide (type_of e).elem (value_in (extents g set) st e q) wide.1 (below_word (type_of e).elem.bits _ wide.1 (value_small set e st s sim is c q below))
+  pub pure_at : (set : ℕ) (e : TExpr) (st : State) (s : CodeState) → Sim g alive st s → IsPure set e → IsWide set (type_of e) → HasItsCode g.typed g.instance alive n e → (q : ℕ) → word_at (extents g set) st e q ≡ value_in (extents g set) st e q
+  pure_at set e st s sim is wide c q = held_wide (type_of e).elem (value_in (extents g set) st e q) wide.1 (below_word (type_of e).elem.bits _ wide.1 (value_small set e st s sim is c q))
 
-  pub operand_small : (set : ℕ) (e : TExpr) (st : State) (s : CodeState) → Sim g alive st s → IsPure set e ⊎ IsPromoted set e → HasItsCode g.typed g.instance alive n e → (q : ℕ) → q < processors (shapes g) set → value_in (extents g set) st e q < 2 ^ (type_of e).elem.bits
-  operand_small set e st s sim (inl pure) c q below = value_small set e st s sim pure c q below
-  operand_small set e st s sim (inr promoted) c q below = promoted_small set e st s sim promoted c.code.names c.among q
+  pub operand_small : (set : ℕ) (e : TExpr) (st : State) (s : CodeState) → Sim g alive st s → IsPure set e ⊎ IsPromoted set e → HasItsCode g.typed g.instance alive n e → (q : ℕ) → value_in (extents g set) st e q < 2 ^ (type_of e).elem.bits
+  operand_small set e st s sim (inl pure) c q = value_small set e st s sim pure c q
+  operand_small set e st s sim (inr promoted) c q = promoted_small set e st s sim promoted c.code.names c.among q

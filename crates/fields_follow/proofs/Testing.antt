@@ -19,7 +19,7 @@ use Rattle.cstar_tree.specs.Typed.{type_of}
 use Rattle.code_lengths.specs.Lowerable.{InField}
 use Rattle.code_lengths.specs.Naming.{HasVariable, NamesVariables, plain}
 use Rattle.code_lengths.specs.Ready.{IsReadyButForFields}
-use Rattle.code_lengths.proofs.Agreeing.{lengths_if_made, expressions}
+use Rattle.code_lengths.proofs.Agreeing.{lengths_if_made}
 use Rattle.lower_base.specs.declared.emit.Out.{Out}
 use Rattle.lower_base.specs.declared.emit.Out.TheVariants as O
 use Rattle.lower_base.specs.Drafts.{Draft, Made, Makes, an_entry, in_field, step as step_of, then_make, with_instr}
@@ -33,7 +33,6 @@ use Rattle.paris_code.specs.declared.instr.Instr.TheVariants as I
 use Rattle.paris_code.specs.declared.operands.Field.{Field}
 use Rattle.paris_code.specs.declared.program.Owner.TheVariants as W
 use Rattle.paris_code.specs.Code.{CodeState}
-use Rattle.paris_code.specs.Memory.{processors}
 use Rattle.source_meaning.specs.Constants.{is_constant}
 use Rattle.source_meaning.specs.Expressions.{evaluated}
 use Rattle.source_meaning.specs.Narrowing.{and_then, or_then, where_nonzero, where_zero}
@@ -44,7 +43,6 @@ use Rattle.source_meaning.proofs.ConstantLaws.{Boxed}
 use Rattle.constant_trees.proofs.Words.{from_bool_below}
 use Rattle.std.proofs.Math.Nat.{mod-eq_of_lt}
 use Rattle.std.proofs.lemmas.Bool.{eqb-true}
-use Rattle.code_follows.proofs.Growing.{as_it_was}
 use Rattle.code_follows.proofs.Following.{Extends, Follows, HasRegisters, Sim, extends_then, follows_same, held}
 use Rattle.code_follows.proofs.Values.{extends_grown}
 use Rattle.code_follows.proofs.Settings.{At, Setting, and_one, layout}
@@ -160,7 +158,7 @@ module _ (g : Setting) (has : HasRegisters g) (alive : Variable → Type 0) (n :
   pure_told set e kinded c d s st here sim =
       let bits : ℕ = bits_of (kind_of e) in
       given_weaker g s (meant g fields e st) (numbers_of set e st) st (Gives g has alive n ready places fields (IsFlag e) bits (length d.fields) d s set st (λ q. word_at (extents g set) st e q)) (Told g alive places fields d s set st (numbers_of set e st)) (operand bits true e d)
-      (λ x e1 (a, (is, (gives, apart))). (a, (is, field_told g alive places fields bits d s set st (λ q. word_at (extents g set) st e q) (numbers_of set e st) a e1 (λ q below. zero_told g alive n places fields set e st s sim kinded c q below) gives)))
+      (λ x e1 (a, (is, (gives, apart))). (a, (is, field_told g alive places fields bits d s set st (λ q. word_at (extents g set) st e q) (numbers_of set e st) a e1 (λ q below. zero_told g alive n places fields set e st s sim kinded c q) gives)))
       (operand_after g has alive n ready places fields bits set e true kinded.0 c.code.names (pure_after g has alive n ready places fields bits set e (kind_most g alive n places fields set e kinded) kinded.0 c) d s st here sim)
 
   -- a variable of the file, where it stands
@@ -175,7 +173,7 @@ module _ (g : Setting) (has : HasRegisters g) (alive : Variable → Type 0) (n :
       let numbers = variable_has g has alive n ready places fields set k info source s st is (taken g set info.elem.bits (W.File (file_number g.typed k 0)) d (with_instr (I.NeZero source) d1) 1 within (and_one g (I.NeZero source) d1)) refl refl sim in
       tested_last g alive fields places (length d.fields) set d d1 (I.NeZero source) s st number (Unit {0}) (omega arith)
       (passes_from g alive (length d.fields) d d1 d1 s st (Unit {0}) (and_entry set info.elem.bits (W.File (file_number g.typed k 0)) d) (passes_all g alive (length d.fields) d1 s st (Unit {0}) here sim)) tt numbers.0.exists within
-      (puts_nonzero g set source s number (numbers_tell g info.elem.bits set source s (λ q. held info.elem (number q)) number (λ q below. ap (λ (m : ℕ). m == 0) (held_first info.elem (number q) info.elem.bits (small q below) (omega arith) ∙ mod-eq_of_lt (small q below))) numbers.0)))))
+      (puts_nonzero g set source s number (numbers_tell g info.elem.bits set source s (λ q. held info.elem (number q)) number (λ q below. ap (λ (m : ℕ). m == 0) (held_first info.elem (number q) info.elem.bits (small q) (omega arith) ∙ mod-eq_of_lt (small q))) numbers.0)))))
     where
       number : ℕ → ℕ
       number = λ q. st.parallel (V.File k) 0 q
@@ -186,8 +184,8 @@ module _ (g : Setting) (has : HasRegisters g) (alive : Variable → Type 0) (n :
       is : IsElement g.typed k info set 0
       is = element_is g.typed g.instance n k set ty shaped v
 
-      small : (q : ℕ) → q < processors (shapes g) set → number q < 2 ^ info.elem.bits
-      small q below = small_there g alive places fields set k info st s is sim q below
+      small : (q : ℕ) → number q < 2 ^ info.elem.bits
+      small q = small_there g alive places fields set k info st s is sim q
 
       source : Field
       source = next_field set info.elem.bits d
@@ -227,7 +225,7 @@ module _ (g : Setting) (has : HasRegisters g) (alive : Variable → Type 0) (n :
         (
           is,
           field_truth g alive places fields d s set st (λ q. word_at (extents g set) st e q) (numbers_of set e st) a e1
-              (λ q below. ap (λ (m : ℕ). word_at (extents g set) st e q % 2 ^ m == 0) (sym is_one) ∙ zero_told g alive n places fields set e st s sim kinded c q below) (apart is_one) gives,
+              (λ q below. ap (λ (m : ℕ). word_at (extents g set) st e q % 2 ^ m == 0) (sym is_one) ∙ zero_told g alive n places fields set e st s sim kinded c q) (apart is_one) gives,
         ),
       ))
       (operand_after g has alive n ready places fields 1 set e true kinded.0 c.code.names (pure_after g has alive n ready places fields 1 set e (omega arith) kinded.0 c) d s st here sim)
@@ -461,28 +459,28 @@ module _ (g : Setting) (has : HasRegisters g) (alive : Variable → Type 0) (n :
   known set e is c = pure_known set e is refl c
 
   -- its numbers are those of its type
-  pub condition_small : (set : ℕ) (e : TExpr) (st : State) (s : CodeState) → Sim g alive st s → IsCondition set e → HasItsCode g.typed g.instance alive n e → (q : ℕ) → q < processors (shapes g) set → value_in (extents g set) st e q < 2 ^ (type_of e).elem.bits
+  pub condition_small : (set : ℕ) (e : TExpr) (st : State) (s : CodeState) → Sim g alive st s → IsCondition set e → HasItsCode g.typed g.instance alive n e → (q : ℕ) → value_in (extents g set) st e q < 2 ^ (type_of e).elem.bits
   unfolding IsCondition value_in unary_of negates
-  condition_small set (T.Brackets' ty p inner) st s sim is c q below = subst (λ (y : ValueType). value_in (extents g set) st inner q < 2 ^ y.elem.bits) (sym is.0) (condition_small set inner st s sim is.1 (brackets_part g alive n places fields ty p inner c) q below)
-  condition_small set (T.Unary' ty op p operand) st s sim is c q below = by op is.1 c
+  condition_small set (T.Brackets' ty p inner) st s sim is c q = subst (λ (y : ValueType). value_in (extents g set) st inner q < 2 ^ y.elem.bits) (sym is.0) (condition_small set inner st s sim is.1 (brackets_part g alive n places fields ty p inner c) q)
+  condition_small set (T.Unary' ty op p operand) st s sim is c q = by op is.1 c
     where
       by : (op : UnaryOp) → ((negates op ≡ true) × IsCondition set operand) ⊎ ((negates op ≡ false) × IsPure set (T.Unary' ty op p operand)) → HasItsCode g.typed g.instance alive n (T.Unary' ty op p operand) → value_in (extents g set) st (T.Unary' ty op p operand) q < 2 ^ ty.elem.bits
-      by op (inr h) c = value_small g alive n places fields set (T.Unary' ty op p operand) st s sim h.1 c q below
+      by op (inr h) c = value_small g alive n places fields set (T.Unary' ty op p operand) st s sim h.1 c q
       by U.Not (inl h) c = subst (λ (m : ℕ). from_bool (value_in (extents g set) st operand q == 0) < 2 ^ m) (sym is.0.1) (from_bool_below _)
       by U.Plus (inl h) c = let wrong = h.0 in cc
       by U.Minus (inl h) c = let wrong = h.0 in cc
       by U.Complement (inl h) c = let wrong = h.0 in cc
-  condition_small set (T.LogicalOr' ty p left r right) st s sim is c q below = subst (λ (m : ℕ). from_bool (nonzero (value_in (extents g set) st left q) || nonzero (value_in (extents g set) st right q)) < 2 ^ m) (sym is.0.1) (from_bool_below _)
-  condition_small set (T.LogicalAnd' ty p left r right) st s sim is c q below = subst (λ (m : ℕ). from_bool (nonzero (value_in (extents g set) st left q) && nonzero (value_in (extents g set) st right q)) < 2 ^ m) (sym is.0.1) (from_bool_below _)
-  condition_small set (T.Binary' ty place op p left r right) st s sim is c q below = by is.1
+  condition_small set (T.LogicalOr' ty p left r right) st s sim is c q = subst (λ (m : ℕ). from_bool (nonzero (value_in (extents g set) st left q) || nonzero (value_in (extents g set) st right q)) < 2 ^ m) (sym is.0.1) (from_bool_below _)
+  condition_small set (T.LogicalAnd' ty p left r right) st s sim is c q = subst (λ (m : ℕ). from_bool (nonzero (value_in (extents g set) st left q) && nonzero (value_in (extents g set) st right q)) < 2 ^ m) (sym is.0.1) (from_bool_below _)
+  condition_small set (T.Binary' ty place op p left r right) st s sim is c q = by is.1
     where
       v : ℕ
       v = value_in (extents g set) st (T.Binary' ty place op p left r right) q
 
       by : IsRelation set op left right ⊎ ((relates op ≡ false) × HasItsKind set (T.Binary' ty place op p left r right)) → v < 2 ^ ty.elem.bits
       by (inl relation) = subst (λ (m : ℕ). v < 2 ^ m) (sym is.0.1) (subst (λ (w : ℕ). w < 2 ^ 32) (sym (is_truth op 32 _ _ _ relation.0)) (from_bool_below _))
-      by (inr plain_one) = value_small g alive n places fields set (T.Binary' ty place op p left r right) st s sim plain_one.1.0 c q below
-  condition_small set e st s sim is c q below = value_small g alive n places fields set e st s sim is.0 c q below
+      by (inr plain_one) = value_small g alive n places fields set (T.Binary' ty place op p left r right) st s sim plain_one.1.0 c q
+  condition_small set e st s sim is c q = value_small g alive n places fields set e st s sim is.0 c q
 
   -- the code of a condition
   pub condition_tested : (set : ℕ) (e : TExpr) → IsCondition set e → HasItsCode g.typed g.instance alive n e → (d : Draft) (s : CodeState) (st : State) → At g s (length d.code) → Sim g alive st s

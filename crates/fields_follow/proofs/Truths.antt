@@ -6,7 +6,6 @@ use Rattle.std.proofs.lemmas.Nat.{mod_below}
 use Rattle.cstar_base.specs.Operators.{outcome}
 use Rattle.cstar_tree.specs.declared.typed.VarInfo.{VarInfo}
 use Rattle.cstar_tree.specs.declared.typed.Variable.{Variable}
-use Rattle.cstar_tree.specs.declared.typed.Variable.TheVariants as V
 use Rattle.lower_base.specs.Drafts.{Draft, Plain, step as step_of, with_instr}
 use Rattle.lower_expr.specs.Joined.{operation_of}
 use Rattle.paris_code.specs.declared.instr.Instr.{Instr}

@@ -174,7 +174,7 @@ module _ (g : Setting) where
         fits = subst (λ (n : ℕ). n ≤ info.elem.bits) (sym len) (omega arith);
         same = λ q below. (refl, held_below info.elem (st.parallel (V.File k) 0 q));
       }) sim,
-      λ q below. held_has info.elem (st.parallel (V.File k) 0 q) (small_there g alive places fields set k info st s is sim q below),
+      λ q below. held_has info.elem (st.parallel (V.File k) 0 q) (small_there g alive places fields set k info st s is sim q),
     )
 
     -- a copy of a variable's field, cut or extended

@@ -1,7 +1,6 @@
 -- What an instruction on fields leaves: its destination has the numbers, and all else is as it was.
 use Rattle.std.proofs.Common.{◌≡◌, ◌≢◌, ◌∙◌, ℕ, ◌+◌, ◌%◌, ◌<◌, ◌≤◌, ◌^◌, ◌⊎◌, inl, inr, Bool, true, false, ◌&&◌, ◌==◌, List, length, slice_get, refl, sym, ap, subst, arith, if◌then◌else◌}
 use Rattle.std.proofs.lemmas.Bool.{cases_eq}
-use Rattle.std.proofs.lemmas.Nat.{mod_below, pow_pos}
 use Rattle.std.proofs.lemmas.Bool.Decides.{nat_tests}
 use Rattle.cstar_tree.specs.declared.typed.VarInfo.{VarInfo}
 use Rattle.cstar_tree.specs.declared.typed.Variable.{Variable}
@@ -146,13 +145,13 @@ module _ (g : Setting) (places : PlacesFields g) (fields : HoldsTheFields g) (al
       pub own_stays : (h : Field) (p : ℕ) → IsOwnField g h → field_number behind (place g h) p ≡ field_number s.memory (place g h) p
       own_stays h p is_own = elsewhere (place g h) p (subst (λ (f : Field). Apart f (place g h)) (sym at_file) (apart_back (place g h) (of_file g k element) (places.own_file k element set info h is is_own)))
 
-      pub file_sim : (at : ℕ) (passes : ℕ → Bool) (w : ℕ → ℕ) → ((p : ℕ) → p < processors (shapes g) set → passes p ≡ fields.active set p) → ((p : ℕ) → p < processors (shapes g) set → fields.active set p ≡ true → w p ≡ v p % 2 ^ d.len)
+      pub file_sim : (at : ℕ) (passes : ℕ → Bool) (w : ℕ → ℕ) → ((p : ℕ) → p < processors (shapes g) set → passes p ≡ fields.active set p) → ((p : ℕ) → p < processors (shapes g) set → fields.active set p ≡ true → w p ≡ v p % 2 ^ d.len) → ((p : ℕ) → w p < 2 ^ info.elem.bits)
           → Sim g alive (with_positions (V.File k) element passes w st) (record s { at = at; memory = behind })
       unfolding with_positions is_same
-      file_sim at passes w passing same_numbers =
+      file_sim at passes w passing same_numbers few_bits =
           with_memory st (with_positions (V.File k) element passes w st) s at takes.write refl refl refl refl refl (record {
             numbers = λ j other q p of which below. by_element j other q p of which below (cases_eq k j) (cases_eq other element);
-            small = λ j other q p of which below. small_still j other q p of which below (cases_eq k j) (cases_eq other element);
+            small = λ j other q p of which. small_still j other q p of which (cases_eq k j) (cases_eq other element);
             flags = active_still;
             winner = winner_still;
             bits = bits_written (shapes g) takes.write s.memory was.bits;
@@ -203,22 +202,15 @@ module _ (g : Setting) (places : PlacesFields g) (fields : HoldsTheFields g) (al
           by_element j other q p of which below (inr differ) any = moved_on j other q p of which below (inl differ) (λ same equal. differ same)
           by_element j other q p of which below (inl same) (inr differ) = moved_on j other q p of which below (inr differ) (λ same equal. differ (sym equal))
 
-          small_still : (j other q p : ℕ) (of : VarInfo) → IsElement g.typed j of q other → p < processors (shapes g) q → (k ≡ j) ⊎ (k ≢ j) → (other ≡ element) ⊎ (other ≢ element) → (with_positions (V.File k) element passes w st).parallel (V.File j) other p < 2 ^ of.elem.bits
-          small_still j other q p of which below (inl same) (inl equal) =
-              by (fields.active set p) refl
+          small_still : (j other q p : ℕ) (of : VarInfo) → IsElement g.typed j of q other → (k ≡ j) ⊎ (k ≢ j) → (other ≡ element) ⊎ (other ≢ element) → (with_positions (V.File k) element passes w st).parallel (V.File j) other p < 2 ^ of.elem.bits
+          small_still j other q p of which (inl same) (inl equal) =
+              by (passes p) refl
             where
-              both : (q ≡ set) × (of.elem.bits ≡ d.len)
-              both = same_set j other q of which same
-
-              inside : p < processors (shapes g) set
-              inside = subst (λ (n : ℕ). p < processors (shapes g) n) both.0 below
-
-              by : (b : Bool) → fields.active set p ≡ b → (with_positions (V.File k) element passes w st).parallel (V.File j) other p < 2 ^ of.elem.bits
-              by true on =
-                  subst (λ (n : ℕ). n < 2 ^ of.elem.bits) (sym (here_is j other p (st.parallel (V.File j) other p) same equal (passing p inside ∙ on))) (subst (λ (n : ℕ). w p < 2 ^ n) (sym both.1) (subst (λ (n : ℕ). n < 2 ^ d.len) (sym (same_numbers p inside on)) (mod_below (v p) (2 ^ d.len) (pow_pos d.len))))
-              by false off = subst (λ (n : ℕ). n < 2 ^ of.elem.bits) (sym (off_is j other p (st.parallel (V.File j) other p) (passing p inside ∙ off))) (was.small j other q p of which below)
-          small_still j other q p of which below (inr differ) any = subst (λ (n : ℕ). n < 2 ^ of.elem.bits) (sym (there_is j other p (st.parallel (V.File j) other p) (inl differ))) (was.small j other q p of which below)
-          small_still j other q p of which below (inl same) (inr differ) = subst (λ (n : ℕ). n < 2 ^ of.elem.bits) (sym (there_is j other p (st.parallel (V.File j) other p) (inr differ))) (was.small j other q p of which below)
+              by : (b : Bool) → passes p ≡ b → (with_positions (V.File k) element passes w st).parallel (V.File j) other p < 2 ^ of.elem.bits
+              by true passed = subst (λ (n : ℕ). n < 2 ^ of.elem.bits) (sym (here_is j other p (st.parallel (V.File j) other p) same equal passed)) (subst (λ (n : ℕ). w p < 2 ^ n) (long ∙ sym (same_set j other q of which same).1) (few_bits p))
+              by false not_passed = subst (λ (n : ℕ). n < 2 ^ of.elem.bits) (sym (off_is j other p (st.parallel (V.File j) other p) not_passed)) (was.small j other q p of which)
+          small_still j other q p of which (inr differ) any = subst (λ (n : ℕ). n < 2 ^ of.elem.bits) (sym (there_is j other p (st.parallel (V.File j) other p) (inl differ))) (was.small j other q p of which)
+          small_still j other q p of which (inl same) (inr differ) = subst (λ (n : ℕ). n < 2 ^ of.elem.bits) (sym (there_is j other p (st.parallel (V.File j) other p) (inr differ))) (was.small j other q p of which)
 
   module _ (set : ℕ) (i : Instr) (d : Field) (e : Draft) (s : CodeState) (st : State) (v : ℕ → ℕ) (within : Within g (with_instr i e)) (here : At g s (length e.code)) (sim : Sim g alive st s) (of_set : d.set ≡ set) (puts : Puts g set i d s v) where
     there : StandsAt g.unit (length e.code) i
