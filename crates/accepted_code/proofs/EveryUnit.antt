@@ -52,10 +52,10 @@ every_unit text typed image is compiled =
 
 -- and goes where it may
 pub keeps_ways : AcceptedImagesKeepWays
-keeps_ways text typed image is compiled = compiled_keep typed image compiled (codable text typed is) (files_stay is.tree typed is.types) is.typed.main
+keeps_ways text typed image is compiled = compiled_keep typed image compiled (codable text typed is) (files_stay is.tree typed is.types) is.is_typed.main
 
 pub scalar_means : ScalarImagesMeanTheirText
 scalar_means text typed image short is none compiled =
     let named = spelled is.tokens is.tree is.spelled in
     let plain = tree_is_plain is.tokens is.tree (text_has_words text is.tokens.list.items short is.read) is.spelled in
-    means_source typed image (files_are_scalar is.tree typed named plain is.types is.typed.main none) (codable text typed is) compiled
+    means_source typed image (files_are_scalar is.tree typed named plain is.types is.is_typed.main none) (codable text typed is) compiled

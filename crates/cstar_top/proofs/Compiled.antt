@@ -32,7 +32,7 @@ program_of_text text tokens tree typed short read spelled types new room accepte
       read = read;
       spelled = spelled;
       types = types (few_names tokens tree words spelled) (tree_is_plain tokens tree words spelled);
-      typed = typed_so;
+      is_typed = typed_so;
       new = new (few_names tokens tree words spelled) (tree_is_plain tokens tree words spelled);
       room = room;
       accepted = accepted (few_names tokens tree words spelled) (tree_is_plain tokens tree words spelled);

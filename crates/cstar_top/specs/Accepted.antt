@@ -23,7 +23,7 @@ pub record IsProgramOf (text : List ℕ) (typed : Typed) : Type 0 where
   pub read : IsText text tokens.list.items
   pub spelled : IsTree tokens tree
   pub types : TypesFile tree typed
-  pub typed : IsTyped typed
+  pub is_typed : IsTyped typed
   pub new : HaveOwnNames tree typed.shapes.items typed.vars.items
   pub room : HasRoom typed.shapes.items typed.need.items
   pub accepted : tree_nodes tree ≤ 2 ^ 20 → IsAccepted tree typed
