@@ -55,7 +55,7 @@ abbrev pub next_field : ℕ → ℕ → Draft → Field
 next_field set len d = record { set = set; offset = length d.fields; len = len }
 
 pub and_entry : (set len : ℕ) (owner : Owner) (d : Draft) → Extended d 0 (with_entry set len owner d)
-and_entry set len owner d = record { more = []; code = append_nothing d.code; long = refl; entries = record { set = set; len = len; owner = owner } ∷ []; fields = refl; regs = omega arith }
+and_entry set len owner d = record { more = []; code = append_nothing d.code; long = refl; entries = record { set = set; len = len; owner = owner } ∷ []; fields = refl; regs = omega arith; homes = []; homes_are = append_nothing d.homes }
 
 pub one_more : (set len : ℕ) (owner : Owner) (d : Draft) → length (with_entry set len owner d).fields ≡ length d.fields + 1
 one_more set len owner d = length-append d.fields (record { set = set; len = len; owner = owner } ∷ [])
