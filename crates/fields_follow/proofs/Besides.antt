@@ -59,7 +59,7 @@ module _ (g : Setting) (scope : Scope) (active : Active) (known : KnowsFields g 
       t = l.t;
       go = reaches_again g active (onto (under g active) s l.passes.t l.t l.passes.go l.writes.go);
       at = l.writes.at;
-      sim = sim_close g scope active known alive u l.t l.writes.sim (kept_behind f l.t within (onto (under g active) s l.passes.t l.t l.passes.go l.writes.go) (λ h first last p inside own ends before early after late. scalars_stay (under g active) alive d s st u f l h first last p inside own before early after late));
+      sim = sim_close g scope active known alive u l.t l.writes.sim (kept_behind f l.t within (onto (under g active) s l.passes.t l.t l.passes.go l.writes.go) (λ h first last p inside own ends before early after late. scalars_stay (under g active) alive d s st u f l h first last p inside own ends before early after late));
       keeps = λ r kept. l.writes.keeps r kept ∙ ap (λ (registers : List ℕ). slice_index registers r) l.passes.registers;
     }
 
@@ -92,7 +92,7 @@ module _ (g : Setting) (scope : Scope) (active : Active) (known : KnowsFields g 
             go = reaches_again g active p.go;
             at = p.at;
             registers = p.registers;
-            sim = sim_close g scope active known alive st p.t p.sim (kept_behind f p.t within p.go (λ h first last q inside own ends before early after late. p.stays tt h first last q inside own before early after (omega (arith, late, longer))));
+            sim = sim_close g scope active known alive st p.t p.sim (kept_behind f p.t within p.go (λ h first last q inside own ends before early after late. p.stays tt h first last q inside own ends before early after (omega (arith, late, longer))));
             stays = p.stays;
           };
           puts = record { more = given.puts.more; place = given.puts.place; go = reaches_again g active given.puts.go; at = given.puts.at; few = given.puts.few };
