@@ -56,7 +56,7 @@ use Rattle.source_meaning.proofs.ConstantLaws.{Boxed}
 use Rattle.cstar_base.proofs.NumberLaws.{kind_bits}
 use Rattle.code_follows.proofs.Following.{HasRegisters, Sim, held, keeps_less}
 use Rattle.code_follows.proofs.Growing.{Extended, extended}
-use Rattle.code_follows.proofs.Settings.{At, Setting, Within, and_one, layout, onto}
+use Rattle.code_follows.proofs.Settings.{Setting, Within, and_one, layout, onto}
 use Rattle.code_follows.proofs.Words.{below_word}
 use Rattle.fields_follow.specs.Fragment.{HasOperation, IsOperand, IsOperandOrTruth, IsOperation, IsTarget, IsUpdate, IsWide}
 use Rattle.fields_follow.specs.Fields.{IsElement, file_number}

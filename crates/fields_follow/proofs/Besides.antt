@@ -1,5 +1,5 @@
 -- What is known of the code of parallel expressions and of contexts, wherever fields are known.
-use Rattle.std.proofs.Common.{ℕ, ◌+◌, ◌≡◌, ◌∙◌, inl, inr, true, length, slice_index, List, ap, arith, sym, subst}
+use Rattle.std.proofs.Common.{ℕ, ◌+◌, ◌≡◌, ◌∙◌, inl, inr, true, length, arith, sym, subst}
 use Rattle.cstar_tree.specs.declared.typed.TExpr.{TExpr}
 use Rattle.cstar_tree.specs.declared.typed.Variable.{Variable}
 use Rattle.cstar_tree.specs.declared.typed.Variable.TheVariants as V
@@ -65,7 +65,7 @@ module _ (g : Setting) (scope : Scope) (active : Active) (known : KnowsFields g 
       t = l.t;
       go = reaches_again g active (onto (under g active) s l.passes.t l.t l.passes.go l.writes.go);
       at = l.writes.at;
-      sim = sim_close g scope active known alive u l.t l.writes.sim (kept_behind f l.t within (onto (under g active) s l.passes.t l.t l.passes.go l.writes.go) (λ h first last p inside own ends before early after late. scalars_stay (under g active) alive d s st u f l h first last p inside own before early after late));
+      sim = sim_close g scope active known alive u l.t l.writes.sim (kept_behind f l.t within (onto (under g active) s l.passes.t l.t l.passes.go l.writes.go) (λ h first last p inside own ends before early after late. scalars_stay (under g active) alive d s st u f l h first last p inside own ends before early after late));
       keeps = λ r kept. l.writes.keeps r kept ∙ l.passes.registers r kept;
     }
 
@@ -98,7 +98,7 @@ module _ (g : Setting) (scope : Scope) (active : Active) (known : KnowsFields g 
             go = reaches_again g active p.go;
             at = starts_again g active alive p.t (length given.middle.code) given.middle.regs p.at;
             registers = keeps_again g active d s p.t p.registers;
-            sim = sim_close g scope active known alive st p.t p.sim (kept_behind f p.t within p.go (λ h first last q inside own ends before early after late. p.stays tt h first last q inside own before early after (omega (arith, late, longer))));
+            sim = sim_close g scope active known alive st p.t p.sim (kept_behind f p.t within p.go (λ h first last q inside own ends before early after late. p.stays tt h first last q inside own ends before early after (omega (arith, late, longer))));
             stays = p.stays;
           };
           puts = record { more = given.puts.more; place = given.puts.place; go = reaches_again g active given.puts.go; at = given.puts.at; few = given.puts.few };

@@ -25,7 +25,7 @@ module _ (g : Setting) (alive : Variable → Type 0) (i : Instr) (bound : ℕ) (
     at = starts_next g alive i e p.t (Machine.onward p.t) (at_next g i e p.t (p.t.at + 1) p.at.stands refl) p.at;
     registers = p.registers;
     sim = sim_saying g alive st p.t (p.t.at + 1) p.t.memory (g.held.onward p.t.at (p.t.at + 1) st p.t.memory (omega arith) p.sim.memory) p.sim;
-    stays = λ u h first last q below own before low after high. p.stays u h first last q below own before low after (let l = code_more g i e in omega (arith, high, l));
+    stays = λ u h first last q below own ends before low after high. p.stays u h first last q below own ends before low after (let l = code_more g i e in omega (arith, high, l));
   }
 
   pub check_ends : (fault : RunFault) (place : Place) (q : ℕ) → step g.image p.t ≡ Machine.Ends (Machine.Fault fault place (Some q)) (Machine.onward p.t) → Finishes g (Source.Fault fault place (Some q)) st s

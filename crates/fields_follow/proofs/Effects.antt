@@ -45,7 +45,7 @@ use Rattle.vp_sets.specs.Positions.{coordinate}
 use Rattle.code_follows.proofs.Following.{Extends, Finishes, HasRegisters, Sim, extends_then, held}
 use Rattle.code_follows.proofs.Growing.{Extended}
 use Rattle.code_follows.proofs.Words.{held_wide}
-use Rattle.code_follows.proofs.Settings.{At, Setting, Within, and_one, layout}
+use Rattle.code_follows.proofs.Settings.{Setting, Within, and_one, layout}
 use Rattle.fields_follow.specs.Fragment.{AreWrapping, IsOperand, IsOperation, IsPromoted, IsPure, IsWide}
 use Rattle.fields_follow.proofs.Extents.{get_names}
 use Rattle.fields_follow.specs.Fields.{IsElement, file_number}

@@ -1,5 +1,5 @@
 -- What the code of `where` has done where what stands under it begins: its condition has run, and the context is saved.
-use Rattle.std.proofs.Common.{◌⊎◌, inl, inr, subst, ◌≡◌, ◌∙◌, ℕ, ◌+◌, ◌<◌, ◌≤◌, List, length, slice_index, refl, ap, arith, [], ◌∷◌}
+use Rattle.std.proofs.Common.{◌⊎◌, inl, inr, subst, ◌≡◌, ◌∙◌, ℕ, ◌+◌, ◌<◌, ◌≤◌, length, refl, arith, [], ◌∷◌}
 use Rattle.lower_expr.specs.Lengths.{tested_length}
 use Rattle.paris_code.specs.declared.program.Owner.{Owner}
 use Rattle.code_follows.proofs.Starting.{DeclaredBy, declared_grown}

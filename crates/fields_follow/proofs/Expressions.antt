@@ -40,7 +40,7 @@ use Rattle.constant_trees.proofs.Words.{converted_below}
 use Rattle.code_follows.proofs.Following.{Extends, Follows, HasRegisters, Sim, follows_same, held}
 use Rattle.code_follows.proofs.Growing.{Extended, extended as extended_on}
 use Rattle.code_follows.proofs.Operators.{wide_signed}
-use Rattle.code_follows.proofs.Settings.{At, Setting, Within, and_one, layout}
+use Rattle.code_follows.proofs.Settings.{Setting, Within, and_one, layout}
 use Rattle.code_follows.proofs.Standing.{some_same}
 use Rattle.code_follows.proofs.Values.{extends_grown}
 use Rattle.code_follows.proofs.Words.{below_word, held_wide}

@@ -28,7 +28,7 @@ use Rattle.source_meaning.specs.State.{State}
 use Rattle.vp_sets.specs.Positions.{are_positive, shifted}
 use Rattle.code_follows.proofs.Following.{Sim}
 use Rattle.code_follows.proofs.Growing.{Extended, extended}
-use Rattle.code_follows.proofs.Settings.{At, Setting, Within, and_one, at_next, begins_here, code_more, earlier, one_writes, placed_instr}
+use Rattle.code_follows.proofs.Settings.{Setting, Within, and_one, at_next, begins_here, code_more, earlier, one_writes, placed_instr}
 use Rattle.fields_follow.proofs.Bits.{active_apart, bits_written, field_apart, field_written}
 use Rattle.fields_follow.proofs.Fields.{HoldsFields}
 use Rattle.fields_follow.proofs.FileFields.{apart_back}
@@ -140,7 +140,7 @@ module _ (g : Setting) where
           winner = was.winner;
           bits = bits_written (shapes g) w s.memory was.bits;
         }) sim;
-        stays = λ used f first last p below is_own before low after high.
+        stays = λ used f first last p below is_own below_flags before low after high.
             field_apart w s.memory (place g f) p
             (apart_back (place g f) (place g d) (places.owns_apart f d first (length e.code) last (length (with_instr i e).code) (λ same. omega (arith, same, below, newer)) is_own own ends.0 before after (omega (arith, low)) (omega (arith, high, long)) (names_first g i d (a ∷ []) (length e.code) there refl) again (omega (arith, long))));
       },

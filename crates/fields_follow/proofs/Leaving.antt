@@ -58,7 +58,7 @@ module _ (g : Setting) where
   fields_under a scope same = record { scope = scope; same_extents = same; active = a; opens = λ at st m h. h; closes = λ at st m h. h }
 
   pub within_under : {d : Draft} (a : Active) → Within g d → Within (under a) d
-  within_under a w = record { more = w.more; code = w.code; entries = w.entries; fields = w.fields; regs = w.regs; own = w.own; upto = w.upto }
+  within_under a w = record { more = w.more; code = w.code; entries = w.entries; fields = w.fields; homes = w.homes; homes_are = w.homes_are; regs = w.regs; own = w.own; upto = w.upto }
 
   pub reaches_again : {s t : CodeState} (a : Active) → Reaches (under a) s t → Reaches g s t
   reaches_again a r = record { by = r.by; below = r.below }

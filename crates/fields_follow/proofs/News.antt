@@ -35,7 +35,7 @@ use Rattle.source_meaning.specs.State.{State}
 use Rattle.vp_sets.specs.Positions.{are_positive, number_at}
 use Rattle.code_follows.proofs.Following.{Sim, held}
 use Rattle.code_follows.proofs.Growing.{Extended, extended}
-use Rattle.code_follows.proofs.Settings.{At, Setting, Within, layout}
+use Rattle.code_follows.proofs.Settings.{Setting, Within, layout}
 use Rattle.fields_follow.specs.Fragment.{AreWrapping}
 use Rattle.fields_follow.proofs.Extents.{NameExtents, extents_in}
 use Rattle.fields_follow.specs.Fields.{IsElement, file_number}

@@ -42,7 +42,7 @@ use Rattle.source_meaning.specs.Values.{Parallel}
 use Rattle.source_meaning.proofs.ConstantLaws.{Boxed}
 use Rattle.code_follows.proofs.Following.{Extends, Finishes, Follows, HasRegisters, Sim, extends_made, extends_then, follows_same, held}
 use Rattle.code_follows.proofs.Growing.{as_it_was, extended}
-use Rattle.code_follows.proofs.Settings.{At, Setting, Within, and_one, code_more, earlier, layout}
+use Rattle.code_follows.proofs.Settings.{Setting, Within, and_one, code_more, earlier, layout}
 use Rattle.fields_follow.specs.Fragment.{IsDivisor, IsOperation, IsPromoted, IsPure}
 use Rattle.fields_follow.proofs.Dividing.{divided_after, left_ended, never_zero, operator_ends, operator_gives, right_ended, zero_at}
 use Rattle.fields_follow.proofs.Forms.{HasItsCode, HasItsWord, StandsInRegister, divisor_word, promoted_not_held, promoted_stands, pure_word}

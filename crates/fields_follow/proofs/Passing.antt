@@ -14,10 +14,11 @@ use Rattle.source_meaning.specs.State.{State}
 use Rattle.phase_meaning.proofs.Widths.{cut_cut}
 use Rattle.code_follows.proofs.Following.{Extends, Keeps, Sim, held, keeps_all, keeps_less, keeps_on}
 use Rattle.code_follows.proofs.Growing.{Extended, as_it_was, extended}
-use Rattle.code_follows.proofs.Settings.{At, Reaches, Setting, Within, and_one, code_more, earlier, onto, stay}
+use Rattle.code_follows.proofs.Settings.{Reaches, Setting, Within, and_one, code_more, earlier, onto, stay}
 use Rattle.fields_follow.specs.Fields.{IsElement}
 use Rattle.fields_follow.proofs.Bits.{first_number}
 use Rattle.fields_follow.proofs.Instructions.{AreAlike, HasNumbers, Puts, has_alike, number_in, place, shapes}
+use Rattle.fields_follow.proofs.Leaving.{EndsBelow}
 use Rattle.fields_follow.proofs.Lengths.{held_first}
 use Rattle.fields_follow.proofs.Places.{HoldsTheFields, IsFileField, IsOwnField, PlacesFields, names_first, of_file, stands_here}
 use Rattle.fields_follow.proofs.Writing.{own_written}
@@ -71,8 +72,8 @@ module _ (g : Setting) where
   Behind f e = (later : ℕ) × (IsNamedAt g.unit f.offset later × (length e.code ≤ later))
 
   module _ (alive : Variable → Type 0) where
-    -- The code from one draft to another leaves the registers that are kept, the state and, if its answer is used, what stands in
-    -- own entries below a number that are named before it and behind it.
+    -- The code from one draft to another leaves the registers that are kept, the state and, if its answer is used, what
+    -- stands in own entries below a number, and below the flags, that are named before it and behind it.
     pub record Passes (bound : ℕ) (d e : Draft) (s : CodeState) (st : State) (used : Type 0) : Type 0 where
       pub grown : (n : ℕ) × Extended d n e
       pub t : CodeState
@@ -80,7 +81,7 @@ module _ (g : Setting) where
       pub at : Starts g alive t (length e.code) e.regs
       pub registers : Keeps g d s t
       pub sim : Sim g alive st t
-      pub stays : used → (h : Field) (first last p : ℕ) → h.offset < bound → IsOwnField g h → IsNamedAt g.unit h.offset first → first < length d.code → IsNamedAt g.unit h.offset last → length e.code ≤ last → number_in g h t p ≡ number_in g h s p
+      pub stays : used → (h : Field) (first last p : ℕ) → h.offset < bound → IsOwnField g h → EndsBelow g h → IsNamedAt g.unit h.offset first → first < length d.code → IsNamedAt g.unit h.offset last → length e.code ≤ last → number_in g h t p ≡ number_in g h s p
 
     abbrev pub passes_all : (bound : ℕ) (d : Draft) (s : CodeState) (st : State) (used : Type 0) → Starts g alive s (length d.code) d.regs → Sim g alive st s → Passes bound d d s st used
     passes_all bound d s st used here sim = record {
@@ -90,7 +91,7 @@ module _ (g : Setting) where
       at = here;
       registers = keeps_all g d s;
       sim = sim;
-      stays = λ wanted h first last p below own before low after high. refl;
+      stays = λ wanted h first last p below own ends before low after high. refl;
     }
 
     -- one piece, and another behind it
@@ -102,9 +103,9 @@ module _ (g : Setting) where
       at = b.at;
       registers = keeps_on g d e a.grown.0 s a.t b.t a.grown.1 a.registers b.registers;
       sim = b.sim;
-      stays = λ wanted h first last p below own before low after high.
-          b.stays (use_two wanted) h first last p (omega (arith, below, more)) own before (let l = code_longer d e a.grown.0 a.grown.1 in omega (arith, low, l)) after high
-          ∙ a.stays (use_one wanted) h first last p below own before low after (let l = code_longer e f b.grown.0 b.grown.1 in omega (arith, high, l));
+      stays = λ wanted h first last p below own ends before low after high.
+          b.stays (use_two wanted) h first last p (omega (arith, below, more)) own ends before (let l = code_longer d e a.grown.0 a.grown.1 in omega (arith, low, l)) after high
+          ∙ a.stays (use_one wanted) h first last p below own ends before low after (let l = code_longer e f b.grown.0 b.grown.1 in omega (arith, high, l));
     }
 
     -- entries and registers that are taken before it are no part of the code
@@ -116,7 +117,7 @@ module _ (g : Setting) where
       at = a.at;
       registers = keeps_less g d e s a.t taken.regs a.registers;
       sim = a.sim;
-      stays = λ wanted h first last p below own before low after high. a.stays wanted h first last p below own before (let l = code_longer d e 0 taken in omega (arith, low, l)) after high;
+      stays = λ wanted h first last p below own ends before low after high. a.stays wanted h first last p below own ends before (let l = code_longer d e 0 taken in omega (arith, low, l)) after high;
     }
 
     -- entries below fewer stay too
@@ -275,7 +276,7 @@ module _ (g : Setting) where
             len = own.has.len;
             are = λ p below on.
                 first_there set f own.long st b.t b.sim own.has.of_set own.has.exists own.fits own.ends p below
-                ∙ ap (λ (n : ℕ). n % 2 ^ f.len) (b.stays wanted (record f { len = own.long }) own.somewhere behind.0 p (let l = own.older in omega (arith, l, more)) own.own own.named own.before behind.1.0 behind.1.1)
+                ∙ ap (λ (n : ℕ). n % 2 ^ f.len) (b.stays wanted (record f { len = own.long }) own.somewhere behind.0 p (let l = own.older in omega (arith, l, more)) own.own own.ends own.named own.before behind.1.0 behind.1.1)
                 ∙ sym (first_there set f own.long st h.passes.t h.passes.sim own.has.of_set own.has.exists own.fits own.ends p below)
                 ∙ own.has.are p below (was_on own.has.exists p below on);
             small = λ p below on. own.has.small p below (was_on own.has.exists p below on);
@@ -300,7 +301,7 @@ module _ (g : Setting) where
               at = starts_next g alive i e s w.t w.at here;
               registers = λ r kept. ap (λ (registers : List ℕ). slice_index registers r) w.registers;
               sim = w.sim;
-              stays = λ wanted h first last p below is_own before low after high.
+              stays = λ wanted h first last p below is_own ends before low after high.
                   w.stays (wanted.0, (wanted.1.0, let l = wanted.1.1 in omega (arith, l, longer))) h first last p (λ same. omega (arith, same, below, newer)) is_own before after (omega (arith, low)) (omega (arith, high, longer));
             };
             stands = inl (record {

@@ -22,7 +22,7 @@ module _ (g : Setting) (alive : Variable → Type 0) where
     at = p.at;
     registers = p.registers;
     sim = p.sim;
-    stays = λ wanted h first last q below own ends before low after high. p.stays wanted h first last q (omega (arith, below, less)) own before low after high;
+    stays = λ wanted h first last q below own ends before low after high. p.stays wanted h first last q (omega (arith, below, less)) own ends before low after high;
   }
 
   -- one piece, and another behind it

@@ -31,7 +31,7 @@ use Rattle.source_meaning.proofs.ConstantLaws.{Boxed}
 use Rattle.vp_sets.specs.Positions.{position_count}
 use Rattle.code_follows.proofs.Following.{Follows, Sim}
 use Rattle.code_follows.proofs.Operators.{wide_signed}
-use Rattle.code_follows.proofs.Settings.{At, Setting, layout}
+use Rattle.code_follows.proofs.Settings.{Setting, layout}
 use Rattle.fields_follow.specs.Fragment.{HasItsKind, IsFold, IsFolded, IsNarrowed, IsPure, IsWide}
 use Rattle.fields_follow.proofs.Folds.{folding}
 use Rattle.fields_follow.proofs.Forms.{HasItsCode}

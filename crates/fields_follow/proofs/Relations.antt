@@ -42,7 +42,7 @@ use Rattle.source_meaning.proofs.ConstantLaws.{Boxed}
 use Rattle.code_follows.proofs.Following.{Extends, Follows, HasRegisters, Sim, extends_then}
 use Rattle.code_follows.proofs.Growing.{and_instr}
 use Rattle.code_follows.proofs.Operators.{wide_signed}
-use Rattle.code_follows.proofs.Settings.{At, stay, Setting, Within, and_one, earlier, layout, one}
+use Rattle.code_follows.proofs.Settings.{stay, Setting, Within, and_one, earlier, layout, one}
 use Rattle.fields_follow.specs.Fragment.{HaveTheirKinds, IsRelation}
 use Rattle.fields_follow.proofs.Expressions.{constant_at, operand_at, operand_grows, pure_after}
 use Rattle.fields_follow.proofs.NarrowKinds.{narrow_compares, relation_has}

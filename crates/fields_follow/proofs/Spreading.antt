@@ -92,7 +92,7 @@ module _ (g : Setting) (alive : Variable → Type 0) where
           at = starts_next g alive move e2 right.passes.t moved.t moved.at right.passes.at;
           registers = λ r kept. ap (λ (registers : List ℕ). slice_index registers r) moved.registers;
           sim = moved.sim;
-          stays = λ u h one last q below own_h before low after high. moved.stays again h one last q (λ same. omega (arith, same, below)) own_h before after (omega (arith, low)) (omega (arith, high, long));
+          stays = λ u h one last q below own_h ends before low after high. moved.stays again h one last q (λ same. omega (arith, same, below)) own_h before after (omega (arith, low)) (omega (arith, high, long));
         }
 
         numbers : HasNumbers g bits set a right.passes.t v

@@ -45,7 +45,7 @@ use Rattle.std.proofs.Math.Nat.{mod-eq_of_lt}
 use Rattle.std.proofs.lemmas.Bool.{eqb-true}
 use Rattle.code_follows.proofs.Following.{Extends, Follows, HasRegisters, Sim, extends_then, follows_same, held}
 use Rattle.code_follows.proofs.Values.{extends_grown}
-use Rattle.code_follows.proofs.Settings.{At, Setting, and_one, layout}
+use Rattle.code_follows.proofs.Settings.{Setting, and_one, layout}
 use Rattle.fields_follow.specs.Fields.{IsElement, file_number}
 use Rattle.fields_follow.specs.Fragment.{HasItsKind, IsCondition, IsNarrowed, IsPure, IsRelation, IsWide}
 use Rattle.fields_follow.proofs.ConditionCode.{Bit, Told, Truth, bit_not_value, bit_taken, flag_after, flag_extends, joined_in, joined_made, joined_value, nonzero_after, operand_at, relation_value, stored_after, turned_after, turned_in, word_not_value, zero_after}

@@ -34,7 +34,7 @@ use Rattle.source_meaning.specs.State.{State}
 use Rattle.source_meaning.specs.Values.{Value}
 use Rattle.code_follows.proofs.Following.{Follows, HasRegisters, Sim, follows_same, held}
 use Rattle.code_follows.proofs.Growing.{Extended, and_instr, as_it_was}
-use Rattle.code_follows.proofs.Settings.{At, Setting, Within, and_one, layout}
+use Rattle.code_follows.proofs.Settings.{Setting, Within, and_one, layout}
 use Rattle.fields_follow.specs.Fragment.{IsPure}
 use Rattle.fields_follow.specs.Fields.{IsElement, file_number}
 use Rattle.fields_follow.proofs.FileFields.{Apart}
@@ -56,7 +56,7 @@ abbrev pub next_field : ℕ → ℕ → Draft → Field
 next_field set len d = record { set = set; offset = length d.fields; len = len }
 
 pub and_entry : (set len : ℕ) (owner : Owner) (d : Draft) → Extended d 0 (with_entry set len owner d)
-and_entry set len owner d = record { more = []; code = append_nothing d.code; long = refl; entries = record { set = set; len = len; owner = owner } ∷ []; fields = refl; regs = omega arith }
+and_entry set len owner d = record { more = []; code = append_nothing d.code; long = refl; entries = record { set = set; len = len; owner = owner } ∷ []; fields = refl; regs = omega arith; homes = []; homes_are = append_nothing d.homes }
 
 pub one_more : (set len : ℕ) (owner : Owner) (d : Draft) → length (with_entry set len owner d).fields ≡ length d.fields + 1
 one_more set len owner d = length-append d.fields (record { set = set; len = len; owner = owner } ∷ [])
