@@ -56,7 +56,7 @@ use Rattle.fields_follow.proofs.Pure.{get_gives}
 use Rattle.fields_follow.proofs.Hops.{puts_same}
 use Rattle.fields_follow.proofs.Instructions.{AreAlike, Puts, alike_same, extents, shapes, puts_alike, puts_constant, puts_coordinate, puts_extended, puts_move, word_in}
 use Rattle.fields_follow.proofs.Lengths.{Keeps, divides_wide}
-use Rattle.fields_follow.proofs.Meaning.{as_shaped, promoted_means, read_is, right_of, unary_means, value_in, word_at}
+use Rattle.fields_follow.proofs.Meaning.{as_shaped, either, promoted_means, read_is, right_of, unary_means, value_in, word_at}
 use Rattle.fields_follow.proofs.News.{get_last}
 use Rattle.fields_follow.proofs.Operands.{GivesRight, Takes, fields_after, operated_after, operated_extends, register_has, register_is, right_after, right_extends}
 use Rattle.fields_follow.proofs.Passing.{After, Behind, GivesField, Passes, after_same, fields_longer, made_after, passes_all, passes_from, then_after}
@@ -260,7 +260,7 @@ module _ (g : Setting) (has : HasRegisters g) (alive : Variable → Type 0) (n :
   computed_last set offset bits (T.Binary' ty place op p left q right) most is c = operated_last set offset bits ty place op p q left right most is c
   computed_last set offset bits (T.Convert' ty p inner) most is c = converted_last set offset bits ty p inner most is c (computed_last set offset bits inner most is.2 (convert_part g alive n places fields ty p inner c))
   computed_last set offset bits (T.Pcoord ty axis) most is c = coordinate_last set offset bits axis ty is
-  computed_last set offset bits (T.LeftIndex' ty place p indexes (V.File k) of) most is c = get_computed set offset bits ty place p indexes k of most is.0 is.1 is.2 c
+  computed_last set offset bits (T.LeftIndex' ty place p indexes (V.File k) of) most is c = either (λ wrapping. get_computed set offset bits ty place p indexes k of most is.0 is.1 wrapping c) (λ routed. ?) is.2
   computed_last set offset bits _ most is c = absurd is
 
   -- a promoted variable

@@ -50,7 +50,7 @@ use Rattle.fields_follow.proofs.Forms.{HasItsCode, HasItsWord, StandsInRegister,
 use Rattle.fields_follow.proofs.Hops.{puts_same}
 use Rattle.fields_follow.proofs.Instructions.{AreAlike, HasNumbers, Puts, alike_same, extents, has_alike, puts_coordinate, puts_extended, puts_lognot, puts_negate, shapes, whole_keeps}
 use Rattle.fields_follow.proofs.Lengths.{Keeps, converted_first, divides_wide, held_has, operation_keeps, operation_most}
-use Rattle.fields_follow.proofs.Meaning.{as_shaped, left_of, right_of, unary_means, value_in, word_at}
+use Rattle.fields_follow.proofs.Meaning.{as_shaped, either, left_of, right_of, unary_means, value_in, word_at}
 use Rattle.fields_follow.proofs.News.{get_last}
 use Rattle.fields_follow.proofs.Operands.{fields_after}
 use Rattle.fields_follow.proofs.Outcomes.{Ended, Given, Known, ended_on, follows_like, given_follows, given_weaker, known_follows, meant, then_known}
@@ -493,7 +493,7 @@ module _ (g : Setting) (has : HasRegisters g) (alive : Variable → Type 0) (n :
       binary_after bits set ty place op p q left right most is c (λ pure. pure_after (operation_bits bits op right) set left works pure parts.0) (λ pure. pure_after (operation_bits bits op right) set right works pure parts.1)
   pure_after bits set (T.Convert' ty p operand) most is c = convert_after bits set ty p operand most is c (λ k few. pure_after k set operand few is.2 (convert_part g alive n places fields ty p operand c))
   pure_after bits set (T.Pcoord ty axis) most is c = coordinate_after bits set axis ty is
-  pure_after bits set (T.LeftIndex' ty place p indexes (V.File k) of) most is c = get_after bits set ty place p indexes k of most is.0 is.1 is.2 c
+  pure_after bits set (T.LeftIndex' ty place p indexes (V.File k) of) most is c = either (λ wrapping. get_after bits set ty place p indexes k of most is.0 is.1 wrapping c) (λ routed. ?) is.2
   pure_after bits set _ most is c = absurd is
 
   -- an operand of 32 bits has its numbers

@@ -22,6 +22,7 @@ pub mod Folds
 pub mod Forms
 pub mod Gets
 pub mod Hops
+pub mod Indexing
 pub mod Instructions
 pub mod JoinedBits
 pub mod Joining
@@ -39,6 +40,7 @@ pub mod News
 pub mod Onto
 pub mod Operands
 pub mod Outcomes
+pub mod Parts
 pub mod Passing
 pub mod PassingTests
 pub mod Places
@@ -49,6 +51,7 @@ pub mod Quiet
 pub mod Reducing
 pub mod Reductions
 pub mod Relations
+pub mod Routing
 pub mod Saving
 pub mod Sizes
 pub mod Spreading

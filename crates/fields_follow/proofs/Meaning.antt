@@ -1,6 +1,6 @@
 -- The numbers that pure parallel expressions mean, and what their promoted parts do.
 use Rattle.std.proofs.Common.{◌≡◌, ◌∙◌, ℕ, zero, suc, ◌+◌, Bool, true, false, not, ◌&&◌, ◌||◌, ◌==◌, List, [], ◌∷◌, Option, Some, None, refl, sym, ap, subst, inl, inr, if◌then◌else◌, ◌⊎◌}
-use Rattle.std.specs.Prelude.{is_none, slice_index}
+use Rattle.std.specs.Prelude.{is_none, slice_index, unsigned_abs}
 use Rattle.std.specs.Int.{from_bool}
 use Rattle.cstar_base.specs.declared.faults.RunFault.TheVariants.{DivZero}
 use Rattle.cstar_base.specs.declared.operators.Op.{Op}
@@ -8,10 +8,11 @@ use Rattle.cstar_base.specs.declared.operators.Place.{Place}
 use Rattle.cstar_base.specs.Operators.{divides, outcome}
 use Rattle.cstar_base.specs.Orders.{least_below, or_else}
 use Rattle.constant_trees.proofs.Bringing.{right_false}
-use Rattle.cstar_tree.specs.declared.typed.TExpr.{TExpr, items-the_row-TExpr}
+use Rattle.cstar_tree.specs.declared.typed.TExpr.{TExpr, Row_of-TExpr, end_of-TExpr, items-the_row-TExpr, more_of-TExpr}
 use Rattle.cstar_tree.specs.declared.typed.TExpr as T
 use Rattle.cstar_tree.specs.declared.typed.UnaryOp.{UnaryOp}
 use Rattle.cstar_tree.specs.declared.typed.ValueType.{ValueType}
+use Rattle.cstar_tree.specs.declared.typed.Variable.{Variable}
 use Rattle.cstar_tree.specs.declared.typed.Variable.TheVariants as V
 use Rattle.cstar_tree.specs.Typed.{type_of}
 use Rattle.source_meaning.specs.Constants as Const
@@ -22,7 +23,7 @@ use Rattle.source_meaning.specs.Targets.{read, variable_target}
 use Rattle.source_meaning.specs.Values.{Active, Parallel, Scalar, Scope, Value, at, convert_to, each, failing, nonzero, positions, unary_of, unless}
 use Rattle.source_meaning.proofs.ConstantLaws.{Boxed, value_means}
 use Rattle.lower_comm.specs.declared.news.NewsStep.{NewsStep}
-use Rattle.lower_comm.specs.News.{checked_step, step_of}
+use Rattle.lower_comm.specs.News.{all_go_by_news, checked_step, step_of}
 use Rattle.vp_sets.specs.Positions.{coordinate, moved, number_at}
 use Rattle.fields_follow.specs.Fragment.{IsEverywhere, IsPromoted, IsPure, IsScalarName}
 use Rattle.cstar_base.specs.Numbers.{converted, number_of}
@@ -48,19 +49,36 @@ unfoldable pub coordinates_behind : List ℕ → ℕ → ℕ → List TExpr → 
 coordinates_behind extents of axis [] q = []
 coordinates_behind extents of axis (index ∷ indexes) q = coordinate_behind extents axis (step_of of axis index) q ∷ coordinates_behind extents of (axis + 1) indexes q
 
--- the number at a position of a shape with these extents
-unfoldable pub value_in : List ℕ → State → TExpr → ℕ → ℕ
-value_in extents st (T.Variable ty x) q = st.parallel x 0 q
-value_in extents st (T.Brackets' ty p inner) q = value_in extents st inner q
-value_in extents st (T.Promote' ty p operand) q = scalar_in st operand
-value_in extents st (T.Unary' ty op p operand) q = unary_of op (value_in extents st operand q)
-value_in extents st (T.Binary' ty place op p left r right) q = outcome op 32 (not (type_of left).elem.signed) (value_in extents st left q) (value_in extents st right q)
-value_in extents st (T.LogicalOr' ty p left r right) q = from_bool (nonzero (value_in extents st left q) || nonzero (value_in extents st right q))
-value_in extents st (T.LogicalAnd' ty p left r right) q = from_bool (nonzero (value_in extents st left q) && nonzero (value_in extents st right q))
-value_in extents st (T.Convert' ty p operand) q = converted ty.elem (type_of operand).elem (value_in extents st operand q)
-value_in extents st (T.Pcoord ty axis) q = coordinate extents q axis
-value_in extents st (T.LeftIndex' ty place p indexes x of) q = st.parallel x 0 (number_at extents (coordinates_behind extents of 0 (items-the_row-TExpr _ indexes) q))
-value_in extents st _ q = 0
+unfoldable mutual
+  -- the number at a position of a shape with these extents
+  pub value_in : List ℕ → State → TExpr → ℕ → ℕ
+  value_in extents st (T.Variable ty x) q = st.parallel x 0 q
+  value_in extents st (T.Brackets' ty p inner) q = value_in extents st inner q
+  value_in extents st (T.Promote' ty p operand) q = scalar_in st operand
+  value_in extents st (T.Unary' ty op p operand) q = unary_of op (value_in extents st operand q)
+  value_in extents st (T.Binary' ty place op p left r right) q = outcome op 32 (not (type_of left).elem.signed) (value_in extents st left q) (value_in extents st right q)
+  value_in extents st (T.LogicalOr' ty p left r right) q = from_bool (nonzero (value_in extents st left q) || nonzero (value_in extents st right q))
+  value_in extents st (T.LogicalAnd' ty p left r right) q = from_bool (nonzero (value_in extents st left q) && nonzero (value_in extents st right q))
+  value_in extents st (T.Convert' ty p operand) q = converted ty.elem (type_of operand).elem (value_in extents st operand q)
+  value_in extents st (T.Pcoord ty axis) q = coordinate extents q axis
+  value_in extents st (T.LeftIndex' ty place p indexes x of) q = st.parallel x 0 (number_at extents (if all_go_by_news of 0 (items-the_row-TExpr _ indexes) then coordinates_behind extents of 0 (items-the_row-TExpr _ indexes) q else coordinates_named extents st indexes q))
+  value_in extents st _ q = 0
+
+  -- the coordinates that indexes name
+  pub coordinates_named : {k : _} → List ℕ → State → Row_of-TExpr k → ℕ → List ℕ
+  coordinates_named extents st end_of-TExpr q = []
+  coordinates_named extents st (more_of-TExpr index rest) q = unsigned_abs (number_of (type_of index).elem.bits (type_of index).elem.signed (value_in extents st index q)) ∷ coordinates_named extents st rest q
+
+-- what a get reads, round the ends of the grid and by the router
+pub value_by_news : (extents : List ℕ) (st : State) (ty : ValueType) (place : Place) (p : _) (indexes : Row_of-TExpr _) (x : Variable) (of q : ℕ) → all_go_by_news of 0 (items-the_row-TExpr _ indexes) ≡ true
+    → value_in extents st (T.LeftIndex' ty place p indexes x of) q ≡ st.parallel x 0 (number_at extents (coordinates_behind extents of 0 (items-the_row-TExpr _ indexes) q))
+unfolding value_in
+value_by_news extents st ty place p indexes x of q goes = ap (λ (b : Bool). st.parallel x 0 (number_at extents (if b then coordinates_behind extents of 0 (items-the_row-TExpr _ indexes) q else coordinates_named extents st indexes q))) goes
+
+pub value_by_router : (extents : List ℕ) (st : State) (ty : ValueType) (place : Place) (p : _) (indexes : Row_of-TExpr _) (x : Variable) (of q : ℕ) → all_go_by_news of 0 (items-the_row-TExpr _ indexes) ≡ false
+    → value_in extents st (T.LeftIndex' ty place p indexes x of) q ≡ st.parallel x 0 (number_at extents (coordinates_named extents st indexes q))
+unfolding value_in
+value_by_router extents st ty place p indexes x of q goes = ap (λ (b : Bool). st.parallel x 0 (number_at extents (if b then coordinates_behind extents of 0 (items-the_row-TExpr _ indexes) q else coordinates_named extents st indexes q))) goes
 
 -- and as a word
 abbrev pub word_at : List ℕ → State → TExpr → ℕ → ℕ

@@ -44,7 +44,7 @@ use Rattle.fields_follow.proofs.Gets.{names_long, steps_lead, steps_move, wrappi
 use Rattle.fields_follow.proofs.Hops.{HasEverywhere, MovesLast, Reads, moves_last, origin, puts_same, steps_extend}
 use Rattle.fields_follow.proofs.Instructions.{Puts, extents, number_in, shapes}
 use Rattle.fields_follow.proofs.Lengths.{held_has}
-use Rattle.fields_follow.proofs.Meaning.{coordinates_behind, value_in, word_at}
+use Rattle.fields_follow.proofs.Meaning.{coordinates_behind, value_by_news, word_at}
 use Rattle.fields_follow.proofs.Neighbours.{fit_positive}
 use Rattle.fields_follow.proofs.Passing.{After, Passes, after_same, in_file_numbers, made_after, passes_from, small_there}
 use Rattle.fields_follow.proofs.Places.{HoldsTheFields, IsFileField, PlacesFields}
@@ -148,7 +148,7 @@ module _ (g : Setting) where
         → HasVariable g.typed g.instance n (V.File k) (plain (parallel ty.elem of)) → NameExtents (extents_in g.typed of) indexes → bound ≤ length d.fields → Starts g alive s (length d.code) d.regs → Sim g alive st s → (Q : Out → Draft → Type 0)
         → ((e2 : Draft) (i : Instr) → Within g (with_instr i e2) → (passes : Passes g alive bound d e2 s st (Unit {0})) → Puts g set i (record { set = set; offset = offset; len = bits }) passes.t (λ q. word_at (extents g set) st (T.LeftIndex' ty place p indexes (V.File k) of) q) → Q (O.Field (record { set = set; offset = offset; len = bits })) (with_instr i e2))
         → After g Q (index_read_to g.typed (layout g) (T.LeftIndex' ty place p indexes (V.File k) of) spot (O.Field (record { set = set; offset = offset; len = bits })) d)
-    unfolding passes_from value_in is_extended read_bits
+    unfolding passes_from is_extended read_bits
     get_last ty place p indexes k of set offset bits spot bound d s st most shaped same are v names less here sim Q last =
         after_same g Q (code_is ty place p indexes k of set offset bits info spot d shaped same are refl is) (made_after g Q (O.Field f) made (λ within. by within (moves within)))
       where
@@ -226,6 +226,7 @@ module _ (g : Setting) where
         found q below =
             ap numbers (steps_lead g set positive indexes q are long below)
             ∙ ap (λ (m : ℕ). numbers (number_at (extents g set) (coordinates_behind (extents g set) m 0 (items-the_row-TExpr _ indexes) q))) (sym same)
+            ∙ ap (λ (w : ℕ). held ty.elem w) (sym (value_by_news (extents g set) st ty place p indexes (V.File k) of q (ap (λ (m : ℕ). all_go_by_news m 0 (items-the_row-TExpr _ indexes)) same ∙ wrapping_goes set 0 indexes are)))
 
         by : Within g made → MovesLast g places fields alive ty.elem f read reads bound set steps hop numbers d3 s st → Q (O.Field f) made
         by within (e2, (i, (is_made, (passes, puts)))) =

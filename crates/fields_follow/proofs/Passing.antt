@@ -169,7 +169,7 @@ module _ (g : Setting) where
     unfolding passes_from
     gives_from bits bound d e f s set st v h taken gives = record { passes = passes_from bound d e f s st (Behind h f) taken gives.passes; stands = gives.stands }
 
-    stands_less : (bits bound other : ℕ) (e : Draft) (set : ℕ) (f : Field) (t : CodeState) (st : State) (v : ℕ → ℕ) → bound ≤ other → Stands bits other e set f t st v → Stands bits bound e set f t st v
+    pub stands_less : (bits bound other : ℕ) (e : Draft) (set : ℕ) (f : Field) (t : CodeState) (st : State) (v : ℕ → ℕ) → bound ≤ other → Stands bits other e set f t st v → Stands bits bound e set f t st v
     stands_less bits bound other e set f t st v less (inl h) = inl (record { long = h.long; own = h.own; fits = h.fits; ends = h.ends; newer = omega (arith, less, h.newer); older = h.older; somewhere = h.somewhere; named = h.named; before = h.before; has = h.has })
     stands_less bits bound other e set f t st v less (inr h) = inr h
 

@@ -18,12 +18,14 @@ use Rattle.source_meaning.specs.Expressions.{evaluated}
 use Rattle.source_meaning.specs.State.{Gives, Outcome, State, then_do}
 use Rattle.source_meaning.specs.Values.{Active, Parallel, Scope, Value, at, convert_to, each, own_coordinate}
 use Rattle.vp_sets.specs.Positions.{number_at, positions_fit}
+use Rattle.lower_comm.specs.News.{all_go_by_news}
 use Rattle.lower_expr.specs.Operands.{ignores_context}
 use Rattle.fields_follow.specs.Fragment.{AreWrapping, IsPure}
 use Rattle.fields_follow.proofs.Extents.{NameExtents, extents_in}
-use Rattle.fields_follow.proofs.Meaning.{as_shaped, binary_means, coordinates_behind, either, left_of, promoted_means, read_is, right_of, unary_means, value_in}
+use Rattle.fields_follow.proofs.Meaning.{as_shaped, binary_means, coordinates_behind, either, left_of, promoted_means, read_is, right_of, unary_means, value_by_news, value_in}
 use Rattle.fields_follow.specs.Fields.{IsElement}
 use Rattle.fields_follow.proofs.Forms.{element_is}
+use Rattle.fields_follow.proofs.Gets.{wrapping_goes}
 use Rattle.fields_follow.proofs.Neighbours.{get_means}
 use Rattle.code_follows.proofs.Settings.{Setting}
 use Rattle.fields_follow.proofs.Instructions.{SameExtents, extents}
@@ -75,9 +77,9 @@ are_grids g scope places same set k info is =
 pub get_gives : (g : Setting) (places : PlacesFields g) (fields : HoldsTheFields g) (n : ℕ) (ty : ValueType) (place : Place) (p : _) (indexes : Row_of-TExpr _) (k of set : ℕ) (st : State) → ty.shape ≡ Some set → of ≡ set → AreWrapping set 0 indexes
     → HasVariable g.typed g.instance n (V.File k) (plain (parallel ty.elem of)) → NameExtents (extents_in g.typed of) indexes
     → meant g fields (T.LeftIndex' ty place p indexes (V.File k) of) st ≡ Gives (Parallel (λ q. value_in (extents g set) st (T.LeftIndex' ty place p indexes (V.File k) of) q)) st
-unfolding value_in
 get_gives g places fields n ty place p indexes k of set st shaped same are v names =
     let element = element_is g.typed g.instance n k set (parallel ty.elem of) (ap Some same) v in
     let grid : IsGrid fields.scope (extents_in g.typed) set = are_grids g fields.scope places fields.same_extents set k (variable_info v.word (plain (parallel ty.elem of)) v.start) element in
     get_means fields.scope fields.active set k ty place p indexes of st shaped same are grid.1 (subst (λ (xs : List ℕ). NameExtents xs indexes) (ap (extents_in g.typed) same ∙ grid.0) names)
     ∙ ap (λ (xs : List ℕ). Gives (Parallel (λ q. st.parallel (V.File k) 0 (number_at xs (coordinates_behind xs of 0 (items-the_row-TExpr _ indexes) q)))) st) (fields.same_extents set (places.exists k 0 set (variable_info v.word (plain (parallel ty.elem of)) v.start) element))
+    ∙ ap (λ (f : ℕ → ℕ). Gives (Parallel f) st) (λ j q. sym (value_by_news (extents g set) st ty place p indexes (V.File k) of q (ap (λ (m : ℕ). all_go_by_news m 0 (items-the_row-TExpr _ indexes)) same ∙ wrapping_goes set 0 indexes are)) j)

@@ -9,7 +9,7 @@ use Rattle.lower_comm.specs.News.{is_extent, offset_of, step_of, wrapped_step}
 use Rattle.lower_expr.specs.Operands.{are_quiet, is_quiet}
 use Rattle.source_meaning.specs.Constants as Const
 use Rattle.source_meaning.specs.Constants.{constant_of, is_constant}
-use Rattle.fields_follow.specs.Fragment.{AreWrapping, IsConstant, IsDot, IsIndex, IsOffset, IsPromoted, IsPure, IsScalarName}
+use Rattle.fields_follow.specs.Fragment.{ArePure, AreWrapping, IsConstant, IsDot, IsIndex, IsOffset, IsPromoted, IsPure, IsScalarName}
 use Rattle.fields_follow.proofs.Meaning.{always_checked, either, left_of, right_of}
 
 both : (a b : Bool) → a ≡ true → b ≡ true → (a && b) ≡ true
@@ -105,14 +105,19 @@ unfolding AreWrapping are_quiet
 wrapping_quiet set axis end_of-TExpr are = refl
 wrapping_quiet set axis (more_of-TExpr index rest) are = both (is_quiet index) (are_quiet rest) (index_quiet set axis index are.0.1.0 are.0.0 are.0.1.1.0 are.0.1.1.1) (wrapping_quiet set (axis + 1) rest are.1)
 
-pub pure_quiet : (set : ℕ) (e : TExpr) → IsPure set e → is_quiet e ≡ true
-unfolding IsPure is_quiet
-pure_quiet set (T.Variable ty (V.File k)) is = refl
-pure_quiet set (T.Brackets' ty p inner) is = pure_quiet set inner is.1
-pure_quiet set (T.Unary' ty op p operand) is = pure_quiet set operand is.2
-pure_quiet set (T.Binary' ty place op p left q right) is =
-    both (is_quiet left) (is_quiet right) (either (λ h. pure_quiet set left h) (λ h. promoted_quiet set left h) (left_of set left right is.2)) (either (λ h. pure_quiet set right h) (λ h. promoted_quiet set right h) (right_of set left right is.2))
-pure_quiet set (T.Convert' ty p operand) is = pure_quiet set operand is.2
-pure_quiet set (T.Pcoord ty axis) is = refl
-pure_quiet set (T.LeftIndex' ty place p indexes (V.File k) of) is = wrapping_quiet set 0 indexes is.2
-pure_quiet set _ is = absurd is
+mutual
+  unfolding IsPure is_quiet
+  pub pure_quiet : (set : ℕ) (e : TExpr) → IsPure set e → is_quiet e ≡ true
+  pure_quiet set (T.Variable ty (V.File k)) is = refl
+  pure_quiet set (T.Brackets' ty p inner) is = pure_quiet set inner is.1
+  pure_quiet set (T.Unary' ty op p operand) is = pure_quiet set operand is.2
+  pure_quiet set (T.Binary' ty place op p left q right) is =
+      both (is_quiet left) (is_quiet right) (either (λ h. pure_quiet set left h) (λ h. promoted_quiet set left h) (left_of set left right is.2)) (either (λ h. pure_quiet set right h) (λ h. promoted_quiet set right h) (right_of set left right is.2))
+  pure_quiet set (T.Convert' ty p operand) is = pure_quiet set operand is.2
+  pure_quiet set (T.Pcoord ty axis) is = refl
+  pure_quiet set (T.LeftIndex' ty place p indexes (V.File k) of) is = either (λ wrapping. wrapping_quiet set 0 indexes wrapping) (λ routed. row_quiet set indexes routed.1) is.2
+  pure_quiet set _ is = absurd is
+
+  row_quiet : {k : _} (set : ℕ) (indexes : Row_of-TExpr k) → ArePure set indexes → are_quiet indexes ≡ true
+  row_quiet set end_of-TExpr are = refl
+  row_quiet set (more_of-TExpr index rest) are = both (is_quiet index) (are_quiet rest) (pure_quiet set index are.0) (row_quiet set rest are.1)

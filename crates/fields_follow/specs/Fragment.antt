@@ -13,7 +13,7 @@ use Rattle.cstar_tree.specs.declared.syntax.AssignOp.{AssignOp}
 use Rattle.cstar_tree.specs.declared.syntax.AssignOp.TheVariants as A
 use Rattle.cstar_tree.specs.declared.syntax.ReduceOp.{ReduceOp}
 use Rattle.cstar_tree.specs.declared.syntax.ReduceOp.TheVariants as R
-use Rattle.cstar_tree.specs.declared.typed.TExpr.{TExpr, Row_of-TExpr, end_of-TExpr, more_of-TExpr}
+use Rattle.cstar_tree.specs.declared.typed.TExpr.{TExpr, Row_of-TExpr, end_of-TExpr, items-the_row-TExpr, more_of-TExpr}
 use Rattle.cstar_tree.specs.declared.typed.TExpr as T
 use Rattle.cstar_tree.specs.declared.typed.Typed.{Typed}
 use Rattle.cstar_tree.specs.declared.typed.ValueType.{ValueType}
@@ -23,7 +23,7 @@ use Rattle.cstar_tree.specs.Typed.{type_of}
 use Rattle.lower_base.specs.Operators.{assign_op_of, negates, relates}
 use Rattle.lower_base.specs.Kinds.{is_bitwise, kind_of}
 use Rattle.lower_comm.specs.declared.news.NewsStep.{NewsStep}
-use Rattle.lower_comm.specs.News.{step_of}
+use Rattle.lower_comm.specs.News.{all_go_by_news, step_of}
 use Rattle.lower_expr.specs.Kinds.{operation_bits, relation_kind}
 use Rattle.lower_expr.specs.Operands.{ignores_context}
 use Rattle.source_meaning.specs.Constants.{constant_of}
@@ -93,17 +93,23 @@ AreWrapping set axis end_of-TExpr = Unit {0}
 AreWrapping set axis (more_of-TExpr index rest) = IsWrapping set axis index × AreWrapping set (axis + 1) rest
 
 -- A parallel expression that is not promoted; of an operator's two operands one may be. Operators work at 32 bits, to
--- which narrower values are converted; no value is converted to `bool`.
-unfoldable pub IsPure : ℕ → TExpr → Type 0
-IsPure set (T.Variable ty (V.File k)) = ty.shape ≡ Some set
-IsPure set (T.Brackets' ty p inner) = (ty ≡ type_of inner) × IsPure set inner
-IsPure set (T.Unary' ty op p operand) = IsWide set ty × (negates op ≡ false) × IsPure set operand × IsWide set (type_of operand)
-IsPure set (T.Binary' ty place op p left q right) =
-    IsWide set ty × IsOperation op right × ((IsPure set left × (IsPure set right ⊎ IsPromoted set right)) ⊎ (IsPromoted set left × IsPure set right)) × IsWide set (type_of left) × IsWide set (type_of right)
-IsPure set (T.Convert' ty p operand) = (ty.shape ≡ Some set) × ((ty.elem.bits == 1) ≡ false) × IsPure set operand
-IsPure set (T.Pcoord ty axis) = IsWide set ty
-IsPure set (T.LeftIndex' ty place p indexes (V.File k) of) = (ty.shape ≡ Some set) × (of ≡ set) × AreWrapping set 0 indexes
-IsPure set _ = ⊥
+-- which narrower values are converted; no value is converted to `bool`. A get goes round the ends of the grid, or its
+-- indexes are such expressions, which fail where they do not lie within the extents at an active position.
+unfoldable mutual
+  pub IsPure : ℕ → TExpr → Type 0
+  IsPure set (T.Variable ty (V.File k)) = ty.shape ≡ Some set
+  IsPure set (T.Brackets' ty p inner) = (ty ≡ type_of inner) × IsPure set inner
+  IsPure set (T.Unary' ty op p operand) = IsWide set ty × (negates op ≡ false) × IsPure set operand × IsWide set (type_of operand)
+  IsPure set (T.Binary' ty place op p left q right) =
+      IsWide set ty × IsOperation op right × ((IsPure set left × (IsPure set right ⊎ IsPromoted set right)) ⊎ (IsPromoted set left × IsPure set right)) × IsWide set (type_of left) × IsWide set (type_of right)
+  IsPure set (T.Convert' ty p operand) = (ty.shape ≡ Some set) × ((ty.elem.bits == 1) ≡ false) × IsPure set operand
+  IsPure set (T.Pcoord ty axis) = IsWide set ty
+  IsPure set (T.LeftIndex' ty place p indexes (V.File k) of) = (ty.shape ≡ Some set) × (of ≡ set) × (AreWrapping set 0 indexes ⊎ ((all_go_by_news set 0 (items-the_row-TExpr _ indexes) ≡ false) × ArePure set indexes))
+  IsPure set _ = ⊥
+
+  pub ArePure : {k : _} → ℕ → Row_of-TExpr k → Type 0
+  ArePure set end_of-TExpr = Unit {0}
+  ArePure set (more_of-TExpr index rest) = IsPure set index × ArePure set rest
 
 -- an operand, promoted or not
 abbrev pub IsOperand : ℕ → TExpr → Type 0
