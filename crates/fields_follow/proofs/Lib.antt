@@ -49,6 +49,7 @@ pub mod Reducing
 pub mod Reductions
 pub mod Relations
 pub mod Saving
+pub mod Scanning
 pub mod Sizes
 pub mod Spreading
 pub mod TestFlags

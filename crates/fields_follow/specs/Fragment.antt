@@ -5,8 +5,9 @@
 -- variables, and they are the conditions of `where`. Folds are of the active positions.
 -- Under `where` and `everywhere` stand the statements of scalar programs with these, also calls, `return` and jumps that
 -- lead out of them.
-use Rattle.std.specs.Prelude.{ℕ, ◌≡◌, ◌<◌, ◌≤◌, ◌+◌, ◌^◌, ◌⊎◌, ◌==◌, true, false, Some, None}
+use Rattle.std.specs.Prelude.{ℕ, ◌≡◌, ◌<◌, ◌≤◌, ◌+◌, ◌^◌, ◌⊎◌, ◌==◌, true, false, Option, Some, None}
 use Rattle.cstar_base.specs.declared.elem.Elem.{Elem}
+use Rattle.cstar_base.specs.declared.operators.Combiner.TheVariants as C
 use Rattle.cstar_base.specs.declared.operators.Op.{Op}
 use Rattle.cstar_base.specs.Operators.{divides}
 use Rattle.cstar_tree.specs.declared.syntax.AssignOp.{AssignOp}
@@ -18,6 +19,7 @@ use Rattle.cstar_tree.specs.declared.typed.TExpr as T
 use Rattle.cstar_tree.specs.declared.typed.Typed.{Typed}
 use Rattle.cstar_tree.specs.declared.typed.ValueType.{ValueType}
 use Rattle.cstar_tree.specs.declared.typed.VarInfo.{VarInfo}
+use Rattle.cstar_tree.specs.declared.typed.Variable.{Variable}
 use Rattle.cstar_tree.specs.declared.typed.Variable.TheVariants as V
 use Rattle.cstar_tree.specs.Typed.{type_of}
 use Rattle.lower_base.specs.Operators.{assign_op_of, negates, relates}
@@ -178,6 +180,19 @@ unfoldable pub IsUpdate : TExpr → Type 0
 IsUpdate (T.Assign' ty place op p target q value) = (set : ℕ) × ((ty ≡ type_of target) × IsTarget set target × HasOperation op ty.elem value × IsOperandOrTruth set ty.elem.bits op value)
 IsUpdate (T.Step' ty op order p target) = (set : ℕ) × ((ty ≡ type_of target) × IsTarget set target × ((ty.elem.bits == 1) ≡ false))
 IsUpdate _ = ⊥
+
+-- the bits that begin the segments of a scan, if it has any, are a variable of the file
+unfoldable pub IsSegments : Option Variable → Type 0
+IsSegments None = Unit {0}
+IsSegments (Some (V.File k)) = Unit {0}
+IsSegments (Some x) = ⊥
+
+-- a scan of a value of 32 bits, by a combiner other than the last one, or of ones; maybe in brackets
+unfoldable pub IsScan : ℕ → TExpr → Type 0
+IsScan set (T.Brackets' ty p inner) = (ty ≡ type_of inner) × IsScan set inner
+IsScan set (T.Scan' ty p source axis combiner direction mode bit within) = (ty ≡ type_of source) × IsPure set source × IsWide set (type_of source) × (combiner ≡ C.Last → ⊥) × IsSegments bit
+IsScan set (T.Enumerate ty axis direction within mode bit) = IsWide set ty × IsSegments bit
+IsScan set _ = ⊥
 
 -- a value of 32 bits that is folded
 abbrev pub IsFolded : ℕ → TExpr → Type 0
