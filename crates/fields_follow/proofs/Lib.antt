@@ -50,6 +50,7 @@ pub mod Reductions
 pub mod Relations
 pub mod Saving
 pub mod Scanning
+pub mod Scans
 pub mod Sizes
 pub mod Spreading
 pub mod TestFlags
