@@ -101,6 +101,8 @@ module _ (g : Setting) where
     pub code : whole ≡ e.code ++ more
     pub entries : List Virtual
     pub fields : g.unit.fields.items ≡ e.fields ++ entries
+    pub homes : List ℕ
+    pub homes_are : g.unit.homes.items ≡ e.homes ++ homes
     pub regs : e.regs ≤ g.image.slots
     pub own : e.regs ≤ g.ends
     pub upto : length e.code ≤ g.upto
@@ -115,6 +117,8 @@ module _ (g : Setting) where
     code = w.code ∙ ap (λ (c : List Step). c ++ w.more) x.code ∙ append_assoc d.code x.more w.more;
     entries = x.entries ++ w.entries;
     fields = w.fields ∙ ap (λ (entries : List Virtual). entries ++ w.entries) x.fields ∙ append_assoc d.fields x.entries w.entries;
+    homes = x.homes ++ w.homes;
+    homes_are = w.homes_are ∙ ap (λ (homes : List ℕ). homes ++ w.homes) x.homes_are ∙ append_assoc d.homes x.homes w.homes;
     regs = omega (arith, x.regs, w.regs);
     own = omega (arith, x.regs, w.own);
     upto = omega (arith, longer d e n x, w.upto);

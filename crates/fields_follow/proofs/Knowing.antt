@@ -113,7 +113,7 @@ module _ (g : Setting) (scope : Scope) (a : Active) (k : KnowsFields g scope a) 
     }
 
     pub within_inner : (e : Draft) → length e.code ≤ upto → Within g e → Within inner e
-    within_inner e high w = record { more = w.more; code = w.code; entries = w.entries; fields = w.fields; regs = w.regs; own = w.own; upto = high }
+    within_inner e high w = record { more = w.more; code = w.code; entries = w.entries; fields = w.fields; homes = w.homes; homes_are = w.homes_are; regs = w.regs; own = w.own; upto = high }
 
     pub sim_inner : (alive : Variable → Type 0) (st : State) (s : CodeState) → Sim (under g b) alive st s → kept s.memory → Sim inner alive st s
     sim_inner alive st s h has = sim_saying g alive st s s.at s.memory (h.memory, has) h

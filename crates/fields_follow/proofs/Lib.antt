@@ -53,6 +53,7 @@ pub mod Scanning
 pub mod Scans
 pub mod Sizes
 pub mod Spreading
+pub mod Starts
 pub mod TestFlags
 pub mod Testing
 pub mod Totals

@@ -36,6 +36,7 @@ use Rattle.code_follows.proofs.Words.{below_bits, held_wide}
 use Rattle.fields_follow.specs.Fragment.{assignment_of}
 use Rattle.fields_follow.proofs.Folds.{folding}
 use Rattle.fields_follow.proofs.Instructions.{HasNumbers, number_in, place, shapes}
+use Rattle.fields_follow.proofs.Leaving.{EndsBelow}
 use Rattle.fields_follow.proofs.Passing.{Behind, GivesField, Passes, code_longer, flags_of, gives_numbers}
 use Rattle.fields_follow.proofs.Places.{HoldsTheFields, IsOwnField, PlacesFields, names_first, stands_here}
 use Rattle.fields_follow.proofs.Reducing.{FoldsWords, sign_more, whole}
@@ -88,11 +89,11 @@ module _ (g : Setting) (alive : Variable → Type 0) where
     pub writes : WritesRegisters d passes.t u (length f.code) t
 
   -- own entries that are named before it and behind it have at the end what they had
-  pub scalars_stay : (d : Draft) (s : CodeState) (st u : State) (f : Draft) → (given : LeavesScalars d s st u f) → (h : Field) (first last p : ℕ) → h.offset < length d.fields → IsOwnField g h → IsNamedAt g.unit h.offset first → first < length d.code → IsNamedAt g.unit h.offset last → length f.code ≤ last
+  pub scalars_stay : (d : Draft) (s : CodeState) (st u : State) (f : Draft) → (given : LeavesScalars d s st u f) → (h : Field) (first last p : ℕ) → h.offset < length d.fields → IsOwnField g h → EndsBelow g h → IsNamedAt g.unit h.offset first → first < length d.code → IsNamedAt g.unit h.offset last → length f.code ≤ last
       → number_in g h given.t p ≡ number_in g h s p
-  scalars_stay d s st u f given h first last p below own before low behind high =
+  scalars_stay d s st u f given h first last p below own ends before low behind high =
       ap (λ (m : BitMemory). field_number m (place g h) p) given.writes.memory
-      ∙ given.passes.stays tt h first last p below own before low behind (let longer = code_longer given.middle f given.more.0 given.more.1 in omega (arith, longer, high))
+      ∙ given.passes.stays tt h first last p below own ends before low behind (let longer = code_longer given.middle f given.more.0 given.more.1 in omega (arith, longer, high))
 
   module _ (has : HasRegisters g) (d : Draft) (free : g.begins ≤ d.regs) where
     -- one more instruction, which puts a word in a register that is taken behind the draft
@@ -273,7 +274,7 @@ module _ (g : Setting) (alive : Variable → Type 0) where
             total = folds f h.passes.t st there h.passes.sim
 
             done : (last : CodeState) × WritesRegisters d h.passes.t (with_scalar x (converted info.elem from (combined st (whole g alive reduction from.signed places fields set v))) st) (length (stored_in e).code) last
-            done = stores e h.passes.t st (whole g alive reduction from.signed places fields set v) low high h.passes.at h.passes.sim within total.0 total.1
+            done = stores e h.passes.t st (whole g alive reduction from.signed places fields set v) low high h.passes.at.stands h.passes.sim within total.0 total.1
 
             within_fold : Within g (fold_alone e)
             within_fold =
