@@ -58,6 +58,7 @@ use Rattle.fields_follow.proofs.Passing.{After, Behind, GivesField, Passes, afte
 use Rattle.fields_follow.proofs.Places.{HoldsTheFields, IsFileField, PlacesFields, stands_here}
 use Rattle.fields_follow.proofs.Scanning.{ScanGives, file_segments, puts_scan, scan_ended, scan_gives, scan_instr, scan_numbers, scanned_in}
 use Rattle.fields_follow.proofs.Sizes.{value_small}
+use Rattle.fields_follow.proofs.Starts.{Starts, starts_later}
 use Rattle.fields_follow.proofs.Values.{and_entry, next_field, taken, with_entry}
 
 some_shape : (o : Option ℕ) → is_none o ≡ false → (s : ℕ) × (o ≡ Some s)
@@ -127,10 +128,10 @@ module _ (g : Setting) (alive : Variable → Type 0) (n : ℕ) (places : PlacesF
         grown = (gives.passes.grown.0 + 0, extended d e b.after gives.passes.grown.0 0 gives.passes.grown.1 b.grown);
         t = gives.passes.t;
         go = gives.passes.go;
-        at = subst (λ (c : List _). At g gives.passes.t (length c)) (sym b.same) gives.passes.at;
+        at = starts_later g alive gives.passes.t gives.passes.t (length e.code) e.regs (length b.after.code) b.after.regs (omega (arith, same_length)) b.grown.regs (subst (λ (k : ℕ). At g gives.passes.t k) (sym same_length) gives.passes.at.stands) gives.passes.at;
         registers = gives.passes.registers;
         sim = gives.passes.sim;
-        stays = λ u h first later p below own before low after high. gives.passes.stays behind h first later p below own before low after (omega (arith, high, same_length));
+        stays = λ u h first later p below own ends before low after high. gives.passes.stays behind h first later p below own ends before low after (omega (arith, high, same_length));
       },
       puts_scan g fields set axis combiner unsigned direction mode bit way f a b.bits gives.passes.t st v apart (subst (λ (k : ℕ). axis < length (extents g k)) on rules.0) (fit_positive (extents g set) (places.grids set has.exists).1)
           (λ p below. flags_of g alive places fields st gives.passes.t set p gives.passes.sim has.exists below) has few (b.has f mode i gives.passes.t st (fields.active set) within on has.exists rules.1 gives.passes.sim),
@@ -156,7 +157,7 @@ module _ (g : Setting) (has : HasRegisters g) (alive : Variable → Type 0) (n :
   -- code that leaves all as it was, is said of it, and what is said where it ends early.
   abbrev pub PutsScan : Field → TExpr → (Draft → Made Out) → Type 1
   PutsScan f e made =
-      (bound : ℕ) (d : Draft) (s : CodeState) (st : State) → bound ≤ length d.fields → At g s (length d.code) → Sim g alive st s → (Q : Out → Draft → Type 0)
+      (bound : ℕ) (d : Draft) (s : CodeState) (st : State) → bound ≤ length d.fields → Starts g alive s (length d.code) d.regs → Sim g alive st s → (Q : Out → Draft → Type 0)
       → (ScanGives g alive places fields set e st → (e2 : Draft) (i : Instr) → Within g (with_instr i e2) → (p : Passes g alive bound d e2 s st (Unit {0})) → Puts g set i f p.t (λ q. scanned_in g alive places fields set st e q) → Q (O.Field f) (with_instr i e2))
       → (Ended g s (meant g fields e st) → (x : Out) (after : Draft) → Q x after) → After g Q (made d)
 
@@ -196,7 +197,7 @@ module _ (g : Setting) (has : HasRegisters g) (alive : Variable → Type 0) (n :
       next_grows O.Nothing e = tt
 
       pub scan_message : PutsScan f whole (λ d. message_to g.typed (layout g) whole (next_of g.typed (layout g) 32 true source) (O.Field f) d)
-      unfolding message_to scanned_in
+      unfolding message_to scanned_in passes_less scanned_behind
       scan_message bound d s st less here sim Q last ended =
           then_known g s (meant g fields source st) v st (λ out x. (h : Field) × ((out ≡ O.Field h) × GivesField g alive 32 (length d.fields) d s set st v h x)) Q (next_of g.typed (layout g) 32 true source d) (λ out e. next out e)
           (whole_after g has alive n ready places fields 32 set source true (omega arith) pure wide part d s st here sim) (λ out e. next_grows out e)
