@@ -50,6 +50,8 @@ pub mod Reductions
 pub mod Relations
 pub mod Saving
 pub mod Scanning
+pub mod ScanAssigning
+pub mod Scanned
 pub mod Scans
 pub mod Sizes
 pub mod Spreading

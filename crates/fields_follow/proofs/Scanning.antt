@@ -1,6 +1,6 @@
 -- What the instruction of a scan does, and what a scan means: at each position the fold of the active positions that stand
 -- before it on its line and in its segment.
-use Rattle.std.proofs.Common.{◌≡◌, ◌∙◌, ℕ, ◌<◌, ◌%◌, ◌^◌, ◌==◌, Bool, true, false, not, List, [], length, Option, Some, None, refl, sym, ap, subst}
+use Rattle.std.proofs.Common.{◌≡◌, ◌∙◌, ℕ, ◌<◌, ◌%◌, ◌^◌, ◌==◌, Bool, true, not, List, [], length, Option, Some, refl, sym, ap, subst}
 use Rattle.std.specs.List.{slice_index_or}
 use Rattle.vp_sets.specs.Lines.{steps_before}
 use Rattle.vp_sets.specs.Positions.{are_positive, coordinate}
@@ -11,6 +11,7 @@ use Rattle.cstar_base.specs.declared.operators.Inclusion.{Inclusion}
 use Rattle.cstar_base.specs.declared.operators.Inclusion.TheVariants as N
 use Rattle.cstar_base.specs.declared.operators.SegmentMode.{SegmentMode}
 use Rattle.cstar_base.specs.declared.operators.SegmentMode.TheVariants as M
+use Rattle.cstar_base.specs.Numbers.{converted}
 use Rattle.cstar_base.proofs.FoldLaws.{fold_once_below}
 use Rattle.cstar_tree.specs.declared.typed.TExpr.{TExpr}
 use Rattle.cstar_tree.specs.declared.typed.TExpr as T
@@ -18,6 +19,7 @@ use Rattle.cstar_tree.specs.declared.typed.ValueType.{ValueType}
 use Rattle.cstar_tree.specs.declared.typed.VarInfo.{VarInfo}
 use Rattle.cstar_tree.specs.declared.typed.Variable.{Variable}
 use Rattle.cstar_tree.specs.declared.typed.Variable.TheVariants as V
+use Rattle.cstar_tree.specs.Typed.{type_of}
 use Rattle.lower_base.specs.Drafts.{step as step_of}
 use Rattle.lower_base.specs.Operators.{scan_fold_of}
 use Rattle.paris_code.specs.declared.instr.Instr.{Instr}
@@ -47,10 +49,8 @@ use Rattle.fields_follow.specs.Fields.{IsElement}
 use Rattle.fields_follow.proofs.Folds.{identity_below}
 use Rattle.fields_follow.proofs.Instructions.{HasNumbers, Puts, extents, has_words, place, shapes}
 use Rattle.fields_follow.proofs.Meaning.{as_shaped, value_in}
-use Rattle.fields_follow.proofs.Neighbours.{fit_positive}
 use Rattle.fields_follow.proofs.Outcomes.{Ended, ended_on, meant}
-use Rattle.fields_follow.proofs.Passing.{flags_of}
-use Rattle.fields_follow.proofs.Places.{HoldsTheFields, IsFileField, PlacesFields, of_file}
+use Rattle.fields_follow.proofs.Places.{HoldsTheFields, IsFileField, PlacesFields}
 
 module _ (g : Setting) (fields : HoldsTheFields g) (set axis : ℕ) (combiner : Combiner) (unsigned : Bool) (direction : Direction) (mode : SegmentMode) (bit : Option Variable) (inclusion : Inclusion) where
   -- the scan in the source, and its numbers
@@ -135,9 +135,10 @@ module _ (g : Setting) (alive : Variable → Type 0) (places : PlacesFields g) (
       by M.StartBit with_bit counted = number (with_bit d_exists there)
       by M.SegmentBit with_bit counted = number (with_bit d_exists there)
 
-  -- the numbers of a scan
+  -- the numbers of a scan, maybe converted
   unfoldable pub scanned_in : State → TExpr → ℕ → ℕ
   scanned_in st (T.Brackets' ty p inner) q = scanned_in st inner q
+  scanned_in st (T.Convert' ty p operand) q = converted ty.elem (type_of operand).elem (scanned_in st operand q)
   scanned_in st (T.Scan' ty p source axis combiner direction mode bit inclusion) q = scan_numbers g fields set axis combiner (not ty.elem.signed) direction mode bit inclusion st (λ x. value_in (extents g set) st source x) q
   scanned_in st (T.Enumerate ty axis direction inclusion mode bit) q = scan_numbers g fields set axis C.Add (not ty.elem.signed) direction mode bit inclusion st (λ x. 1) q
   scanned_in st _ q = 0

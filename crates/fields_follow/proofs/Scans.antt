@@ -1,5 +1,5 @@
 -- The code of scans follows: their last instruction puts their numbers in a field.
-use Rattle.std.proofs.Common.{◌≡◌, ◌∙◌, ℕ, ◌+◌, ◌<◌, ◌≤◌, ◌^◌, ◌==◌, Bool, true, false, not, List, [], ◌∷◌, length, Option, Some, None, refl, sym, ap, subst, arith}
+use Rattle.std.proofs.Common.{◌≡◌, ◌∙◌, ℕ, ◌+◌, ◌<◌, ◌≤◌, ◌^◌, Bool, true, false, not, [], ◌∷◌, length, Option, Some, None, refl, sym, ap, subst, arith}
 use Rattle.std.specs.List.{slice_index_or}
 use Rattle.std.specs.Prelude.{is_none}
 use denote.Hole.Carrier
@@ -24,10 +24,13 @@ use Rattle.lower_base.specs.declared.emit.Out.{Out}
 use Rattle.lower_base.specs.declared.emit.Out.TheVariants as O
 use Rattle.lower_base.specs.Drafts.{Draft, Made, Makes, an_entry, from, in_field, step as step_of, then_make, with_instr}
 use Rattle.lower_base.specs.Operators.{is_signed, scan_fold_of}
-use Rattle.lower_comm.specs.Messages.{communicated, part_field, scanned as scanned_by, segment_field}
+use Rattle.lower_comm.specs.Messages.{communicated, enumerated, part_field, scanned as scanned_by, segment_field}
 use Rattle.lower_expr.specs.Values.{message_to, next_of}
 use Rattle.paris_code.specs.declared.instr.Instr.{Instr}
+use Rattle.paris_code.specs.declared.instr.Instr.TheVariants as I
 use Rattle.paris_code.specs.declared.operands.Field.{Field}
+use Rattle.paris_code.specs.declared.operands.Konst.TheVariants as K
+use Rattle.paris_code.specs.declared.operands.Reduction.TheVariants as F
 use Rattle.paris_code.specs.declared.program.Owner.{Owner}
 use Rattle.paris_code.specs.declared.program.Owner.TheVariants as W
 use Rattle.paris_code.specs.Code.{CodeState}
@@ -44,22 +47,22 @@ use Rattle.code_follows.specs.Fragment.{ScalarsAmong}
 use Rattle.code_follows.proofs.Following.{Extends, HasRegisters, Sim}
 use Rattle.code_follows.proofs.Growing.{Extended, as_it_was, extended}
 use Rattle.code_follows.proofs.Operators.{wide_signed}
-use Rattle.code_follows.proofs.Settings.{At, Setting, Within, and_one, layout}
+use Rattle.code_follows.proofs.Settings.{At, Setting, Within, and_one, earlier, layout}
 use Rattle.code_follows.proofs.Words.{below_word}
 use Rattle.fields_follow.specs.Fields.{IsElement, file_number}
-use Rattle.fields_follow.specs.Fragment.{IsPure, IsScan, IsSegments, IsWide}
+use Rattle.fields_follow.specs.Fragment.{IsPure, IsSegments, IsWide}
 use Rattle.fields_follow.proofs.Expressions.{whole_after}
 use Rattle.fields_follow.proofs.Forms.{HasItsCode, element_is, field_is}
-use Rattle.fields_follow.proofs.Instructions.{HasNumbers, Puts, extents, place, shapes}
+use Rattle.fields_follow.proofs.Instructions.{HasNumbers, Puts, extents, place, puts_constant, shapes, word_in}
 use Rattle.fields_follow.proofs.Meaning.{value_in}
 use Rattle.fields_follow.proofs.Neighbours.{fit_positive}
 use Rattle.fields_follow.proofs.Outcomes.{Ended, meant, then_known}
-use Rattle.fields_follow.proofs.Passing.{After, Behind, GivesField, Passes, after_same, flags_of, gives_numbers, made_after, names_second, passes_less}
-use Rattle.fields_follow.proofs.Places.{HoldsTheFields, IsFileField, PlacesFields, stands_here}
-use Rattle.fields_follow.proofs.Scanning.{ScanGives, file_segments, puts_scan, scan_ended, scan_gives, scan_instr, scan_numbers, scanned_in}
+use Rattle.fields_follow.proofs.Passing.{After, Behind, GivesField, Passes, after_same, flags_of, gives_from, gives_numbers, made_after, names_second, passes_less, puts_own}
+use Rattle.fields_follow.proofs.Places.{HoldsTheFields, IsFileField, IsOwnField, PlacesFields, stands_here}
+use Rattle.fields_follow.proofs.Scanning.{ScanGives, file_segments, ones_give, puts_scan, scan_ended, scan_gives, scan_instr, scan_numbers, scanned_in}
 use Rattle.fields_follow.proofs.Sizes.{value_small}
 use Rattle.fields_follow.proofs.Starts.{Starts, starts_later}
-use Rattle.fields_follow.proofs.Values.{and_entry, next_field, taken, with_entry}
+use Rattle.fields_follow.proofs.Values.{and_entry, next_field, one_more, taken, with_entry}
 
 some_shape : (o : Option ℕ) → is_none o ≡ false → (s : ℕ) × (o ≡ Some s)
 some_shape (Some s) h = (s, refl)
@@ -166,7 +169,7 @@ module _ (g : Setting) (has : HasRegisters g) (alive : Variable → Type 0) (n :
     abbrev whole : TExpr
     whole = T.Scan' ty p source axis combiner direction mode bit way
 
-    source_part : HasItsCode g.typed g.instance alive n whole → HasItsCode g.typed g.instance alive n source × HasBits g.typed g.instance n bit
+    pub source_part : HasItsCode g.typed g.instance alive n whole → HasItsCode g.typed g.instance alive n source × HasBits g.typed g.instance n bit
     unfolding IsShaped IsLowerable NamesVariables ScalarsAmong
     source_part c = (record { code = record { shaped = c.code.shaped; lowerable = c.code.lowerable.2; names = c.code.names.1 }; among = c.among }, c.code.names.0)
 
@@ -214,3 +217,51 @@ module _ (g : Setting) (has : HasRegisters g) (alive : Variable → Type 0) (n :
 
           few : (q : ℕ) → v q < 2 ^ 32
           few q = below_word (type_of source).elem.bits _ wide.1 (value_small g alive n places fields set source st s sim pure part q)
+
+  -- a scan of ones, which are put in an entry first
+  module _ (ty : ValueType) (axis : ℕ) (direction : Direction) (way : Inclusion) (mode : SegmentMode) (bit : Option Variable) (wide : IsWide set ty) (is_bit : IsSegments bit) (c : HasItsCode g.typed g.instance alive n (T.Enumerate ty axis direction way mode bit)) (f : Field) (on : f.set ≡ set) where
+    abbrev ones : TExpr
+    ones = T.Enumerate ty axis direction way mode bit
+
+    ones_bits : HasBits g.typed g.instance n bit
+    unfolding NamesVariables
+    ones_bits = c.code.names
+
+    abbrev one_field : Draft → Field
+    one_field d = next_field set 32 d
+
+    abbrev one_instr : Draft → Instr
+    one_instr d = I.MoveConstant (one_field d) (K.Imm 1)
+
+    abbrev with_ones : Draft → Draft
+    with_ones d = with_instr (one_instr d) (with_entry set 32 W.Own d)
+
+    bits_of_ones : (d : Draft) → Segments g alive n places fields set bit (with_ones d)
+    bits_of_ones d = segments g alive n places fields set bit (with_ones d) is_bit ones_bits
+
+    abbrev ones_instr : Draft → Instr
+    ones_instr d = scan_instr g fields set axis C.Add (not ty.elem.signed) direction mode bit way f (one_field d) (bits_of_ones d).bits
+
+    ones_are : (d : Draft) → communicated g.typed (layout g) ones O.Nothing [] (O.Field f) d ≡ Makes (O.Field f) (with_instr (ones_instr d) (bits_of_ones d).after)
+    unfolding communicated enumerated in_field out-TExpr Carrier.out scanned_by then_make an_entry scan_fold_of
+    ones_are d =
+        ap (λ (k : ℕ). communicated_from (next_field k 32 d) (with_entry k 32 W.Own d)) on
+        ∙ ap (λ (m : Made (Option Field)). then_make m (λ bits after. scanned_by F.SAdd (one_field d) (record { axis = axis; direction = direction; mode = mode; inclusion = way }) bits (O.Field f) after)) (bits_of_ones d).made
+      where
+        communicated_from : Field → Draft → Made Out
+        communicated_from one b = then_make (segment_field g.typed (layout g) bit (with_instr (I.MoveConstant one (K.Imm 1)) b)) (λ bits after. scanned_by F.SAdd one (record { axis = axis; direction = direction; mode = mode; inclusion = way }) bits (O.Field f) after)
+
+    pub ones_message : PutsScan f ones (λ d. communicated g.typed (layout g) ones O.Nothing [] (O.Field f) d)
+    unfolding scanned_in passes_less scanned_behind word_in
+    ones_message bound d s st less here sim Q last ended =
+        after_same g Q (ones_are d) (made_after g Q (O.Field f) (with_instr (ones_instr d) (bits_of_ones d).after) (λ within.
+        let d1 : Draft = with_entry set 32 W.Own d in
+        let e : Draft = with_ones d in
+        let behind : Extended e (0 + 1) (with_instr (ones_instr d) (bits_of_ones d).after) = extended e (bits_of_ones d).after (with_instr (ones_instr d) (bits_of_ones d).after) 0 1 (bits_of_ones d).grown (and_one g (ones_instr d) (bits_of_ones d).after) in
+        let early : Within g e = earlier g e (with_instr (ones_instr d) (bits_of_ones d).after) (0 + 1) behind within in
+        let own : IsOwnField g (one_field d) = taken g set 32 W.Own d (with_instr (ones_instr d) (bits_of_ones d).after) (1 + (0 + 1)) within (extended d1 e (with_instr (ones_instr d) (bits_of_ones d).after) 1 (0 + 1) (and_one g (one_instr d) d1) behind) in
+        let gives : GivesField g alive 32 (length d.fields) d s set st (λ q. 1) (one_field d) e =
+        gives_from g alive 32 (length d.fields) d d1 e s set st (λ q. 1) (one_field d) (and_entry set 32 W.Own d)
+        (puts_own g alive places fields 32 (length d.fields) set (one_instr d) (one_field d) d1 s st (λ q. 1) (omega arith) (let one = one_more set 32 W.Own d in omega (arith, one)) own refl refl early here sim (puts_constant g set (one_field d) (K.Imm 1) s (omega arith))) in
+        let (passes, puts) = scanned_behind g alive n places fields set axis C.Add (not ty.elem.signed) direction mode bit way (λ same. absurd (let wrong = same in cc)) f (one_field d) (length d.fields) d e s st (λ q. 1) on (λ q. omega arith) gives (bits_of_ones d) within in
+        last (ones_give g alive places fields set ty axis direction way mode bit st wide.0) (bits_of_ones d).after (ones_instr d) within (passes_less g alive bound (length d.fields) d (bits_of_ones d).after s st (Unit {0}) less passes) puts))

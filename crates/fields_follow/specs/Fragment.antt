@@ -1,8 +1,9 @@
 -- The programs with parallel variables of which it is said so far that their code means them. Their parallel
 -- expressions are pure ones, of variables of the file of all types, gets from neighbours round the ends of the grid, own
 -- coordinates and promoted scalars, which change nothing; they fail where a divisor is 0 at an active position, and
--- nowhere else. They are assigned to such variables, as truth values of them are, and folded into numbers and onto scalar
--- variables, and they are the conditions of `where`. Folds are of the active positions.
+-- nowhere else. They are assigned to such variables, as truth values of them are, and scans of them and of ones, and folded
+-- into numbers and onto scalar variables, and they are the conditions of `where`. Folds and scans are of the active
+-- positions.
 -- Under `where` and `everywhere` stand the statements of scalar programs with these, also calls, `return` and jumps that
 -- lead out of them.
 use Rattle.std.specs.Prelude.{ℕ, ◌≡◌, ◌<◌, ◌≤◌, ◌+◌, ◌^◌, ◌⊎◌, ◌==◌, true, false, Option, Some, None}
@@ -194,6 +195,17 @@ IsScan set (T.Scan' ty p source axis combiner direction mode bit within) = (ty �
 IsScan set (T.Enumerate ty axis direction within mode bit) = IsWide set ty × IsSegments bit
 IsScan set _ = ⊥
 
+-- a scan, or one that is converted to a type of at least so many bits, which is no `bool`
+unfoldable pub IsScanned : ℕ → ℕ → TExpr → Type 0
+IsScanned set bits (T.Brackets' ty p inner) = (ty ≡ type_of inner) × IsScanned set bits inner
+IsScanned set bits (T.Convert' ty p operand) = (ty.shape ≡ Some set) × ((ty.elem.bits == 1) ≡ false) × (bits ≤ ty.elem.bits) × IsScan set operand
+IsScanned set bits e = IsScan set e
+
+-- such a value is assigned to a parallel variable of as many bits
+unfoldable pub IsScanAssigned : TExpr → Type 0
+IsScanAssigned (T.Assign' ty place op p target q value) = (ty ≡ type_of target) × (assign_op_of op ≡ None) × ((type_of value).elem.bits ≡ ty.elem.bits) × ((set : ℕ) × (IsTarget set target × IsScanned set ty.elem.bits value))
+IsScanAssigned _ = ⊥
+
 -- a value of 32 bits that is folded
 abbrev pub IsFolded : ℕ → TExpr → Type 0
 IsFolded set e = HasItsKind set e × IsWide set (type_of e)
@@ -226,7 +238,7 @@ IsFoldOnto _ = ⊥
 
 -- a parallel expression whose value is not used
 abbrev pub IsParallelEffect : TExpr → Type 0
-IsParallelEffect e = IsUpdate e ⊎ IsFoldOnto e
+IsParallelEffect e = IsUpdate e ⊎ (IsFoldOnto e ⊎ IsScanAssigned e)
 
 -- a parallel variable, which is no array
 abbrev pub IsParallelVariable : VarInfo → Type 0
