@@ -42,13 +42,13 @@ module _ (g : Setting) where
   abbrev pub IsFileField : ℕ → ℕ → Field → Type 0
   IsFileField k element f = IsEntry g.unit f.offset (record { set = f.set; len = f.len; owner = W.File (file_number g.typed k element) })
 
-  -- What is known of the unit's fields in the image: those that instructions name end below the flags; a
-  -- scan goes along an axis of its set, and its bit is of the set; the
+  -- What is known of the unit's fields in the image: those that instructions name end below the flags; the
   -- entry of an element is at its field, which ends below them too, and is apart from those of other elements and
   -- from own entries; two own entries are apart where each is named at an instruction, or before it, and behind it;
   -- both are apart from what stands below the unit's entries, as an own entry that is named before a call and behind it
   -- stands below those of what is called; and the coordinates of any number are words, and the shapes are grids with the
-  -- extents of the source. A field that takes an address ends below the flags too.
+  -- extents of the source. A field that takes an address ends below the flags too. A scan goes along an axis of its set,
+  -- and its bit is of that set.
   pub record PlacesFields : Type 0 where
     pub ends : (at : ℕ) (i : Instr) (f : Field) (others : List Field) → StandsAt g.unit at i → step_of i ≡ Plain i → NamesFields i → fields_of i ≡ f ∷ others → (f.set < length (shapes g)) × ((place g f).offset + f.len ≤ bits_at (shapes g) f.set)
     pub scans : (at : ℕ) (combiner : Reduction) (d a : Field) (axis : ℕ) (direction : Direction) (mode : SegmentMode) (bit : Option Field) (within : Inclusion) → StandsAt g.unit at (I.Scan combiner d a axis direction mode bit within)
