@@ -53,6 +53,10 @@ pub mod Reductions
 pub mod Relations
 pub mod Routing
 pub mod Saving
+pub mod Scanning
+pub mod ScanAssigning
+pub mod Scanned
+pub mod Scans
 pub mod Sizes
 pub mod Spreading
 pub mod Starts
