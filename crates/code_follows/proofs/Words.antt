@@ -14,7 +14,7 @@ use Rattle.lower_expr.specs.Steps.{is_kept}
 use Rattle.source_meaning.specs.Constants.{then_value, value_of}
 use Rattle.source_meaning.specs.Reductions.{int_type}
 use Rattle.source_meaning.specs.Values.{nonzero, cast_through, cast_type}
-use Rattle.code_follows.specs.Fragment.{AreIn, IsIn, IsScalarType, IsVariable, May, ScalarsAmong, naming}
+use Rattle.code_follows.specs.Fragment.{AllAmong, AreIn, IsIn, IsScalarType, IsVariable, May, ScalarsAmong, naming}
 use Rattle.cstar_tree.specs.declared.typed.Variable.{Variable}
 use mathlib.Core.Former.{Count}
 use Rattle.code_follows.proofs.Following.{held}
@@ -160,21 +160,28 @@ target_widened may more fits (T.Variable ty x) h = (h.0, fits x h.1)
 target_widened may more fits (T.Brackets' ty p inner) h = (h.0, target_widened may more fits inner h.1)
 target_widened may more fits _ h = absurd h
 
-scalars_widened : (names more : Variable → Type 0) → ((x : Variable) → names x → more x) → (e : TExpr) → ScalarsAmong names e → ScalarsAmong more e
-unfolding ScalarsAmong
-scalars_widened names more fits (T.Variable ty x) h = λ scalar. fits x (h scalar)
-scalars_widened names more fits (T.Brackets' ty p inner) h = scalars_widened names more fits inner h
-scalars_widened names more fits (T.Convert' ty p operand) h = scalars_widened names more fits operand h
-scalars_widened names more fits (T.Promote' ty p operand) h = scalars_widened names more fits operand h
-scalars_widened names more fits (T.Unary' ty op p operand) h = scalars_widened names more fits operand h
-scalars_widened names more fits (T.Binary' ty place op p left q right) h = (scalars_widened names more fits left h.0, scalars_widened names more fits right h.1)
-scalars_widened names more fits (T.LogicalOr' ty p left q right) h = (scalars_widened names more fits left h.0, scalars_widened names more fits right h.1)
-scalars_widened names more fits (T.LogicalAnd' ty p left q right) h = (scalars_widened names more fits left h.0, scalars_widened names more fits right h.1)
-scalars_widened names more fits (T.Assign' ty place op p target q value) h = (scalars_widened names more fits target h.0, scalars_widened names more fits value h.1)
-scalars_widened names more fits (T.Step' ty op order p target) h = scalars_widened names more fits target h
-scalars_widened names more fits (T.Reduce' ty op p operand) h = scalars_widened names more fits operand h
-scalars_widened names more fits (T.Scan' ty p source axis combiner direction mode bit within) h = scalars_widened names more fits source h
-scalars_widened names more fits _ h = tt
+mutual
+  unfolding ScalarsAmong
+
+  scalars_widened : (names more : Variable → Type 0) → ((x : Variable) → names x → more x) → (e : TExpr) → ScalarsAmong names e → ScalarsAmong more e
+  scalars_widened names more fits (T.Variable ty x) h = λ scalar. fits x (h scalar)
+  scalars_widened names more fits (T.Brackets' ty p inner) h = scalars_widened names more fits inner h
+  scalars_widened names more fits (T.Convert' ty p operand) h = scalars_widened names more fits operand h
+  scalars_widened names more fits (T.Promote' ty p operand) h = scalars_widened names more fits operand h
+  scalars_widened names more fits (T.Unary' ty op p operand) h = scalars_widened names more fits operand h
+  scalars_widened names more fits (T.Binary' ty place op p left q right) h = (scalars_widened names more fits left h.0, scalars_widened names more fits right h.1)
+  scalars_widened names more fits (T.LogicalOr' ty p left q right) h = (scalars_widened names more fits left h.0, scalars_widened names more fits right h.1)
+  scalars_widened names more fits (T.LogicalAnd' ty p left q right) h = (scalars_widened names more fits left h.0, scalars_widened names more fits right h.1)
+  scalars_widened names more fits (T.Assign' ty place op p target q value) h = (scalars_widened names more fits target h.0, scalars_widened names more fits value h.1)
+  scalars_widened names more fits (T.Step' ty op order p target) h = scalars_widened names more fits target h
+  scalars_widened names more fits (T.Reduce' ty op p operand) h = scalars_widened names more fits operand h
+  scalars_widened names more fits (T.LeftIndex' ty place p indexes x of) h = all_scalars_widened names more fits indexes h
+  scalars_widened names more fits (T.Scan' ty p source axis combiner direction mode bit within) h = scalars_widened names more fits source h
+  scalars_widened names more fits _ h = tt
+
+  all_scalars_widened : {n : Count} (names more : Variable → Type 0) → ((x : Variable) → names x → more x) → (row : Row_of-TExpr n) → AllAmong names row → AllAmong more row
+  all_scalars_widened names more fits end_of-TExpr h = tt
+  all_scalars_widened names more fits (more_of-TExpr e rest) h = (scalars_widened names more fits e h.0, all_scalars_widened names more fits rest h.1)
 
 mutual
   unfolding IsIn AreIn

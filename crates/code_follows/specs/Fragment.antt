@@ -91,20 +91,26 @@ abbrev pub elems_of : {n : _} → Row_of-TExpr n → List Elem
 elems_of arguments = map (λ (e : TExpr). (type_of e).elem) (items-the_row-TExpr _ arguments)
 
 -- the scalar variables that a parallel expression names are among these
-unfoldable pub ScalarsAmong : (Variable → Type 0) → TExpr → Type 0
-ScalarsAmong names (T.Variable ty x) = IsScalarType ty → names x
-ScalarsAmong names (T.Brackets' ty p inner) = ScalarsAmong names inner
-ScalarsAmong names (T.Convert' ty p operand) = ScalarsAmong names operand
-ScalarsAmong names (T.Promote' ty p operand) = ScalarsAmong names operand
-ScalarsAmong names (T.Unary' ty op p operand) = ScalarsAmong names operand
-ScalarsAmong names (T.Binary' ty place op p left q right) = ScalarsAmong names left × ScalarsAmong names right
-ScalarsAmong names (T.LogicalOr' ty p left q right) = ScalarsAmong names left × ScalarsAmong names right
-ScalarsAmong names (T.LogicalAnd' ty p left q right) = ScalarsAmong names left × ScalarsAmong names right
-ScalarsAmong names (T.Assign' ty place op p target q value) = ScalarsAmong names target × ScalarsAmong names value
-ScalarsAmong names (T.Step' ty op order p target) = ScalarsAmong names target
-ScalarsAmong names (T.Reduce' ty op p operand) = ScalarsAmong names operand
-ScalarsAmong names (T.Scan' ty p source axis combiner direction mode bit within) = ScalarsAmong names source
-ScalarsAmong names _ = Unit {0}
+unfoldable mutual
+  pub ScalarsAmong : (Variable → Type 0) → TExpr → Type 0
+  ScalarsAmong names (T.Variable ty x) = IsScalarType ty → names x
+  ScalarsAmong names (T.Brackets' ty p inner) = ScalarsAmong names inner
+  ScalarsAmong names (T.Convert' ty p operand) = ScalarsAmong names operand
+  ScalarsAmong names (T.Promote' ty p operand) = ScalarsAmong names operand
+  ScalarsAmong names (T.Unary' ty op p operand) = ScalarsAmong names operand
+  ScalarsAmong names (T.Binary' ty place op p left q right) = ScalarsAmong names left × ScalarsAmong names right
+  ScalarsAmong names (T.LogicalOr' ty p left q right) = ScalarsAmong names left × ScalarsAmong names right
+  ScalarsAmong names (T.LogicalAnd' ty p left q right) = ScalarsAmong names left × ScalarsAmong names right
+  ScalarsAmong names (T.Assign' ty place op p target q value) = ScalarsAmong names target × ScalarsAmong names value
+  ScalarsAmong names (T.Step' ty op order p target) = ScalarsAmong names target
+  ScalarsAmong names (T.Reduce' ty op p operand) = ScalarsAmong names operand
+  ScalarsAmong names (T.LeftIndex' ty place p indexes x of) = AllAmong names indexes
+  ScalarsAmong names (T.Scan' ty p source axis combiner direction mode bit within) = ScalarsAmong names source
+  ScalarsAmong names _ = Unit {0}
+
+  pub AllAmong : {n : _} → (Variable → Type 0) → Row_of-TExpr n → Type 0
+  AllAmong names end_of-TExpr = Unit {0}
+  AllAmong names (more_of-TExpr e rest) = ScalarsAmong names e × AllAmong names rest
 
 -- An expression whose value is used: of numbers, variables, `getchar`, operators, conversions and casts to any
 -- scalar types, assignments and steps of scalar variables, calls, and folds of parallel values.

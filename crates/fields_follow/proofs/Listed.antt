@@ -101,7 +101,7 @@ pub address_fits : (image : Image) (at : ℕ) (d : Field) (set : ℕ) (list : _)
 address_fits image at d set list rules = (rules.set.0, (rules.field.0 rules.set.0).2)
 
 module _ (g : Setting) where
-  abbrev places : List ℕ
+  abbrev pub places : List ℕ
   places = slice_index_or g.placed.places g.number []
 
   -- the instruction of a step stands at the place of the unit, and another for it in the image

@@ -29,6 +29,26 @@ module _ (g : Setting) where
   AllBehind (O.Field f ∷ outs) e = Behind g f e × AllBehind outs e
   AllBehind (out ∷ outs) e = ⊥
 
+  -- all of them are fields
+  unfoldable pub AreFields : List Out → Type 0
+  AreFields [] = Unit {0}
+  AreFields (O.Field f ∷ outs) = AreFields outs
+  AreFields (out ∷ outs) = ⊥
+
+  fields_more : (outs : List Out) (f : Field) → AreFields outs → AreFields (outs ++ O.Field f ∷ [])
+  unfolding AreFields
+  fields_more [] f are = tt
+  fields_more (O.Field h ∷ outs) f are = fields_more outs f are
+  fields_more (O.Scalar r ∷ outs) f are = absurd are
+  fields_more (O.Nothing ∷ outs) f are = absurd are
+
+  pub fields_somewhere : (outs : List Out) → AreFields outs → all_somewhere outs ≡ true
+  unfolding AreFields all_somewhere
+  fields_somewhere [] are = refl
+  fields_somewhere (O.Field h ∷ outs) are = fields_somewhere outs are
+  fields_somewhere (O.Scalar r ∷ outs) are = absurd are
+  fields_somewhere (O.Nothing ∷ outs) are = absurd are
+
   front_behind : (outs : List Out) (f : Field) (e : Draft) → AllBehind (outs ++ O.Field f ∷ []) e → AllBehind outs e × Behind g f e
   unfolding AllBehind
   front_behind [] f e (b, done) = (tt, b)
@@ -52,6 +72,7 @@ module _ (g : Setting) where
 
     -- code passes, and where they are named behind it they stand there
     pub record PartsStand (bound : ℕ) (d : Draft) (s : CodeState) (set : ℕ) (st : State) (vs : List (ℕ → ℕ)) (outs : List Out) (e : Draft) : Type 0 where
+      pub shaped : AreFields outs
       pub passes : Passes g alive bound d e s st (AllBehind outs e)
       pub stand : AllBehind outs e → AllStand bound e set passes.t st vs outs
 
@@ -98,6 +119,7 @@ module _ (g : Setting) where
           → GivesField g alive 32 (length e.fields) e a.passes.t set st v f e2 → PartsStand bound d s set st (vs ++ v ∷ []) (outs ++ O.Field f ∷ []) e2
       unfolding passes_on
       parts_more bound d e e2 s set st vs outs v f less a gives = record {
+        shaped = fields_more outs f a.shaped;
         passes = passes_on g alive bound (length e.fields) d e e2 s st (AllBehind outs e) (Behind g f e2) (AllBehind (outs ++ O.Field f ∷ []) e2) less a.passes gives.passes (λ behind. earlier behind) (λ behind. (front_behind outs f e2 behind).1);
         stand = λ behind.
             one_more_stands bound e2 set gives.passes.t st v f vs outs

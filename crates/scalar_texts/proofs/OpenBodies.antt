@@ -10,7 +10,7 @@ use Rattle.cstar_tree.specs.declared.typed.TStmt as S
 use Rattle.cstar_tree.specs.declared.typed.Variable.{Variable}
 use Rattle.cstar_tree.specs.declared.typed.Variable.TheVariants as V
 use mathlib.Core.Former.{Count}
-use Rattle.code_follows.specs.Fragment.{AreIn, AreInStatements, AreInitials, IsBody, IsEffect, IsIn, IsInElse, IsInStatement, IsTested, IsVariable, May, OrAmong, ScalarsAmong, naming, within}
+use Rattle.code_follows.specs.Fragment.{AllAmong, AreIn, AreInStatements, AreInitials, IsBody, IsEffect, IsIn, IsInElse, IsInStatement, IsTested, IsVariable, May, OrAmong, ScalarsAmong, naming, within}
 use Rattle.code_lengths.specs.NamingStatements.{behind}
 use Rattle.open_names.specs.Opens.{AllNameOpen, ElseNamesOpen, InitialsNameOpen, IsAmong, IsOpen, NamesOpen, Open, StatementNamesOpen, StatementsNameOpen, opened}
 use Rattle.source_meaning.specs.State.{is_among}
@@ -33,21 +33,28 @@ module _ (may : May) (names : Variable → Type 0) (blocks : Open) (fits : Fits 
   variable_open (T.Brackets' ty p inner) h n = (h.0, variable_open inner h.1 n)
   variable_open _ h n = absurd h
 
-  scalars_open : (e : TExpr) → NamesOpen blocks e → ScalarsAmong names e
-  unfolding ScalarsAmong NamesOpen
-  scalars_open (T.Variable ty x) n = λ scalar. fits x n
-  scalars_open (T.Brackets' ty p inner) n = scalars_open inner n
-  scalars_open (T.Convert' ty p operand) n = scalars_open operand n
-  scalars_open (T.Promote' ty p operand) n = scalars_open operand n
-  scalars_open (T.Unary' ty op p operand) n = scalars_open operand n
-  scalars_open (T.Binary' ty place op p left q right) n = (scalars_open left n.0, scalars_open right n.1)
-  scalars_open (T.LogicalOr' ty p left q right) n = (scalars_open left n.0, scalars_open right n.1)
-  scalars_open (T.LogicalAnd' ty p left q right) n = (scalars_open left n.0, scalars_open right n.1)
-  scalars_open (T.Assign' ty place op p target q value) n = (scalars_open target n.0, scalars_open value n.1)
-  scalars_open (T.Step' ty op order p target) n = scalars_open target n
-  scalars_open (T.Reduce' ty op p operand) n = scalars_open operand n
-  scalars_open (T.Scan' ty p source axis combiner direction mode bit within) n = scalars_open source n.1
-  scalars_open _ n = tt
+  mutual
+    unfolding ScalarsAmong NamesOpen AllNameOpen
+
+    scalars_open : (e : TExpr) → NamesOpen blocks e → ScalarsAmong names e
+    scalars_open (T.Variable ty x) n = λ scalar. fits x n
+    scalars_open (T.Brackets' ty p inner) n = scalars_open inner n
+    scalars_open (T.Convert' ty p operand) n = scalars_open operand n
+    scalars_open (T.Promote' ty p operand) n = scalars_open operand n
+    scalars_open (T.Unary' ty op p operand) n = scalars_open operand n
+    scalars_open (T.Binary' ty place op p left q right) n = (scalars_open left n.0, scalars_open right n.1)
+    scalars_open (T.LogicalOr' ty p left q right) n = (scalars_open left n.0, scalars_open right n.1)
+    scalars_open (T.LogicalAnd' ty p left q right) n = (scalars_open left n.0, scalars_open right n.1)
+    scalars_open (T.Assign' ty place op p target q value) n = (scalars_open target n.0, scalars_open value n.1)
+    scalars_open (T.Step' ty op order p target) n = scalars_open target n
+    scalars_open (T.Reduce' ty op p operand) n = scalars_open operand n
+    scalars_open (T.LeftIndex' ty place p indexes x of) n = all_scalars_open indexes n.1
+    scalars_open (T.Scan' ty p source axis combiner direction mode bit within) n = scalars_open source n.1
+    scalars_open _ n = tt
+
+    all_scalars_open : {k : Count} (row : Row_of-TExpr k) → AllNameOpen blocks row → AllAmong names row
+    all_scalars_open end_of-TExpr n = tt
+    all_scalars_open (more_of-TExpr e rest) n = (scalars_open e n.0, all_scalars_open rest n.1)
 
   mutual
     unfolding IsIn AreIn NamesOpen AllNameOpen
