@@ -85,7 +85,7 @@ module _ (t : Typed) (i : Instance) (n : ℕ) (set : ℕ) (extents : List ℕ) (
   each_named axis (extent ∷ later) end_of-TExpr from are names many = absurd (omega (arith, many))
 
 -- the extents of a shape, as the meaning asks for them
-own_extents : (t : Typed) (set : ℕ) (extents : List ℕ) → slice_get (N.extents_in t) set ≡ Some extents → extents_in t set ≡ extents
+pub own_extents : (t : Typed) (set : ℕ) (extents : List ℕ) → slice_get (N.extents_in t) set ≡ Some extents → extents_in t set ≡ extents
 unfolding extents_of
 own_extents t set extents known = by (slice_get t.shapes.items set) (sym (slice_get-map (λ (s : ShapeInfo). s.extents.items) t.shapes.items set) ∙ known)
   where

@@ -52,6 +52,8 @@ pub mod Quiet
 pub mod Reducing
 pub mod Reductions
 pub mod Relations
+pub mod Router
+pub mod RouterCode
 pub mod Routing
 pub mod Saving
 pub mod Scanning

@@ -69,6 +69,11 @@ least_clear f (suc n) k none less = by (least_below f n) (f n) refl refl (λ bel
     by None true below here earlier h which = cc
     by (Some x) b below here earlier h which = cc
 
+-- a step of the description is one more instruction
+pub and_step : (next : Step) (e : Draft) → Extended e 1 (with_step next e)
+unfolding with_step
+and_step next e = record { more = next ∷ []; code = refl; long = refl; entries = []; fields = append_nothing e.fields; regs = omega arith; homes = []; homes_are = append_nothing e.homes }
+
 -- what holds of one of a list holds of one of a longer list
 any_later : {A : Type 0} (P : A → Type 0) (x : A) (xs : List A) → Any P xs → Any P (x ∷ xs)
 any_later P x xs (k, y, less, there, holds) = (suc k, y, omega (arith, less), there, holds)
@@ -139,7 +144,7 @@ module _ (g : Setting) where
         by (Some q) = refl
 
     -- where no index is outside, each lies within its extent at the active positions
-    inside : (set : ℕ) (given : List Operand) → set < length (shapes g) → outside_at fields.scope fields.active set given ≡ None → (q : ℕ) → q < processors (shapes g) set → fields.active set q ≡ true → are_within (extents g set) given q ≡ true
+    pub inside : (set : ℕ) (given : List Operand) → set < length (shapes g) → outside_at fields.scope fields.active set given ≡ None → (q : ℕ) → q < processors (shapes g) set → fields.active set q ≡ true → are_within (extents g set) given q ≡ true
     unfolding failing positions
     inside set given exists none q below on =
         ap (λ (xs : List ℕ). are_within xs given q) (sym (fields.same_extents set exists))
@@ -206,11 +211,6 @@ module _ (g : Setting) where
 
           within : (p : ℕ) → p < processors (shapes g) set → is_active (shapes g) s.memory set p ≡ true → are_within (extents g set) given p ≡ true
           within p below on = inside set given exists none p below (sym (flags_of g alive places fields st s set p sim exists below) ∙ on)
-
-      -- A step of the description is one more instruction.
-      and_step : (next : Step) (e : Draft) → Extended e 1 (with_step next e)
-      unfolding with_step
-      and_step next e = record { more = next ∷ []; code = refl; long = refl; entries = []; fields = append_nothing e.fields; regs = omega arith; homes = []; homes_are = append_nothing e.homes }
 
       -- both
       pub located_after : {k : _} (set bound : ℕ) (place_of : Place) (row : Row_of-TExpr k) (outs : List Out) (dest : Field) (d e : Draft) (s : CodeState) (st : State) (Q : Draft → Type 0) → ArePure set row → Coded row → length (items-the_row-TExpr _ row) ≡ length (extents g set) → set < length (shapes g)

@@ -77,10 +77,10 @@ field_read t l ty place p indexes k of into d = ap (λ (xs : List TExpr). then_m
 
 module _ (g : Setting) where
   -- the entries that it takes: for the variable, and two to go through
-  abbrev owner_of : ℕ → Owner
+  abbrev pub owner_of : ℕ → Owner
   owner_of k = W.File (file_number g.typed k 0)
 
-  abbrev for_variable : ℕ → ℕ → VarInfo → Draft → Draft
+  abbrev pub for_variable : ℕ → ℕ → VarInfo → Draft → Draft
   for_variable set k info d = with_entry set info.elem.bits (owner_of k) d
 
   abbrev for_hop : ℕ → ℕ → ℕ → VarInfo → Draft → Draft
@@ -130,7 +130,7 @@ module _ (g : Setting) where
 
   module _ (alive : Variable → Type 0) (n : ℕ) (places : PlacesFields g) (fields : HoldsTheFields g) where
     -- the variable has its words at every position
-    file_everywhere : (bits set k : ℕ) (info : VarInfo) (f : Field) (s : CodeState) (st : State) → IsElement g.typed k info set 0 → IsFileField g k 0 (record f { len = info.elem.bits }) → f.set ≡ set → f.len ≡ bits → bits ≤ info.elem.bits → Sim g alive st s
+    pub file_everywhere : (bits set k : ℕ) (info : VarInfo) (f : Field) (s : CodeState) (st : State) → IsElement g.typed k info set 0 → IsFileField g k 0 (record f { len = info.elem.bits }) → f.set ≡ set → f.len ≡ bits → bits ≤ info.elem.bits → Sim g alive st s
         → HasEverywhere g bits set f s (λ q. held info.elem (st.parallel (V.File k) 0 q))
     file_everywhere bits set k info f s st is file of_set len fits sim = record {
       of_set = of_set;
