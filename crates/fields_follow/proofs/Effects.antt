@@ -5,7 +5,7 @@ use Rattle.cstar_base.specs.declared.operators.Op.{Op}
 use Rattle.cstar_base.specs.declared.operators.Place.{Place}
 use Rattle.cstar_base.specs.declared.faults.RunFault.TheVariants.{DivZero}
 use Rattle.cstar_base.specs.Operators.{divides, outcome}
-use Rattle.cstar_tree.specs.declared.typed.TExpr.{TExpr, Row_of-TExpr}
+use Rattle.cstar_tree.specs.declared.typed.TExpr.{TExpr, Row_of-TExpr, items-the_row-TExpr}
 use Rattle.cstar_tree.specs.declared.typed.TExpr as T
 use Rattle.cstar_tree.specs.declared.typed.UnaryOp.{UnaryOp}
 use Rattle.cstar_tree.specs.declared.typed.UnaryOp.TheVariants as U
@@ -24,7 +24,7 @@ use Rattle.lower_base.specs.Layouts.{register_of}
 use Rattle.lower_base.specs.Operators.{negates}
 use Rattle.lower_expr.specs.Effects.{binary_to, bits_for, cast_to, computed_to, converted_to, field_binary_to, field_operated, fits_field, goes_unchanged, gone_to, keeps_bits, moved, put_to}
 use Rattle.lower_expr.specs.Kinds.{done_as, operand_bits, operation_bits, reads_signed, unary_bits}
-use Rattle.lower_expr.specs.Operands.{is_plus, is_quiet, operand_by, own_of}
+use Rattle.lower_expr.specs.Operands.{are_quiet, is_plus, is_quiet, operand_by, own_of}
 use Rattle.lower_expr.specs.Spots.{field_loaded, loaded, variable_spot}
 use Rattle.lower_expr.specs.Steps.{is_kept, put_in_field, put_value, right_operated, word_for, word_of, word_put}
 use Rattle.lower_expr.specs.Values.{extended, field_binary_of, fields_by, next_of, read_to, right_by, spot_of, tested, truth_put, value_of}
@@ -46,7 +46,7 @@ use Rattle.code_follows.proofs.Following.{Extends, Finishes, HasRegisters, Sim, 
 use Rattle.code_follows.proofs.Growing.{Extended}
 use Rattle.code_follows.proofs.Words.{held_wide}
 use Rattle.code_follows.proofs.Settings.{Setting, Within, and_one, layout}
-use Rattle.fields_follow.specs.Fragment.{AreWrapping, IsOperand, IsOperation, IsPromoted, IsPure, IsWide}
+use Rattle.fields_follow.specs.Fragment.{ArePure, AreWrapping, IsOperand, IsOperation, IsPromoted, IsPure, IsWide}
 use Rattle.fields_follow.proofs.Extents.{get_names}
 use Rattle.fields_follow.specs.Fields.{IsElement, file_number}
 use Rattle.fields_follow.proofs.Forms.{HasItsCode, HasItsWord, StandsInRegister, element_is, field_is, promoted_stands, pure_kept, pure_word}
@@ -56,15 +56,18 @@ use Rattle.fields_follow.proofs.Pure.{get_gives}
 use Rattle.fields_follow.proofs.Hops.{puts_same}
 use Rattle.fields_follow.proofs.Instructions.{AreAlike, Puts, alike_same, extents, shapes, puts_alike, puts_constant, puts_coordinate, puts_extended, puts_move, word_in}
 use Rattle.fields_follow.proofs.Lengths.{Keeps, divides_wide}
-use Rattle.fields_follow.proofs.Meaning.{as_shaped, either, promoted_means, read_is, right_of, unary_means, value_in, word_at}
+use Rattle.fields_follow.proofs.Meaning.{as_shaped, promoted_means, read_is, right_of, unary_means, value_in, word_at}
+use Rattle.lower_comm.specs.News.{all_go_by_news}
+use Rattle.fields_follow.proofs.Indexing.{all_coded}
 use Rattle.fields_follow.proofs.News.{get_last}
+use Rattle.fields_follow.proofs.Router.{routed_last}
 use Rattle.fields_follow.proofs.Operands.{GivesRight, Takes, fields_after, operated_after, operated_extends, register_has, register_is, right_after, right_extends}
 use Rattle.fields_follow.proofs.Passing.{After, Behind, GivesField, Passes, after_same, fields_longer, made_after, passes_all, passes_from, then_after}
 use Rattle.fields_follow.proofs.Places.{HoldsTheFields, IsFileField, PlacesFields, stands_here}
 use Rattle.fields_follow.proofs.Sizes.{binary_parts, brackets_part, convert_part, unary_part}
 use Rattle.fields_follow.proofs.Totals.{held_below}
 use Rattle.fields_follow.proofs.Values.{and_entry, next_field, one_more, operand_of, taken, variable_has, with_entry}
-use Rattle.fields_follow.proofs.Expressions.{IsMeant, binary_at, convert_alike, convert_ended, convert_means, coordinate_means, operand_at, unary_ended, extended_after, from_operand, negated_after, operand_grows, operands_keep, plus_alike, pure_after, signed_as, unary_at, wide_operands}
+use Rattle.fields_follow.proofs.Expressions.{IsMeant, binary_at, convert_alike, convert_ended, convert_means, coordinate_means, each_after, operand_at, unary_ended, extended_after, from_operand, negated_after, operand_grows, operands_keep, plus_alike, pure_after, signed_as, unary_at, wide_operands}
 use Rattle.lower_expr.specs.Joined.{is_flag}
 use Rattle.cstar_base.proofs.NumberLaws.{kind_bits}
 use Rattle.std.proofs.lemmas.Bool.{eqb-true}
@@ -250,6 +253,22 @@ module _ (g : Setting) (has : HasRegisters g) (alive : Variable → Type 0) (n :
       (get_last g alive n places fields ty place p indexes k of set offset bits (λ after. spot_of g.typed (layout g) (T.LeftIndex' ty place p indexes (V.File k) of) after) (length d.fields) d s st most shaped same are c.code.names.0 (get_names g.typed g.instance n of set indexes same are c.code.names.1 c.code.names.2) (omega arith) here sim (λ out e. Q (O.Field (field_at set offset bits)) e)
       (last (get_gives g places fields n ty place p indexes k of set st shaped same are c.code.names.0 (get_names g.typed g.instance n of set indexes same are c.code.names.1 c.code.names.2))))
 
+  -- and one by the router
+  routed_computed : (set offset bits : ℕ) (ty : ValueType) (place : Place) (p : _) (indexes : Row_of-TExpr _) (k : ℕ) → bits ≤ 32 → ty.shape ≡ Some set → all_go_by_news set 0 (items-the_row-TExpr _ indexes) ≡ false → ArePure set indexes → HasItsCode g.typed g.instance alive n (T.LeftIndex' ty place p indexes (V.File k) set)
+      → PutsWords set offset bits (T.LeftIndex' ty place p indexes (V.File k) set)
+  unfolding computed_to NamesVariables spot_of
+  routed_computed set offset bits ty place p indexes k most shaped goes are c d s st here sim Q last ended =
+      let coded = all_coded g has alive n ready places fields ty place p indexes (V.File k) set c in
+      gone_same (O.Field (field_at set offset bits)) Q _
+      (routed_last g has alive n ready places fields ty place p indexes k set offset bits (length d.fields) (are_quiet indexes) (λ after. spot_of g.typed (layout g) (T.LeftIndex' ty place p indexes (V.File k) set) after) d s st most shaped goes are coded (each_after g has alive n ready places fields set indexes are coded) c.code.names.0 c.code.names.2 refl (omega arith) here sim
+      (λ out e. Q (O.Field (field_at set offset bits)) e) last (λ early x after. ended early (O.Field (field_at set offset bits)) after))
+
+  left_index_computed : (set offset bits : ℕ) (ty : ValueType) (place : Place) (p : _) (indexes : Row_of-TExpr _) (k of : ℕ) → bits ≤ 32 → ty.shape ≡ Some set → of ≡ set → AreWrapping set 0 indexes ⊎ ((all_go_by_news set 0 (items-the_row-TExpr _ indexes) ≡ false) × ArePure set indexes)
+      → HasItsCode g.typed g.instance alive n (T.LeftIndex' ty place p indexes (V.File k) of) → PutsWords set offset bits (T.LeftIndex' ty place p indexes (V.File k) of)
+  left_index_computed set offset bits ty place p indexes k of most shaped same (inl wrapping) c = get_computed set offset bits ty place p indexes k of most shaped same wrapping c
+  left_index_computed set offset bits ty place p indexes k of most shaped same (inr routed) c =
+      subst (λ (m : ℕ). HasItsCode g.typed g.instance alive n (T.LeftIndex' ty place p indexes (V.File k) m) → PutsWords set offset bits (T.LeftIndex' ty place p indexes (V.File k) m)) (sym same) (λ own. routed_computed set offset bits ty place p indexes k most shaped routed.0 routed.1 own) c
+
   pub computed_last : (set offset bits : ℕ) (e : TExpr) → bits ≤ 32 → IsPure set e → HasItsCode g.typed g.instance alive n e → PutsWords set offset bits e
   unfolding IsPure computed_to value_in NamesVariables evaluated
   computed_last set offset bits (T.Variable ty (V.File k)) most is c = copied_last set k offset bits ty most is c.code.names
@@ -260,7 +279,7 @@ module _ (g : Setting) (has : HasRegisters g) (alive : Variable → Type 0) (n :
   computed_last set offset bits (T.Binary' ty place op p left q right) most is c = operated_last set offset bits ty place op p q left right most is c
   computed_last set offset bits (T.Convert' ty p inner) most is c = converted_last set offset bits ty p inner most is c (computed_last set offset bits inner most is.2 (convert_part g alive n places fields ty p inner c))
   computed_last set offset bits (T.Pcoord ty axis) most is c = coordinate_last set offset bits axis ty is
-  computed_last set offset bits (T.LeftIndex' ty place p indexes (V.File k) of) most is c = either (λ wrapping. get_computed set offset bits ty place p indexes k of most is.0 is.1 wrapping c) (λ routed. ?) is.2
+  computed_last set offset bits (T.LeftIndex' ty place p indexes (V.File k) of) most is c = left_index_computed set offset bits ty place p indexes k of most is.0 is.1 is.2 c
   computed_last set offset bits _ most is c = absurd is
 
   -- a promoted variable

@@ -3,7 +3,7 @@ use Rattle.std.proofs.Common.{List, ◌≡◌, ◌∙◌, ℕ, ◌+◌, ◌<◌,
 use Rattle.cstar_base.specs.declared.operators.Op.{Op}
 use Rattle.cstar_base.specs.declared.operators.Place.{Place}
 use Rattle.cstar_base.specs.Operators.{outcome}
-use Rattle.cstar_tree.specs.declared.typed.TExpr.{TExpr, Row_of-TExpr}
+use Rattle.cstar_tree.specs.declared.typed.TExpr.{TExpr, Row_of-TExpr, end_of-TExpr, items-the_row-TExpr, more_of-TExpr}
 use Rattle.cstar_tree.specs.declared.typed.TExpr as T
 use Rattle.cstar_tree.specs.declared.typed.UnaryOp.{UnaryOp}
 use Rattle.cstar_tree.specs.declared.typed.UnaryOp.TheVariants as U
@@ -19,6 +19,7 @@ use Rattle.lower_base.specs.declared.emit.Out.TheVariants as O
 use Rattle.lower_base.specs.Drafts.{Draft, Made, Makes, Plain, a_field, an_entry, fresh_for, in_field, step as step_of, then_make, with_instr}
 use Rattle.lower_base.specs.Kinds.{bits_of, kind_of}
 use Rattle.lower_base.specs.Operators.{is_signed, negates, relates}
+use Rattle.lower_comm.specs.News.{all_go_by_news}
 use Rattle.lower_expr.specs.Kinds.{done_as, operand_bits, operation_bits, reads_signed, relation_kind, result_bits, unary_bits}
 use Rattle.lower_expr.specs.Operands.{are_quiet, is_plus, is_quiet, operand_by}
 use Rattle.lower_expr.specs.Steps.{field_negated, has_truth, is_kept, negated, word_of}
@@ -44,10 +45,11 @@ use Rattle.code_follows.proofs.Settings.{Setting, Within, and_one, layout}
 use Rattle.code_follows.proofs.Standing.{some_same}
 use Rattle.code_follows.proofs.Values.{extends_grown}
 use Rattle.code_follows.proofs.Words.{below_word, held_wide}
-use Rattle.fields_follow.specs.Fragment.{AreWrapping, IsOperation, IsPromoted, IsPure, IsWide}
+use Rattle.fields_follow.specs.Fragment.{ArePure, AreWrapping, IsOperation, IsPromoted, IsPure, IsWide}
 use Rattle.fields_follow.proofs.Extents.{get_names}
 use Rattle.fields_follow.proofs.Forms.{HasItsCode, HasItsWord, StandsInRegister, flag_converted, promoted_stands, pure_kept, pure_word}
 use Rattle.fields_follow.proofs.Hops.{puts_same}
+use Rattle.fields_follow.proofs.Indexing.{AllCoded, AllValued, all_coded}
 use Rattle.fields_follow.proofs.Instructions.{AreAlike, HasNumbers, Puts, alike_same, extents, has_alike, puts_coordinate, puts_extended, puts_lognot, puts_negate, shapes, whole_keeps}
 use Rattle.fields_follow.proofs.Lengths.{Keeps, converted_first, divides_wide, held_has, operation_keeps, operation_most}
 use Rattle.fields_follow.proofs.Meaning.{as_shaped, either, left_of, right_of, unary_means, value_in, word_at}
@@ -57,6 +59,7 @@ use Rattle.fields_follow.proofs.Outcomes.{Ended, Given, Known, ended_on, follows
 use Rattle.fields_follow.proofs.Pure.{get_gives}
 use Rattle.fields_follow.proofs.Passing.{After, Behind, GivesField, Passes, after_same, fields_longer, gives_alike, gives_from, gives_numbers, gives_on, made_after, names_second, passes_all, puts_own}
 use Rattle.fields_follow.proofs.Places.{HoldsTheFields, PlacesFields, stands_here}
+use Rattle.fields_follow.proofs.Router.{routed_last}
 use Rattle.fields_follow.proofs.Sizes.{binary_parts, brackets_part, convert_part, promoted_small, pure_at, unary_part}
 use Rattle.fields_follow.proofs.Totals.{held_below}
 use Rattle.fields_follow.proofs.Values.{Gives, IsFlag, Valued, and_entry, code_of, first_given, next_field, one_more, operand_after, operand_of, taken, variable_after, with_entry}
@@ -478,23 +481,52 @@ module _ (g : Setting) (has : HasRegisters g) (alive : Variable → Type 0) (n :
       v : ℕ → ℕ
       v = λ q. word_at (extents g set) st e q
 
-  -- the code of so many bits of a pure expression leaves the lowest bits of its words in a field
-  pub pure_after : (bits set : ℕ) (e : TExpr) → bits ≤ 32 → IsPure set e → HasItsCode g.typed g.instance alive n e → IsValued bits set e
-  unfolding IsPure value_of value_in evaluated kind_of
-  pure_after bits set (T.Variable ty (V.File k)) most is c = variable_after g has alive n ready places fields bits set k ty most is (named ty k c)
-  pure_after bits set (T.Brackets' ty p inner) most is c = λ d s st here sim.
-      given_weaker g s (meant g fields inner st) (number set inner st) st (Answers (IsFlag inner) bits (length d.fields) d s set st (λ q. word_at (extents g set) st inner q)) (Answers (IsFlag (T.Brackets' ty p inner)) bits (length d.fields) d s set st (λ q. word_at (extents g set) st (T.Brackets' ty p inner) q)) (code bits inner d)
-      (answers_alike (IsFlag inner) (IsFlag (T.Brackets' ty p inner)) (λ one. one) bits (length d.fields) d s set st (λ q. word_at (extents g set) st inner q) (λ q. word_at (extents g set) st (T.Brackets' ty p inner) q) (alike_same g bits set _ _ (λ q below few. ap (λ (y : ValueType). held y.elem (value_in (extents g set) st inner q)) is.0)))
-      (pure_after bits set inner most is.1 (brackets_part g alive n places fields ty p inner c) d s st here sim)
-  pure_after bits set (T.Unary' ty op p operand) most is c = unary_after bits set ty op p operand most is c (pure_after bits set operand most is.2 (unary_part g alive n places fields ty op p operand c))
-  pure_after bits set (T.Binary' ty place op p left q right) most is c =
-      let parts = binary_parts g alive n places fields ty place op p q left right c in
-      let works = (operation_most bits op right most).1 in
-      binary_after bits set ty place op p q left right most is c (λ pure. pure_after (operation_bits bits op right) set left works pure parts.0) (λ pure. pure_after (operation_bits bits op right) set right works pure parts.1)
-  pure_after bits set (T.Convert' ty p operand) most is c = convert_after bits set ty p operand most is c (λ k few. pure_after k set operand few is.2 (convert_part g alive n places fields ty p operand c))
-  pure_after bits set (T.Pcoord ty axis) most is c = coordinate_after bits set axis ty is
-  pure_after bits set (T.LeftIndex' ty place p indexes (V.File k) of) most is c = either (λ wrapping. get_after bits set ty place p indexes k of most is.0 is.1 wrapping c) (λ routed. ?) is.2
-  pure_after bits set _ most is c = absurd is
+  -- a get by the router
+  routed_after : (bits set : ℕ) (ty : ValueType) (place : Place) (p : _) (indexes : Row_of-TExpr _) (k : ℕ) → bits ≤ 32 → ty.shape ≡ Some set → all_go_by_news set 0 (items-the_row-TExpr _ indexes) ≡ false → ArePure set indexes → AllValued g has alive n ready places fields set indexes
+      → HasItsCode g.typed g.instance alive n (T.LeftIndex' ty place p indexes (V.File k) set) → IsValued bits set (T.LeftIndex' ty place p indexes (V.File k) set)
+  unfolding value_of index_read_by fresh_for then_make an_entry NamesVariables
+  routed_after bits set ty place p indexes k most shaped goes are valued c d s st here sim =
+      known_follows g s (meant g fields e st) (number set e st) st (Answers (IsFlag e) bits (length d.fields) d s set st v) (code bits e d)
+      (after_same g (Knows bits d s set st e) (ap (λ (o : Option ℕ). then_make (fresh_for o bits d) (λ dest begun. index_read_to g.typed (layout g) e spot dest begun)) shaped)
+      (routed_last g has alive n ready places fields ty place p indexes k set (length d.fields) bits (length d.fields) (are_quiet indexes) spot (with_entry set bits W.Own d) s st most shaped goes are (all_coded g has alive n ready places fields ty place p indexes (V.File k) set c) valued c.code.names.0 c.code.names.2 refl (let one = one_more set bits W.Own d in omega (arith, one)) here sim
+      (Knows bits d s set st e) (λ is_meant e2 i within passes puts. inl (is_meant, own_result bits set d e2 s st v i within passes puts)) (λ early x f. inr early)))
+    where
+      e : TExpr
+      e = T.LeftIndex' ty place p indexes (V.File k) set
+
+      spot : Draft → Made Spot
+      spot = indexed_spot g.typed (layout g) e (values_of g.typed (layout g) false (are_quiet indexes) indexes)
+
+      v : ℕ → ℕ
+      v = λ q. word_at (extents g set) st e q
+
+  mutual
+    unfolding IsPure value_of value_in evaluated kind_of ArePure AllCoded AllValued
+
+    -- the code of so many bits of a pure expression leaves the lowest bits of its words in a field
+    pub pure_after : (bits set : ℕ) (e : TExpr) → bits ≤ 32 → IsPure set e → HasItsCode g.typed g.instance alive n e → IsValued bits set e
+    pure_after bits set (T.Variable ty (V.File k)) most is c = variable_after g has alive n ready places fields bits set k ty most is (named ty k c)
+    pure_after bits set (T.Brackets' ty p inner) most is c = λ d s st here sim.
+        given_weaker g s (meant g fields inner st) (number set inner st) st (Answers (IsFlag inner) bits (length d.fields) d s set st (λ q. word_at (extents g set) st inner q)) (Answers (IsFlag (T.Brackets' ty p inner)) bits (length d.fields) d s set st (λ q. word_at (extents g set) st (T.Brackets' ty p inner) q)) (code bits inner d)
+        (answers_alike (IsFlag inner) (IsFlag (T.Brackets' ty p inner)) (λ one. one) bits (length d.fields) d s set st (λ q. word_at (extents g set) st inner q) (λ q. word_at (extents g set) st (T.Brackets' ty p inner) q) (alike_same g bits set _ _ (λ q below few. ap (λ (y : ValueType). held y.elem (value_in (extents g set) st inner q)) is.0)))
+        (pure_after bits set inner most is.1 (brackets_part g alive n places fields ty p inner c) d s st here sim)
+    pure_after bits set (T.Unary' ty op p operand) most is c = unary_after bits set ty op p operand most is c (pure_after bits set operand most is.2 (unary_part g alive n places fields ty op p operand c))
+    pure_after bits set (T.Binary' ty place op p left q right) most is c =
+        let parts = binary_parts g alive n places fields ty place op p q left right c in
+        let works = (operation_most bits op right most).1 in
+        binary_after bits set ty place op p q left right most is c (λ pure. pure_after (operation_bits bits op right) set left works pure parts.0) (λ pure. pure_after (operation_bits bits op right) set right works pure parts.1)
+    pure_after bits set (T.Convert' ty p operand) most is c = convert_after bits set ty p operand most is c (λ k few. pure_after k set operand few is.2 (convert_part g alive n places fields ty p operand c))
+    pure_after bits set (T.Pcoord ty axis) most is c = coordinate_after bits set axis ty is
+    pure_after bits set (T.LeftIndex' ty place p indexes (V.File k) of) most is c =
+        either (λ wrapping. get_after bits set ty place p indexes k of most is.0 is.1 wrapping c)
+        (λ routed. subst (λ (m : ℕ). HasItsCode g.typed g.instance alive n (T.LeftIndex' ty place p indexes (V.File k) m) → IsValued bits set (T.LeftIndex' ty place p indexes (V.File k) m)) (sym is.1)
+        (λ own. routed_after bits set ty place p indexes k most is.0 routed.0 routed.1 (each_after set indexes routed.1 (all_coded g has alive n ready places fields ty place p indexes (V.File k) of c)) own) c) is.2
+    pure_after bits set _ most is c = absurd is
+
+    -- and so does that of each of the indexes of a get
+    pub each_after : {k : _} (set : ℕ) (row : Row_of-TExpr k) → ArePure set row → AllCoded g has alive n ready places fields row → AllValued g has alive n ready places fields set row
+    each_after set end_of-TExpr are coded = tt
+    each_after set (more_of-TExpr index rest) are coded = (pure_after 32 set index (omega arith) are.0 coded.0, each_after set rest are.1 coded.1)
 
   -- an operand of 32 bits has its numbers
   pub whole_after : (bits set : ℕ) (e : TExpr) (quiet : Bool) → bits ≤ 32 → IsPure set e → IsWide set (type_of e) → HasItsCode g.typed g.instance alive n e → (d : Draft) (s : CodeState) (st : State) → Starts g alive s (length d.code) d.regs → Sim g alive st s

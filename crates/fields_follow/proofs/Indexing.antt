@@ -1,10 +1,16 @@
 -- The code of the indexes of a get: each stands in a field behind it, where the source gives their values, or both end.
-use Rattle.std.proofs.Common.{◌≡◌, ◌∙◌, ℕ, ◌≤◌, Bool, true, false, List, [], ◌∷◌, ◌++◌, length, refl, sym, ap, subst, arith, append_assoc, ◌⊎◌, inl, inr}
+use Rattle.std.proofs.Common.{◌≡◌, ◌∙◌, ℕ, ◌≤◌, Bool, false, List, [], ◌∷◌, ◌++◌, length, refl, ap, subst, arith, append_assoc, ◌⊎◌, inl, inr}
 use Rattle.cstar_tree.specs.declared.typed.TExpr.{TExpr, Row_of-TExpr, end_of-TExpr, more_of-TExpr}
 use Rattle.cstar_tree.specs.declared.typed.TExpr as T
+use Rattle.cstar_base.specs.declared.operators.Place.{Place}
+use Rattle.cstar_tree.specs.declared.typed.ValueType.{ValueType}
 use Rattle.cstar_tree.specs.declared.typed.Variable.{Variable}
 use Rattle.cstar_tree.specs.Typed.{type_of}
+use Rattle.code_lengths.specs.Lowerable.{AreLowerable, IsLowerable}
+use Rattle.code_lengths.specs.Naming.{AllNameVariables, NamesVariables}
 use Rattle.code_lengths.specs.Ready.{IsReadyButForFields}
+use Rattle.code_lengths.specs.Shaped.{AreShaped, IsShaped}
+use Rattle.code_follows.specs.Fragment.{AllAmong, ScalarsAmong}
 use Rattle.code_lengths.proofs.Agreeing.{lengths_if_made}
 use Rattle.code_lengths.proofs.Drafting.{append_nothing}
 use Rattle.lower_base.specs.declared.emit.Out.{Out}
@@ -13,12 +19,12 @@ use Rattle.lower_base.specs.Drafts.{Draft, Made}
 use Rattle.lower_expr.specs.Kinds.{list_bits}
 use Rattle.lower_expr.specs.Values.{values_of}
 use Rattle.paris_code.specs.Code.{CodeState}
-use Rattle.source_meaning.specs.Expressions.{evaluated, operands}
+use Rattle.source_meaning.specs.Expressions.{operands}
 use Rattle.source_meaning.specs.Gets.{Operand}
 use Rattle.source_meaning.specs.State as Source
 use Rattle.source_meaning.specs.State.{Outcome, State, then_do}
 use Rattle.source_meaning.specs.Values.{Parallel, Value}
-use Rattle.code_follows.proofs.Following.{Extends, HasRegisters, Sim, extends_then}
+use Rattle.code_follows.proofs.Following.{Extends, HasRegisters, extends_then}
 use Rattle.code_follows.proofs.Growing.{as_it_was}
 use Rattle.code_follows.proofs.Settings.{Setting, layout}
 use Rattle.code_follows.proofs.Values.{extends_grown}
@@ -27,7 +33,7 @@ use Rattle.fields_follow.proofs.Forms.{HasItsCode}
 use Rattle.fields_follow.proofs.Instructions.{extents}
 use Rattle.fields_follow.proofs.Meaning.{value_in, word_at}
 use Rattle.fields_follow.proofs.Outcomes.{Ended, ended_back, ended_on, meant, then_known}
-use Rattle.fields_follow.proofs.Parts.{AllStand, PartsStand, parts_more, words_of}
+use Rattle.fields_follow.proofs.Parts.{PartsStand, parts_more, words_of}
 use Rattle.fields_follow.proofs.Passing.{After, after_same, after_weaker, fields_longer, made_after}
 use Rattle.fields_follow.proofs.Places.{HoldsTheFields, PlacesFields}
 use Rattle.fields_follow.proofs.Routing.{indexes_at}
@@ -38,6 +44,19 @@ module _ (g : Setting) (has : HasRegisters g) (alive : Variable → Type 0) (n :
   unfoldable pub AllCoded : {k : _} → Row_of-TExpr k → Type 0
   AllCoded end_of-TExpr = Unit {0}
   AllCoded (more_of-TExpr e rest) = HasItsCode g.typed g.instance alive n e × AllCoded rest
+
+  row_coded : {k : _} (row : Row_of-TExpr k) → AreShaped row → AreLowerable g.typed row → AllNameVariables g.typed g.instance n row → AllAmong alive row → AllCoded row
+  unfolding AllCoded AreShaped AreLowerable AllNameVariables AllAmong
+  row_coded end_of-TExpr shaped lowerable names among = tt
+  row_coded (more_of-TExpr e rest) shaped lowerable names among = (
+    record { code = record { shaped = shaped.0; lowerable = lowerable.0; names = names.0 }; among = among.0 },
+    row_coded rest shaped.1 lowerable.1 names.1 among.1,
+  )
+
+  -- the indexes of a get that has code
+  pub all_coded : (ty : ValueType) (place : Place) (p : _) (indexes : Row_of-TExpr _) (x : Variable) (of : ℕ) → HasItsCode g.typed g.instance alive n (T.LeftIndex' ty place p indexes x of) → AllCoded indexes
+  unfolding IsShaped IsLowerable NamesVariables ScalarsAmong
+  all_coded ty place p indexes x of c = row_coded indexes c.code.shaped c.code.lowerable.2 c.code.names.1 c.among
 
   unfoldable pub AllValued : {k : _} → ℕ → Row_of-TExpr k → Type 0
   AllValued set end_of-TExpr = Unit {0}

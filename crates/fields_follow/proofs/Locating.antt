@@ -1,6 +1,6 @@
 -- The indexes of a get are checked, and become the number of the position that they name: both end at the least active
 -- position at which one does not lie within its extent.
-use Rattle.std.proofs.Common.{◌≡◌, ◌∙◌, ℕ, zero, suc, ◌+◌, ◌%◌, ◌<◌, ◌≤◌, ◌^◌, ◌&&◌, Bool, true, false, not, List, [], ◌∷◌, ◌++◌, Any, length, map, flat_map, Option, Some, None, refl, sym, ap, subst, arith, ◌⊎◌, inl, inr, if◌then◌else◌}
+use Rattle.std.proofs.Common.{◌≡◌, ◌∙◌, ℕ, zero, suc, ◌%◌, ◌<◌, ◌≤◌, ◌^◌, ◌&&◌, Bool, true, false, not, List, [], ◌∷◌, ◌++◌, Any, length, map, flat_map, Option, Some, None, refl, sym, ap, subst, arith, ◌⊎◌, inl, inr, if◌then◌else◌}
 use Rattle.std.proofs.lemmas.Bool.{cases_lt}
 use Rattle.cstar_base.specs.declared.faults.RunFault.TheVariants.{Index}
 use Rattle.cstar_base.specs.declared.operators.Place.{Place}
@@ -8,7 +8,7 @@ use Rattle.cstar_base.specs.Orders.{least_below, or_else}
 use Rattle.code_lengths.proofs.Drafting.{append_nothing}
 use Rattle.communication_laws.specs.Indexes.{HasIndexes, failing_at, with_signs}
 use Rattle.communication_laws.proofs.Indexes.{addresses, checks_of_indexes, indexes_within_name_positions}
-use Rattle.cstar_tree.specs.declared.typed.TExpr.{TExpr, Row_of-TExpr, end_of-TExpr, items-the_row-TExpr, more_of-TExpr}
+use Rattle.cstar_tree.specs.declared.typed.TExpr.{Row_of-TExpr, end_of-TExpr, items-the_row-TExpr, more_of-TExpr}
 use Rattle.cstar_tree.specs.declared.typed.Variable.{Variable}
 use Rattle.cstar_tree.specs.Typed.{type_of}
 use Rattle.lower_base.specs.declared.emit.Out.{Out}
@@ -19,7 +19,6 @@ use Rattle.lower_comm.specs.Messages.{index_coordinate, signed_coordinates}
 use Rattle.paris_code.specs.declared.instr.Instr.{Instr}
 use Rattle.paris_code.specs.declared.instr.Instr.TheVariants as I
 use Rattle.paris_code.specs.declared.operands.Coordinate.{Coordinate}
-use Rattle.paris_code.specs.declared.operands.Coordinate.TheVariants as C
 use Rattle.paris_code.specs.declared.operands.Field.{Field}
 use Rattle.paris_code.specs.declared.operands.SignedCoordinate.{SignedCoordinate}
 use Rattle.paris_code.specs.Checking.{least_failing, set_of_coordinates}
@@ -27,9 +26,9 @@ use Rattle.paris_code.specs.Code as Machine
 use Rattle.paris_code.specs.Code.{CodeState, Goes, Next, applied, arguments_at, begun, replied, step}
 use Rattle.paris_code.specs.Elementwise.{elementwise}
 use Rattle.paris_code.specs.Meaning.{after, bad_or_nothing}
-use Rattle.paris_code.specs.Memory.{BitMemory, is_active, processors}
+use Rattle.paris_code.specs.Memory.{is_active, processors}
 use Rattle.paris_code.specs.Moving.{moved_coordinate, moved_signed}
-use Rattle.paris_code.specs.Spans.{IsNamedAt, StandsAt, entry_of, fields_of, fields_of_coordinate}
+use Rattle.paris_code.specs.Spans.{StandsAt, entry_of, fields_of, fields_of_coordinate}
 use Rattle.source_meaning.specs.Gets.{Operand, are_within}
 use Rattle.source_meaning.specs.State as Source
 use Rattle.source_meaning.specs.State.{State}
@@ -43,12 +42,11 @@ use Rattle.fields_follow.specs.Fragment.{ArePure}
 use Rattle.fields_follow.proofs.Checks.{check_ends, check_passes}
 use Rattle.code_lengths.specs.Ready.{IsReadyButForFields}
 use Rattle.fields_follow.proofs.Indexing.{AllCoded}
-use Rattle.fields_follow.proofs.Instructions.{HasNumbers, extents, has_words, place, shapes, wrote}
+use Rattle.fields_follow.proofs.Instructions.{extents, has_words, place, shapes}
 use Rattle.fields_follow.proofs.Listed.{AddressStands, TargetStands, address_stands, begins_there, target_stands, with_address, with_target}
 use Rattle.fields_follow.proofs.Listed as Listed
-use Rattle.fields_follow.proofs.Forms.{HasItsCode}
 use Rattle.fields_follow.proofs.Parts.{AllBehind, AllHave, AreFields, PartsStand, all_have, behind_earlier, words_of}
-use Rattle.fields_follow.proofs.Passing.{Behind, GivesField, Passes, fields_longer, flags_of, gives_on, next_own}
+use Rattle.fields_follow.proofs.Passing.{GivesField, Passes, fields_longer, flags_of, gives_on, next_own}
 use Rattle.fields_follow.proofs.Places.{HoldsTheFields, IsOwnField, PlacesFields}
 use Rattle.fields_follow.proofs.Routing.{as_many, indexes_at, outside_at, target_of}
 use Rattle.fields_follow.proofs.Sizes.{value_small}

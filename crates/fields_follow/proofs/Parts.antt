@@ -1,20 +1,18 @@
 -- The code of a list of values, each of which stands in a field behind it: so far the indexes of a get.
-use Rattle.std.proofs.Common.{◌≡◌, ◌∙◌, ℕ, ◌+◌, ◌<◌, ◌≤◌, true, false, List, [], ◌∷◌, ◌++◌, length, refl, sym, ap, subst, arith, append_assoc, ◌⊎◌, inl, inr}
-use Rattle.cstar_tree.specs.declared.typed.TExpr.{TExpr, Row_of-TExpr, end_of-TExpr, more_of-TExpr}
+use Rattle.std.proofs.Common.{◌≡◌, ℕ, ◌≤◌, true, List, [], ◌∷◌, ◌++◌, length, refl, arith, inl, inr}
+use Rattle.cstar_tree.specs.declared.typed.TExpr.{Row_of-TExpr, end_of-TExpr, more_of-TExpr}
 use Rattle.cstar_tree.specs.declared.typed.Variable.{Variable}
-use Rattle.cstar_tree.specs.Typed.{type_of}
 use Rattle.lower_base.specs.declared.emit.Out.{Out}
 use Rattle.lower_base.specs.declared.emit.Out.TheVariants as O
 use Rattle.lower_base.specs.Drafts.{Draft}
 use Rattle.lower_comm.specs.Messages.{all_somewhere}
 use Rattle.paris_code.specs.declared.operands.Field.{Field}
 use Rattle.paris_code.specs.Code.{CodeState}
-use Rattle.paris_code.specs.Memory.{processors}
 use Rattle.source_meaning.specs.State.{State}
 use Rattle.code_follows.proofs.Settings.{Setting}
 use Rattle.fields_follow.proofs.Instructions.{HasNumbers, extents}
 use Rattle.fields_follow.proofs.Meaning.{word_at}
-use Rattle.fields_follow.proofs.Passing.{Behind, GivesField, InOwn, Passes, Stands, code_longer, fields_longer, in_file_has, passes_all, passes_on, stands_less, still_numbers}
+use Rattle.fields_follow.proofs.Passing.{Behind, GivesField, Passes, Stands, code_longer, fields_longer, in_file_has, passes_all, passes_on, stands_less, still_numbers}
 use Rattle.fields_follow.proofs.Places.{HoldsTheFields, PlacesFields}
 
 module _ (g : Setting) where

@@ -107,6 +107,7 @@ wrapping_quiet set axis (more_of-TExpr index rest) are = both (is_quiet index) (
 
 mutual
   unfolding IsPure is_quiet
+
   pub pure_quiet : (set : ℕ) (e : TExpr) → IsPure set e → is_quiet e ≡ true
   pure_quiet set (T.Variable ty (V.File k)) is = refl
   pure_quiet set (T.Brackets' ty p inner) is = pure_quiet set inner is.1

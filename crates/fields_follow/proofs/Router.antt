@@ -1,6 +1,6 @@
 -- A get by the router follows: behind the code of its indexes, their check and the address, its last instruction puts the
 -- numbers of the positions that they name, or both end.
-use Rattle.std.proofs.Common.{◌≡◌, ◌∙◌, ℕ, ◌+◌, ◌%◌, ◌<◌, ◌≤◌, ◌^◌, Bool, true, false, List, [], ◌∷◌, length, map, Option, Some, None, refl, sym, ap, subst, arith, ◌⊎◌, inl, inr, if◌then◌else◌}
+use Rattle.std.proofs.Common.{◌≡◌, ◌∙◌, ℕ, ◌+◌, ◌%◌, ◌<◌, ◌≤◌, ◌^◌, Bool, true, false, List, [], ◌∷◌, length, map, Some, None, refl, sym, ap, subst, arith, inl, inr, if◌then◌else◌}
 use Rattle.std.specs.Prelude.{nat_lt}
 use Rattle.std.proofs.lemmas.Bool.{lt-ltb}
 use Rattle.std.proofs.lemmas.Bool.Decides.{nat_tests}
@@ -20,7 +20,7 @@ use Rattle.code_lengths.specs.Naming.{HasAxes, HasVariable, plain}
 use Rattle.code_lengths.specs.Ready.{IsReadyButForFields}
 use Rattle.lower_base.specs.declared.emit.Out.{Out}
 use Rattle.lower_base.specs.declared.emit.Out.TheVariants as O
-use Rattle.lower_base.specs.Drafts.{ChecksTarget, Draft, Fails, Made, Makes, MakesAddress, first_bits, step as step_of, then_make, with_instr, with_step}
+use Rattle.lower_base.specs.Drafts.{ChecksTarget, Draft, Fails, Made, Makes, MakesAddress, first_bits, step as step_of, with_instr, with_step}
 use Rattle.lower_comm.specs.Messages.{all_somewhere, each_located, index_coordinate, signed_coordinates}
 use Rattle.lower_comm.specs.News.{all_go_by_news}
 use Rattle.lower_expr.specs.declared.spots.Spot.{Spot}
@@ -35,17 +35,17 @@ use Rattle.paris_code.specs.Meaning.{after}
 use Rattle.paris_code.specs.Memory.{field_number, is_active, processors}
 use Rattle.phase_meaning.proofs.Widths.{cut_cut}
 use Rattle.source_meaning.specs.Expressions.{evaluated}
-use Rattle.source_meaning.specs.Gets.{Operand, are_within, named_by}
+use Rattle.source_meaning.specs.Gets.{Operand, named_by}
 use Rattle.source_meaning.specs.State as Source
 use Rattle.source_meaning.specs.State.{Outcome, State, then_do}
 use Rattle.source_meaning.specs.Targets.{indexed_target, read}
-use Rattle.source_meaning.specs.Values.{Parallel, Value}
-use Rattle.code_follows.proofs.Following.{Extends, Finishes, HasRegisters, Sim, held}
+use Rattle.source_meaning.specs.Values.{Parallel}
+use Rattle.code_follows.proofs.Following.{Extends, HasRegisters, Sim, held}
 use Rattle.code_follows.proofs.Growing.{Extended, extended}
-use Rattle.code_follows.proofs.Settings.{Setting, Within, and_one, code_more, earlier, layout}
+use Rattle.code_follows.proofs.Settings.{Setting, Within, and_one, earlier, layout}
 use Rattle.fields_follow.specs.Fragment.{ArePure}
 use Rattle.fields_follow.specs.Fields.{IsElement}
-use Rattle.fields_follow.proofs.Extents.{extents_in, own_extents}
+use Rattle.fields_follow.proofs.Extents.{own_extents}
 use Rattle.fields_follow.proofs.Forms.{element_is}
 use Rattle.fields_follow.proofs.Hops.{HasEverywhere, puts_same}
 use Rattle.fields_follow.proofs.Indexing.{AllCoded, AllValued, KnowsAll, all_meant, parts_after}
@@ -55,9 +55,9 @@ use Rattle.fields_follow.proofs.Locating.{and_step, inside, located_after}
 use Rattle.fields_follow.proofs.Meaning.{value_in, word_at}
 use Rattle.fields_follow.proofs.News.{file_everywhere, for_variable, owner_of}
 use Rattle.fields_follow.proofs.Outcomes.{Ended, after_all, ended_on, meant}
-use Rattle.fields_follow.proofs.Parts.{AllBehind, AllStand, AreFields, PartsStand, fields_somewhere, words_of}
+use Rattle.fields_follow.proofs.Parts.{AllBehind, AllStand, AreFields, PartsStand, fields_somewhere}
 use Rattle.fields_follow.proofs.Passing.{After, Behind, GivesField, Passes, after_same, fields_longer, flags_of, gives_numbers, made_after, names_second, passes_all, passes_from, passes_on, puts_own, small_there, then_after}
-use Rattle.fields_follow.proofs.Places.{HoldsTheFields, IsFileField, IsOwnField, PlacesFields, stands_here}
+use Rattle.fields_follow.proofs.Places.{HoldsTheFields, PlacesFields, stands_here}
 use Rattle.fields_follow.proofs.RouterCode.{behind_indexes, for_got, got, got_field, plain_get, router_code, wide_get}
 use Rattle.fields_follow.proofs.Routing.{indexes_at, outside_at, routed_faults, routed_gives, routed_value, target_of}
 use Rattle.fields_follow.proofs.Starts.{Starts}

@@ -1,6 +1,6 @@
 -- The code of a get by the router: that of its indexes, their check, the address, and the get itself.
 use denote.Hole.Carrier
-use Rattle.std.proofs.Common.{◌≡◌, ◌∙◌, ℕ, ◌&&◌, Bool, true, false, List, [], map, Option, Some, None, refl, sym, ap, if◌then◌else◌}
+use Rattle.std.proofs.Common.{◌≡◌, ◌∙◌, ℕ, ◌&&◌, Bool, true, false, List, [], map, Option, Some, None, refl, ap, if◌then◌else◌}
 use Rattle.std.specs.Prelude.{is_none, is_some, nat_lt}
 use Rattle.constant_trees.proofs.Bringing.{right_false}
 use Rattle.cstar_base.specs.declared.elem.Elem.{Elem}
@@ -15,7 +15,7 @@ use Rattle.lower_base.specs.declared.emit.Out.{Out}
 use Rattle.lower_base.specs.declared.emit.Out.TheVariants as O
 use Rattle.lower_base.specs.Drafts.{Draft, Fails, Made, Makes, an_entry, first_bits, fresh_for, in_field, then_make, with_instr}
 use Rattle.lower_base.specs.Constants.{word_in}
-use Rattle.lower_base.specs.Layouts.{Layout, field_of}
+use Rattle.lower_base.specs.Layouts.{field_of}
 use Rattle.lower_comm.specs.Messages.{all_somewhere, communicated, each_located, index_coordinate, is_extended, located, located_at, read_at}
 use Rattle.lower_comm.specs.News.{all_go_by_news, goes_by_news}
 use Rattle.lower_expr.specs.declared.spots.Spot.{Spot}

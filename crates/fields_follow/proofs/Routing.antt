@@ -1,6 +1,6 @@
 -- What a get by the router means: the positions that its indexes name, and a fault where one of them does not lie within
 -- its extent at an active position.
-use Rattle.std.proofs.Common.{◌≡◌, ◌∙◌, ℕ, suc, Bool, false, not, List, [], ◌∷◌, length, Option, Some, None, refl, sym, ap}
+use Rattle.std.proofs.Common.{◌≡◌, ◌∙◌, ℕ, suc, false, not, List, [], ◌∷◌, length, Option, Some, None, refl, sym, ap}
 use Rattle.std.specs.Prelude.{unsigned_abs}
 use Rattle.cstar_base.specs.Numbers.{number_of}
 use Rattle.cstar_base.specs.declared.faults.RunFault.TheVariants.{Index}
@@ -15,9 +15,8 @@ use Rattle.source_meaning.specs.Expressions.{evaluated, operands}
 use Rattle.source_meaning.specs.Gets.{Operand, are_within, coordinates_of, gotten, index_at, named_by}
 use Rattle.source_meaning.specs.State.{Ends, Fault, Gives, Outcome, State, then_do}
 use Rattle.source_meaning.specs.Targets.{indexed_target, position_target, read}
-use Rattle.source_meaning.specs.Values.{Active, Parallel, Scope, Value, at, failing, unless}
+use Rattle.source_meaning.specs.Values.{Active, Parallel, Scope, at, failing, unless}
 use Rattle.vp_sets.specs.Positions.{number_at}
-use Rattle.code_follows.proofs.Settings.{Setting}
 use Rattle.fields_follow.proofs.Meaning.{coordinates_named, value_by_router, value_in}
 
 -- the values of indexes, with their types
