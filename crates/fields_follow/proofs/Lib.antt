@@ -29,6 +29,7 @@ pub mod Knowing
 pub mod Leading
 pub mod Leaving
 pub mod Lengths
+pub mod Listed
 pub mod Meaning
 pub mod Named
 pub mod NarrowKinds
@@ -49,6 +50,10 @@ pub mod Reducing
 pub mod Reductions
 pub mod Relations
 pub mod Saving
+pub mod Scanning
+pub mod ScanAssigning
+pub mod Scanned
+pub mod Scans
 pub mod Sizes
 pub mod Spreading
 pub mod Starts

@@ -27,7 +27,7 @@ use Rattle.code_follows.proofs.Settings.{Setting, Within, and_one, code_more, on
 use Rattle.fields_follow.specs.Fields.{IsElement}
 use Rattle.fields_follow.proofs.FileFields.{Apart}
 use Rattle.fields_follow.proofs.Flags.{Stored, bit_fits, stored, written_to}
-use Rattle.fields_follow.proofs.Instructions.{HasNumbers, number_in, place, shapes, wrote}
+use Rattle.fields_follow.proofs.Instructions.{number_in, place, shapes, wrote}
 use Rattle.fields_follow.proofs.Leaving.{EndsBelow, PassesTests, under}
 use Rattle.fields_follow.proofs.Named.{NamesFields}
 use Rattle.fields_follow.proofs.Passing.{Behind, GivesField, Stands, code_longer, fields_longer, first_there, flags_of, gives_numbers, gives_set, in_variable_numbers, names_second, names_third}
