@@ -227,6 +227,7 @@ fields_beside = record {
   conditions = IsCondition;
   widens = λ set. Unit {0};
   variables = IsParallelVariable;
+  locals = IsParallelVariable;
 }
 
 abbrev pub IsParallelProgram : Typed → Type 0
