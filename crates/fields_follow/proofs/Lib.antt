@@ -51,6 +51,7 @@ pub mod Relations
 pub mod Saving
 pub mod Sizes
 pub mod Spreading
+pub mod Starts
 pub mod TestFlags
 pub mod Testing
 pub mod Totals

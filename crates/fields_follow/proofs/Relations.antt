@@ -42,7 +42,7 @@ use Rattle.source_meaning.proofs.ConstantLaws.{Boxed}
 use Rattle.code_follows.proofs.Following.{Extends, Follows, HasRegisters, Sim, extends_then}
 use Rattle.code_follows.proofs.Growing.{and_instr}
 use Rattle.code_follows.proofs.Operators.{wide_signed}
-use Rattle.code_follows.proofs.Settings.{At, stay, Setting, Within, and_one, earlier, layout, one}
+use Rattle.code_follows.proofs.Settings.{stay, Setting, Within, and_one, earlier, layout, one}
 use Rattle.fields_follow.specs.Fragment.{HaveTheirKinds, IsRelation}
 use Rattle.fields_follow.proofs.Expressions.{constant_at, operand_at, operand_grows, pure_after}
 use Rattle.fields_follow.proofs.NarrowKinds.{narrow_compares, relation_has}
@@ -59,6 +59,7 @@ use Rattle.fields_follow.proofs.Spreading.{GivesWord, HasBoth, spread_behind}
 use Rattle.fields_follow.proofs.Values.{and_entry, next_field, one_more, operand_of, with_entry}
 use Rattle.fields_follow.proofs.TestFlags.{ComparesAs, LeavesTests, compares, is_truth, puts_compare, tested_last}
 use Rattle.fields_follow.proofs.Totals.{held_below}
+use Rattle.fields_follow.proofs.Starts.{Starts}
 
 -- the two sides of a relation are operands
 pub relation_operands : (set : ℕ) (left right : TExpr) → HaveTheirKinds set left right → AreOperands set left right
@@ -154,7 +155,7 @@ module _ (g : Setting) (has : HasRegisters g) (alive : Variable → Type 0) (n :
   compared_extends relation a (R.Field b) spare e = (1, and_one g (I.Compare relation a b) e)
   compared_extends relation a (R.Word k) spare e = (2, and_instr (I.Compare relation a spare) e (with_instr (I.MoveConstant spare k) e) 1 (and_one g (I.MoveConstant spare k) e))
 
-  module _ (set : ℕ) (op : Op) (left right : TExpr) (is : IsRelation set op left right) (no_check : divides op ≡ false) (c_left : HasItsCode g.typed g.instance alive n left) (c_right : HasItsCode g.typed g.instance alive n right) (d : Draft) (s : CodeState) (st : State) (here : At g s (length d.code)) (sim : Sim g alive st s) where
+  module _ (set : ℕ) (op : Op) (left right : TExpr) (is : IsRelation set op left right) (no_check : divides op ≡ false) (c_left : HasItsCode g.typed g.instance alive n left) (c_right : HasItsCode g.typed g.instance alive n right) (d : Draft) (s : CodeState) (st : State) (here : Starts g alive s (length d.code) d.regs) (sim : Sim g alive st s) where
     abbrev bits : ℕ
     bits = bits_of (relation_kind left right)
 

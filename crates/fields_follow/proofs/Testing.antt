@@ -45,7 +45,7 @@ use Rattle.std.proofs.Math.Nat.{mod-eq_of_lt}
 use Rattle.std.proofs.lemmas.Bool.{eqb-true}
 use Rattle.code_follows.proofs.Following.{Extends, Follows, HasRegisters, Sim, extends_then, follows_same, held}
 use Rattle.code_follows.proofs.Values.{extends_grown}
-use Rattle.code_follows.proofs.Settings.{At, Setting, and_one, layout}
+use Rattle.code_follows.proofs.Settings.{Setting, and_one, layout}
 use Rattle.fields_follow.specs.Fields.{IsElement, file_number}
 use Rattle.fields_follow.specs.Fragment.{HasItsKind, IsCondition, IsNarrowed, IsPure, IsRelation, IsWide}
 use Rattle.fields_follow.proofs.ConditionCode.{Bit, Told, Truth, bit_not_value, bit_taken, flag_after, flag_extends, joined_in, joined_made, joined_value, nonzero_after, operand_at, relation_value, stored_after, turned_after, turned_in, word_not_value, zero_after}
@@ -66,6 +66,7 @@ use Rattle.fields_follow.proofs.Values.{Gives, IsFlag, and_entry, next_field, op
 use Rattle.fields_follow.proofs.TestFlags.{LeavesTests, is_truth, numbers_tell, puts_nonzero, tested_last}
 use Rattle.fields_follow.proofs.Truths.{either_or_both, field_told, field_truth, truth_told}
 use Rattle.fields_follow.proofs.Relations.{relation_after, relation_code, relation_operands}
+use Rattle.fields_follow.proofs.Starts.{Starts}
 
 -- two that ignore the context
 both_ignore : (left right : TExpr) → (ignores_context left && ignores_context right) ≡ true → (ignores_context left ≡ true) × (ignores_context right ≡ true)
@@ -127,7 +128,7 @@ module _ (g : Setting) (has : HasRegisters g) (alive : Variable → Type 0) (n :
 
   -- This is said of code wherever it begins, where the source gives the expression's numbers; else both end early.
   abbrev Says : {B : Type 0} → ℕ → TExpr → (Draft → CodeState → State → B → Draft → Type 0) → (Draft → Made B) → Type 0
-  Says set e said made = (d : Draft) (s : CodeState) (st : State) → At g s (length d.code) → Sim g alive st s → Follows g (Given g (numbers_of set e st) st (said d s st)) s (meant g fields e st) (made d)
+  Says set e said made = (d : Draft) (s : CodeState) (st : State) → Starts g alive s (length d.code) d.regs → Sim g alive st s → Follows g (Given g (numbers_of set e st) st (said d s st)) s (meant g fields e st) (made d)
 
   -- the source gives them
   abbrev pub IsGiven : ℕ → TExpr → State → Type 0
@@ -162,7 +163,7 @@ module _ (g : Setting) (has : HasRegisters g) (alive : Variable → Type 0) (n :
       (operand_after g has alive n ready places fields bits set e true kinded.0 c.code.names (pure_after g has alive n ready places fields bits set e (kind_most g alive n places fields set e kinded) kinded.0 c) d s st here sim)
 
   -- a variable of the file, where it stands
-  variable_tested : (set k : ℕ) (ty : ValueType) → ty.shape ≡ Some set → HasVariable g.typed g.instance n (V.File k) (plain ty) → (d : Draft) (s : CodeState) (st : State) → At g s (length d.code) → Sim g alive st s
+  variable_tested : (set k : ℕ) (ty : ValueType) → ty.shape ≡ Some set → HasVariable g.typed g.instance n (V.File k) (plain ty) → (d : Draft) (s : CodeState) (st : State) → Starts g alive s (length d.code) d.regs → Sim g alive st s
       → Follows g (Given g (λ q. st.parallel (V.File k) 0 q) st (λ _ f. LeavesTests g alive fields d s set st (λ q. st.parallel (V.File k) 0 q) f)) s (meant g fields (T.Variable ty (V.File k)) st) (truth_of g.typed (layout g) (T.Variable ty (V.File k)) d)
   unfolding truth_of then_make an_entry step_of passes_from evaluated
   variable_tested set k ty shaped v d s st here sim =
@@ -364,7 +365,7 @@ module _ (g : Setting) (has : HasRegisters g) (alive : Variable → Type 0) (n :
       value_means fields.scope active g.typed g.instance n set e st is free ∙ ap (λ (xs : List ℕ). Source.Gives (Parallel (λ q. value_in xs st e q)) st) (fields.same_extents set exists)
 
   -- what comes behind two of them
-  flags_after : (set : ℕ) (left right : TExpr) → IsCondition set left → IsCondition set right → ignores_context right ≡ true → HaveTheirCode g.typed g.instance alive n left right → IsKnown set left → IsKnown set right → (d : Draft) (s : CodeState) (st : State) → At g s (length d.code) → Sim g alive st s
+  flags_after : (set : ℕ) (left right : TExpr) → IsCondition set left → IsCondition set right → ignores_context right ≡ true → HaveTheirCode g.typed g.instance alive n left right → IsKnown set left → IsKnown set right → (d : Draft) (s : CodeState) (st : State) → Starts g alive s (length d.code) d.regs → Sim g alive st s
       → (Q : Out → Draft → Type 0) (last : Field → Field → Draft → Made Out) → ((f h : Field) (e : Draft) → Extends g e (last f h e))
       → (IsGiven set left st → set < length (shapes g) → (f h : Field) (e1 e2 : Draft) (one : Truth g alive places fields d s set st (numbers_of set left st) f e1) → Truth g alive places fields e1 one.passes.t set st (numbers_of set right st) h e2 → After g Q (last f h e2))
       → (Ended g s (meant g fields left st) → (x : Out) (e : Draft) → Q x e)
@@ -483,17 +484,17 @@ module _ (g : Setting) (has : HasRegisters g) (alive : Variable → Type 0) (n :
   condition_small set e st s sim is c q = value_small g alive n places fields set e st s sim is.0 c q
 
   -- the code of a condition
-  pub condition_tested : (set : ℕ) (e : TExpr) → IsCondition set e → HasItsCode g.typed g.instance alive n e → (d : Draft) (s : CodeState) (st : State) → At g s (length d.code) → Sim g alive st s
+  pub condition_tested : (set : ℕ) (e : TExpr) → IsCondition set e → HasItsCode g.typed g.instance alive n e → (d : Draft) (s : CodeState) (st : State) → Starts g alive s (length d.code) d.regs → Sim g alive st s
       → Follows g (Given g (λ q. value_in (extents g set) st e q) st (λ _ f. LeavesTests g alive fields d s set st (λ q. value_in (extents g set) st e q) f)) s (meant g fields e st) (tested g.typed (layout g) e d)
   condition_tested set e is c = (known set e is c).0
 
   -- one of one bit gives it to the next instruction
-  pub condition_bit : (set : ℕ) (e : TExpr) → IsCondition set e → (bits_of (kind_of e) == 1) ≡ true → HasItsCode g.typed g.instance alive n e → (d : Draft) (s : CodeState) (st : State) → At g s (length d.code) → Sim g alive st s
+  pub condition_bit : (set : ℕ) (e : TExpr) → IsCondition set e → (bits_of (kind_of e) == 1) ≡ true → HasItsCode g.typed g.instance alive n e → (d : Draft) (s : CodeState) (st : State) → Starts g alive s (length d.code) d.regs → Sim g alive st s
       → Follows g (Given g (λ q. value_in (extents g set) st e q) st (Bit g alive places fields d s set st (λ q. value_in (extents g set) st e q))) s (meant g fields e st) (next_of g.typed (layout g) 1 true e d)
   condition_bit set e is one c d s st here sim = (known_negated set e is c (known set e is c).1).bit one d s st here sim
 
   -- what comes behind two that are put in fields of one bit
-  pub both_flagged : (set : ℕ) (left right : TExpr) → IsCondition set left → IsCondition set right → ignores_context right ≡ true → HaveTheirCode g.typed g.instance alive n left right → (d : Draft) (s : CodeState) (st : State) → At g s (length d.code) → Sim g alive st s
+  pub both_flagged : (set : ℕ) (left right : TExpr) → IsCondition set left → IsCondition set right → ignores_context right ≡ true → HaveTheirCode g.typed g.instance alive n left right → (d : Draft) (s : CodeState) (st : State) → Starts g alive s (length d.code) d.regs → Sim g alive st s
       → (Q : Out → Draft → Type 0) (last : Field → Field → Draft → Made Out) → ((f h : Field) (e : Draft) → Extends g e (last f h e))
       → (IsGiven set left st → set < length (shapes g) → (f h : Field) (e1 e2 : Draft) (one : Truth g alive places fields d s set st (λ q. value_in (extents g set) st left q) f e1) → Truth g alive places fields e1 one.passes.t set st (λ q. value_in (extents g set) st right q) h e2 → After g Q (last f h e2))
       → (Ended g s (meant g fields left st) → (x : Out) (e : Draft) → Q x e)
