@@ -21,11 +21,11 @@ use Rattle.code_lengths.proofs.Homes.{all_cleared_lead, clears, still_declared}
 use Rattle.lower_base.specs.declared.emit.Out.{Out}
 use Rattle.lower_base.specs.declared.emit.Out.TheVariants as O
 use Rattle.lower_base.specs.Drafts.{Draft, Fails, Made, Makes, first_bits, step as step_of, then_make, with_instr}
-use Rattle.lower_base.specs.Layouts.{entries_of, field_of, register_of}
+use Rattle.lower_base.specs.Layouts.{field_of, register_of}
 use Rattle.lower_expr.specs.Effects.{computed_to, put_length, put_to}
 use Rattle.lower_expr.specs.Operands.{standing}
 use Rattle.lower_expr.specs.Steps.{has_word, register_word, word_for, word_put}
-use Rattle.lower_stmt.specs.Variables.{all_cleared, all_initialised, begins_constant, cleared, cleared_fields, initialised as initialised_in, variable_of, with_home}
+use Rattle.lower_stmt.specs.Variables.{all_cleared, all_initialised, begins_constant, initialised as initialised_in, variable_of}
 use Rattle.paris_code.specs.declared.instr.Instr.TheVariants as I
 use Rattle.paris_code.specs.Code.{CodeState, begun, with_register}
 use Rattle.source_meaning.specs.Constants.{constant_of, is_constant, then_value}

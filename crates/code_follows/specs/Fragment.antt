@@ -56,8 +56,8 @@ pub record Beside : Type 1 where
   pub folds : TExpr → Type 0  -- whose value is a number
   pub conditions : ℕ → TExpr → Type 0  -- of `where`, by its shape
   pub widens : ℕ → Type 0  -- the shapes of `everywhere`
-  pub variables : VarInfo → Type 0  -- of the file
-  pub locals : VarInfo → Type 0  -- of blocks
+  pub variables : VarInfo → Type 0  -- of the file, beside scalar ones
+  pub locals : VarInfo → Type 0  -- of blocks, beside scalar ones
 
 -- What the body of a function may do: call which functions, by their instances' numbers, with arguments of which
 -- types, for a value of which type where it is used; return numbers of which types; name which variables; and have

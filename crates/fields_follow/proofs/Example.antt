@@ -2,7 +2,7 @@
 use Rattle.std.proofs.Common.{◌≡◌, ◌∙◌, ℕ, zero, suc, List, [], ◌∷◌, ◌++◌, map, slice_get, slice_index, Some, inl, inr, Global, refl, sym, ap, subst, arith}
 use Rattle.std.proofs.lemmas.List.Elements.{All-cons, All-nil}
 use Rattle.std.proofs.lemmas.Option.{none-some}
-use Rattle.std.specs.List.{All, Contains}
+use Rattle.std.specs.List.{Contains}
 use denote.Hole.Carrier
 use Rattle.cstar_base.specs.Numbers.{residue}
 use Rattle.cstar_base.specs.Operators.{divides}
@@ -19,8 +19,7 @@ use Rattle.cstar_tree.specs.Headers.{Leads, calls_it, is_it}
 use Rattle.cstar_tree.specs.Instances.{main_word}
 use Rattle.cstar_tree.specs.ProgramTypes.{plain_info}
 use Rattle.cstar_tree.specs.TypedParts.{call_step, calls_in, calls_within, concat, optional, statement_call_step}
-use Rattle.cstar_tree.specs.Variables.{variables_of}
-use Rattle.code_lengths.proofs.Declaring.{else_variables, of_block, of_expression, of_return, of_where, of_with, row_variables}
+use Rattle.code_lengths.proofs.Declaring.{else_variables, row_variables}
 use Rattle.lower_base.specs.Operators.{assign_op_of, relates}
 use Rattle.source_meaning.specs.Constants.{constant_of, is_constant, value_of}
 use Rattle.source_meaning.specs.Examples.{number, numbers}

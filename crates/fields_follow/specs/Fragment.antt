@@ -3,6 +3,7 @@
 -- coordinates and promoted scalars, which change nothing; they fail where a divisor is 0 at an active position, and
 -- nowhere else. They are assigned to such variables, as truth values of them are, and folded into numbers and onto scalar
 -- variables, and they are the conditions of `where`. Folds are of the active positions.
+-- Blocks may have parallel variables without initialisers, which no expression names.
 -- Under `where` and `everywhere` stand the statements of scalar programs with these, also calls, `return` and jumps that
 -- lead out of them.
 use Rattle.std.specs.Prelude.{ℕ, ◌≡◌, ◌<◌, ◌≤◌, ◌+◌, ◌^◌, ◌⊎◌, ◌==◌, true, false, Some, None}
