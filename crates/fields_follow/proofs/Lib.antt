@@ -29,6 +29,7 @@ pub mod Knowing
 pub mod Leading
 pub mod Leaving
 pub mod Lengths
+pub mod Listed
 pub mod LocalsCleared
 pub mod Meaning
 pub mod Named

@@ -1,5 +1,5 @@
 -- Where the fields of a unit stand in the image, as the code of its expressions relies on it.
-use Rattle.std.proofs.Common.{◌≡◌, ◌∙◌, ℕ, ◌+◌, ◌<◌, ◌≤◌, ◌^◌, true, List, [], ◌∷◌, ◌++◌, Any, length, slice_get, refl, sym, ap, subst, arith, append_assoc}
+use Rattle.std.proofs.Common.{◌≡◌, ◌∙◌, ℕ, ◌+◌, ◌<◌, ◌≤◌, ◌^◌, true, List, [], ◌∷◌, ◌++◌, Any, length, slice_get, Some, refl, sym, ap, subst, arith, append_assoc}
 use Rattle.cstar_tree.specs.declared.typed.VarInfo.{VarInfo}
 use Rattle.code_lengths.proofs.Declaring.{at_length}
 use Rattle.lower_base.specs.Drafts.{Draft, Plain, step as step_of, with_instr}
@@ -14,9 +14,9 @@ use Rattle.paris_code.specs.Shapes.{bits_at}
 use Rattle.paris_code.specs.Spans.{IsInUse, Span, IsNamedAt, StandsAt, entry_of, fields_of}
 use Rattle.source_meaning.specs.State.{State}
 use Rattle.source_meaning.specs.Values.{Active, Scope}
-use Rattle.code_follows.proofs.Settings.{Setting, StandsBelow, Within, stands_here as stands_so}
+use Rattle.code_follows.proofs.Settings.{Setting, StandsBelow, Within, stands_here as stands_so, start}
 use Rattle.fields_follow.proofs.Fields.{HoldsFields}
-use Rattle.vp_sets.specs.Positions.{coordinate, positions_fit}
+use Rattle.vp_sets.specs.Positions.{coordinate, is_geometry, positions_fit}
 use Rattle.fields_follow.proofs.Extents.{extents_in}
 use Rattle.fields_follow.specs.Fields.{IsElement, file_field, file_number}
 use Rattle.fields_follow.proofs.FileFields.{Apart}
@@ -41,7 +41,7 @@ module _ (g : Setting) where
   -- the one is in use before an instruction and behind it and the other is named there;
   -- both are apart from what stands below the unit's entries, as an own entry that is named before a call and behind it
   -- stands below those of what is called; and the coordinates of any number are words, and the shapes are grids with the
-  -- extents of the source.
+  -- extents of the source. A field that takes an address ends below the flags too.
   pub record PlacesFields : Type 0 where
     pub ends : (at : ℕ) (i : Instr) (f : Field) (others : List Field) → StandsAt g.unit at i → step_of i ≡ Plain i → NamesFields i → fields_of i ≡ f ∷ others → (f.set < length (shapes g)) × ((place g f).offset + f.len ≤ bits_at (shapes g) f.set)
     pub exists : (k element set : ℕ) (info : VarInfo) → IsElement g.typed k info set element → set < length (shapes g)
@@ -57,6 +57,8 @@ module _ (g : Setting) where
     pub own_below_called : (f : Field) (first at last index : ℕ) → IsOwnField f → f.set < length (shapes g) → (place g f).offset + f.len ≤ bits_at (shapes g) f.set → IsNamedAt g.unit f.offset first → first < at → IsNamedAt g.unit f.offset last → at ≤ last → StandsAt g.unit at (I.FrontCall index)
         → StandsBelow g.image g.placed index (place g f)
     pub few : (set axis p : ℕ) → coordinate (extents g set) p axis < 2 ^ 32
+    pub address_ends : (at : ℕ) (d : Field) (set : ℕ) (over : _) → slice_get g.image.code.items (start g + at) ≡ Some (I.MakeAddress (place g d) set over) → (d.set < length (shapes g)) × ((place g d).offset + d.len ≤ bits_at (shapes g) d.set)
+    pub geometry : (set : ℕ) → set < length (shapes g) → is_geometry (extents g set) ≡ true
     pub grids : (set : ℕ) → set < length (shapes g) → (extents_in g.typed set ≡ extents g set) × (positions_fit (extents g set) ≡ true)
 
   -- what the memory holds of the source's state is the numbers of the fields, where these positions are active; and the
