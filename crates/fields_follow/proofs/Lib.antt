@@ -52,6 +52,10 @@ pub mod Reducing
 pub mod Reductions
 pub mod Relations
 pub mod Saving
+pub mod Scanning
+pub mod ScanAssigning
+pub mod Scanned
+pub mod Scans
 pub mod Sizes
 pub mod Spreading
 pub mod Starts

@@ -1,15 +1,22 @@
 -- Where the fields of a unit stand in the image, as the code of its expressions relies on it.
-use Rattle.std.proofs.Common.{◌≡◌, ◌∙◌, ℕ, ◌+◌, ◌<◌, ◌≤◌, ◌^◌, true, List, [], ◌∷◌, ◌++◌, Any, length, slice_get, Some, refl, sym, ap, subst, arith, append_assoc}
+use Rattle.std.proofs.Common.{◌≡◌, ◌∙◌, ℕ, ◌+◌, ◌<◌, ◌≤◌, ◌^◌, true, List, [], ◌∷◌, ◌++◌, Any, length, slice_get, Option, Some, refl, sym, ap, subst, arith, append_assoc}
+use Rattle.std.specs.List.{slice_index_or}
+use Rattle.cstar_base.specs.declared.operators.Direction.{Direction}
+use Rattle.cstar_base.specs.declared.operators.Inclusion.{Inclusion}
+use Rattle.cstar_base.specs.declared.operators.SegmentMode.{SegmentMode}
 use Rattle.cstar_tree.specs.declared.typed.VarInfo.{VarInfo}
 use Rattle.code_lengths.proofs.Declaring.{at_length}
 use Rattle.lower_base.specs.Drafts.{Draft, Plain, step as step_of, with_instr}
 use Rattle.paris_code.specs.declared.instr.Instr.{Instr}
 use Rattle.paris_code.specs.declared.instr.Instr.TheVariants as I
 use Rattle.paris_code.specs.declared.operands.Field.{Field}
+use Rattle.paris_code.specs.declared.operands.Reduction.{Reduction}
 use Rattle.paris_code.specs.declared.program.Owner.TheVariants as W
 use Rattle.paris_code.specs.declared.program.Virtual.{Virtual}
 use Rattle.paris_code.specs.Memory.{BitMemory}
+use Rattle.paris_code.specs.Moving.{moved_bit}
 use Rattle.paris_code.specs.Proper.{IsEntry, IsOwn}
+use Rattle.paris_code.specs.RuleOperands.{BitIsWith}
 use Rattle.paris_code.specs.Shapes.{bits_at}
 use Rattle.paris_code.specs.Spans.{IsInUse, Span, IsNamedAt, StandsAt, entry_of, fields_of}
 use Rattle.source_meaning.specs.State.{State}
@@ -41,9 +48,12 @@ module _ (g : Setting) where
   -- the one is in use before an instruction and behind it and the other is named there;
   -- both are apart from what stands below the unit's entries, as an own entry that is named before a call and behind it
   -- stands below those of what is called; and the coordinates of any number are words, and the shapes are grids with the
-  -- extents of the source. A field that takes an address ends below the flags too.
+  -- extents of the source. A field that takes an address ends below the flags too. A scan goes along an axis of its set,
+  -- and its bit is of that set.
   pub record PlacesFields : Type 0 where
     pub ends : (at : ℕ) (i : Instr) (f : Field) (others : List Field) → StandsAt g.unit at i → step_of i ≡ Plain i → NamesFields i → fields_of i ≡ f ∷ others → (f.set < length (shapes g)) × ((place g f).offset + f.len ≤ bits_at (shapes g) f.set)
+    pub scans : (at : ℕ) (combiner : Reduction) (d a : Field) (axis : ℕ) (direction : Direction) (mode : SegmentMode) (bit : Option Field) (within : Inclusion) → StandsAt g.unit at (I.Scan combiner d a axis direction mode bit within)
+        → (axis < length (extents g d.set)) × BitIsWith (shapes g) (place g d) mode (moved_bit (slice_index_or g.placed.places g.number []) bit)
     pub exists : (k element set : ℕ) (info : VarInfo) → IsElement g.typed k info set element → set < length (shapes g)
     pub files_end : (k element set : ℕ) (info : VarInfo) → IsElement g.typed k info set element → (of_file k element).offset + (of_file k element).len ≤ bits_at (shapes g) (of_file k element).set
     pub file : (k element : ℕ) (info : VarInfo) (f : Field) → IsElement g.typed k info f.set element → info.elem.bits ≡ f.len → IsFileField k element f → place g f ≡ of_file k element
