@@ -1,6 +1,7 @@
 pub mod Assigning
 pub mod Besides
 pub mod Bits
+pub mod Calm
 pub mod Checks
 pub mod Clearing
 pub mod ConditionCode
@@ -49,6 +50,7 @@ pub mod Reducing
 pub mod Reductions
 pub mod Relations
 pub mod Saving
+pub mod Scalars
 pub mod Sizes
 pub mod Spreading
 pub mod Starts

@@ -27,7 +27,8 @@ use Rattle.lower_comm.specs.News.{step_of}
 use Rattle.lower_expr.specs.Kinds.{operation_bits, relation_kind}
 use Rattle.lower_expr.specs.Operands.{ignores_context}
 use Rattle.source_meaning.specs.Constants.{constant_of}
-use Rattle.code_follows.specs.Fragment.{Beside, IsProgramBeside, IsScalarType, IsWord}
+use Rattle.source_meaning.specs.Values.{cast_type}
+use Rattle.code_follows.specs.Fragment.{Beside, IsOperand as OperatesOn, IsProgramBeside, IsScalarType, IsWord}
 
 -- a type of 32 bits of a shape
 abbrev pub IsWide : ℕ → ValueType → Type 0
@@ -53,6 +54,24 @@ IsScalarName (T.Variable ty x) = Unit {0}
 IsScalarName (T.Brackets' ty p inner) = (ty ≡ type_of inner) × IsScalarName inner
 IsScalarName (T.Convert' ty p operand) = IsWord ty × IsWord (type_of operand) × IsScalarName operand
 IsScalarName _ = ⊥
+
+-- A scalar that changes nothing: of numbers, variables, operators, conversions and casts of any scalar types, and `?:`.
+-- Where it divides by 0 the run ends.
+unfoldable pub IsCalm : TExpr → Type 0
+IsCalm (T.Number ty value) = IsWord ty × (value < 2 ^ 32)
+IsCalm (T.PositionsOf ty shape value) = IsWord ty × (value < 2 ^ 32)
+IsCalm (T.RankOf ty shape value) = IsWord ty × (value < 2 ^ 32)
+IsCalm (T.DimOf ty shape axis value) = IsWord ty × (value < 2 ^ 32)
+IsCalm (T.Variable ty x) = IsScalarType ty
+IsCalm (T.Brackets' ty p inner) = (ty ≡ type_of inner) × IsCalm inner
+IsCalm (T.Convert' ty p operand) = IsScalarType ty × IsCalm operand
+IsCalm (T.Casts' ty elems p operand) = IsScalarType ty × (ty.elem ≡ cast_type elems.items (type_of operand).elem) × IsCalm operand
+IsCalm (T.Unary' ty op p operand) = IsWord ty × IsCalm operand × OperatesOn op (type_of operand)
+IsCalm (T.Binary' ty place op p left q right) = IsWord ty × IsCalm left × IsCalm right × IsWord (type_of left) × IsWord (type_of right)
+IsCalm (T.LogicalOr' ty p left q right) = IsWord ty × IsCalm left × IsCalm right
+IsCalm (T.LogicalAnd' ty p left q right) = IsWord ty × IsCalm left × IsCalm right
+IsCalm (T.Choice' ty p test q first r second) = IsWord ty × IsCalm test × IsCalm first × IsCalm second × IsWord (type_of first) × IsWord (type_of second)
+IsCalm _ = ⊥
 
 -- a scalar: a constant, or a variable
 abbrev pub IsEverywhere : TExpr → Type 0
