@@ -1,5 +1,5 @@
 -- Scalars that change nothing: what they mean wherever they stand, and how the laws of scalar programs see them.
-use Rattle.std.proofs.Common.{◌≡◌, ◌∙◌, ℕ, ◌<◌, ◌^◌, ◌==◌, ◌&&◌, Bool, true, false, not, Option, Some, None, [], refl, sym, ap, subst, if◌then◌else◌}
+use Rattle.std.proofs.Common.{◌≡◌, ◌∙◌, ℕ, ◌<◌, ◌^◌, ◌==◌, ◌&&◌, Bool, true, false, not, Option, Some, None, refl, sym, ap, subst, if◌then◌else◌}
 use Rattle.std.specs.Int.{from_bool}
 use Rattle.constant_trees.proofs.Words.{converted_below, from_bool_below, unary_below}
 use Rattle.cstar_base.specs.declared.faults.RunFault.TheVariants.{DivZero}
@@ -21,13 +21,12 @@ use Rattle.source_meaning.specs.Expressions.{evaluated, mapped, operated}
 use Rattle.source_meaning.specs.Narrowing.{Operand, and_then, choose, or_then}
 use Rattle.source_meaning.specs.State.{Ends, Fault, Gives, Outcome, State, then_do}
 use Rattle.source_meaning.specs.Targets.{read, variable_target}
-use Rattle.source_meaning.specs.Values.{Active, Scalar, Scope, Value, at, cast_through, cast_type, convert_to, each, failing, nonzero, number, unary_of, unless}
+use Rattle.source_meaning.specs.Values.{Active, Scalar, Scope, Value, at, cast_through, convert_to, each, failing, nonzero, number, unary_of, unless}
 use Rattle.code_follows.specs.Fragment.{IsIn, May, ScalarsAmong, naming}
-use Rattle.code_follows.proofs.Following.{HasRegisters, IsScalar}
+use Rattle.code_follows.proofs.Following.{IsScalar}
 use Rattle.code_follows.proofs.Operators.{machine_below, machine_same}
 use Rattle.code_follows.proofs.Settings.{Setting}
-use Rattle.code_follows.proofs.Values.{operated_is}
-use Rattle.code_follows.proofs.Words.{below_bits, below_word, through_below, within_word}
+use Rattle.code_follows.proofs.Words.{below_bits, through_below, within_word}
 use Rattle.fields_follow.specs.Fragment.{IsCalm}
 
 pub calm_scalar : (e : TExpr) → IsCalm e → (type_of e).shape ≡ None
@@ -152,14 +151,23 @@ unfolding IsCalmly then_do
 then_calmly few bits st (Gives v u) k h next = subst (λ (t : State). IsCalmly bits st (k v t)) (sym h.2) (subst (λ (x : Value). IsCalmly bits st (k x st)) (sym h.0) (next (at v 0) h.1))
 then_calmly few bits st (Ends early u) k h next = tt
 
-module _ (g : Setting) (has : HasRegisters g) (alive : Variable → Type 0) (n : ℕ) (scope : Scope) (active : Active) (st : State) (small : (x : Variable) (info : VarInfo) → alive x → IsScalar g x info → st.scalar x < 2 ^ info.elem.bits) where
+module _ (g : Setting) (alive : Variable → Type 0) (n : ℕ) (scope : Scope) (active : Active) (st : State) (small : (x : Variable) (info : VarInfo) → alive x → IsScalar g x info → st.scalar x < 2 ^ info.elem.bits) where
   -- a value of scalars
   each_calmly : (ty : ValueType) (f : ℕ → ℕ) → ty.shape ≡ None → f 0 < 2 ^ ty.elem.bits → IsCalmly ty.elem.bits st (Gives (each ty.shape f) st)
   unfolding each
   each_calmly ty f scalar few = subst (λ (o : Option ℕ). IsCalmly ty.elem.bits st (Gives (each o f) st)) (sym scalar) (gives_calmly ty.elem.bits st (f 0) few)
 
+  scalar_operated : (ty : ValueType) (place : Place) (op : Op) (unsigned : Bool) (x y : ℕ) → ty.shape ≡ None → operated scope active ty place op unsigned (Scalar x) (Scalar y) st ≡ (if divides op && (y == 0) then Ends (Fault DivZero place None) st else Gives (Scalar (outcome op 32 unsigned x y)) st)
+  unfolding operated failing unless each at
+  scalar_operated ty place op unsigned x y scalar =
+      ap (λ (o : Option ℕ). unless (failing scope active o (λ p. divides op && (y == 0))) DivZero place st (Gives (each o (λ p. outcome op 32 unsigned x y)) st)) scalar ∙ by (divides op && (y == 0))
+    where
+      by : (b : Bool) → unless (if b then Some None else None) DivZero place st (Gives (Scalar (outcome op 32 unsigned x y)) st) ≡ (if b then Ends (Fault DivZero place None) st else Gives (Scalar (outcome op 32 unsigned x y)) st)
+      by true = refl
+      by false = refl
+
   operated_calmly : (ty : ValueType) (place : Place) (op : Op) (signed : Bool) (x y : ℕ) → ty.shape ≡ None → ty.elem.bits ≡ 32 → x < 2 ^ 32 → y < 2 ^ 32 → IsCalmly ty.elem.bits st (operated scope active ty place op (not signed) (Scalar x) (Scalar y) st)
-  operated_calmly ty place op signed x y scalar wide few small = subst (λ (o : Outcome Value). IsCalmly ty.elem.bits st o) (sym (operated_is g has alive scope active ty place op (not signed) x y st scalar)) (by (divides op) (y == 0) refl refl)
+  operated_calmly ty place op signed x y scalar wide few small = subst (λ (o : Outcome Value). IsCalmly ty.elem.bits st o) (sym (scalar_operated ty place op (not signed) x y scalar)) (by (divides op) (y == 0) refl refl)
     where
       given : (divides op ≡ true → (y == 0) ≡ false) → IsCalmly ty.elem.bits st (Gives (Scalar (outcome op 32 (not signed) x y)) st)
       given some = gives_calmly ty.elem.bits st (outcome op 32 (not signed) x y) (below_bits ty.elem.bits _ wide (subst (λ (w : ℕ). w < 2 ^ 32) (machine_same x y few small op signed some) (machine_below x y few small (machine_of op signed))))

@@ -44,6 +44,7 @@ pub mod PassingTests
 pub mod Places
 pub mod Placing
 pub mod Programs
+pub mod Promoted
 pub mod Pure
 pub mod Quiet
 pub mod Reducing

@@ -1,9 +1,8 @@
 -- The law of scalar programs for scalars that change nothing, whose code stands among that of parallel expressions: it
 -- leaves the memory as it is.
-use Rattle.std.proofs.Common.{◌≡◌, ◌∙◌, ℕ, ◌<◌, ◌≤◌, ◌^◌, Bool, length, slice_index, refl, sym, ap, subst, arith}
+use Rattle.std.proofs.Common.{◌≡◌, ℕ, ◌<◌, ◌^◌, Bool, length, slice_index, refl, sym, ap, subst, arith}
 use Rattle.cstar_tree.specs.declared.typed.TExpr.{TExpr}
 use Rattle.cstar_tree.specs.declared.typed.Variable.{Variable}
-use Rattle.cstar_tree.specs.declared.typed.Variable.TheVariants as V
 use Rattle.cstar_tree.specs.Typed.{type_of}
 use Rattle.code_lengths.specs.Ready.{HasCode, IsReadyButForFields}
 use Rattle.lower_base.specs.declared.emit.Out.{Out}
@@ -18,13 +17,12 @@ use Rattle.source_meaning.specs.Expressions.{evaluated}
 use Rattle.source_meaning.specs.Programs.{calls}
 use Rattle.source_meaning.specs.State as Source
 use Rattle.source_meaning.specs.State.{Early, Outcome, State}
-use Rattle.source_meaning.specs.Values.{Active, Scalar, Scope, Value}
+use Rattle.source_meaning.specs.Values.{Scalar, Scope, Value}
 use Rattle.code_follows.specs.Fragment.{Beside, May, ScalarsAmong}
 use Rattle.code_follows.proofs.Callees.{CallsFollow}
 use Rattle.code_follows.proofs.Expressions.{operand}
 use Rattle.code_follows.proofs.Following.{Arrives, Finishes, Follows, HasRegisters, IsKept, Keeps, Sim, follows_same, held, keeps_all, knowing}
-use Rattle.code_follows.proofs.Settings.{Begun, Held, Reaches, Setting, Within, layout}
-use Rattle.code_follows.proofs.Values.{Value_of}
+use Rattle.code_follows.proofs.Settings.{Held, Setting, Within, layout}
 use Rattle.fields_follow.specs.Fragment.{IsCalm}
 use Rattle.fields_follow.proofs.Calm.{IsCalmly, calm_gives, calm_in, calm_same}
 use Rattle.fields_follow.proofs.Instructions.{place, word_in}
@@ -165,7 +163,7 @@ module _ (g : Setting) (has : HasRegisters g) (alive : Variable → Type 0) (n :
 
       gives : (x : Value) (u : State) (out : Out) (f : Draft) → Told x u out f → GivesScalar bound d s st e x u out f
       gives x u out f (given, a) =
-          let same : u ≡ st = (subst (λ (y : Outcome Value). IsCalmly (type_of e).elem.bits st y) given (calm_gives g has alive n (around g has fields s.memory) fields.active st sim.small e is code.names among)).2 in
+          let same : u ≡ st = (subst (λ (y : Outcome Value). IsCalmly (type_of e).elem.bits st y) given (calm_gives g alive n (around g has fields s.memory) fields.active st sim.small e is code.names among)).2 in
           let word : slice_index a.t.registers a.holds.register ≡ held (type_of e).elem a.holds.word = a.holds.lasts u a.t a.sim (keeps_all (calm g has fields s.memory) f a.t) (λ calm. refl) in (
             a.holds.word,
             (
