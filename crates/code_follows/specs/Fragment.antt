@@ -105,6 +105,7 @@ ScalarsAmong names (T.LogicalAnd' ty p left q right) = ScalarsAmong names left Ã
 ScalarsAmong names (T.Assign' ty place op p target q value) = ScalarsAmong names target Ã— ScalarsAmong names value
 ScalarsAmong names (T.Step' ty op order p target) = ScalarsAmong names target
 ScalarsAmong names (T.Reduce' ty op p operand) = ScalarsAmong names operand
+ScalarsAmong names (T.Scan' ty p source axis combiner direction mode bit within) = ScalarsAmong names source
 ScalarsAmong names _ = Unit {0}
 
 -- An expression whose value is used: of numbers, variables, `getchar`, operators, conversions and casts to any

@@ -121,7 +121,7 @@ module _ (g : Setting) (has : HasRegisters g) (alive : Variable → Type 0) (n :
         }
 
     -- by an instruction behind code of values alone
-    leaves_value : (v w : ℕ → ℕ) → AreStored v w → (e2 : Draft) (i : Instr) → Within g (with_instr i e2) → (p : Passes g alive (length entered.fields) entered e2 s st (Unit {0})) → Puts g set i variable p.t v
+    pub leaves_value : (v w : ℕ → ℕ) → AreStored v w → (e2 : Draft) (i : Instr) → Within g (with_instr i e2) → (p : Passes g alive (length entered.fields) entered e2 s st (Unit {0})) → Puts g set i variable p.t v
         → Leaves g alive d (with_instr i e2) s (with_positions (V.File k) 0 (fields.active set) w st)
     unfolding tests_passed
     leaves_value v w same e2 i within p puts =
@@ -129,7 +129,7 @@ module _ (g : Setting) (has : HasRegisters g) (alive : Variable → Type 0) (n :
         leaves v w same e2 (with_instr i e2) (Unit {0}) within (tests_passed g alive (length entered.fields) entered e2 s st (Unit {0}) (omega arith) p) tt (instr_takes g set i variable e2 p.t v (entry_and_below g places fields alive set k 0 info variable is refl file refl) within p.at.stands puts)
 
     -- the variable with all its bits is that entry
-    variable_is : (target : TExpr) (next : Out → Draft → Made Out) → (type_of target).elem ≡ info.elem
+    pub variable_is : (target : TExpr) (next : Out → Draft → Made Out) → (type_of target).elem ≡ info.elem
         → then_make (whole_of g.typed (layout g) target (record { shape = Some set; variable = V.File k }) d) next ≡ next (O.Field variable) entered
     unfolding standing then_make an_entry first_bits
     variable_is target next same =
@@ -137,7 +137,7 @@ module _ (g : Setting) (has : HasRegisters g) (alive : Variable → Type 0) (n :
         ∙ ap (λ (m : Made Field). then_make (then_make m (λ f after. Makes (O.Field (first_bits info.elem.bits f)) after)) next) (field_is g k 0 set info d is)
 
   -- what an assignment without an operator stores
-  plainly : (op : AssignOp) (to from : Elem) (old w : ℕ) → assign_op_of op ≡ None → updated op to from old w ≡ w
+  pub plainly : (op : AssignOp) (to from : Elem) (old w : ℕ) → assign_op_of op ≡ None → updated op to from old w ≡ w
   unfolding assign_op_of updated
   plainly A.Set to from old w e = refl
   plainly A.Add to from old w e = cc
@@ -154,7 +154,7 @@ module _ (g : Setting) (has : HasRegisters g) (alive : Variable → Type 0) (n :
   plainly A.Min to from old w e = cc
   plainly A.Max to from old w e = cc
 
-  own_is : (set k : ℕ) (op : AssignOp) (target value : TExpr) → own_of 1 target ≡ Some (record { shape = Some set; variable = V.File k }) → HasOperation op (type_of target).elem value → assigned_own op target value ≡ Some (record { shape = Some set; variable = V.File k })
+  pub own_is : (set k : ℕ) (op : AssignOp) (target value : TExpr) → own_of 1 target ≡ Some (record { shape = Some set; variable = V.File k }) → HasOperation op (type_of target).elem value → assigned_own op target value ≡ Some (record { shape = Some set; variable = V.File k })
   unfolding writes_itself folds works_within
   own_is set k op target value own known =
       ap (λ (o : Option Own). elim o as (λ _. Option Own) [ Some own ↦ if writes_itself own op (type_of target).elem value then Some own else None | None ↦ None ]) own ∙ by (assign_op_of op) known

@@ -238,7 +238,7 @@ module _ (g : Setting) (has : HasRegisters g) (alive : Variable → Type 0) (n :
           (extended_after g has alive n ready places fields set ty p inner f (length d.fields) d s st is.0 is.1 most is.2 part (pure_after g has alive n ready places fields ty.elem.bits set inner (kind_bits ty.elem.bits ty.elem.signed ty.elem.kind).1 is.2 part) (omega arith) here sim Q last ended)
 
   -- a get from neighbours
-  gone_same : (dest : Out) (Q : Out → Draft → Type 0) (made : Made Out) → After g (λ out e. Q dest e) made → After g Q (gone_to dest made)
+  pub gone_same : (dest : Out) (Q : Out → Draft → Type 0) (made : Made Out) → After g (λ out e. Q dest e) made → After g Q (gone_to dest made)
   unfolding gone_to After then_make
   gone_same dest Q (Makes out e) h = h
   gone_same dest Q Fails h = tt

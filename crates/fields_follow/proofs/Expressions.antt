@@ -110,7 +110,7 @@ module _ (g : Setting) (has : HasRegisters g) (alive : Variable → Type 0) (n :
   operand_grows bits e c quiet d = extends_grown g has alive _ d _ _ ((lengths_if_made g.typed g.instance (layout g)).operand bits n quiet e d c.code (ready d))
 
   -- what the last instruction writes to the entry that was taken first is the value
-  own_result : {flag : Type 0} (bits set : ℕ) (d e2 : Draft) (s : CodeState) (st : State) (v : ℕ → ℕ) (i : Instr) → Within g (with_instr i e2) → (p : Passes g alive (length d.fields) (with_entry set bits W.Own d) e2 s st (Unit {0})) → Puts g set i (next_field set bits d) p.t v
+  pub own_result : {flag : Type 0} (bits set : ℕ) (d e2 : Draft) (s : CodeState) (st : State) (v : ℕ → ℕ) (i : Instr) → Within g (with_instr i e2) → (p : Passes g alive (length d.fields) (with_entry set bits W.Own d) e2 s st (Unit {0})) → Puts g set i (next_field set bits d) p.t v
       → Answers flag bits (length d.fields) d s set st v (O.Field (next_field set bits d)) (with_instr i e2)
   own_result bits set d e2 s st v i within p puts =
       let d1 : Draft = with_entry set bits W.Own d in

@@ -100,7 +100,7 @@ module _ (g : Setting) (scope : Scope) (a : Active) (k : KnowsFields g scope a) 
 
     pub knows_inner : Lasts g from entries upto kept → KnowsFields inner scope b
     knows_inner lasts = record {
-      places = let p = k.places in record { ends = p.ends; exists = p.exists; files_end = p.files_end; file = p.file; files_apart = p.files_apart; own_file = p.own_file; owns_apart = p.owns_apart; own_and_below = p.own_and_below; file_and_below = p.file_and_below; own_below_called = p.own_below_called; few = p.few; grids = p.grids };
+      places = let p = k.places in record { ends = p.ends; scans = p.scans; exists = p.exists; files_end = p.files_end; file = p.file; files_apart = p.files_apart; own_file = p.own_file; owns_apart = p.owns_apart; own_and_below = p.own_and_below; file_and_below = p.file_and_below; own_below_called = p.own_below_called; few = p.few; address_ends = p.address_ends; geometry = p.geometry; grids = p.grids };
       same_extents = k.same_extents;
       effects = k.effects;
       folds = k.folds;

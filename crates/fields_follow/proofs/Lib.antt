@@ -30,6 +30,7 @@ pub mod Knowing
 pub mod Leading
 pub mod Leaving
 pub mod Lengths
+pub mod Listed
 pub mod Meaning
 pub mod Named
 pub mod NarrowKinds
@@ -52,6 +53,10 @@ pub mod Reductions
 pub mod Relations
 pub mod Saving
 pub mod Scalars
+pub mod Scanning
+pub mod ScanAssigning
+pub mod Scanned
+pub mod Scans
 pub mod Sizes
 pub mod Spreading
 pub mod Starts

@@ -20,8 +20,8 @@ use Rattle.fields_follow.proofs.Bits.{first_number}
 use Rattle.fields_follow.proofs.Instructions.{AreAlike, HasNumbers, Puts, has_alike, number_in, place, shapes}
 use Rattle.fields_follow.proofs.Leaving.{EndsBelow}
 use Rattle.fields_follow.proofs.Lengths.{held_first}
-use Rattle.fields_follow.proofs.Places.{HoldsTheFields, IsFileField, IsOwnField, PlacesFields, names_first, of_file, stands_here}
-use Rattle.fields_follow.proofs.Writing.{own_written}
+use Rattle.fields_follow.proofs.Places.{HoldsTheFields, IsFileField, IsOwnField, PlacesFields, names_first, of_file}
+use Rattle.fields_follow.proofs.Writing.{PutsNext, next_written, puts_next}
 use Rattle.fields_follow.proofs.Starts.{Starts, starts_next}
 
 longer : {A : Type 0} (xs ys zs : List A) → ys ≡ xs ++ zs → length xs ≤ length ys
@@ -287,10 +287,10 @@ module _ (g : Setting) where
           by (inr file) = in_file_has bits set f st v b.t file b.sim
 
       -- an instruction by which an own entry takes numbers
-      pub puts_own : (bits bound : ℕ) (set : ℕ) (i : Instr) (d : Field) (e : Draft) (s : CodeState) (st : State) (v : ℕ → ℕ) → bound ≤ d.offset → d.offset < length e.fields → IsOwnField g d → d.set ≡ set → d.len ≡ bits
-          → Within g (with_instr i e) → Starts g alive s (length e.code) e.regs → Sim g alive st s → Puts g set i d s v → GivesField bits bound e s set st v d (with_instr i e)
-      puts_own bits bound set i d e s st v newer older own of_set long within here sim puts =
-          let w = own_written g places fields alive set i d e s st v within here.stands sim of_set puts own in
+      pub next_own : (bits bound : ℕ) (set : ℕ) (i : Instr) (d : Field) (e : Draft) (s : CodeState) (st : State) (v : ℕ → ℕ) → bound ≤ d.offset → d.offset < length e.fields → IsOwnField g d → d.set ≡ set → d.len ≡ bits
+          → Starts g alive s (length e.code) e.regs → Sim g alive st s → PutsNext g places fields alive set i d e s v → GivesField bits bound e s set st v d (with_instr i e)
+      next_own bits bound set i d e s st v newer older own of_set long here sim next =
+          let w = next_written g places fields alive set i d e s st v here.stands sim of_set next own in
           let x : Extended e 1 (with_instr i e) = and_one g i e in
           let longer : length (with_instr i e).code ≡ length e.code + 1 = code_more g i e in
           record {
@@ -308,12 +308,16 @@ module _ (g : Setting) where
               long = d.len;
               own = own;
               fits = omega arith;
-              ends = (places.ends (length e.code) i d puts.others (stands_here g i e within puts.plain) puts.plain puts.simple puts.names).1;
+              ends = next.ends.1;
               newer = newer;
               older = let l = fields_longer e (with_instr i e) 1 x in omega (arith, older, l);
               somewhere = length e.code;
-              named = names_first g i d puts.others (length e.code) (stands_here g i e within puts.plain) puts.names;
+              named = names_first g i d next.others (length e.code) next.there next.names;
               before = omega (arith, longer);
               has = subst (λ (n : ℕ). HasNumbers g n set d w.t v) long w.has;
             });
           }
+
+      pub puts_own : (bits bound : ℕ) (set : ℕ) (i : Instr) (d : Field) (e : Draft) (s : CodeState) (st : State) (v : ℕ → ℕ) → bound ≤ d.offset → d.offset < length e.fields → IsOwnField g d → d.set ≡ set → d.len ≡ bits
+          → Within g (with_instr i e) → Starts g alive s (length e.code) e.regs → Sim g alive st s → Puts g set i d s v → GivesField bits bound e s set st v d (with_instr i e)
+      puts_own bits bound set i d e s st v newer older own of_set long within here sim puts = next_own bits bound set i d e s st v newer older own of_set long here sim (puts_next g places fields alive set i d e s v within here.stands puts)
