@@ -31,8 +31,10 @@ pub mod Leading
 pub mod Leaving
 pub mod Lengths
 pub mod Listed
+pub mod LocalsCleared
 pub mod Meaning
 pub mod Named
+pub mod Naming
 pub mod NarrowKinds
 pub mod Narrowing
 pub mod Neighbours

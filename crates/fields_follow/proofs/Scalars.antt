@@ -34,7 +34,7 @@ use Rattle.fields_follow.proofs.Totals.{held_below}
 
 -- no parallel expression, and no call
 abbrev nothing_beside : Beside
-nothing_beside = record { effects = λ e. ⊥; folds = λ e. ⊥; conditions = λ set e. ⊥; widens = λ set. ⊥; variables = λ info. ⊥ }
+nothing_beside = record { effects = λ e. ⊥; folds = λ e. ⊥; conditions = λ set e. ⊥; widens = λ set. ⊥; variables = λ info. ⊥; locals = λ local. ⊥ }
 
 abbrev nothing_else : May
 nothing_else = record { calls = λ used index given. ⊥; returns = λ elem. ⊥; names = λ x. ⊥; beside = nothing_beside }

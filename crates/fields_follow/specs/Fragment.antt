@@ -4,6 +4,7 @@
 -- fail where a divisor is 0 at an active position, or that of a scalar is, and nowhere else. They are assigned to such
 -- variables, as truth values of them are, and scans of them and of ones, and folded into numbers and onto scalar variables,
 -- and they are the conditions of `where`. Folds and scans are of the active positions.
+-- Blocks may have parallel variables without initialisers, which no expression names.
 -- Under `where` and `everywhere` stand the statements of scalar programs with these, also calls, `return` and jumps that
 -- lead out of them.
 use Rattle.std.specs.Prelude.{ℕ, ◌≡◌, ◌<◌, ◌≤◌, ◌+◌, ◌^◌, ◌⊎◌, ◌==◌, true, false, Option, Some, None}
@@ -271,6 +272,7 @@ fields_beside = record {
   conditions = IsCondition;
   widens = λ set. Unit {0};
   variables = IsParallelVariable;
+  locals = IsParallelVariable;
 }
 
 abbrev pub IsParallelProgram : Typed → Type 0
