@@ -69,6 +69,7 @@ pub mod TruthValues
 pub mod Truths
 pub mod Updates
 pub mod Values
+pub mod Variables
 pub mod Widening
 pub mod Wrapping
 pub mod Writing
