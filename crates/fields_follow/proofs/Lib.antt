@@ -52,6 +52,8 @@ pub mod Relations
 pub mod Saving
 pub mod Scanning
 pub mod ScanAssigning
+pub mod ScanForms
+pub mod ScanOperands
 pub mod Scanned
 pub mod Scans
 pub mod Sizes

@@ -12,7 +12,7 @@ use Rattle.source_meaning.specs.Constants.{constant_of, is_constant}
 use Rattle.fields_follow.specs.Fragment.{AreWrapping, IsConstant, IsDot, IsIndex, IsOffset, IsPromoted, IsPure, IsScalarName}
 use Rattle.fields_follow.proofs.Meaning.{always_checked, either, left_of, right_of}
 
-both : (a b : Bool) → a ≡ true → b ≡ true → (a && b) ≡ true
+pub both : (a b : Bool) → a ≡ true → b ≡ true → (a && b) ≡ true
 both true b e f = f
 both false b e f = cc
 
