@@ -1,6 +1,6 @@
 -- The code of an assignment to a parallel variable, or of a step of one, follows: its last instruction writes the
 -- variable itself.
-use Rattle.std.proofs.Common.{[], ◌≡◌, ◌∙◌, ℕ, ◌<◌, ◌≤◌, ◌^◌, ◌==◌, ◌||◌, Bool, true, false, not, length, Option, Some, None, refl, sym, ap, subst, arith, ◌⊎◌, inl, inr, if◌then◌else◌, ◌&&◌}
+use Rattle.std.proofs.Common.{[], ◌≡◌, ◌∙◌, ℕ, ◌<◌, ◌≤◌, ◌^◌, ◌==◌, ◌||◌, Bool, true, false, not, length, Option, Some, None, refl, sym, ap, subst, arith, ◌⊎◌, inl, inr, if◌then◌else◌, ◌&&◌, ◌+◌}
 use Rattle.cstar_base.specs.declared.operators.Op.{Op}
 use Rattle.cstar_base.specs.declared.operators.Place.{Place}
 use Rattle.cstar_base.specs.declared.faults.RunFault.TheVariants.{DivZero}
@@ -45,7 +45,7 @@ use Rattle.vp_sets.specs.Positions.{coordinate}
 use Rattle.code_follows.proofs.Following.{Extends, Finishes, HasRegisters, Sim, extends_then, held}
 use Rattle.code_follows.proofs.Growing.{Extended}
 use Rattle.code_follows.proofs.Words.{held_wide}
-use Rattle.code_follows.proofs.Settings.{Setting, Within, and_one, layout}
+use Rattle.code_follows.proofs.Settings.{Setting, Within, and_one, layout, start}
 use Rattle.fields_follow.specs.Fragment.{AreWrapping, IsOperand, IsOperation, IsPromoted, IsPure, IsWide}
 use Rattle.fields_follow.proofs.Extents.{get_names}
 use Rattle.fields_follow.specs.Fields.{IsElement, file_number}
@@ -59,7 +59,7 @@ use Rattle.fields_follow.proofs.Lengths.{Keeps, divides_wide}
 use Rattle.fields_follow.proofs.Meaning.{as_shaped, promoted_means, read_is, right_of, unary_means, value_in, word_at}
 use Rattle.fields_follow.proofs.News.{get_last}
 use Rattle.fields_follow.proofs.Operands.{GivesRight, Takes, fields_after, operated_after, operated_extends, register_has, register_is, right_after, right_extends}
-use Rattle.fields_follow.proofs.Passing.{After, Behind, GivesField, Passes, after_same, fields_longer, made_after, passes_all, passes_from, then_after}
+use Rattle.fields_follow.proofs.Passing.{After, Behind, GivesField, Passes, after_same, fields_longer, made_after, names_second, passes_all, passes_from, then_after}
 use Rattle.fields_follow.proofs.Places.{HoldsTheFields, IsFileField, PlacesFields, stands_here}
 use Rattle.fields_follow.proofs.Sizes.{binary_parts, brackets_part, convert_part, unary_part}
 use Rattle.fields_follow.proofs.Totals.{held_below}
@@ -71,6 +71,8 @@ use Rattle.std.proofs.lemmas.Bool.{eqb-true}
 use Rattle.std.proofs.lemmas.Bool.Decides.{nat_tests}
 use Rattle.std.specs.Prelude.{nat_le}
 use Rattle.fields_follow.proofs.Starts.{Starts}
+use Rattle.fields_follow.proofs.Variables.{file_carries}
+use Rattle.paris_code.specs.Spans.{IsNamedAt}
 
 module _ (g : Setting) (has : HasRegisters g) (alive : Variable → Type 0) (n : ℕ) (ready : (d : Draft) → IsReadyButForFields g.typed g.instance (layout g) n d) (places : PlacesFields g) (fields : HoldsTheFields g) where
   abbrev operand : ℕ → Bool → TExpr → Draft → Made Out
@@ -100,7 +102,7 @@ module _ (g : Setting) (has : HasRegisters g) (alive : Variable → Type 0) (n :
 
   -- a copy of a variable, cut or extended
   copied_last : (set k offset bits : ℕ) (ty : ValueType) → bits ≤ 32 → ty.shape ≡ Some set → HasVariable g.typed g.instance n (V.File k) (plain ty) → PutsWords set offset bits (T.Variable ty (V.File k))
-  unfolding computed_to read_to spot_of variable_spot loaded in_field field_loaded then_make an_entry passes_from value_in evaluated
+  unfolding computed_to read_to spot_of variable_spot loaded in_field field_loaded then_make an_entry passes_from value_in evaluated step_of
   copied_last set k offset bits ty most shaped v d s st here sim Q last ended =
       let f : Field = field_at set offset bits in
       let info : VarInfo = variable_info v.word (plain ty) v.start in
@@ -114,7 +116,9 @@ module _ (g : Setting) (has : HasRegisters g) (alive : Variable → Type 0) (n :
       ∙ ap (λ (m : Made Field). then_make m (λ h after. Makes (O.Field f) (with_instr (I.Move ty.elem.signed f h) after))) (field_is g k 0 set info d is))
       (made_after g Q (O.Field f) (with_instr i d2) (λ within.
       let file : IsFileField g k 0 source = taken g set info.elem.bits owner d (with_instr i d2) 1 within (and_one g i d2) in
-      let numbers = variable_has g has alive n ready places fields set k info source s st is file refl refl sim in
+      let named : IsNamedAt g.unit source.offset (length d2.code) = names_second g i f source [] (length d2.code) (stands_here g i d2 within refl) refl in
+      let behind : s.at ≤ start g + length d2.code = (let at = here.stands in omega (arith, at)) in
+      let numbers = variable_has g has alive n ready places fields set (V.File k) info source s st (file_carries g alive places fields set k info source is file refl refl) (length d2.code) named behind sim in
       last (ap (λ (x : Value). Source.Gives x st) (read_is fields.scope fields.active ty set k st shaped)) d2 i within (passes_from g alive (length d.fields) d d2 d2 s st (Unit {0}) (and_entry set info.elem.bits owner d) (passes_all g alive (length d.fields) d2 s st (Unit {0}) here sim))
       (puts_extended g info.elem set f source s (λ q. held info.elem (st.parallel (V.File k) 0 q)) most (λ q below on. numbers.1 q below) numbers.0)))
 
@@ -327,7 +331,7 @@ module _ (g : Setting) (has : HasRegisters g) (alive : Variable → Type 0) (n :
       then_after g (GivesField g alive bits (length d1.fields) d1 s set st v) Q (Makes f d1) (λ a begun. then_make (right_by (operand bits true value) op value begun) (λ right after. right_operated op signed place f a right spare after))
       (made_after g (GivesField g alive bits (length d1.fields) d1 s set st v) f d1 (λ within. record {
         passes = passes_all g alive (length d1.fields) d1 s st (Behind g f d1) here sim;
-        stands = inr (record { k = k; info = info; is = is; file = entry d1 0 (and_entry set bits W.Own d) within; of_set = refl; len = refl; fits = omega arith; same = λ q below. (refl, held_below info.elem (st.parallel (V.File k) 0 q)) });
+        stands = inr (record { x = V.File k; info = info; carries = file_carries g alive places fields set k info f is (entry d1 0 (and_entry set bits W.Own d) within) refl refl; len = refl; fits = omega arith; same = λ q below. (refl, held_below info.elem (st.parallel (V.File k) 0 q)) });
       }))
       (λ a begun. extends_then g begun (right_by (operand bits true value) op value begun) (λ right after. right_operated op signed place f a right spare after) (right_extends g (operand bits true value) op value (λ after. operand_grows g has alive n ready places fields bits value c true after) begun) (λ right after. operated_extends g op signed place f a spare right after known.0))
       (λ a e1 one. then_known g one.passes.t (meant g fields value st) (λ q. value_in (extents g set) st value q) st (λ right e. Takes op right × GivesRight g has alive n ready places fields bits (length e1.fields) e1 one.passes.t set st w right e) Q (right_by (operand bits true value) op value e1) (λ right after. right_operated op signed place f a right spare after)

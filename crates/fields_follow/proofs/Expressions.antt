@@ -55,7 +55,7 @@ use Rattle.fields_follow.proofs.News.{get_last}
 use Rattle.fields_follow.proofs.Operands.{fields_after}
 use Rattle.fields_follow.proofs.Outcomes.{Ended, Given, Known, ended_on, follows_like, given_follows, given_weaker, known_follows, meant, then_known}
 use Rattle.fields_follow.proofs.Pure.{get_gives}
-use Rattle.fields_follow.proofs.Passing.{After, Behind, GivesField, Passes, after_same, fields_longer, gives_alike, gives_from, gives_numbers, gives_on, made_after, names_second, passes_all, puts_own}
+use Rattle.fields_follow.proofs.Passing.{After, Behind, GivesField, Passes, after_same, fields_longer, gives_alike, gives_from, gives_numbers, gives_on, gives_set, made_after, names_second, passes_all, puts_own}
 use Rattle.fields_follow.proofs.Places.{HoldsTheFields, PlacesFields, stands_here}
 use Rattle.fields_follow.proofs.Sizes.{binary_parts, brackets_part, convert_part, promoted_small, pure_at, unary_part}
 use Rattle.fields_follow.proofs.Totals.{held_below}
@@ -192,7 +192,7 @@ module _ (g : Setting) (has : HasRegisters g) (alive : Variable → Type 0) (n :
         registers = gives.passes.registers;
         sim = gives.passes.sim;
         stays = λ u h first later p below. gives.passes.stays behind h first later p (omega (arith, below, less));
-      }) (puts a gives.passes.t (gives_numbers g alive places fields bits (length d.fields) d s set st v a e1 gives) gives.passes.sim)))) ended
+      }) (puts a gives.passes.t (gives_numbers g alive places fields bits (length d.fields) d s set st v a e1 gives behind) gives.passes.sim)))) ended
     where
       v : ℕ → ℕ
       v = λ q. word_at (extents g set) st inner q
@@ -354,7 +354,7 @@ module _ (g : Setting) (has : HasRegisters g) (alive : Variable → Type 0) (n :
       (made_after g (Knows bits d s set st (T.Pcoord ty axis)) (O.Field dest) (with_instr i d1) (λ within.
       let given = own_result {flag = IsFlag (T.Pcoord ty axis)} bits set d d1 s st v i within (passes_all g alive (length d.fields) d1 s st (Unit {0}) here sim)
       (puts_same g set i dest s (λ q. coordinate (extents g set) q axis) v (λ q below. sym (held_wide ty.elem (coordinate (extents g set) q axis) wide.1 (places.few set axis q))) (puts_coordinate g set axis dest s refl (λ p below. places.few set axis p))) in
-      inl (coordinate_means set axis ty st wide.0 (gives_numbers g alive places fields bits (length d.fields) d s set st v given.0 (with_instr i d1) given.1.1.0).exists, given))))
+      inl (coordinate_means set axis ty st wide.0 (gives_set g alive places fields bits (length d.fields) d s set st v given.0 (with_instr i d1) given.1.1.0).1, given))))
     where
       d1 : Draft
       d1 = with_entry set bits W.Own d

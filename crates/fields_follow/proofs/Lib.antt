@@ -30,8 +30,10 @@ pub mod Leading
 pub mod Leaving
 pub mod Lengths
 pub mod Listed
+pub mod LocalsCleared
 pub mod Meaning
 pub mod Named
+pub mod Naming
 pub mod NarrowKinds
 pub mod Narrowing
 pub mod Neighbours
@@ -66,6 +68,7 @@ pub mod TruthValues
 pub mod Truths
 pub mod Updates
 pub mod Values
+pub mod Variables
 pub mod Widening
 pub mod Wrapping
 pub mod Writing

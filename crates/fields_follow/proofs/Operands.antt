@@ -50,7 +50,7 @@ use Rattle.fields_follow.proofs.Lengths.{Keeps}
 use Rattle.fields_follow.proofs.Instructions.{Puts, extents, operation_is, puts_constant, puts_operate, puts_operate_constant, shapes, word_in}
 use Rattle.fields_follow.proofs.Meaning.{AreOperands, promoted_means, value_in, word_at}
 use Rattle.fields_follow.proofs.Outcomes.{Ended, Given, given_follows, given_through, given_weaker, meant, then_known}
-use Rattle.fields_follow.proofs.Passing.{After, Behind, GivesField, Passes, after_same, code_longer, fields_longer, gives_numbers, made_after, names_second, names_third, passes_all, passes_less, passes_on, puts_own, still_numbers, then_after}
+use Rattle.fields_follow.proofs.Passing.{After, Behind, GivesField, Passes, after_same, code_longer, fields_longer, gives_numbers, gives_set, made_after, names_second, names_third, passes_all, passes_less, passes_on, puts_own, still_numbers, then_after}
 use Rattle.fields_follow.proofs.Places.{HoldsTheFields, PlacesFields, stands_here}
 use Rattle.fields_follow.proofs.Quiet.{pure_quiet}
 use Rattle.fields_follow.proofs.Spreading.{GivesWord, HasBoth, spread_behind}
@@ -336,7 +336,7 @@ module _ (g : Setting) where
         Gives_right right = GivesRight bits (length e1.fields) e1 left.passes.t set st w right e2
 
         there : set < length (shapes g)
-        there = (gives_numbers g alive places fields bits bound d1 s set st v a e1 left).exists
+        there = (gives_set g alive places fields bits bound d1 s set st v a e1 left).1
 
         -- behind a right one in a field, where both are named later
         both_behind : (b : Field) → (gives : GivesField g alive bits (length e1.fields) e1 left.passes.t set st w b e2) → Behind g a e2 → Behind g b e2 → HasBoth g alive bits set (length d.fields) a b d1 e2 s st v w
@@ -344,7 +344,7 @@ module _ (g : Setting) where
           passes = passes_less g alive (length d.fields) bound d1 e2 s st (Unit {0}) low (passes_on g alive bound (length e1.fields) d1 e1 e2 s st (Behind g a e1) (Behind g b e2) (Unit {0}) less left.passes gives.passes
               (λ u. (behind_a.0, (behind_a.1.0, (let longer = code_longer e1 e2 gives.passes.grown.0 gives.passes.grown.1 in let later = behind_a.1.1 in omega (arith, longer, later))))) (λ u. behind_b));
           left = still_numbers g alive places fields bits bound (length e1.fields) d1 s set st v a e1 e2 (Behind g b e2) left gives.passes behind_b (omega arith) behind_a;
-          right = gives_numbers g alive places fields bits (length e1.fields) e1 left.passes.t set st w b e2 gives;
+          right = gives_numbers g alive places fields bits (length e1.fields) e1 left.passes.t set st w b e2 gives behind_b;
         }
 
         -- without a check

@@ -96,7 +96,7 @@ module _ (g : Setting) (has : HasRegisters g) (alive : Variable → Type 0) (n :
   field_compared bits set relation bound a b v w u d e1 e2 s st same low less left right within =
       tested_last g alive fields places bound set d e2 compare s st u (Unit {0}) low
       (passes_from g alive bound d d1 e2 s st (Unit {0}) (and_entry set bits W.Own d) (passes_on g alive bound (length e1.fields) d1 e1 e2 s st (Behind g a e1) (Behind g b e2) (Unit {0}) less left.passes right.passes (λ u. early) (λ u. behind_b)))
-      tt numbers.exists within (puts_compare g bits set relation a b right.passes.t v w u same numbers (gives_numbers g alive places fields bits (length e1.fields) e1 left.passes.t set st w b e2 right))
+      tt numbers.exists within (puts_compare g bits set relation a b right.passes.t v w u same numbers (gives_numbers g alive places fields bits (length e1.fields) e1 left.passes.t set st w b e2 right behind_b))
     where
       d1 : Draft
       d1 = with_entry set bits W.Own d

@@ -1,9 +1,10 @@
 -- The programs with parallel variables of which it is said so far that their code means them. Their parallel
 -- expressions are pure ones, of variables of the file of all types, gets from neighbours round the ends of the grid, own
 -- coordinates and promoted scalars, which change nothing; they fail where a divisor is 0 at an active position, and
--- nowhere else. They are assigned to such variables, as truth values of them are, and scans of them and of ones with operators
--- on these, and folded into numbers and onto scalar variables, and they are the conditions of `where`. Folds and scans are
--- of the active positions.
+-- nowhere else. They are assigned to such variables, as truth values of them are, and scans of them and of ones with
+-- operators on these, and folded into numbers and onto scalar variables, and they are the conditions of `where`. Folds and
+-- scans are of the active positions.
+-- Blocks may have parallel variables without initialisers, which no expression names.
 -- Under `where` and `everywhere` stand the statements of scalar programs with these, also calls, `return` and jumps that
 -- lead out of them.
 use Rattle.std.specs.Prelude.{ℕ, ◌≡◌, ◌<◌, ◌≤◌, ◌+◌, ◌^◌, ◌⊎◌, ◌==◌, true, false, Option, Some, None}
@@ -258,6 +259,7 @@ fields_beside = record {
   conditions = IsCondition;
   widens = λ set. Unit {0};
   variables = IsParallelVariable;
+  locals = IsParallelVariable;
 }
 
 abbrev pub IsParallelProgram : Typed → Type 0
