@@ -54,11 +54,12 @@ use Rattle.fields_follow.proofs.Expressions.{pure_after, unary_ended}
 use Rattle.fields_follow.proofs.Forms.{HasItsCode, element_is, field_is, not_held}
 use Rattle.fields_follow.proofs.Instructions.{extents, place, shapes}
 use Rattle.fields_follow.proofs.Lengths.{held_first}
-use Rattle.fields_follow.proofs.Meaning.{binary_means, either, left_of, promoted_means, read_is, right_of, unary_means, value_in, word_at}
+use Rattle.fields_follow.proofs.Meaning.{binary_means, either, left_of, read_is, right_of, unary_means, value_in, word_at}
 use Rattle.fields_follow.proofs.Lengths.{relates_plainly}
 use Rattle.fields_follow.proofs.Outcomes.{Ended, Given, Known, ended_on, follows_given, follows_like, given_follows, given_weaker, known_follows, meant, then_known}
 use Rattle.fields_follow.proofs.Passing.{After, after_same, after_weaker, made_after, passes_all, passes_from, small_there, then_after}
 use Rattle.fields_follow.proofs.Places.{HoldsTheFields, PlacesFields, names_first, stands_here}
+use Rattle.fields_follow.proofs.Promoted.{promoted_free}
 use Rattle.fields_follow.proofs.Pure.{ignores_both, pure_means}
 use Rattle.fields_follow.proofs.NarrowKinds.{kind_most, zero_told}
 use Rattle.fields_follow.proofs.Sizes.{binary_parts, brackets_part, unary_part, value_small}
@@ -116,8 +117,8 @@ value_means scope active t i n set (T.Binary' ty place op p left q right) st is 
     let parts = ignores_both op left right free in
     either
     (λ (h : IsRelation set op left right). binary_means scope active set ty place op p q left right (λ x. value_in (scope.extents set) st left x) (λ x. value_in (scope.extents set) st right x) st is.0.0 parts.0
-    (either (λ pure. pure_means scope active t i n set left st pure parts.1) (λ promoted. promoted_means scope active set (scope.extents set) left st promoted) (left_of set left right (relation_operands set left right h.1)))
-    (either (λ pure. pure_means scope active t i n set right st pure parts.2) (λ promoted. promoted_means scope active set (scope.extents set) right st promoted) (right_of set left right (relation_operands set left right h.1))))
+    (either (λ pure. pure_means scope active t i n set left st pure parts.1) (λ promoted. promoted_free scope active set (scope.extents set) left st promoted parts.1) (left_of set left right (relation_operands set left right h.1)))
+    (either (λ pure. pure_means scope active t i n set right st pure parts.2) (λ promoted. promoted_free scope active set (scope.extents set) right st promoted parts.2) (right_of set left right (relation_operands set left right h.1))))
     (λ (h : (relates op ≡ false) × HasItsKind set (T.Binary' ty place op p left q right)). pure_means scope active t i n set (T.Binary' ty place op p left q right) st h.1.0 free) is.1
 value_means scope active t i n set e st is free = pure_means scope active t i n set e st is.0 free
 
