@@ -40,12 +40,12 @@ use Rattle.fields_follow.proofs.Expressions.{operand_at, operand_grows, operands
 use Rattle.fields_follow.proofs.Forms.{HasItsCode, not_held}
 use Rattle.fields_follow.proofs.Instructions.{Puts, extents, whole_keeps}
 use Rattle.fields_follow.proofs.Lengths.{Keeps, operation_keeps}
-use Rattle.fields_follow.proofs.Meaning.{promoted_means, value_in, word_at}
+use Rattle.fields_follow.proofs.Meaning.{value_in, word_at}
 use Rattle.fields_follow.proofs.Operands.{GivesRight, RightField, Spares, Takes, in_field_extends, operated_after, operated_extends, promoted_left, pure_left, right_after, right_extends}
 use Rattle.fields_follow.proofs.Outcomes.{Ended, Given, given_through, given_weaker, meant, then_known}
 use Rattle.fields_follow.proofs.Passing.{After, GivesField, Passes, after_same, fields_longer, made_after, then_after}
 use Rattle.fields_follow.proofs.Places.{HoldsTheFields, PlacesFields}
-use Rattle.fields_follow.proofs.ScanForms.{operand_number, scan_constant, scan_own, scan_quiet, scan_word}
+use Rattle.fields_follow.proofs.ScanForms.{operand_number, scan_constant, scan_own, scan_word}
 use Rattle.fields_follow.proofs.Scanning.{scanned_in}
 use Rattle.fields_follow.proofs.Starts.{Starts}
 use Rattle.fields_follow.proofs.Values.{Gives, IsFlag, next_field, one_more, operand_of, with_entry}
@@ -233,8 +233,9 @@ module _ (g : Setting) (has : HasRegisters g) (alive : Variable → Type 0) (n :
       by (inl (scans, any)) = in_field (scan_left bits left (is_quiet right) spare scans (left_valued scans)) any
       by (inr (inl pure, scans)) = in_field (plain_left bits left (is_quiet right) spare most pure wide_left c_left) (inl scans)
       by (inr (inr promoted, scans)) =
-          then_after g (GivesField g alive bits (length d.fields) d1 s set st v) Q (spread_into (operand bits (is_quiet right) left) left spare d1) (λ a between. next a between)
-          (subst (λ (f : ℕ → ℕ). After g (GivesField g alive bits (length d.fields) d1 s set st f) (spread_into (operand bits (is_quiet right) left) left spare d1)) (own_words left st s sim (inr promoted) wide_left c_left)
-          (promoted_left g has alive n ready places fields bits set left (is_quiet right) (scan_quiet set right scans) promoted c_left d s st here sim)) next_extends
-          (λ a e1 one. behind (length d.fields) (omega arith) a e1 (promoted_means fields.scope fields.active set (extents g set) left st promoted ∙ ap (λ (f : ℕ → ℕ). Source.Gives (Parallel f) st) (own_numbers left st (inr promoted))) (let more = fields_longer d1 e1 one.passes.grown.0 one.passes.grown.1 in omega (arith, first, more)) one
-          (scan_behind (length d.fields) e1 one.passes.t scans one.passes.at one.passes.sim))
+          then_known g s (meant g fields left st) v st (GivesField g alive bits (length d.fields) d1 s set st v) Q (spread_into (operand bits (is_quiet right) left) left spare d1) (λ a between. next a between)
+          (subst (λ (f : ℕ → ℕ). Follows g (Given g f st (GivesField g alive bits (length d.fields) d1 s set st v)) s (meant g fields left st) (spread_into (operand bits (is_quiet right) left) left spare d1)) (own_numbers left st (inr promoted))
+          (subst (λ (f : ℕ → ℕ). Follows g (Given g (λ q. value_in (extents g set) st left q) st (GivesField g alive bits (length d.fields) d1 s set st f)) s (meant g fields left st) (spread_into (operand bits (is_quiet right) left) left spare d1)) (own_words left st s sim (inr promoted) wide_left c_left)
+          (promoted_left g has alive n ready places fields bits set left (is_quiet right) promoted c_left d s st here sim))) next_extends
+          (λ is_left a e1 one. behind (length d.fields) (omega arith) a e1 is_left (let more = fields_longer d1 e1 one.passes.grown.0 one.passes.grown.1 in omega (arith, first, more)) one (scan_behind (length d.fields) e1 one.passes.t scans one.passes.at one.passes.sim))
+          (λ early z f. ended (left_ended g fields ty place op p q left right s st early) z f)
