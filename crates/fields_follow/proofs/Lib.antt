@@ -31,6 +31,7 @@ pub mod Leading
 pub mod Leaving
 pub mod Lengths
 pub mod Listed
+pub mod Locals
 pub mod LocalsCleared
 pub mod Meaning
 pub mod Named
