@@ -59,6 +59,8 @@ pub mod Saving
 pub mod Scalars
 pub mod Scanning
 pub mod ScanAssigning
+pub mod ScanForms
+pub mod ScanOperands
 pub mod Scanned
 pub mod Scans
 pub mod Sizes
