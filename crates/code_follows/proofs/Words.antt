@@ -168,8 +168,10 @@ mutual
   scalars_widened names more fits (T.Brackets' ty p inner) h = scalars_widened names more fits inner h
   scalars_widened names more fits (T.Convert' ty p operand) h = scalars_widened names more fits operand h
   scalars_widened names more fits (T.Promote' ty p operand) h = scalars_widened names more fits operand h
+  scalars_widened names more fits (T.Casts' ty elems p operand) h = scalars_widened names more fits operand h
   scalars_widened names more fits (T.Unary' ty op p operand) h = scalars_widened names more fits operand h
   scalars_widened names more fits (T.Binary' ty place op p left q right) h = (scalars_widened names more fits left h.0, scalars_widened names more fits right h.1)
+  scalars_widened names more fits (T.Choice' ty p test q first r second) h = (scalars_widened names more fits test h.0, scalars_widened names more fits first h.1, scalars_widened names more fits second h.2)
   scalars_widened names more fits (T.LogicalOr' ty p left q right) h = (scalars_widened names more fits left h.0, scalars_widened names more fits right h.1)
   scalars_widened names more fits (T.LogicalAnd' ty p left q right) h = (scalars_widened names more fits left h.0, scalars_widened names more fits right h.1)
   scalars_widened names more fits (T.Assign' ty place op p target q value) h = (scalars_widened names more fits target h.0, scalars_widened names more fits value h.1)

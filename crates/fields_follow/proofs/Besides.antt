@@ -26,6 +26,7 @@ use Rattle.fields_follow.proofs.Expressions.{whole_after}
 use Rattle.fields_follow.proofs.FoldingOnto.{onto_leaves}
 use Rattle.fields_follow.proofs.Onto.{LeavesScalars, scalars_stay}
 use Rattle.fields_follow.proofs.Forms.{HasItsCode}
+use Rattle.fields_follow.proofs.LocalsCleared.{locals_clear}
 use Rattle.fields_follow.proofs.Knowing.{KnowsFields, StaysNamed, kept_open, lasts_within, sim_close, sim_open}
 use Rattle.fields_follow.proofs.Leaving.{Leaves, fields_under, keeps_again, places_under, reaches_again, starts_again, registers_under, under}
 use Rattle.fields_follow.proofs.Ending.{follows_so}
@@ -129,6 +130,7 @@ besides g scope active known has = record {
     effects = λ alive files n ready e h among c d s st free here sim. effect_follows g scope active known has alive n ready e (record { code = c; among = among }) d s st free here files sim (known.effects e h);
     folds = λ alive files n ready e h among c d s st R r free here sim dest. fold_follows g scope active known has alive n ready e (record { code = c; among = among }) d s st free here files sim (known.folds e h) R r dest;
   };
+  locals = locals_clear g scope active known;
   wheres = λ alive files n ready shape test p first second h among c f contexts one other. where_follows g has scope active known alive files n ready shape test p first second (known.conditions shape test h) among c f contexts one other;
   widenings = λ alive files n ready shape p body h c f contexts part. widening_follows g scope active known alive n shape p body f contexts part;
 }

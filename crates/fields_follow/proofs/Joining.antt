@@ -19,7 +19,7 @@ use Rattle.fields_follow.proofs.FileFields as Files
 use Rattle.fields_follow.proofs.FileFields.{IsTranslated, apart_back, extents_are, few_coordinates, file_ends, file_exists, grid_fits, grid_geometry}
 use Rattle.fields_follow.proofs.Listed.{address_fits}
 use Rattle.fields_follow.proofs.Placing as Placing
-use Rattle.fields_follow.proofs.Placing.{IsThere, at_bits, file_and_below, file_moved, own_and_below, own_and_file, own_below_called, written_apart}
+use Rattle.fields_follow.proofs.Placing.{IsThere, at_bits, file_and_below, file_moved, own_and_below, own_and_file, apart_at, own_below_called, written_apart}
 use Rattle.fields_follow.proofs.Places.{IsOwnField, PlacesFields}
 
 module _ (g : Setting) (made : IsTranslated g.typed g.words g.before g.after g.image) where
@@ -45,6 +45,7 @@ module _ (g : Setting) (made : IsTranslated g.typed g.words g.before g.after g.i
     own_file = λ k element set info f is own. own_and_file g made f k info set element (own_field f own) is;
     owns_apart = λ f h first at last later differ own other exists named again low high here behind more.
         apart_back (at_bits g made h) (at_bits g made f) (written_apart g made at first last later f h (own_field f own) (own_field h other) differ exists named again low high here behind more);
+    owns_apart_at = λ f h first at differ own other exists begins early late here. apart_at g made at first f h (own_field f own) (own_field h other) differ exists begins early late here;
     own_and_below = λ f below own there. own_and_below g made f below (own_field f own) there;
     file_and_below = λ k element set info below is there. file_and_below g made k info set element below is there;
     own_below_called = λ f first at last index own exists ends before early after late stands. own_below_called g made f first at last index (own_field f own) exists ends before early after late stands;

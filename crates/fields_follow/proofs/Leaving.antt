@@ -51,7 +51,7 @@ module _ (g : Setting) where
   under a = record g { held = fields_held g.typed g.image a }
 
   pub places_under : (a : Active) → PlacesFields g → PlacesFields (under a)
-  places_under a p = record { ends = p.ends; scans = p.scans; exists = p.exists; files_end = p.files_end; file = p.file; files_apart = p.files_apart; own_file = p.own_file; owns_apart = p.owns_apart; own_and_below = p.own_and_below; file_and_below = p.file_and_below; own_below_called = p.own_below_called; few = p.few; address_ends = p.address_ends; geometry = p.geometry; grids = p.grids }
+  places_under a p = record { ends = p.ends; scans = p.scans; exists = p.exists; files_end = p.files_end; file = p.file; files_apart = p.files_apart; own_file = p.own_file; owns_apart = p.owns_apart; owns_apart_at = p.owns_apart_at; own_and_below = p.own_and_below; file_and_below = p.file_and_below; own_below_called = p.own_below_called; few = p.few; address_ends = p.address_ends; geometry = p.geometry; grids = p.grids }
 
   -- what the memory holds of it is the fields' numbers
   abbrev pub fields_under : (a : Active) (scope : Scope) → SameExtents g scope → HoldsTheFields (under a)

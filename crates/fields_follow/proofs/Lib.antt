@@ -1,6 +1,7 @@
 pub mod Assigning
 pub mod Besides
 pub mod Bits
+pub mod Calm
 pub mod Checks
 pub mod Clearing
 pub mod ConditionCode
@@ -31,9 +32,13 @@ pub mod Leading
 pub mod Leaving
 pub mod Lengths
 pub mod Listed
+pub mod Locals
+pub mod LocalWrites
+pub mod LocalsCleared
 pub mod Locating
 pub mod Meaning
 pub mod Named
+pub mod Naming
 pub mod NarrowKinds
 pub mod Narrowing
 pub mod Neighbours
@@ -47,6 +52,7 @@ pub mod PassingTests
 pub mod Places
 pub mod Placing
 pub mod Programs
+pub mod Promoted
 pub mod Pure
 pub mod Quiet
 pub mod Reducing
@@ -56,8 +62,11 @@ pub mod Router
 pub mod RouterCode
 pub mod Routing
 pub mod Saving
+pub mod Scalars
 pub mod Scanning
 pub mod ScanAssigning
+pub mod ScanForms
+pub mod ScanOperands
 pub mod Scanned
 pub mod Scans
 pub mod Sizes
@@ -70,6 +79,7 @@ pub mod TruthValues
 pub mod Truths
 pub mod Updates
 pub mod Values
+pub mod Variables
 pub mod Widening
 pub mod Wrapping
 pub mod Writing

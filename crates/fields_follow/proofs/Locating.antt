@@ -277,7 +277,7 @@ module _ (g : Setting) where
           }
 
           have : Have set t (words_of g set st row) outs
-          have = all_have g alive places fields bound d e s set st (AllBehind g outs e) a.passes (words_of g set st row) outs (a.stand behind)
+          have = all_have g alive places fields bound d e s set st (AllBehind g outs e) a.passes (words_of g set st row) outs behind (a.stand behind)
 
           args : List ℕ
           args = arguments_at (I.CheckTarget set place_of target.over) t.registers

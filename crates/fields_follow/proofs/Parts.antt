@@ -12,7 +12,7 @@ use Rattle.source_meaning.specs.State.{State}
 use Rattle.code_follows.proofs.Settings.{Setting}
 use Rattle.fields_follow.proofs.Instructions.{HasNumbers, extents}
 use Rattle.fields_follow.proofs.Meaning.{word_at}
-use Rattle.fields_follow.proofs.Passing.{Behind, GivesField, Passes, Stands, code_longer, fields_longer, in_file_has, passes_all, passes_on, stands_less, still_numbers}
+use Rattle.fields_follow.proofs.Passing.{Behind, GivesField, Passes, Stands, code_longer, fields_longer, gives_numbers, passes_all, passes_on, stands_less, still_numbers}
 use Rattle.fields_follow.proofs.Places.{HoldsTheFields, PlacesFields}
 
 module _ (g : Setting) where
@@ -134,15 +134,14 @@ module _ (g : Setting) where
       AllHave set t (v ∷ vs) (O.Field f ∷ outs) = HasNumbers g 32 set f t v × AllHave set t vs outs
       AllHave set t _ _ = ⊥
 
-      pub all_have : (bound : ℕ) (d e : Draft) (s : CodeState) (set : ℕ) (st : State) (one : Type 0) (a : Passes g alive bound d e s st one) (vs : List (ℕ → ℕ)) (outs : List Out) → AllStand bound e set a.t st vs outs → AllHave set a.t vs outs
-      unfolding AllStand AllHave
-      all_have bound d e s set st one a [] [] all = tt
-      all_have bound d e s set st one a (v ∷ vs) (O.Field f ∷ outs) all = (by all.0, all_have bound d e s set st one a vs outs all.1)
-        where
-          by : Stands g alive 32 bound e set f a.t st v → HasNumbers g 32 set f a.t v
-          by (inl own) = own.has
-          by (inr file) = in_file_has g alive places fields 32 set f st v a.t file a.sim
-      all_have bound d e s set st one a [] (out ∷ outs) all = absurd all
-      all_have bound d e s set st one a (v ∷ vs) [] all = absurd all
-      all_have bound d e s set st one a (v ∷ vs) (O.Scalar r ∷ outs) all = absurd all
-      all_have bound d e s set st one a (v ∷ vs) (O.Nothing ∷ outs) all = absurd all
+      pub all_have : (bound : ℕ) (d e : Draft) (s : CodeState) (set : ℕ) (st : State) (one : Type 0) (a : Passes g alive bound d e s st one) (vs : List (ℕ → ℕ)) (outs : List Out) → AllBehind outs e → AllStand bound e set a.t st vs outs → AllHave set a.t vs outs
+      unfolding AllBehind AllStand AllHave
+      all_have bound d e s set st one a [] [] behind all = tt
+      all_have bound d e s set st one a (v ∷ vs) (O.Field f ∷ outs) behind all = (
+        gives_numbers g alive places fields 32 bound e a.t set st v f e (record { passes = passes_all g alive bound e a.t st (Behind g f e) a.at a.sim; stands = all.0 }) behind.0,
+        all_have bound d e s set st one a vs outs behind.1 all.1,
+      )
+      all_have bound d e s set st one a [] (out ∷ outs) behind all = absurd all
+      all_have bound d e s set st one a (v ∷ vs) [] behind all = absurd all
+      all_have bound d e s set st one a (v ∷ vs) (O.Scalar r ∷ outs) behind all = absurd all
+      all_have bound d e s set st one a (v ∷ vs) (O.Nothing ∷ outs) behind all = absurd all

@@ -18,7 +18,7 @@ use Rattle.paris_code.specs.Moving.{moved_bit}
 use Rattle.paris_code.specs.Proper.{IsEntry, IsOwn}
 use Rattle.paris_code.specs.RuleOperands.{BitIsWith}
 use Rattle.paris_code.specs.Shapes.{bits_at}
-use Rattle.paris_code.specs.Spans.{IsNamedAt, StandsAt, entry_of, fields_of}
+use Rattle.paris_code.specs.Spans.{IsInUse, Span, IsNamedAt, StandsAt, entry_of, fields_of}
 use Rattle.source_meaning.specs.State.{State}
 use Rattle.source_meaning.specs.Values.{Active, Scope}
 use Rattle.code_follows.proofs.Settings.{Setting, StandsBelow, Within, stands_here as stands_so, start}
@@ -44,7 +44,8 @@ module _ (g : Setting) where
 
   -- What is known of the unit's fields in the image: those that instructions name end below the flags; the
   -- entry of an element is at its field, which ends below them too, and is apart from those of other elements and
-  -- from own entries; two own entries are apart where each is named at an instruction, or before it, and behind it;
+  -- from own entries; two own entries are apart where each is named at an instruction, or before it, and behind it, or where
+  -- the one is in use before an instruction and behind it and the other is named there;
   -- both are apart from what stands below the unit's entries, as an own entry that is named before a call and behind it
   -- stands below those of what is called; and the coordinates of any number are words, and the shapes are grids with the
   -- extents of the source. A field that takes an address ends below the flags too. A scan goes along an axis of its set,
@@ -60,6 +61,7 @@ module _ (g : Setting) where
     pub own_file : (k element set : ℕ) (info : VarInfo) (f : Field) → IsElement g.typed k info set element → IsOwnField f → Apart (place g f) (of_file k element)
     pub owns_apart : (f h : Field) (first at last later : ℕ) → (f.offset ≡ h.offset → ⊥) → IsOwnField f → IsOwnField h → h.set < length (shapes g) → IsNamedAt g.unit f.offset first → IsNamedAt g.unit f.offset last → first ≤ at → at < last
         → IsNamedAt g.unit h.offset at → IsNamedAt g.unit h.offset later → at < later → Apart (place g f) (place g h)
+    pub owns_apart_at : (f h : Field) (first at : ℕ) → (f.offset ≡ h.offset → ⊥) → IsOwnField f → IsOwnField h → h.set < length (shapes g) → IsNamedAt g.unit f.offset first → first < at → ((span : Span) → IsInUse g.unit f.offset W.Own span → at + 1 ≤ span.last) → IsNamedAt g.unit h.offset at → Apart (place g f) (place g h)
     pub own_and_below : (f below : Field) → IsOwnField f → StandsBelow g.image g.placed g.number below → Apart (place g f) below
     pub file_and_below : (k element set : ℕ) (info : VarInfo) (below : Field) → IsElement g.typed k info set element → StandsBelow g.image g.placed g.number below → Apart (of_file k element) below
     pub own_below_called : (f : Field) (first at last index : ℕ) → IsOwnField f → f.set < length (shapes g) → (place g f).offset + f.len ≤ bits_at (shapes g) f.set → IsNamedAt g.unit f.offset first → first < at → IsNamedAt g.unit f.offset last → at ≤ last → StandsAt g.unit at (I.FrontCall index)

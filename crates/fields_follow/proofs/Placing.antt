@@ -21,12 +21,13 @@ use Rattle.paris_code.specs.Proper.{IsEntry, IsOwn}
 use Rattle.paris_code.specs.RuleOperands.{BitIsWith}
 use Rattle.paris_code.specs.Shapes.{SetShape, bits_at, extents_at, shapes_of}
 use Rattle.paris_code.specs.Sound.{KeepsRules}
-use Rattle.paris_code.specs.Spans.{IsNamedAt, StandsAt, fields_of}
+use Rattle.paris_code.specs.Spans.{IsInUse, IsNamedAt, Span, StandsAt, fields_of}
 use Rattle.code_follows.proofs.Settings.{Setting, StandsBelow, Within, placed_instr, start, whole}
 use Rattle.code_follows.proofs.Standing.{stands}
 use Rattle.fields_follow.specs.Fields.{IsElement, file_field, file_number}
-use Rattle.fields_follow.proofs.FileFields.{Apart, HasFinal, IsTranslated, file_exists, final_there, same_final, sets_long}
+use Rattle.fields_follow.proofs.FileFields.{Apart, apart_back, HasFinal, IsTranslated, file_exists, final_there, same_final, sets_long}
 use Rattle.fields_follow.proofs.Named.{NamesFields, ends_below, scan_below}
+use Rattle.fields_follow.proofs.Naming.{named_again}
 
 module _ (g : Setting) (made : IsTranslated g.typed g.words g.before g.after g.image) where
   -- where the entries of the unit begin, and where a field of the unit stands
@@ -163,6 +164,25 @@ module _ (g : Setting) (made : IsTranslated g.typed g.words g.before g.after g.i
       → IsNamedAt g.unit h.offset at → IsNamedAt g.unit h.offset later → at < later → Apart (at_bits h) (at_bits f)
   written_apart at first last later f h one other differ exists a b low high c d behind =
       lasts_apart (at + 1) h f other one (λ same. differ (sym same)) exists (goes_on h.offset at later at c d (omega arith) behind) (goes_on f.offset first last at a b low high)
+
+  -- An entry that is in use before an instruction and behind it has no bit of one that the instruction names, though
+  -- that may never be named again.
+  pub apart_at : (at first : ℕ) (f h : Field) → IsOwnField f → IsOwnField h → f.offset ≢ h.offset → h.set < length shapes → IsNamedAt g.unit f.offset first → first < at → ((span : Span) → IsInUse g.unit f.offset W.Own span → at + 1 ≤ span.last) → IsNamedAt g.unit h.offset at → Apart (at_bits f) (at_bits h)
+  apart_at at first f h one other differ exists named_first early late here = by (named_again g.unit h.offset at)
+    where
+      used : (place : ℕ) → at ≤ place → place ≤ at + 1 → IsUsed g.before g.number g.unit f.offset place
+      used place low high = inr (
+        ((first, named_first), (λ span held. let a = (held.named first named_first).0 in let b = late span held in (omega (arith, a, early, low), omega (arith, b, high)))),
+        (λ made_here. let a = (made_here.in_use.named first named_first).0 in let b = made_here.begins in omega (arith, a, b, early, low)),
+      )
+
+      by : ((later : ℕ) × ((at < later) × IsNamedAt g.unit h.offset later)) ⊎ ((later : ℕ) → at < later → IsNamedAt g.unit h.offset later → ⊥) → Apart (at_bits f) (at_bits h)
+      by (inl again) =
+          let more = again.1.0 in
+          let most = inside h.offset again.0 again.1.1 in
+          apart_back (at_bits h) (at_bits f) (owns_apart (at + 1) h f other one (λ same. differ (sym same)) exists (omega (arith, more, most)) (lasts_used h.offset (at + 1) (goes_on h.offset at again.0 at here again.1.1 (omega arith) again.1.0)) (used (at + 1) (omega arith) (omega arith)))
+      by (inr never) =
+          apart_back (at_bits h) (at_bits f) (owns_apart at h f other one (λ same. differ (sym same)) exists (inside h.offset at here) (inr (((at, here), (λ span held. held.named at here)), (λ made_here. never made_here.again.0 made_here.again.1 made_here.again.2))) (used at (omega arith) (omega arith)))
 
   -- ---- what stands below the entries of the unit
 

@@ -144,11 +144,11 @@ module _ (g : Setting) where
       abbrev words : ℕ → ℕ
       words = λ q. held info.elem (st.parallel (V.File k) 0 q)
 
-      named : HasNumbers g 32 set at t to
-      named = gives_numbers g alive places fields 32 bound d s set st to at e a
+      named : Behind g at e → HasNumbers g 32 set at t to
+      named behind = gives_numbers g alive places fields 32 bound d s set st to at e a behind
 
       leads : (q : ℕ) → q < processors (shapes g) set → is_active (shapes g) t.memory set q ≡ true → to q < processors (shapes g) set
-      leads q below on = lead q below (sym (flags_of g alive places fields st t set q a.passes.sim named.exists below) ∙ on)
+      leads q below on = lead q below (sym (flags_of g alive places fields st t set q a.passes.sim (places.exists k 0 set info is) below) ∙ on)
 
       abbrev words_there : ℕ → ℕ
       words_there = λ q. words (to q)
@@ -169,14 +169,17 @@ module _ (g : Setting) where
       plain_last : bits ≤ info.elem.bits → Within g (plain_get g set k info f at e) → Q (O.Field f) (plain_get g set k info f at e)
       unfolding first_bits passing passes_on passes_from step_of
       plain_last fits within =
-          last e1 i within (passing e1 (and_entry set info.elem.bits (owner_of g k) e) a.passes.at (length e1.code, (names_second g i f at (part ∷ []) (length e1.code) (stands_here g i e1 within refl) refl, omega arith)))
-          (subst (λ (w : ℕ → ℕ). Puts g set i f t w) elem_words (puts_get bits set f at part t to words refl named leads (there 1 (with_instr i e1) (and_one g i e1) within bits fits)))
+          last e1 i within (passing e1 (and_entry set info.elem.bits (owner_of g k) e) a.passes.at behind)
+          (subst (λ (w : ℕ → ℕ). Puts g set i f t w) elem_words (puts_get bits set f at part t to words refl (named behind) leads (there 1 (with_instr i e1) (and_one g i e1) within bits fits)))
         where
           part : Field
           part = record source { len = bits }
 
           i : Instr
           i = I.Get f at part
+
+          behind : Behind g at e
+          behind = (length e1.code, (names_second g i f at (part ∷ []) (length e1.code) (stands_here g i e1 within refl) refl, omega arith))
 
       -- to a field as long as the variable, which is extended
       wide_last : Within g (with_instr (I.Move ty.elem.signed f (got_field g set k info e)) (wide_get g set k info at e)) → Q (O.Field f) (with_instr (I.Move ty.elem.signed f (got_field g set k info e)) (wide_get g set k info at e))
@@ -185,7 +188,7 @@ module _ (g : Setting) where
           last e3 move within (passes_on g alive bound bound d e2 e3 s st (Unit {0}) (Behind g field e3) (Unit {0}) (omega arith) before gives.passes (λ u. tt) (λ u. behind))
           (puts_extended g ty.elem set f field gives.passes.t (λ q. held ty.elem (st.parallel (V.File k) 0 (to q))) most
           (λ q below on. held_has ty.elem (st.parallel (V.File k) 0 (to q)) (subst (λ (x : Elem). st.parallel (V.File k) 0 (to q) < 2 ^ x.bits) same (small_there g alive places fields set k info st t is a.passes.sim (to q))))
-          (subst (λ (x : Elem). HasNumbers g x.bits set field gives.passes.t (λ q. held x (st.parallel (V.File k) 0 (to q)))) same (gives_numbers g alive places fields info.elem.bits bound e2 t set st (λ q. words (to q)) field e3 gives)))
+          (subst (λ (x : Elem). HasNumbers g x.bits set field gives.passes.t (λ q. held x (st.parallel (V.File k) 0 (to q)))) same (gives_numbers g alive places fields info.elem.bits bound e2 t set st (λ q. words (to q)) field e3 gives behind)))
         where
           field : Field
           field = got_field g set k info e
@@ -208,8 +211,11 @@ module _ (g : Setting) where
           taking : Extended e 0 e2
           taking = extended e e1 e2 0 0 (and_entry set info.elem.bits (owner_of g k) e) (and_entry set info.elem.bits W.Own e1)
 
+          named_later : Behind g at e
+          named_later = (length e2.code, (names_second g get field at (source ∷ []) (length e2.code) (stands_here g get e2 within3 refl) refl, omega arith))
+
           before : Passes g alive bound d e2 s st (Unit {0})
-          before = passing e2 taking a.passes.at (length e2.code, (names_second g get field at (source ∷ []) (length e2.code) (stands_here g get e2 within3 refl) refl, omega arith))
+          before = passing e2 taking a.passes.at named_later
 
           behind : Behind g field e3
           behind = (length e3.code, (names_second g move f field [] (length e3.code) (stands_here g move e3 within refl) refl, omega arith))
@@ -221,7 +227,7 @@ module _ (g : Setting) where
           gives =
               puts_own g alive places fields info.elem.bits bound set get field e2 t st (λ q. words (to q)) (let one = one_more set info.elem.bits (owner_of g k) e in omega (arith, less, one)) (let two = one_more set info.elem.bits W.Own e1 in omega (arith, two))
               (taken g set info.elem.bits W.Own e1 e3 1 within3 (and_one g get e2)) refl refl within3 a.passes.at a.passes.sim
-              (puts_get info.elem.bits set field at source t to words refl named leads (there (0 + 1) e3 longer within3 info.elem.bits (omega arith)))
+              (puts_get info.elem.bits set field at source t to words refl (named named_later) leads (there (0 + 1) e3 longer within3 info.elem.bits (omega arith)))
 
       got_last : Within g (got g set k info ty.elem f at e) → Q (O.Field f) (got g set k info ty.elem f at e)
       unfolding got

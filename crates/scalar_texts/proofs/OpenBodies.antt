@@ -14,7 +14,10 @@ use Rattle.code_follows.specs.Fragment.{AllAmong, AreIn, AreInStatements, AreIni
 use Rattle.code_lengths.specs.NamingStatements.{behind}
 use Rattle.open_names.specs.Opens.{AllNameOpen, ElseNamesOpen, InitialsNameOpen, IsAmong, IsOpen, NamesOpen, Open, StatementNamesOpen, StatementsNameOpen, opened}
 use Rattle.source_meaning.specs.State.{is_among}
-use Rattle.scalar_texts.proofs.ScalarVariables.{HasNoContexts}
+
+-- no statement may be under a context
+abbrev pub HasNoContexts : May → Type 0
+HasNoContexts may = ((shape : ℕ) (e : TExpr) → may.beside.conditions shape e → ⊥) × ((shape : ℕ) → may.beside.widens shape → ⊥)
 
 -- the open variables are among these
 abbrev Fits : Open → (Variable → Type 0) → Type 0
@@ -41,8 +44,10 @@ module _ (may : May) (names : Variable → Type 0) (blocks : Open) (fits : Fits 
     scalars_open (T.Brackets' ty p inner) n = scalars_open inner n
     scalars_open (T.Convert' ty p operand) n = scalars_open operand n
     scalars_open (T.Promote' ty p operand) n = scalars_open operand n
+    scalars_open (T.Casts' ty elems p operand) n = scalars_open operand n
     scalars_open (T.Unary' ty op p operand) n = scalars_open operand n
     scalars_open (T.Binary' ty place op p left q right) n = (scalars_open left n.0, scalars_open right n.1)
+    scalars_open (T.Choice' ty p test q first r second) n = (scalars_open test n.0, scalars_open first n.1, scalars_open second n.2)
     scalars_open (T.LogicalOr' ty p left q right) n = (scalars_open left n.0, scalars_open right n.1)
     scalars_open (T.LogicalAnd' ty p left q right) n = (scalars_open left n.0, scalars_open right n.1)
     scalars_open (T.Assign' ty place op p target q value) n = (scalars_open target n.0, scalars_open value n.1)
