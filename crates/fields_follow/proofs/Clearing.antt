@@ -185,7 +185,7 @@ module _ (g : Setting) (places : PlacesFields g) (fields : HoldsTheFields g) (al
   truths_taken one two several file within = (
     passes,
     joined_takes g places fields alive set k offset info is bits some word is_or a b e2 two.passes.t v w (file (passes.grown.0 + 2) (extended d e2 behind passes.grown.0 2 passes.grown.1 (joined_more g is_or set offset bits a b e2))) (one.apart k info is more) (two.apart k info is more) within two.passes.at.stands
-        (λ q below on. still q below ∙ one.are q below (active q below ∙ on)) (λ q below on. two.are q below (active q below ∙ on)),
+        (λ q below on. still q below ∙ one.are early q below (active q below ∙ on)) (λ q below on. two.are behind_b q below (active q below ∙ on)),
   )
     where
       cleared_one : Draft

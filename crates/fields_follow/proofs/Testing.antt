@@ -1,5 +1,5 @@
 -- The code of a condition leaves the test flags.
-use Rattle.std.proofs.Common.{subst, ◌%◌, ◌≡◌, ◌∙◌, ℕ, ◌<◌, ◌^◌, ◌==◌, ◌&&◌, ◌||◌, ◌⊎◌, inl, inr, Bool, true, false, List, length, Option, Some, None, refl, sym, ap, arith, if◌then◌else◌}
+use Rattle.std.proofs.Common.{subst, ◌%◌, ◌≡◌, ◌∙◌, ℕ, ◌<◌, ◌^◌, ◌==◌, ◌&&◌, ◌||◌, ◌⊎◌, inl, inr, Bool, true, false, List, length, Option, Some, None, refl, sym, ap, arith, if◌then◌else◌, [], ◌≤◌, ◌+◌}
 use Rattle.std.specs.Int.{from_bool}
 use Rattle.cstar_base.specs.declared.operators.Op.{Op}
 use Rattle.cstar_base.specs.declared.operators.Place.{Place}
@@ -45,7 +45,7 @@ use Rattle.std.proofs.Math.Nat.{mod-eq_of_lt}
 use Rattle.std.proofs.lemmas.Bool.{eqb-true}
 use Rattle.code_follows.proofs.Following.{Extends, Follows, HasRegisters, Sim, extends_then, follows_same, held}
 use Rattle.code_follows.proofs.Values.{extends_grown}
-use Rattle.code_follows.proofs.Settings.{Setting, and_one, layout}
+use Rattle.code_follows.proofs.Settings.{Setting, and_one, layout, start}
 use Rattle.fields_follow.specs.Fields.{IsElement, file_number}
 use Rattle.fields_follow.specs.Fragment.{HasItsKind, IsCondition, IsNarrowed, IsPure, IsRelation, IsWide}
 use Rattle.fields_follow.proofs.ConditionCode.{Bit, Told, Truth, bit_not_value, bit_taken, flag_after, flag_extends, joined_in, joined_made, joined_value, nonzero_after, operand_at, relation_value, stored_after, turned_after, turned_in, word_not_value, zero_after}
@@ -54,11 +54,12 @@ use Rattle.fields_follow.proofs.Expressions.{pure_after, unary_ended}
 use Rattle.fields_follow.proofs.Forms.{HasItsCode, element_is, field_is, not_held}
 use Rattle.fields_follow.proofs.Instructions.{extents, place, shapes}
 use Rattle.fields_follow.proofs.Lengths.{held_first}
-use Rattle.fields_follow.proofs.Meaning.{binary_means, either, left_of, promoted_means, read_is, right_of, unary_means, value_in, word_at}
+use Rattle.fields_follow.proofs.Meaning.{binary_means, either, left_of, read_is, right_of, unary_means, value_in, word_at}
 use Rattle.fields_follow.proofs.Lengths.{relates_plainly}
 use Rattle.fields_follow.proofs.Outcomes.{Ended, Given, Known, ended_on, follows_given, follows_like, given_follows, given_weaker, known_follows, meant, then_known}
 use Rattle.fields_follow.proofs.Passing.{After, after_same, after_weaker, made_after, passes_all, passes_from, small_there, then_after}
-use Rattle.fields_follow.proofs.Places.{HoldsTheFields, PlacesFields}
+use Rattle.fields_follow.proofs.Places.{HoldsTheFields, PlacesFields, names_first, stands_here}
+use Rattle.fields_follow.proofs.Promoted.{promoted_free}
 use Rattle.fields_follow.proofs.Pure.{ignores_both, pure_means}
 use Rattle.fields_follow.proofs.NarrowKinds.{kind_most, zero_told}
 use Rattle.fields_follow.proofs.Sizes.{binary_parts, brackets_part, unary_part, value_small}
@@ -67,6 +68,8 @@ use Rattle.fields_follow.proofs.TestFlags.{LeavesTests, is_truth, numbers_tell, 
 use Rattle.fields_follow.proofs.Truths.{either_or_both, field_told, field_truth, truth_told}
 use Rattle.fields_follow.proofs.Relations.{relation_after, relation_code, relation_operands}
 use Rattle.fields_follow.proofs.Starts.{Starts}
+use Rattle.fields_follow.proofs.Variables.{Carries, file_carries}
+use Rattle.paris_code.specs.Spans.{IsNamedAt}
 
 -- two that ignore the context
 both_ignore : (left right : TExpr) → (ignores_context left && ignores_context right) ≡ true → (ignores_context left ≡ true) × (ignores_context right ≡ true)
@@ -114,8 +117,8 @@ value_means scope active t i n set (T.Binary' ty place op p left q right) st is 
     let parts = ignores_both op left right free in
     either
     (λ (h : IsRelation set op left right). binary_means scope active set ty place op p q left right (λ x. value_in (scope.extents set) st left x) (λ x. value_in (scope.extents set) st right x) st is.0.0 parts.0
-    (either (λ pure. pure_means scope active t i n set left st pure parts.1) (λ promoted. promoted_means scope active set (scope.extents set) left st promoted) (left_of set left right (relation_operands set left right h.1)))
-    (either (λ pure. pure_means scope active t i n set right st pure parts.2) (λ promoted. promoted_means scope active set (scope.extents set) right st promoted) (right_of set left right (relation_operands set left right h.1))))
+    (either (λ pure. pure_means scope active t i n set left st pure parts.1) (λ promoted. promoted_free scope active set (scope.extents set) left st promoted parts.1) (left_of set left right (relation_operands set left right h.1)))
+    (either (λ pure. pure_means scope active t i n set right st pure parts.2) (λ promoted. promoted_free scope active set (scope.extents set) right st promoted parts.2) (right_of set left right (relation_operands set left right h.1))))
     (λ (h : (relates op ≡ false) × HasItsKind set (T.Binary' ty place op p left q right)). pure_means scope active t i n set (T.Binary' ty place op p left q right) st h.1.0 free) is.1
 value_means scope active t i n set e st is free = pure_means scope active t i n set e st is.0 free
 
@@ -171,7 +174,10 @@ module _ (g : Setting) (has : HasRegisters g) (alive : Variable → Type 0) (n :
       (ap (λ (x : Value). Source.Gives x st) (read_is fields.scope fields.active ty set k st shaped))
       (after_same g (λ _ f. LeavesTests g alive fields d s set st number f) (ap (λ (m : Made Field). then_make m (λ source after. Makes tt (with_instr (I.NeZero source) after))) (field_is g k 0 set info d is))
       (made_after g (λ _ f. LeavesTests g alive fields d s set st number f) tt (with_instr (I.NeZero source) d1) (λ within.
-      let numbers = variable_has g has alive n ready places fields set k info source s st is (taken g set info.elem.bits (W.File (file_number g.typed k 0)) d (with_instr (I.NeZero source) d1) 1 within (and_one g (I.NeZero source) d1)) refl refl sim in
+      let carries : Carries g alive (V.File k) info set source = file_carries g alive places fields set k info source is (taken g set info.elem.bits (W.File (file_number g.typed k 0)) d (with_instr (I.NeZero source) d1) 1 within (and_one g (I.NeZero source) d1)) refl refl in
+      let named : IsNamedAt g.unit source.offset (length d1.code) = names_first g (I.NeZero source) source [] (length d1.code) (stands_here g (I.NeZero source) d1 within refl) refl in
+      let behind : s.at ≤ start g + length d1.code = (let at = here.stands in omega (arith, at)) in
+      let numbers = variable_has g has alive n ready places fields set (V.File k) info source s st carries (length d1.code) named behind sim in
       tested_last g alive fields places (length d.fields) set d d1 (I.NeZero source) s st number (Unit {0}) (omega arith)
       (passes_from g alive (length d.fields) d d1 d1 s st (Unit {0}) (and_entry set info.elem.bits (W.File (file_number g.typed k 0)) d) (passes_all g alive (length d.fields) d1 s st (Unit {0}) here sim)) tt numbers.0.exists within
       (puts_nonzero g set source s number (numbers_tell g info.elem.bits set source s (λ q. held info.elem (number q)) number (λ q below. ap (λ (m : ℕ). m == 0) (held_first info.elem (number q) info.elem.bits (small q) (omega arith) ∙ mod-eq_of_lt (small q))) numbers.0)))))
