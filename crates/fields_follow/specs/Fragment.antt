@@ -276,7 +276,7 @@ IsFoldOnto _ = ⊥
 
 -- a parallel expression whose value is not used
 abbrev pub IsParallelEffect : TExpr → Type 0
-IsParallelEffect e = IsUpdate e ⊎ (IsFoldOnto e ⊎ IsScanAssigned e)
+IsParallelEffect e = IsUpdate e ⊎ (IsFoldOnto e ⊎ (IsScanAssigned e ⊎ IsChangingAssigned e))
 
 -- a parallel variable, which is no array
 abbrev pub IsParallelVariable : VarInfo → Type 0
