@@ -1,6 +1,6 @@
 -- The code of an assignment to a parallel variable, or of a step of one, follows: its last instruction writes the
 -- variable itself.
-use Rattle.std.proofs.Common.{[], ◌≡◌, ◌∙◌, ℕ, ◌<◌, ◌≤◌, ◌==◌, ◌||◌, Bool, true, false, not, length, Option, Some, None, refl, sym, ap, subst, arith, ◌⊎◌, inl, inr, if◌then◌else◌, ◌&&◌, ◌^◌, ◌+◌}
+use Rattle.std.proofs.Common.{[], ◌≡◌, ◌∙◌, ℕ, ◌<◌, ◌≤◌, ◌==◌, ◌||◌, Bool, true, false, not, length, Option, Some, None, refl, sym, ap, subst, arith, ◌⊎◌, inl, inr, if◌then◌else◌, ◌&&◌, ◌+◌}
 use Rattle.cstar_base.specs.declared.operators.Op.{Op}
 use Rattle.cstar_base.specs.declared.operators.Place.{Place}
 use Rattle.cstar_base.specs.declared.faults.RunFault.TheVariants.{DivZero}
@@ -45,7 +45,7 @@ use Rattle.code_follows.proofs.Following.{Extends, Finishes, HasRegisters, Sim, 
 use Rattle.code_follows.proofs.Growing.{Extended}
 use Rattle.code_follows.proofs.Words.{held_wide}
 use Rattle.code_follows.proofs.Settings.{Setting, Within, and_one, layout, start}
-use Rattle.fields_follow.specs.Fragment.{AreWrapping, IsOperand, IsOperation, IsPure, IsWide, IsPromoted}
+use Rattle.fields_follow.specs.Fragment.{AreWrapping, IsOperand, IsOperation, IsPure, IsWide}
 use Rattle.fields_follow.proofs.Extents.{get_names}
 use Rattle.fields_follow.specs.Fields.{IsElement, file_number}
 use Rattle.fields_follow.proofs.Forms.{HasItsCode, HasItsWord, element_is, field_is, pure_kept, pure_word}
