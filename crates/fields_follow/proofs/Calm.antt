@@ -22,7 +22,7 @@ use Rattle.source_meaning.specs.Narrowing.{Operand, and_then, choose, or_then}
 use Rattle.source_meaning.specs.State.{Ends, Fault, Gives, Outcome, State, then_do, with_scalar}
 use Rattle.source_meaning.specs.Targets.{read, variable_target, OfScalar, Target, assign_to, assigned, new_value, step_op, step_value, stepped, stored}
 use Rattle.source_meaning.specs.Values.{Active, Scalar, Scope, Value, at, cast_through, convert_to, each, failing, nonzero, number, unary_of, unless, positions}
-use Rattle.code_follows.specs.Fragment.{IsIn, May, ScalarsAmong, naming, IsVariable}
+use Rattle.code_follows.specs.Fragment.{IsIn, ScalarsAmong, naming, IsVariable}
 use Rattle.code_follows.proofs.Following.{IsScalar}
 use Rattle.code_follows.proofs.Operators.{machine_below, machine_same}
 use Rattle.code_follows.proofs.Settings.{Setting}

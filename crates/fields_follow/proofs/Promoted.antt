@@ -32,7 +32,7 @@ use Rattle.code_follows.proofs.Following.{Follows, HasRegisters, Sim, follows_sa
 use Rattle.code_follows.proofs.Settings.{Setting, layout}
 use Rattle.fields_follow.specs.Fragment.{IsCalm, IsConstant, IsPromoted, IsChanging, alone}
 use Rattle.fields_follow.proofs.Calm.{calm_same}
-use Rattle.fields_follow.proofs.Forms.{HasItsCode, HasItsWord, constant_word, promoted_not_held, not_held}
+use Rattle.fields_follow.proofs.Forms.{HasItsCode, HasItsWord, constant_word, not_held}
 use Rattle.fields_follow.proofs.Instructions.{extents}
 use Rattle.fields_follow.proofs.Meaning.{computed_in, constant_means, given_in, mapped_is, nobody, nowhere, scalar_in, value_in, word_at}
 use Rattle.fields_follow.proofs.Outcomes.{Given, meant}

@@ -1,6 +1,6 @@
 -- Assignments of a scalar that may change variables to a parallel variable: the scalar is computed, and then it goes to each
 -- active position.
-use Rattle.std.proofs.Common.{◌≡◌, ◌∙◌, ℕ, ◌+◌, ◌<◌, ◌≤◌, ◌^◌, ◌%◌, ◌==◌, true, false, length, Option, Some, None, refl, sym, ap, subst, arith}
+use Rattle.std.proofs.Common.{◌≡◌, ◌∙◌, ℕ, ◌<◌, ◌^◌, ◌==◌, true, false, length, Option, Some, None, refl, sym, ap, subst, arith}
 use Rattle.std.proofs.Math.Nat.{mod-eq_of_lt}
 use Rattle.cstar_base.specs.declared.elem.Elem.{Elem}
 use Rattle.cstar_base.specs.declared.operators.Op.{Op}
@@ -26,13 +26,12 @@ use Rattle.lower_expr.specs.Kinds.{operation_bits}
 use Rattle.lower_expr.specs.Operands.{operand_by}
 use Rattle.lower_expr.specs.Steps.{put_in_field, put_value, word_for, word_put}
 use Rattle.lower_expr.specs.Values.{value_of}
-use Rattle.paris_code.specs.declared.instr.Instr.{Instr}
 use Rattle.paris_code.specs.declared.instr.Instr.TheVariants as I
 use Rattle.paris_code.specs.declared.operands.Field.{Field}
 use Rattle.paris_code.specs.declared.operands.Konst.TheVariants as K
 use Rattle.paris_code.specs.declared.program.Owner.TheVariants as W
 use Rattle.paris_code.specs.Code.{CodeState}
-use Rattle.source_meaning.specs.Expressions.{evaluated, located}
+use Rattle.source_meaning.specs.Expressions.{evaluated}
 use Rattle.source_meaning.specs.Reductions.{updated}
 use Rattle.source_meaning.specs.State as Source
 use Rattle.source_meaning.specs.State.{Gives, Outcome, State, then_do, with_positions}
@@ -40,14 +39,14 @@ use Rattle.source_meaning.specs.Targets.{OfElement, Target, assigned}
 use Rattle.source_meaning.specs.Values.{Parallel, Value, at}
 use Rattle.source_meaning.proofs.ConstantLaws.{Boxed}
 use Rattle.code_follows.specs.Fragment.{IsIn, ScalarsAmong}
-use Rattle.code_follows.proofs.Following.{Extends, Follows, HasRegisters, Sim, follows_same, held, then_follows}
-use Rattle.code_follows.proofs.Settings.{Setting, Within, and_one, layout, stay}
+use Rattle.code_follows.proofs.Following.{Follows, HasRegisters, Sim, follows_same, held, then_follows}
+use Rattle.code_follows.proofs.Settings.{Setting, Within, layout, stay}
 use Rattle.fields_follow.specs.Fields.{file_number}
 use Rattle.fields_follow.specs.Fragment.{HasOperation, IsChanging, IsChangingAssigned, IsOperation, IsTarget, alone}
 use Rattle.fields_follow.proofs.Assigning.{leaves_value, own_is, plainly, variable_is}
 use Rattle.fields_follow.proofs.Effects.{value_put}
 use Rattle.fields_follow.proofs.Forms.{HasItsCode}
-use Rattle.fields_follow.proofs.Instructions.{Puts, puts_constant, word_in}
+use Rattle.fields_follow.proofs.Instructions.{Puts, puts_constant}
 use Rattle.fields_follow.proofs.Leaving.{Leaves, UpdateLeaves}
 use Rattle.fields_follow.proofs.Lengths.{held_first}
 use Rattle.fields_follow.proofs.Places.{HoldsTheFields, PlacesFields}
@@ -70,7 +69,7 @@ module _ (g : Setting) (has : HasRegisters g) (alive : Variable → Type 0) (n :
 
   assigns : (ty : ValueType) (place : Place) (op : AssignOp) (p q : Boxed) (target value : TExpr) (set : ℕ) → ty ≡ type_of target → assign_op_of op ≡ None → (type_of value).elem.bits ≡ ty.elem.bits → IsTarget set target → IsChanging set value → NamesVariables g.typed g.instance n target
       → HasItsCode g.typed g.instance alive n value → (d : Draft) (s : CodeState) (st : State) → Starts g alive s (length d.code) d.regs → Sim g alive st s → UpdateLeaves g alive fields (T.Assign' ty place op p target q value) d s st
-  unfolding effect_of assignment_effect variable_operated put_to word_for evaluated then_do put_value put_in_field
+  unfolding effect_of assignment_effect variable_operated put_to word_for evaluated then_do put_value put_in_field at
   assigns ty place op p q target value set same none long is_target is names c d s st here sim =
       follows_same g Q s means code
       (then_follows g R Q s s (evaluated fields.scope v.operand fields.active st) k made (λ x after. put_value (O.Field f) x after) (stay g s)
