@@ -233,9 +233,12 @@ IsScanned set bits (T.Brackets' ty p inner) = (ty ≡ type_of inner) × IsScanne
 IsScanned set bits (T.Convert' ty p operand) = (ty.shape ≡ Some set) × ((ty.elem.bits == 1) ≡ false) × (bits ≤ ty.elem.bits) × IsScan set operand
 IsScanned set bits e = IsScan set e
 
--- such a value is assigned to a parallel variable of as many bits
+-- such a value is assigned to a parallel variable, or an operator on both
+abbrev pub IsScanFor : ℕ → ℕ → AssignOp → TExpr → Type 0
+IsScanFor set bits op value = elim (assign_op_of op) [ None ↦ IsScanned set bits value | Some o ↦ IsScan set value ]
+
 unfoldable pub IsScanAssigned : TExpr → Type 0
-IsScanAssigned (T.Assign' ty place op p target q value) = (ty ≡ type_of target) × (assign_op_of op ≡ None) × ((type_of value).elem.bits ≡ ty.elem.bits) × ((set : ℕ) × (IsTarget set target × IsScanned set ty.elem.bits value))
+IsScanAssigned (T.Assign' ty place op p target q value) = (ty ≡ type_of target) × HasOperation op ty.elem value × ((set : ℕ) × (IsTarget set target × IsScanFor set ty.elem.bits op value))
 IsScanAssigned _ = ⊥
 
 -- a promoted scalar that may change variables: with assignments and steps of scalar variables, and `getchar`
