@@ -62,6 +62,7 @@ pub mod Router
 pub mod RouterCode
 pub mod Routing
 pub mod Saving
+pub mod ScalarAssigning
 pub mod Scalars
 pub mod Scanning
 pub mod ScanAssigning
