@@ -211,8 +211,8 @@ module _ (g : Setting) where
       in_variable_numbers bits set f st v t h sim later named behind p below = (
         first_words h.x h.info set f st t h.carries h.fits sim p below (h.carries.numbers st t sim later named behind p below)
             ∙ ap (λ (n : ℕ). held h.info.elem (st.parallel h.x 0 p) % 2 ^ n) h.len ∙ sym (h.same p below).0,
-            (h.same p below).1,
-          )
+        (h.same p below).1,
+      )
 
       pub in_variable_has : (bits set : ℕ) (f : Field) (st : State) (v : ℕ → ℕ) (t : CodeState) → InVariable bits set f st v → Sim g alive st t → (later : ℕ) → IsNamedAt g.unit f.offset later → t.at ≤ start g + later → HasNumbers g bits set f t v
       in_variable_has bits set f st v t h sim later named behind = record {
