@@ -56,6 +56,7 @@ pub mod Reducing
 pub mod Reductions
 pub mod Relations
 pub mod Saving
+pub mod ScalarAssigning
 pub mod Scalars
 pub mod Scanning
 pub mod ScanAssigning
