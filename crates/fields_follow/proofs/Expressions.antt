@@ -46,7 +46,7 @@ use Rattle.code_follows.proofs.Values.{extends_grown}
 use Rattle.code_follows.proofs.Words.{below_word, held_wide}
 use Rattle.fields_follow.specs.Fragment.{AreWrapping, IsOperation, IsPromoted, IsPure, IsWide}
 use Rattle.fields_follow.proofs.Extents.{get_names}
-use Rattle.fields_follow.proofs.Forms.{HasItsCode, HasItsWord, flag_converted, pure_kept, pure_word}
+use Rattle.fields_follow.proofs.Forms.{IsRead, HasItsCode, HasItsWord, flag_converted, pure_kept, pure_word}
 use Rattle.fields_follow.proofs.Hops.{puts_same}
 use Rattle.fields_follow.proofs.Instructions.{AreAlike, HasNumbers, Puts, alike_same, extents, has_alike, puts_coordinate, puts_extended, puts_lognot, puts_negate, shapes, whole_keeps}
 use Rattle.fields_follow.proofs.Lengths.{Keeps, converted_first, divides_wide, held_has, operation_keeps, operation_most}
@@ -243,7 +243,7 @@ module _ (g : Setting) (has : HasRegisters g) (alive : Variable → Type 0) (n :
   unary_at set ty op p inner st s sim is c q = sym (pure_at g alive n places fields set (T.Unary' ty op p inner) st s sim is is.0 c q)
 
   -- an operator other than `!` is done as it is
-  done_as_it_is : (bits : ℕ) (op : UnaryOp) (operand : TExpr) → negates op ≡ false → done_as bits op operand ≡ op
+  pub done_as_it_is : (bits : ℕ) (op : UnaryOp) (operand : TExpr) → negates op ≡ false → done_as bits op operand ≡ op
   unfolding done_as
   done_as_it_is bits op operand plain = ap (λ (b : Bool). if b && (bits == 1 && (not (is_kept operand) && bits_of (kind_of operand) == 1)) then U.Complement else op) plain
 
@@ -481,8 +481,8 @@ module _ (g : Setting) (has : HasRegisters g) (alive : Variable → Type 0) (n :
 
   -- the code of so many bits of a pure expression leaves the lowest bits of its words in a field
   pub pure_after : (bits set : ℕ) (e : TExpr) → bits ≤ 32 → IsPure set e → HasItsCode g.typed g.instance alive n e → IsValued bits set e
-  unfolding IsPure value_of value_in evaluated kind_of
-  pure_after bits set (T.Variable ty (V.File k)) most is c = variable_after g has alive n ready places fields bits set k ty most is (named ty k c)
+  unfolding IsPure IsRead value_of value_in evaluated kind_of
+  pure_after bits set (T.Variable ty (V.File k)) most is c = variable_after g has alive n ready places fields bits set (V.File k) ty most tt is (named ty k c)
   pure_after bits set (T.Brackets' ty p inner) most is c = λ d s st here sim.
       given_weaker g s (meant g fields inner st) (number set inner st) st (Answers (IsFlag inner) bits (length d.fields) d s set st (λ q. word_at (extents g set) st inner q)) (Answers (IsFlag (T.Brackets' ty p inner)) bits (length d.fields) d s set st (λ q. word_at (extents g set) st (T.Brackets' ty p inner) q)) (code bits inner d)
       (answers_alike (IsFlag inner) (IsFlag (T.Brackets' ty p inner)) (λ one. one) bits (length d.fields) d s set st (λ q. word_at (extents g set) st inner q) (λ q. word_at (extents g set) st (T.Brackets' ty p inner) q) (alike_same g bits set _ _ (λ q below few. ap (λ (y : ValueType). held y.elem (value_in (extents g set) st inner q)) is.0)))
