@@ -33,6 +33,7 @@ pub mod Leaving
 pub mod Lengths
 pub mod Listed
 pub mod Locals
+pub mod LocalFields
 pub mod LocalWrites
 pub mod LocalsCleared
 pub mod Locating
@@ -63,6 +64,7 @@ pub mod RouterCode
 pub mod Routing
 pub mod Saving
 pub mod ScalarAssigning
+pub mod ScalarOperating
 pub mod Scalars
 pub mod Scanning
 pub mod ScanAssigning
