@@ -4,6 +4,7 @@ pub mod Bits
 pub mod Checks
 pub mod Clearing
 pub mod ConditionCode
+pub mod Computing
 pub mod Conditions
 pub mod Contexts
 pub mod Deciding
@@ -54,6 +55,8 @@ pub mod Spreading
 pub mod TestFlags
 pub mod Testing
 pub mod Totals
+pub mod TruthFields
+pub mod TruthPuts
 pub mod TruthValues
 pub mod Truths
 pub mod Updates
