@@ -33,7 +33,7 @@ begins_as_scalar beside info (inr parallel) = inr parallel.1
 module _ (t : Typed) (image : Image) {beside : Beside} (p : IsProgramBeside beside t) (codable : IsCodable t) (compiled : IsCompiled t image) where
   pub scalars : HasScalarInstances t
   scalars = record {
-    each = λ k i is. let f = p.each k i is in (f.params, f.result, f.locals);
+    each = λ k i is. let f = p.each k i is in (f.params, f.result);
     names = p.names;
     variables = λ k other inside. begins_as_scalar beside _ (p.variables k other inside).0;
   }

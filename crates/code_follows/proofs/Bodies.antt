@@ -31,8 +31,9 @@ use Rattle.source_meaning.specs.Statements.{Broke, Continued, Onward, Returned, 
 use Rattle.source_meaning.specs.Values.{Active, Scope, Value}
 use Rattle.source_meaning.specs.State as Source
 use Rattle.code_follows.proofs.Declaring.{clears, sim_fewer, Alive}
-use Rattle.code_follows.specs.Fragment.{IsEffect, IsScalarLocal, OrAmong, naming}
+use Rattle.code_follows.specs.Fragment.{IsBlockLocal, IsEffect, OrAmong, naming}
 use Rattle.code_follows.proofs.Assigning.{effect_follows}
+use Rattle.code_follows.proofs.Besides.{LocalsClear}
 use Rattle.code_follows.proofs.Executing.{Exits, IsGiven, Jumped, Left, LeftSo, RanOn, follows_from, go_on}
 use Rattle.code_follows.proofs.Callees.{CallsFollow}
 use Rattle.code_follows.proofs.Following.{Extends, Follows, follows_other, HasRegisters, Ran, Sim, delayed, extends_made, keeps_all, nothing_said}
@@ -131,7 +132,7 @@ module _ (g : Setting) (has : HasRegisters g) (alive : Variable → Type 0) (fil
   abbrev pub begun_code : {k : Count} → List LocalVar → Row_of-TStmt k → Exits → ℕ → Draft → Made ℕ
   begun_code locals row f n d = then_make (then_make (all_initialised g.typed (layout g) locals n d) (λ v after. Makes (n + length locals) after)) (λ m after. statements_of g.typed (layout g) row f.frame contexts m after)
 
-  pub begun_grows : {k : Count} (locals : List LocalVar) (row : Row_of-TStmt k) (f : Exits) (n : ℕ) (d : Draft) → All IsScalarLocal locals → AreSettled g has alive files ready scope active calls_follow n locals → AreCoded g has alive files ready scope active calls_follow n locals → RowCode (n + length locals) row → StandsIn g f.frame → StandsAmong f.frame contexts → HasDeclared g.typed g.instance (layout g) (n + length locals) d
+  pub begun_grows : {k : Count} (locals : List LocalVar) (row : Row_of-TStmt k) (f : Exits) (n : ℕ) (d : Draft) → All (IsBlockLocal g.may.beside) locals → AreSettled g has alive files ready scope active calls_follow n locals → AreCoded g has alive files ready scope active calls_follow n locals → RowCode (n + length locals) row → StandsIn g f.frame → StandsAmong f.frame contexts → HasDeclared g.typed g.instance (layout g) (n + length locals) d
       → Extends g d (begun_code locals row f n d)
   unfolding then_make Extends DeclaredBy
   begun_grows locals row f n d isin settled initial code framed among known = by (all_initialised g.typed (layout g) locals n d) refl
@@ -142,7 +143,7 @@ module _ (g : Setting) (has : HasRegisters g) (alive : Variable → Type 0) (fil
           let grows : (j : ℕ) × Extended d j e = subst (λ (m : Made (Unit {0})). Extends g d m) is (initials_grow g has alive files ready scope active calls_follow locals n d isin settled initial) in
           extends_made g d e grows.0 (statements_of g.typed (layout g) row f.frame contexts (n + length locals) e) grows.1 (row_grows row f.frame (n + length locals) e framed among (subst (λ (m : Made (Unit {0})). DeclaredBy g (n + length locals) m) is (initials_declared g has alive files ready scope active calls_follow locals n (n + length locals) d isin settled initial known)) code)
 
-  pub begun_follows : {k : Count} (locals : List LocalVar) (row : Row_of-TStmt k) (f : Exits) (n : ℕ) (d : Draft) (s0 : CodeState) (st : State) → All IsScalarLocal locals → StandFrom (variables_of g.instance.body) n (map info_of locals) → AreSettled g has alive files ready scope active calls_follow n locals → AreCoded g has alive files ready scope active calls_follow n locals → RowCode (n + length locals) row
+  pub begun_follows : {k : Count} (locals : List LocalVar) (row : Row_of-TStmt k) (f : Exits) (n : ℕ) (d : Draft) (s0 : CodeState) (st : State) → All (IsBlockLocal g.may.beside) locals → StandFrom (variables_of g.instance.body) n (map info_of locals) → AreSettled g has alive files ready scope active calls_follow n locals → AreCoded g has alive files ready scope active calls_follow n locals → RowCode (n + length locals) row
       → StandsIn g f.frame → StandsAmong f.frame contexts → HasDeclared g.typed g.instance (layout g) (n + length locals) d → Begun g d → At g s0 (length d.code) → Sim g (λ z. Now g has alive files ready scope active calls_follow locals n z) st s0
       → ((e : Draft) (t : CodeState) (u : State) → HasDeclared g.typed g.instance (layout g) (n + length locals) e → Begun g e → At g t (length e.code) → Sim g alive u t → Follows g (Left g alive f e t) t (all_executed scope row (n + length locals) active u) (statements_of g.typed (layout g) row f.frame contexts (n + length locals) e))
       → Follows g (Left g alive f d s0) s0 (then_go (initialised scope active n locals st) (all_executed scope row (n + length locals) active)) (begun_code locals row f n d)
@@ -163,19 +164,19 @@ module _ (g : Setting) (has : HasRegisters g) (alive : Variable → Type 0) (fil
           (λ v one. follows_from g alive f d e grows.0 s0 one.t (all_executed scope row (n + length locals) active v) made grows.1 one.go one.keeps (next e one.t v known_e (begun_later g d e grows.0 grows.1 free) one.at one.sim))
 
   -- a block: its variables, and then its statements
-  pub block_follows : {k : Count} (before : Variable → Type 0) (locals : List LocalVar) (row : Row_of-TStmt k) (f : Exits) (n : ℕ) (d : Draft) (s0 : CodeState) (st : State) → All IsScalarLocal locals → StandFrom (variables_of g.instance.body) n (map info_of locals) → AreSettled g has alive files ready scope active calls_follow n locals → AreCoded g has alive files ready scope active calls_follow n locals → RowCode (n + length locals) row
+  pub block_follows : {k : Count} → LocalsClear g → (before : Variable → Type 0) (locals : List LocalVar) (row : Row_of-TStmt k) (f : Exits) (n : ℕ) (d : Draft) (s0 : CodeState) (st : State) → All (IsBlockLocal g.may.beside) locals → StandFrom (variables_of g.instance.body) n (map info_of locals) → AreSettled g has alive files ready scope active calls_follow n locals → AreCoded g has alive files ready scope active calls_follow n locals → RowCode (n + length locals) row
       → StandsIn g f.frame → StandsAmong f.frame contexts → HasDeclared g.typed g.instance (layout g) n d → Begun g d → At g s0 (length d.code) → Sim g before st s0 → ((x : Variable) → alive x → OrAmong before n (length locals) x)
       → ((e : Draft) (t : CodeState) (u : State) → HasDeclared g.typed g.instance (layout g) (n + length locals) e → Begun g e → At g t (length e.code) → Sim g alive u t → Follows g (Left g alive f e t) t (all_executed scope row (n + length locals) active u) (statements_of g.typed (layout g) row f.frame contexts (n + length locals) e))
       → Follows g (Left g alive f d s0) s0 (then_go (initialised scope active n locals (zeroed n (length locals) st)) (all_executed scope row (n + length locals) active)) (then_make (declared_in g.typed (layout g) false locals n d) (λ m after. statements_of g.typed (layout g) row f.frame contexts m after))
   unfolding declared_in then_make
-  block_follows before locals row f n d s0 st isin stand settled initial code framed among known free at sim covers next =
-      let c = clears g has before locals n d isin stand in
+  block_follows parallels before locals row f n d s0 st isin stand settled initial code framed among known free at sim covers next =
+      let c = clears g has parallels before locals n d isin stand in
       let after_zero : State = zeroed n (length locals) st in
       let whole : Outcome Leaving = then_go (initialised scope active n locals after_zero) (all_executed scope row (n + length locals) active) in
       let known_e : HasDeclared g.typed g.instance (layout g) (n + length locals) c.e = clears_declare g false locals n d c.e c.is stand numbers known in
       subst (λ (m : Made (Unit {0})). Follows g (Left g alive f d s0) s0 whole (then_make (then_make m (λ u between. then_make (all_initialised g.typed (layout g) locals n between) (λ v after. Makes (n + length locals) after))) (λ m' after. statements_of g.typed (layout g) row f.frame contexts m' after))) (sym c.is)
       (delayed g (Left g alive f d s0) c.e s0 whole (begun_code locals row f n c.e) (begun_grows locals row f n c.e isin settled initial code framed among known_e) (λ within.
-      let ran = c.runs s0 st free.regs at sim within in
+      let ran = c.runs s0 st free at sim within in
       let started : Sim g (λ z. Now g has alive files ready scope active calls_follow locals n z) after_zero ran.t = sim_fewer g (λ x. Alive before locals n x) (λ z. Now g has alive files ready scope active calls_follow locals n z) after_zero ran.t (λ x info named h. (covers x h.0, h.1)) ran.sim in
       follows_from g alive f d c.e c.count s0 ran.t whole (begun_code locals row f n c.e) c.grown ran.go ran.keeps
       (begun_follows locals row f n c.e ran.t after_zero isin stand settled initial code framed among known_e (begun_later g d c.e c.count c.grown free) ran.at started next)))

@@ -4,6 +4,7 @@ use Rattle.std.specs.Prelude.{nat_le, ◌||◌}
 use Rattle.std.specs.List.{All}
 use Rattle.std.proofs.lemmas.Bool.Decides.{nat_tests}
 use Rattle.cstar_tree.specs.declared.typed.LocalVar.{LocalVar}
+use Rattle.cstar_tree.specs.declared.typed.TExpr.{TExpr}
 use Rattle.cstar_tree.specs.declared.typed.VarInfo.{VarInfo}
 use Rattle.cstar_tree.specs.declared.typed.Variable.{Variable}
 use Rattle.cstar_tree.specs.declared.typed.Variable.TheVariants as V
@@ -13,17 +14,19 @@ use Rattle.code_lengths.specs.NamingStatements.{StandFrom}
 use Rattle.code_lengths.proofs.Declaring.{at_length, info_of, second_part}
 use Rattle.lower_base.specs.Drafts.{Draft, Made, Makes, step as step_of, then_make, with_instr}
 use Rattle.lower_base.specs.Layouts.{entries_of, register_of}
+use Rattle.lower_expr.specs.Steps.{has_word}
 use Rattle.lower_stmt.specs.Variables.{all_cleared, begins_constant, cleared, cleared_fields, with_home}
 use Rattle.paris_code.specs.declared.instr.Instr.TheVariants as I
 use Rattle.paris_code.specs.Code as Machine
 use Rattle.paris_code.specs.Code.{CodeState, begun, with_register}
 use Rattle.source_meaning.specs.State.{State, is_among, is_same, with_scalar, zeroed}
-use Rattle.code_follows.specs.Fragment.{IsScalarLocal, OrAmong}
+use Rattle.code_follows.specs.Fragment.{IsBlockLocal, IsScalarLocal, OrAmong}
 use Rattle.code_follows.specs.Agreement.{AreBytes}
+use Rattle.code_follows.proofs.Besides.{ClearsOne, LocalsClear}
 use Rattle.code_follows.proofs.Executing.{ran_from}
 use Rattle.code_follows.proofs.Following.{HasRegisters, IsScalar, Keeps, Ran, Sim, held, input_of, keeps_all, variable_kept}
 use Rattle.code_follows.proofs.Growing.{Extended, as_it_was, extended}
-use Rattle.code_follows.proofs.Settings.{At, Setting, Within, and_one, at_next, begins_here, earlier, layout, one, regs_more, stay}
+use Rattle.code_follows.proofs.Settings.{At, Begun, Setting, Within, and_one, at_next, begins_here, begun_later, earlier, layout, one, regs_more, stay}
 use Rattle.code_follows.proofs.Stores.{below_free, same_is, sim_begun, same_itself}
 use Rattle.std.proofs.lemmas.Nat.{pow_pos}
 use Rattle.source_meaning.specs.Reductions.{int_type}
@@ -46,6 +49,23 @@ unfolding zeroed with_scalar is_among is_same
 zeroed_more n len st (V.File k) = refl
 zeroed_more n len st (V.Param k) = refl
 zeroed_more n len st (V.Local k) = ap (λ (b : Bool). if b then 0 else st.scalar (V.Local k)) (among_more n len k) ∙ either_zero (nat_le (n + 1) k && nat_lt k (n + 1 + len)) (n == k) (st.scalar (V.Local k))
+
+-- the same of one that is cleared as a block of one variable
+alone : (n k : ℕ) → (nat_le n k && nat_lt k (n + 1)) ≡ (n == k)
+alone n k = grind (arith, nat_tests)
+
+pub zeroed_both : (n len : ℕ) (st : State) (y : Variable) → (zeroed n (suc len) st).scalar y ≡ (zeroed (n + 1) len (zeroed n 1 st)).scalar y
+unfolding zeroed is_among
+zeroed_both n len st (V.File k) = refl
+zeroed_both n len st (V.Param k) = refl
+zeroed_both n len st (V.Local k) =
+    ap (λ (b : Bool). if b then 0 else st.scalar (V.Local k)) (among_more n len k) ∙ either_zero (nat_le (n + 1) k && nat_lt k (n + 1 + len)) (n == k) (st.scalar (V.Local k))
+    ∙ ap (λ (b : Bool). if nat_le (n + 1) k && nat_lt k (n + 1 + len) then 0 else if b then 0 else st.scalar (V.Local k)) (sym (alone n k))
+
+-- one without an initialiser begins as no constant
+pub never_begins : (local : LocalVar) → local.initial ≡ None → begins_constant local ≡ false
+unfolding begins_constant
+never_begins local is = ap (λ (o : Option TExpr). elim o as (λ _. Bool) [ None ↦ false | Some e ↦ has_word true e ]) is
 
 -- the variables that hold their values where so far into a block the initialiser of the first of these is
 -- next: all but those that begin as constants, whose turn is still to come
@@ -97,7 +117,7 @@ module _ (g : Setting) where
     memory = h.memory;
   }
 
-  ran_fewer : (more fewer : Variable → Type 0) (d : Draft) (s : CodeState) (u v : State) (e : Draft) → ((x : Variable) → fewer x → more x) → ((x : Variable) → v.scalar x ≡ u.scalar x) → ((k e p : ℕ) → v.parallel (V.File k) e p ≡ u.parallel (V.File k) e p) → v.winner ≡ u.winner → v.turns ≡ u.turns → v.output ≡ u.output → input_of v ≡ input_of u
+  pub ran_fewer : (more fewer : Variable → Type 0) (d : Draft) (s : CodeState) (u v : State) (e : Draft) → ((x : Variable) → fewer x → more x) → ((x : Variable) → v.scalar x ≡ u.scalar x) → ((k e p : ℕ) → v.parallel (V.File k) e p ≡ u.parallel (V.File k) e p) → v.winner ≡ u.winner → v.turns ≡ u.turns → v.output ≡ u.output → input_of v ≡ input_of u
       → Ran g more d s u e → Ran g fewer d s v e
   ran_fewer more fewer d s u v e among same fields winner turns output input r = record { grown = r.grown; t = r.t; go = r.go; at = r.at; keeps = r.keeps; sim = sim_fewer more fewer v r.t (λ x info named. among x) (sim_same more u v r.t same fields winner turns output input r.sim) }
 
@@ -119,7 +139,15 @@ module _ (g : Setting) where
   unfolding zeroed is_among with_scalar
   same_zeroed n m i j x w st k e p = refl
 
-  nothing_zeroed : (n : ℕ) (st : State) (y : Variable) → (zeroed n 0 st).scalar y ≡ st.scalar y
+  pub zeroed_twice : (n m i j : ℕ) (st : State) (k e p : ℕ) → (zeroed n m st).parallel (V.File k) e p ≡ (zeroed i j (zeroed n 1 st)).parallel (V.File k) e p
+  unfolding zeroed is_among
+  zeroed_twice n m i j st k e p = refl
+
+  pub same_zeroed_at : (n m i j : ℕ) (st : State) (k e p : ℕ) → (zeroed n m st).parallel (V.File k) e p ≡ (zeroed i j st).parallel (V.File k) e p
+  unfolding zeroed is_among
+  same_zeroed_at n m i j st k e p = refl
+
+  pub nothing_zeroed : (n : ℕ) (st : State) (y : Variable) → (zeroed n 0 st).scalar y ≡ st.scalar y
   unfolding zeroed is_among
   nothing_zeroed n st (V.File k) = refl
   nothing_zeroed n st (V.Param k) = refl
@@ -133,7 +161,7 @@ abbrev pub Alive : (Variable → Type 0) → List LocalVar → ℕ → Variable 
 Alive before locals n x = (before x ⊎ (is_among n (length locals) x ≡ true)) × Started locals n x
 
 -- the first is among one more, or another one is
-first_or_later : (before : Variable → Type 0) (n len : ℕ) (x : Variable) → before x ⊎ (is_among n (suc len) x ≡ true) → (before x ⊎ (is_among (n + 1) len x ≡ true)) ⊎ (x ≡ V.Local n)
+pub first_or_later : (before : Variable → Type 0) (n len : ℕ) (x : Variable) → before x ⊎ (is_among n (suc len) x ≡ true) → (before x ⊎ (is_among (n + 1) len x ≡ true)) ⊎ (x ≡ V.Local n)
 unfolding is_among
 first_or_later before n len x (inl h) = inl (inl h)
 first_or_later before n len (V.File k) (inr h) = cc
@@ -144,6 +172,12 @@ first_or_later before n len (V.Local k) (inr h) = by (nat_le (n + 1) k && nat_lt
     by true c is also h = inl (inr is)
     by false true is also h = inr (ap V.Local (sym (eqb-true n k also)))
     by false false is also h = cc
+
+-- the first is alive, or is among the others
+pub is_now : (before : Variable → Type 0) (n len : ℕ) (x : Variable) → (before x ⊎ (is_among (n + 1) len x ≡ true)) ⊎ (x ≡ V.Local n) → (before x ⊎ (x ≡ V.Local n)) ⊎ (is_among (n + 1) len x ≡ true)
+is_now before n len x (inl (inl h)) = inl (inl h)
+is_now before n len x (inl (inr h)) = inr h
+is_now before n len x (inr e) = inl (inr e)
 
 -- variables of a block are declared behind it, as what was declared before
 pub declared_later : (n many : ℕ) (x : Variable) → IsDeclared n x → IsDeclared (n + many) x
@@ -183,7 +217,7 @@ later_among n len (V.File k) h = cc
 later_among n len (V.Param k) h = cc
 later_among n len (V.Local k) h = grind (arith, nat_tests, h)
 
-none_among : (n : ℕ) (x : Variable) → is_among n 0 x ≡ true → ⊥
+pub none_among : (n : ℕ) (x : Variable) → is_among n 0 x ≡ true → ⊥
 unfolding is_among
 none_among n (V.File k) h = cc
 none_among n (V.Param k) h = cc
@@ -197,7 +231,7 @@ module _ (g : Setting) (has : HasRegisters g) where
     pub is : all_cleared (layout g) false locals n d ≡ Makes tt e
     pub count : ℕ
     pub grown : Extended d count e
-    pub runs : (s : CodeState) (st : State) → g.begins ≤ d.regs → At g s (length d.code) → Sim g before st s → Within g e
+    pub runs : (s : CodeState) (st : State) → Begun g d → At g s (length d.code) → Sim g before st s → Within g e
         → Ran g (λ x. Alive before locals n x) d s (zeroed n (length locals) st) e
 
   cleared_so : (local : LocalVar) → local.info.shape ≡ None → (n : ℕ) (d : Draft) (b : Bool) → begins_constant local ≡ b → (next : Draft → Made (Unit {0}))
@@ -278,27 +312,40 @@ module _ (g : Setting) (has : HasRegisters g) where
             let more = regs_more g (I.FrontConst r 0) d in
             let low = below_free g has (V.Local n) local.info scalar in
             let first_within : Within g between = earlier g between rest.e rest.count rest.grown within in
-            let inside : r < length s.registers = omega (arith, low, free, first_within.regs, more, sim.registers) in
+            let inside : r < length s.registers = omega (arith, low, free.regs, first_within.regs, more, sim.registers) in
             let sim1 : Sim g now st1 s1 = subst (λ (w : ℕ). Sim g now st1 (with_register r w s)) zero_held (sim_begun g has (V.Local n) local.info scalar before now (λ y living other. was_alive y living other) st s 0 (pow_pos local.info.elem.bits) inside sim) in
             let kept : Keeps g d s s1 = variable_kept g d s (V.Local n) local.info 0 has scalar.0 in
-            let ran = rest.runs s1 st1 (omega (arith, free, more)) (at_next g (I.FrontConst r 0) d s (s.at + 1) at refl) sim1 within in
+            let ran = rest.runs s1 st1 (begun_later g d between 1 (and_one g (I.FrontConst r 0) d) free) (at_next g (I.FrontConst r 0) d s (s.at + 1) at refl) sim1 within in
             let all = ran_from g (λ x. Alive now locals (n + 1) x) d between 1 s s1 (zeroed (n + 1) (length locals) st1) rest.e (and_one g (I.FrontConst r 0) d) (one g s s1 (begins_here g (I.FrontConst r 0) d s first_within refl at) refl) kept ran in
             ran_fewer g (λ x. Alive now locals (n + 1) x) (λ x. Alive before (local ∷ locals) n x) d s (zeroed (n + 1) (length locals) st1) (zeroed n (suc (length locals)) st) rest.e
-            (λ x h. (is_now x (first_or_later before n (length locals) x h.0), h.1.1)) (zeroed_more n (length locals) st) (λ k e p. same_zeroed g n (suc (length locals)) (n + 1) (length locals) n 0 st k e p) refl refl refl refl all;
+            (λ x h. (is_now before n (length locals) x (first_or_later before n (length locals) x h.0), h.1.1)) (zeroed_more n (length locals) st) (λ k e p. same_zeroed g n (suc (length locals)) (n + 1) (length locals) n 0 st k e p) refl refl refl refl all;
       }
     where
-      is_now : (x : Variable) → (before x ⊎ (is_among (n + 1) (length locals) x ≡ true)) ⊎ (x ≡ V.Local n) → (before x ⊎ (x ≡ V.Local n)) ⊎ (is_among (n + 1) (length locals) x ≡ true)
-      is_now x (inl (inl h)) = inl (inl h)
-      is_now x (inl (inr h)) = inr h
-      is_now x (inr e) = inl (inr e)
-
       was_alive : (y : Variable) → before y ⊎ (y ≡ V.Local n) → is_same (V.Local n) y ≡ false → before y
       was_alive y (inl h) other = h
       was_alive y (inr e) other = let same : is_same (V.Local n) y ≡ true = ap (λ (z : Variable). is_same (V.Local n) z) e ∙ same_itself (V.Local n) in cc
 
-  pub clears : (before : Variable → Type 0) (locals : List LocalVar) (n : ℕ) (d : Draft) → All IsScalarLocal locals → StandFrom (variables_of g.instance.body) n (map info_of locals) → Clears before locals n d
+  -- a parallel one becomes 0 at once
+  clears_parallel : (before : Variable → Type 0) (local : LocalVar) (locals : List LocalVar) (n : ℕ) (d : Draft) (one : ClearsOne g false local n d) → begins_constant local ≡ false → Clears (λ x. before x ⊎ (x ≡ V.Local n)) locals (n + 1) one.e → Clears before (local ∷ locals) n d
+  unfolding all_cleared then_make Started zeroed
+  clears_parallel before local locals n d one begins rest = record {
+    e = rest.e;
+    is = ap (λ (m : Made (Unit {0})). then_make m (λ u after. all_cleared (layout g) false locals (n + 1) after)) one.is ∙ rest.is;
+    count = one.count + rest.count;
+    grown = extended d one.e rest.e one.count rest.count one.grown rest.grown;
+    runs = λ s st free at sim within.
+        let now : Variable → Type 0 = λ x. before x ⊎ (x ≡ V.Local n) in
+        let st1 : State = zeroed n 1 st in
+        let first = one.runs before s st free at sim (earlier g one.e rest.e rest.count rest.grown within) in
+        let ran = rest.runs first.t st1 (begun_later g d one.e one.count one.grown free) first.at first.sim within in
+        let all = ran_from g (λ x. Alive now locals (n + 1) x) d one.e one.count s first.t (zeroed (n + 1) (length locals) st1) rest.e one.grown first.go first.keeps ran in
+        ran_fewer g (λ x. Alive now locals (n + 1) x) (λ x. Alive before (local ∷ locals) n x) d s (zeroed (n + 1) (length locals) st1) (zeroed n (suc (length locals)) st) rest.e
+        (λ x h. (is_now before n (length locals) x (first_or_later before n (length locals) x h.0), h.1.1)) (zeroed_both n (length locals) st) (λ k e p. zeroed_twice g n (suc (length locals)) (n + 1) (length locals) st k e p) refl refl refl refl all;
+  }
+
+  pub clears : LocalsClear g → (before : Variable → Type 0) (locals : List LocalVar) (n : ℕ) (d : Draft) → All (IsBlockLocal g.may.beside) locals → StandFrom (variables_of g.instance.body) n (map info_of locals) → Clears before locals n d
   unfolding all_cleared zeroed Started
-  clears before [] n d isin stand = record {
+  clears parallels before [] n d isin stand = record {
     e = d;
     is = refl;
     count = 0;
@@ -316,10 +363,15 @@ module _ (g : Setting) (has : HasRegisters g) where
       nothing_more : (x : Variable) → before x ⊎ (is_among n 0 x ≡ true) → before x
       nothing_more x (inl h) = h
       nothing_more x (inr h) = absurd (none_among n x h)
-  clears before (local ∷ locals) n d isin stand =
-      by (begins_constant local) refl (clears (λ x. before x × (x ≡ V.Local n → ⊥)) locals (n + 1) d (all_rest IsScalarLocal local locals isin) (others_stand g n local.info (map info_of locals) stand))
-      (clears (λ x. before x ⊎ (x ≡ V.Local n)) locals (n + 1) (with_instr (I.FrontConst (register_of (layout g) (V.Local n)) 0) d) (all_rest IsScalarLocal local locals isin) (others_stand g n local.info (map info_of locals) stand))
+  clears parallels before (local ∷ locals) n d isin stand =
+      either (all_first (IsBlockLocal g.may.beside) local locals isin) (λ more e. clears parallels more locals (n + 1) e (all_rest (IsBlockLocal g.may.beside) local locals isin) (others_stand g n local.info (map info_of locals) stand))
     where
-      by : (b : Bool) → begins_constant local ≡ b → Clears (λ x. before x × (x ≡ V.Local n → ⊥)) locals (n + 1) d → Clears (λ x. before x ⊎ (x ≡ V.Local n)) locals (n + 1) (with_instr (I.FrontConst (register_of (layout g) (V.Local n)) 0) d) → Clears before (local ∷ locals) n d
-      by true is waiting done = waits before local locals n d (all_first IsScalarLocal local locals isin) is waiting
-      by false is waiting done = clears_one before local locals n d (all_first IsScalarLocal local locals isin) is stand done
+      scalar_cleared : IsScalarLocal local → (b : Bool) → begins_constant local ≡ b → Clears (λ x. before x × (x ≡ V.Local n → ⊥)) locals (n + 1) d → Clears (λ x. before x ⊎ (x ≡ V.Local n)) locals (n + 1) (with_instr (I.FrontConst (register_of (layout g) (V.Local n)) 0) d) → Clears before (local ∷ locals) n d
+      scalar_cleared scalar true is waiting done = waits before local locals n d scalar is waiting
+      scalar_cleared scalar false is waiting done = clears_one before local locals n d scalar is stand done
+
+      either : IsBlockLocal g.may.beside local → ((more : Variable → Type 0) (e : Draft) → Clears more locals (n + 1) e) → Clears before (local ∷ locals) n d
+      either (inl scalar) rest = scalar_cleared scalar (begins_constant local) refl (rest (λ x. before x × (x ≡ V.Local n → ⊥)) d) (rest (λ x. before x ⊎ (x ≡ V.Local n)) (with_instr (I.FrontConst (register_of (layout g) (V.Local n)) 0) d))
+      either (inr parallel) rest =
+          let one = parallels false local n d parallel.0 (first_is_named g n local.info (map info_of locals) stand) in
+          clears_parallel before local locals n d one (never_begins local parallel.1) (rest (λ x. before x ⊎ (x ≡ V.Local n)) one.e)

@@ -27,7 +27,7 @@ use Rattle.source_meaning.specs.Statements.{all_executed, declared, executed}
 use Rattle.source_meaning.specs.Values.{Active, Scope}
 use Rattle.source_meaning.proofs.ConstantLaws.{Boxed}
 use Rattle.code_follows.proofs.Declaring.{AreBefore, among_before, declared_later}
-use Rattle.code_follows.specs.Fragment.{AreInStatements, AreInitials, IsEffect, IsIn, IsInElse, IsInStatement, IsScalarLocal, OrAmong, ScalarsAmong, naming}
+use Rattle.code_follows.specs.Fragment.{AreInStatements, AreInitials, IsEffect, IsIn, IsInElse, IsInStatement, IsBlockLocal, OrAmong, ScalarsAmong, naming}
 use Rattle.code_follows.proofs.Choices.{Agrees, if_alone, if_else}
 use Rattle.code_follows.proofs.Executing.{Exits, Left}
 use Rattle.code_follows.proofs.ForLoops.{do_agrees, for_agrees, while_agrees}
@@ -39,7 +39,7 @@ use Rattle.code_follows.proofs.Returning.{return_follows}
 use Rattle.code_follows.proofs.Settings.{At, Begun, Setting, layout, Held}
 use Rattle.code_follows.proofs.Starting.{settled_so}
 use Rattle.code_follows.proofs.Statements.{StandsHere, StandsIn, deeper, everywhere_body, in_context_too, returned_code, statement_made, where_first, where_second, with_body}
-use Rattle.code_follows.proofs.Besides.{registers_under, under_held}
+use Rattle.code_follows.proofs.Besides.{LocalsClear, registers_under, under_held}
 use Rattle.code_follows.proofs.Bodies.{RowCode, block_code, block_follows, block_initials, block_stands, breaks, continues, expression_follows, follows_fewer, row_first, row_onward, row_rest, stays_here}
 
 -- what is declared before a statement is declared behind it
@@ -111,15 +111,15 @@ module _ {Known : Setting → Scope → Active → Type 1} {scope : Scope} (g : 
 
 module _ {Known : Setting → Scope → Active → Type 1} {scope : Scope} (g : Setting) (active : Active) (r : Around Known g scope active) (contexts : List Field) (alive : Variable → Type 0) (files : (k : ℕ) → alive (V.File k)) where
   -- a block, where its statements follow with its variables
-  block_agrees : (n : ℕ) → AreBefore alive n → (locals : Vec LocalVar Global) (p : Vec (Unit {0}) Global) (statements : _) → All IsScalarLocal locals.items → AreInitials (naming g.may alive) n locals.items
+  block_agrees : LocalsClear g → (n : ℕ) → AreBefore alive n → (locals : Vec LocalVar Global) (p : Vec (Unit {0}) Global) (statements : _) → All (IsBlockLocal g.may.beside) locals.items → AreInitials (naming g.may alive) n locals.items
       → RowAgrees g active r contexts (λ x. OrAmong alive n (length locals.items) x) (λ k. inl (files k)) (n + length locals.items) statements → Follow g active r contexts alive files n (S.Block' locals p statements)
   unfolding executed statement_of
-  block_agrees n before locals p statements scalars initials follows f d s0 st framed stands known free at sim c =
+  block_agrees parallels n before locals p statements scalars initials follows f d s0 st framed stands known free at sim c =
       let wide : Variable → Type 0 = λ x. OrAmong alive n (length locals.items) x in
       let wide_files : (k : ℕ) → wide (V.File k) = λ k. inl (files k) in
       let code = block_code g r.has wide wide_files r.numbers r.ready scope active (calls_here g active r) (r.falls active) contexts n locals p statements c in
       follows_fewer g wide alive (λ x living. inl living) f d s0 _ _
-      (block_follows g r.has wide wide_files r.numbers r.ready scope active (calls_here g active r) (r.falls active) contexts alive locals.items statements f n d s0 st scalars
+      (block_follows g r.has wide wide_files r.numbers r.ready scope active (calls_here g active r) (r.falls active) contexts parallels alive locals.items statements f n d s0 st scalars
       (first_part (map info_of locals.items) (row_variables statements) (block_stands g r.has wide wide_files r.numbers r.ready scope active (calls_here g active r) (r.falls active) contexts n locals p statements c))
       (settled_so g r.has wide wide_files r.ready scope active (calls_here g active r) alive locals.items n (λ x living. inl living) (λ x own. inr own) before initials)
       (block_initials g r.has wide wide_files r.numbers r.ready scope active (calls_here g active r) (r.falls active) contexts n locals p statements c) code framed stands.among known free at sim (λ x living. living)
@@ -188,7 +188,7 @@ module _ {Known : Setting → Scope → Active → Type 1} (scope : Scope) (besi
     pub statement_follows : (g : Setting) (active : Active) (r : Around Known g scope active) (contexts : List Field) (alive : Variable → Type 0) (files : (k : ℕ) → alive (V.File k)) (n : ℕ) → AreBefore alive n → (s : TStmt) → IsInStatement (naming g.may alive) n s
         → Agrees g r.has alive files r.numbers r.ready scope active (calls_here g active r) contexts n s
     statement_follows g active r contexts alive files n before (S.Block' locals p statements) h =
-        block_agrees g active r contexts alive files n before locals p statements h.0 h.1 (row_follows g active r contexts (λ x. OrAmong alive n (length locals.items) x) (λ k. inl (files k)) (n + length locals.items) (among_before alive n (length locals.items) before) statements h.2)
+        block_agrees g active r contexts alive files (besides g active r.known r.has).locals n before locals p statements h.0 h.1 (row_follows g active r contexts (λ x. OrAmong alive n (length locals.items) x) (λ k. inl (files k)) (n + length locals.items) (among_before alive n (length locals.items) before) statements h.2)
     statement_follows g active r contexts alive files n before (S.Expression e) h = expression_agrees g active r contexts alive files n e h
     statement_follows g active r contexts alive files n before S.Empty h = empty_agrees g active r contexts alive files n
     statement_follows g active r contexts alive files n before (S.If' test p first None') h =

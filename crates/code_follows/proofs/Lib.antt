@@ -14,6 +14,7 @@ pub mod Changing
 pub mod Choices
 pub mod Choosing
 pub mod Conversions
+pub mod Clearing
 pub mod Closed
 pub mod ConstantRegisters
 pub mod Declaring
@@ -34,6 +35,7 @@ pub mod Lists
 pub mod Logical
 pub mod Loops
 pub mod Nested
+pub mod Numbered
 pub mod Numbers
 pub mod Openings
 pub mod Operators

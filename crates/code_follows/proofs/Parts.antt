@@ -17,7 +17,7 @@ use Rattle.source_meaning.specs.State.{Outcome, State}
 use Rattle.source_meaning.specs.Statements.{Leaving, executed}
 use Rattle.source_meaning.specs.Values.{Active, Scope}
 use Rattle.code_follows.specs.Fragment.{ScalarsAmong}
-use Rattle.code_follows.proofs.Besides.{ExpressionsFollow, under_held}
+use Rattle.code_follows.proofs.Besides.{ExpressionsFollow, LocalsClear, under_held}
 use Rattle.code_follows.proofs.Executing.{Exits, Left}
 use Rattle.code_follows.proofs.Following.{Follows, HasRegisters, Sim}
 use Rattle.code_follows.proofs.Growing.{Extended}
@@ -49,9 +49,11 @@ module _ (Known : Setting → Scope → Active → Type 1) (g : Setting) (scope 
   StatementPart alive s n f contexts =
       (saved : Field) → Part alive saved (in_one_more f) n (behind n s) (λ a st. executed scope s n a st) (λ d. statement_of g.typed (layout g) s (in_context f.frame) (contexts ++ saved ∷ []) n d)
 
--- So do parallel expressions, and the statements that set contexts where what stands under these follows.
+-- So do parallel expressions, the code that clears parallel variables, and the statements that set contexts where what
+-- stands under these follows.
 pub record BesideFollows (Known : Setting → Scope → Active → Type 1) (g : Setting) (has : HasRegisters g) (scope : Scope) (active : Active) : Type 1 where
   pub expressions : ExpressionsFollow g has scope active
+  pub locals : LocalsClear g
   pub wheres : (alive : Variable → Type 0) → ((k : ℕ) → alive (V.File k)) → (n : ℕ) → ((d : Draft) → IsReadyButForFields g.typed g.instance (layout g) n d)
       → (shape : ℕ) (test : TExpr) (p : Boxed) (first : TStmt) (second : Held-TStmt-If-2) → g.may.beside.conditions shape test → ScalarsAmong alive test → HasStatementCode g.typed g.instance n (S.Where' shape test p first second)
       → (f : Exits) (contexts : List Field) → StatementPart Known g scope alive first n f contexts → ((q : Boxed) (s : TStmt) → second ≡ Some' q s → StatementPart Known g scope alive s (behind n first) f contexts)

@@ -1,8 +1,7 @@
 -- The run of a whole program.
 use mathlib.Core.Former.{Count}
-use Rattle.std.proofs.Common.{◌≡◌, ◌∙◌, ℕ, zero, suc, ◌+◌, ◌<◌, ◌≤◌, ◌^◌, ◌&&◌, if◌then◌else◌, nat_lt, Bool, true, false, List, [], ◌∷◌, map, length, slice_get, slice_index, Option, Some, None, refl, sym, ap, subst, arith, inl, inr}
+use Rattle.std.proofs.Common.{◌≡◌, ◌∙◌, ℕ, zero, suc, ◌+◌, ◌<◌, ◌≤◌, ◌^◌, true, List, [], ◌∷◌, map, length, slice_get, slice_index, Option, Some, None, refl, sym, ap, subst, arith, inl, inr, ◌⊎◌}
 use Rattle.std.proofs.lemmas.List.{get_or-replicate, length-replicate}
-use Rattle.std.specs.Prelude.{nat_le}
 use Rattle.cstar_base.specs.declared.operators.Winner.{Winner}
 use Rattle.cstar_compile.specs.Compiled.{IsCompiled}
 use Rattle.cstar_tree.specs.declared.typed.Instance.{Instance}
@@ -41,7 +40,7 @@ use Rattle.code_follows.proofs.Bodies.{begun_code, begun_follows, begun_grows, b
 use Rattle.code_follows.proofs.Callees.{CallsFollow}
 use Rattle.code_follows.proofs.Closed.{NoJump, begins_closed, closed_row, go_closed}
 use Rattle.code_follows.proofs.ConstantRegisters.{constant_at}
-use Rattle.code_follows.proofs.Declaring.{among_before, sim_fewer, sim_same, zeroed_files}
+use Rattle.code_follows.proofs.Declaring.{among_before, sim_fewer}
 use Rattle.code_follows.proofs.Endings.{NeverOnward, body_never, never_second}
 use Rattle.code_follows.proofs.Entering.{AllBeside, EntersThere, before_all, calls_so, enters_so}
 use Rattle.code_follows.proofs.Executing.{Left}
@@ -54,9 +53,10 @@ use Rattle.source_meaning.specs.Reductions.{int_type}
 use Rattle.code_follows.proofs.Induction.{Around, row_follows}
 use Rattle.code_follows.proofs.Numbers.{zero_converted}
 use Rattle.code_follows.proofs.Regions.{IsOwn, base_behind, base_inside, below, local_own, own_behind, param_own}
-use Rattle.code_follows.proofs.Settings.{At, EndsIn, Held, Reaches, Setting, Within, earlier, ends_later, ends_now, onto, start}
+use Rattle.code_follows.proofs.Settings.{At, Begun, EndsIn, Held, Reaches, Setting, Within, begun_later, earlier, ends_later, ends_now, onto, start}
 use Rattle.code_follows.proofs.Standing.{start_in}
-use Rattle.code_follows.proofs.Starting.{clears_declare, none_cleared, Now, settled_so}
+use Rattle.code_follows.proofs.Clearing.{clears_first}
+use Rattle.code_follows.proofs.Starting.{clears_declare, Now, settled_so}
 use Rattle.code_follows.proofs.Units.{constants_grow, empty_unit, main_is, starts_homes, starts_regs, with_constants, with_starts}
 use Rattle.paris_code.specs.declared.program.Unit.{Unit as CodeUnit}
 
@@ -220,15 +220,10 @@ module _ (t : Typed) (image : Image) {beside : Beside} (p : IsProgramBeside besi
     abbrev begun_body : State
     begun_body = zeroed 0 (length locals) in_main
 
-    same_scalars : (x : Variable) → begun_body.scalar x ≡ in_main.scalar x
-    unfolding zeroed is_among entered by_owner scalar_given start_state
-    same_scalars (V.File j) = refl
-    same_scalars (V.Param j) = refl
-    same_scalars (V.Local j) = zero_anyway (nat_le 0 j && nat_lt j (0 + length locals))
-      where
-        zero_anyway : (b : Bool) → (if b then zero else zero) ≡ zero
-        zero_anyway true = refl
-        zero_anyway false = refl
+  -- the variables of its blocks are 0
+  locals_zero : (k : ℕ) → in_main.scalar (V.Local k) ≡ 0
+  unfolding entered by_owner scalar_given start_state
+  locals_zero k = refl
 
   runs : (body : TStmt) → p.main.body ≡ body → IsBody main_setting.may body → Comes holding image opened (run_from (executed (scope t image p codable compiled holding 0 p.main p.is_main [] turns) p.main.body 0 active in_main))
   unfolding IsBody IsInStatement OfFileOrParam body_of body_frame declared_in then_make executed scope_of zeroed Extends
@@ -253,30 +248,33 @@ module _ (t : Typed) (image : Image) {beside : Beside} (p : IsProgramBeside besi
       let initial = block_initials main_setting has_it wide one numbers is_ready here active calls_in_main (never_rises active) [] 0 locals q row c in
       let settled = settled_so main_setting has_it wide one is_ready here active calls_in_main OfFileOrParam locals.items 0 (λ x living. inl living) (λ x own. inr own) before_all h.0.1 in
       let stand = first_part (map info_of locals.items) (row_variables row) (block_stands main_setting has_it wide one numbers is_ready here active calls_in_main (never_rises active) [] 0 locals q row c) in
-      let declared = clears_declare main_setting true locals.items 0 begun_there begun_there (none_cleared main_setting has_it wide one is_ready here active calls_in_main locals.items 0 begun_there h.0.0) stand numbers (declares t image p codable compiled holding 0 p.main p.is_main [] turns begun_there homes) in
-      let code : Made ℕ = begun_code main_setting has_it wide one numbers is_ready here active calls_in_main (never_rises active) [] locals.items row out 0 begun_there in
+      let first = clears_first main_setting (besides.follows main_setting here active known has_it).locals alive (λ x info scalar. tt) locals.items 0 begun_there h.0.0 stand in
+      let declared = clears_declare main_setting true locals.items 0 begun_there first.e first.is stand numbers (declares t image p codable compiled holding 0 p.main p.is_main [] turns begun_there homes) in
+      let code : Made ℕ = begun_code main_setting has_it wide one numbers is_ready here active calls_in_main (never_rises active) [] locals.items row out 0 first.e in
       let code_is : body_of t (own t image p codable compiled holding 0 p.main p.is_main [] turns) f p.main.body begun_there ≡ code =
       ap (λ (b : TStmt). body_of t (own t image p codable compiled holding 0 p.main p.is_main [] turns) f b begun_there) is
       ∙ ap (λ (m : Made (Unit {0})). then_make (then_make m (λ u between. then_make (all_initialised t (own t image p codable compiled holding 0 p.main p.is_main [] turns) locals.items 0 between) (λ v after. Makes (0 + length locals.items) after))) (λ number after. statements_of t (own t image p codable compiled holding 0 p.main p.is_main [] turns) row f [] number after))
-      (none_cleared main_setting has_it wide one is_ready here active calls_in_main locals.items 0 begun_there h.0.0) in
+      first.is in
       let made : BodyMade t image p codable compiled holding 0 p.main p.is_main [] turns code = body_made t image p codable compiled holding 0 p.main p.is_main [] turns code
       (sym (ap (λ (m : Made ℕ). then_make m (λ n e. Makes (tt {0}) (ended true p.main.body e))) code_is) ∙ main_is t image (scalars t image p codable compiled) codable compiled p.main p.is_main) in
       let whole : Outcome Leaving = executed here (S.Block' locals q row) 0 active in_main in
       let never : ends_in_return p.main.body ≡ true → NeverOnward whole =
       λ ends. never_second (initialised here active 0 locals.items _) _ (λ u. body_never here active locals q row (sym (ap (λ (x : TStmt). ends_in_return x) is) ∙ ends) (0 + length locals.items) u) in
       let ends : EndsSo t image p codable compiled holding 0 p.main p.is_main [] turns whole made.e = ends_by t image p codable compiled holding 0 p.main p.is_main [] turns whole made.e made.unit never in
-      let grown : (j : ℕ) × Extended begun_there j made.e = subst (λ (m : Made ℕ). Extends main_setting begun_there m) made.is_made (begun_grows main_setting has_it wide one numbers is_ready here active calls_in_main (never_rises active) [] locals.items row out 0 begun_there h.0.0 settled initial own_row framed_so among_so declared) in
-      let opens = opened_so (earlier main_setting begun_there made.e grown.0 grown.1 ends.inside) in
+      let grown : (j : ℕ) × Extended first.e j made.e = subst (λ (m : Made ℕ). Extends main_setting first.e m) made.is_made (begun_grows main_setting has_it wide one numbers is_ready here active calls_in_main (never_rises active) [] locals.items row out 0 first.e h.0.0 settled initial own_row framed_so among_so declared) in
+      let cleared_in : Within main_setting first.e = earlier main_setting first.e made.e grown.0 grown.1 ends.inside in
+      let opens = opened_so (earlier main_setting begun_there first.e first.count first.grown cleared_in) in
+      let free : Begun main_setting begun_there = record { regs = omega (arith, regs); code = omega arith; fields = omega arith } in
+      let ran = first.runs opens.there in_main (λ k. locals_zero k) free opens.at opens.sim cleared_in in
       let now : Variable → Type 0 = λ x. Now main_setting has_it wide one is_ready here active calls_in_main locals.items 0 x in
-      let sim : Sim main_setting now (begun_body locals.items row) opens.there =
-      sim_fewer main_setting alive now (begun_body locals.items row) opens.there (λ x info named h. tt) (sim_same main_setting alive in_main (begun_body locals.items row) opens.there (same_scalars locals.items row) (λ k e p. zeroed_files main_setting 0 (length locals.items) in_main k e p) refl refl refl refl opens.sim) in
+      let sim : Sim main_setting now (begun_body locals.items row) ran.t = sim_fewer main_setting (λ x. alive x ⊎ (is_among 0 (length locals.items) x ≡ true)) now (begun_body locals.items row) ran.t (λ x info named h. inl tt) ran.sim in
       let closed : NoJump whole = go_closed _ _ (begins_closed here active 0 locals.items _) (λ u. closed_row here row h.1 (0 + length locals.items) active u) in
       subst (λ (b : TStmt). Comes holding image opened (run_from (executed here b 0 active in_main))) (sym is)
-      (comes opens.there whole opens.go
-      (runs_function t image p codable compiled holding 0 p.main p.is_main [] turns begun_there made.e made.n opens.there whole ends closed
-      (subst (λ (m : Made ℕ). Follows main_setting (Left main_setting OfFileOrParam out begun_there opens.there) opens.there whole m) made.is_made
-      (follows_fewer main_setting wide OfFileOrParam (λ x living. inl living) out begun_there opens.there whole code
-      (begun_follows main_setting has_it wide one numbers is_ready here active calls_in_main (never_rises active) [] locals.items row out 0 begun_there opens.there (begun_body locals.items row) h.0.0 stand settled initial own_row framed_so among_so declared (record { regs = omega (arith, regs); code = omega arith; fields = omega arith }) opens.at sim
+      (comes ran.t whole (onto main_setting opened opens.there ran.t opens.go ran.go)
+      (runs_function t image p codable compiled holding 0 p.main p.is_main [] turns first.e made.e made.n ran.t whole ends closed
+      (subst (λ (m : Made ℕ). Follows main_setting (Left main_setting OfFileOrParam out first.e ran.t) ran.t whole m) made.is_made
+      (follows_fewer main_setting wide OfFileOrParam (λ x living. inl living) out first.e ran.t whole code
+      (begun_follows main_setting has_it wide one numbers is_ready here active calls_in_main (never_rises active) [] locals.items row out 0 first.e ran.t (begun_body locals.items row) h.0.0 stand settled initial own_row framed_so among_so declared (begun_later main_setting begun_there first.e first.count first.grown free) ran.at sim
       (λ e there u none free at sim_there. row_follows here (λ g. besides.follows g here) main_setting active around [] wide one (0 + length locals.items) (among_before OfFileOrParam 0 (length locals.items) before_all) row h.0.2 out e there u framed_so (stands_here t image p codable compiled holding 0 p.main p.is_main [] turns (calls_in_main.lasts 0 (omega arith))) none free at sim_there own_row))))))
   runs _ is h = absurd h
 
@@ -297,12 +295,14 @@ record NothingBeside (g : Setting) : Type 1 where
   pub folds : (e : TExpr) → g.may.beside.folds e → ⊥
   pub conditions : (shape : ℕ) (e : TExpr) → g.may.beside.conditions shape e → ⊥
   pub widens : (shape : ℕ) → g.may.beside.widens shape → ⊥
+  pub locals : (info : VarInfo) → g.may.beside.locals info → ⊥
 
 pub means_source : CodeMeansSource
 means_source t image p codable compiled memory input rest turns winner are =
     (program_follows t image p codable compiled nothing_held {Known = λ g scope a. NothingBeside g} memory input rest turns winner are (tt {0}) (record {
       follows = λ g scope a known has. record {
         expressions = record { effects = λ alive files n ready e h. absurd (known.effects e h); folds = λ alive files n ready e h. absurd (known.folds e h) };
+        locals = λ at_start local n d h. absurd (known.locals local.info h);
         wheres = λ alive files n ready shape test q first second h. absurd (known.conditions shape test h);
         widenings = λ alive files n ready shape q body h. absurd (known.widens shape h);
       };
@@ -312,4 +312,4 @@ means_source t image p codable compiled memory input rest turns winner are =
     }) (nothing 0 p.main p.is_main [] turns)).to
   where
     nothing : (number : ℕ) (i : Instance) (is : slice_get t.instances.items number ≡ Some i) (opens : List ℕ) (most : ℕ) → NothingBeside (activation t image p codable compiled nothing_held number i is opens most)
-    nothing number i is opens most = record { always = λ at st m. tt; ends = λ st m. tt; effects = λ e h. h; folds = λ e h. h; conditions = λ shape e h. h; widens = λ shape h. h }
+    nothing number i is opens most = record { always = λ at st m. tt; ends = λ st m. tt; effects = λ e h. h; folds = λ e h. h; conditions = λ shape e h. h; widens = λ shape h. h; locals = λ info h. h }

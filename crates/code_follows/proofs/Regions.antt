@@ -17,19 +17,21 @@ use Rattle.code_lengths.proofs.Declaring.{all_at, found}
 use Rattle.code_lengths.proofs.Readiness.{made_from, or_lacks}
 use Rattle.lower_base.specs.Drafts.{Draft, Made, an_entry, from}
 use Rattle.paris_code.specs.declared.operands.Field.{Field}
+use Rattle.lower_base.specs.declared.names.LocalName.{LocalName}
 use Rattle.lower_base.specs.Layouts.{Numbering, Registers, behind, earlier_base, elements_of, entered, entries_of, field_of, first_fields, first_named, layout_of, nothing_numbered, numbered, param_entries, register_of, registers_of, result_register, with_instance, with_local}
 use Rattle.code_follows.specs.Fragment.{IsScalarVariable}
+use Rattle.code_follows.proofs.Numbered.{numbered_at}
 use Rattle.code_follows.proofs.Standing.{some_same}
 
--- an instance whose parameters, result and block variables are scalars
+-- an instance whose parameters and result are scalars
 abbrev pub IsScalarInstance : Instance → Type 0
-IsScalarInstance i = All IsScalarVariable i.params.items × ((info : VarInfo) → i.result ≡ Some info → info.shape ≡ None) × All IsScalarVariable (variables_of i.body)
+IsScalarInstance i = All IsScalarVariable i.params.items × ((info : VarInfo) → i.result ≡ Some info → info.shape ≡ None)
 
 -- a variable of the file, of which the code at the beginning of `main` makes what it makes of a scalar one
 abbrev pub BeginsAsScalar : VarInfo → Type 0
 BeginsAsScalar info = IsScalarVariable info ⊎ (info.start ≡ 0)
 
--- A program whose functions have scalar variables alone, and whose instances have names of their own.
+-- A program whose functions have scalar parameters and results, and whose instances have names of their own.
 pub record HasScalarInstances (t : Typed) : Type 0 where
   pub each : (k : ℕ) (i : Instance) → slice_get t.instances.items k ≡ Some i → IsScalarInstance i
   pub names : (j k : ℕ) (a b : Instance) → slice_get t.instances.items j ≡ Some a → slice_get t.instances.items k ≡ Some b → a.name ≡ b.name → j ≡ k
@@ -402,11 +404,21 @@ module _ (t : Typed) (p : HasScalarInstances t) (words : List ℕ) where
       by (Some set) next parallel made = made set
       by None next parallel made = cc
 
+  pub all_numbered : (number : ℕ) (i : Instance) → slice_get t.instances.items number ≡ Some i → NumbersVariables i (layout_of t words number)
+  unfolding layout_of entered
+  all_numbered number i is = ap (λ (o : Option Instance). (numbered (elim o as (λ _. List VarInfo) [ None ↦ [] | Some instance ↦ variables_of instance.body ]) nothing_numbered).locals) is
+
   elements_are : (number : ℕ) (i : Instance) → slice_get t.instances.items number ≡ Some i → (x : Variable) (info : VarInfo) → variable_named t i x ≡ Some info → is_none info.shape ≡ false → elements_of t (layout_of t words number) x ≡ entries_of info
   unfolding variable_named elements_of
   elements_are number i is (V.File k) info named parallel = ap (λ (o : Option VarInfo). elim o as (λ _. ℕ) [ None ↦ 0 | Some info ↦ entries_of info ]) named
   elements_are number i is (V.Param k) info named parallel = absurd (scalar_only info (all_at IsScalarVariable i.params.items k info (p.each number i is).0 named) parallel)
-  elements_are number i is (V.Local k) info named parallel = absurd (scalar_only info (all_at IsScalarVariable (variables_of i.body) k info (p.each number i is).2 named) parallel)
+  elements_are number i is (V.Local k) info named parallel =
+      let there = numbered_at (variables_of i.body) nothing_numbered k info named in
+      ap (λ (o : Option LocalName). elim o as (λ _. ℕ) [ None ↦ 0 | Some name ↦ name.entries ])
+      (ap (λ (names : List LocalName). slice_get names k) (all_numbered number i is) ∙ ap (λ (j : ℕ). slice_get (numbered (variables_of i.body) nothing_numbered).locals j) (none k) ∙ there.1)
+    where
+      none : (k : ℕ) → k ≡ 0 + k
+      none k = omega arith
 
   first_fields_made : (number : ℕ) (i : Instance) → slice_get t.instances.items number ≡ Some i → (x : Variable) (info : VarInfo) (element : ℕ) (d : Draft) → variable_named t i x ≡ Some info → IsDeclared 0 x → is_none info.shape ≡ false → IsMadeOr ⊥ (field_of t (layout_of t words number) x element d)
   unfolding variable_named IsDeclared
@@ -421,10 +433,6 @@ module _ (t : Typed) (p : HasScalarInstances t) (words : List ℕ) where
     result = λ info given parallel. or_lacks (Unit {0}) _ tt;
     bases = as_many_bases number;
   }
-
-  pub all_numbered : (number : ℕ) (i : Instance) → slice_get t.instances.items number ≡ Some i → NumbersVariables i (layout_of t words number)
-  unfolding layout_of entered
-  all_numbered number i is = ap (λ (o : Option Instance). (numbered (elim o as (λ _. List VarInfo) [ None ↦ [] | Some instance ↦ variables_of instance.body ]) nothing_numbered).locals) is
 
   -- where the code of an instance begins no variable of its blocks is declared
   pub first_declared : (number : ℕ) (i : Instance) → slice_get t.instances.items number ≡ Some i → (d : Draft) → d.homes ≡ [] → HasDeclared t i (layout_of t words number) 0 d

@@ -77,7 +77,7 @@ module _ (g : Setting) (saved : Field) (held : Held) (from entries upto : ℕ) w
         let all : Draft = restored contexts newest back in
         let same = newest_first contexts saved newest d in
         let w : Within there all = subst (λ (e : Draft). Within there e) same within in
-        let whole : Within g all = record { more = w.more; code = w.code; entries = w.entries; fields = w.fields; regs = w.regs; own = w.own; upto = let up = w.upto in let high = inside.high in omega (arith, up, high) } in
+        let whole : Within g all = record { more = w.more; code = w.code; entries = w.entries; fields = w.fields; homes = w.homes; homes_are = w.homes_are; regs = w.regs; own = w.own; upto = let up = w.upto in let high = inside.high in omega (arith, up, high) } in
         let grown = restored_more g contexts newest back in
         let begun : Begun g d = record { regs = free.regs; code = let c = free.code in let low = inside.low in omega (arith, c, low); fields = let f = free.fields in let more = inside.more in omega (arith, f, more) } in
         let first = inside.loads alive d s st at sim (earlier g back all grown.0 grown.1 whole) in

@@ -25,7 +25,7 @@ use Rattle.paris_code.specs.Spans.{JumpsTo, StandsAt}
 use Rattle.source_meaning.specs.State.{State}
 use Rattle.code_follows.specs.Fragment.{May}
 use Rattle.code_follows.proofs.Growing.{Extended, and_instr, as_it_was}
-use Rattle.code_follows.proofs.Standing.{stands, start_in}
+use Rattle.code_follows.proofs.Standing.{StandsOver, stands, stands_over, start_in}
 
 -- What a memory holds of the source's state where the code stands at a place of the image, and what of it still where the
 -- run ends. It speaks of the file's parallel variables and of the winner alone. What is held at a place is held behind it
@@ -101,6 +101,8 @@ module _ (g : Setting) where
     pub code : whole ≡ e.code ++ more
     pub entries : List Virtual
     pub fields : g.unit.fields.items ≡ e.fields ++ entries
+    pub homes : List ℕ
+    pub homes_are : g.unit.homes.items ≡ e.homes ++ homes
     pub regs : e.regs ≤ g.image.slots
     pub own : e.regs ≤ g.ends
     pub upto : length e.code ≤ g.upto
@@ -115,6 +117,8 @@ module _ (g : Setting) where
     code = w.code ∙ ap (λ (c : List Step). c ++ w.more) x.code ∙ append_assoc d.code x.more w.more;
     entries = x.entries ++ w.entries;
     fields = w.fields ∙ ap (λ (entries : List Virtual). entries ++ w.entries) x.fields ∙ append_assoc d.fields x.entries w.entries;
+    homes = x.homes ++ w.homes;
+    homes_are = w.homes_are ∙ ap (λ (homes : List ℕ). homes ++ w.homes) x.homes_are ∙ append_assoc d.homes x.homes w.homes;
     regs = omega (arith, x.regs, w.regs);
     own = omega (arith, x.regs, w.own);
     upto = omega (arith, longer d e n x, w.upto);
@@ -197,9 +201,22 @@ module _ (g : Setting) where
   seam [] y ys = refl
   seam (x ∷ xs) y ys = seam xs y ys
 
+  next_here : (next : Step) (d : Draft) → Within (with_step next d) → slice_get whole (length d.code) ≡ Some next
+  unfolding with_step
+  next_here next d w = ap (λ (c : List Step). slice_get c (length d.code)) (w.code ∙ append_assoc d.code (next ∷ []) w.more) ∙ seam d.code next w.more
+
+  -- the instruction of the step that the draft gets next, with or without a list of coordinates
+  pub next_stands : (next : Step) (d : Draft) → Within (with_step next d) → StandsOver g.image g.before g.after g.placed g.number g.unit (length d.code) next
+  next_stands next d w = stands_over g.image g.before g.after g.placed g.number g.unit g.linked g.is_unit (length d.code) next (next_here next d w)
+
+  -- and where the code stands there
+  pub next_begins : (next : Step) (d : Draft) (s : CodeState) (w : Within (with_step next d)) → At s (length d.code) → step g.image s ≡ begun g.image (moved_by start (next_stands next d w).over) s
+  unfolding step
+  next_begins next d s w at = ap (λ (o : Option Instr). begun_at g.image s o) (ap (λ (n : ℕ). slice_get g.image.code.items n) at ∙ (next_stands next d w).there)
+
   step_here : (i : Instr) (d : Draft) → Within (with_instr i d) → slice_get whole (length d.code) ≡ Some (step_of i)
-  unfolding with_instr with_step
-  step_here i d w = ap (λ (c : List Step). slice_get c (length d.code)) (w.code ∙ append_assoc d.code (step_of i ∷ []) w.more) ∙ seam d.code (step_of i) w.more
+  unfolding with_instr
+  step_here i d w = next_here (step_of i) d w
 
   -- the instruction that the draft gets next is the one at which the code stands
   pub begins_here : (i : Instr) (d : Draft) (s : CodeState) → Within (with_instr i d) → step_of i ≡ Plain i → At s (length d.code) → step g.image s ≡ begun g.image (placed_instr i) s

@@ -36,11 +36,11 @@ placed_plain p _ j over e h = h
 pub some_same : {A : Type 0} (x y : A) → Some x ≡ Some y → x ≡ y
 some_same {A = A} x y e = ap (λ (o : Option A). elim o as (λ _. A) [ None ↦ x | Some z ↦ z ]) e
 
--- a step of the description is the instruction there
-step_there : (code : List Instr) (at : ℕ) (j : Instr) → slice_get (map step_of code) at ≡ Some (Plain j) → (i : Instr) × ((slice_get code at ≡ Some i) × (step_of i ≡ Plain j))
-step_there [] at j e = cc
-step_there (i ∷ code) zero j e = (i, (refl, some_same (step_of i) (Plain j) e))
-step_there (i ∷ code) (suc at) j e = step_there code at j e
+-- a step of the description is that of the instruction there
+step_there : (code : List Instr) (at : ℕ) (next : Step) → slice_get (map step_of code) at ≡ Some next → (i : Instr) × ((slice_get code at ≡ Some i) × (step_of i ≡ next))
+step_there [] at next e = cc
+step_there (i ∷ code) zero next e = (i, (refl, some_same (step_of i) next e))
+step_there (i ∷ code) (suc at) next e = step_there code at next e
 
 -- the same instruction over bits
 zip_there : (p : List ℕ) (code over : List Instr) (at : ℕ) (i : Instr) → AllZip (IsMoved p) code over → slice_get code at ≡ Some i → (o : Instr) × ((slice_get over at ≡ Some o) × IsMoved p i o)
@@ -128,21 +128,46 @@ linked_there (u ∷ us) (suc number) start at unit o e f =
     assoc2 : (a b c : ℕ) → (a + b) + c ≡ a + (b + c)
     assoc2 a b c = omega arith
 
+-- An instruction of a unit at a place, whose step the description has, and the one of the image that stands for it.
+pub record StandsOver (image : Image) (before after : Program) (placed : IsPlaced before after) (number : ℕ) (unit : CodeUnit) (at : ℕ) (next : Step) : Type 0 where
+  pub instr : Instr
+  pub over : Instr
+  pub stands : StandsAt unit at instr
+  pub is : step_of instr ≡ next
+  pub moved : IsMoved (slice_index_or placed.places number []) instr over
+  pub there : slice_get image.code.items (start_in after.units.items number 0 + at) ≡ Some (moved_by (start_in after.units.items number 0) over)
+
 -- what a setting says of the code of its unit
+pub stands_over : (image : Image) (before after : Program) (placed : IsPlaced before after) (number : ℕ) (unit : CodeUnit) → image.code.items ≡ code_from 0 after.units.items → IsUnit before number unit →
+    (at : ℕ) (next : Step) → slice_get (map step_of unit.code.items) at ≡ Some next → StandsOver image before after placed number unit at next
+stands_over image before after placed number unit linked is_unit at next e =
+    let here = step_there unit.code.items at next e in
+    let over = unit_there placed.places 0 before.units.items after.units.items number unit placed.units is_unit in
+    let zip = zip_there (slice_index_or placed.places (0 + number) []) unit.code.items over.0.code.items at here.0 over.1.1.code here.1.0 in
+    let there = linked_there after.units.items number 0 at over.0 zip.0 over.1.0 zip.1.0 in
+    let nothing : 0 + there.0 ≡ there.0 = omega arith in
+    let number_is : 0 + number ≡ number = omega arith in
+    record {
+      instr = here.0;
+      over = zip.0;
+      stands = here.1.0;
+      is = here.1.1;
+      moved = subst (λ (n : ℕ). IsMoved (slice_index_or placed.places n []) here.0 zip.0) number_is zip.1.1;
+      there =
+          ap (λ (c : List Instr). slice_get c (start_in after.units.items number 0 + at)) linked
+          ∙ ap (λ (n : ℕ). slice_get (code_from 0 after.units.items) (n + at)) (there.1.0 ∙ nothing)
+          ∙ there.1.1;
+    }
+
+-- where the instruction has no list of coordinates, the image has it with its fields moved
 pub stands : (image : Image) (before after : Program) (placed : IsPlaced before after) (number : ℕ) (unit : CodeUnit) → image.code.items ≡ code_from 0 after.units.items → IsUnit before number unit →
     (at : ℕ) (instr : Instr) → slice_get (map step_of unit.code.items) at ≡ Some (Plain instr) →
     StandsAt unit at instr × (slice_get image.code.items (start_in after.units.items number 0 + at) ≡ Some (moved_by (start_in after.units.items number 0) (moved_instr (slice_index_or placed.places number []) instr)))
 stands image before after placed number unit linked is_unit at instr e =
-    let here = step_there unit.code.items at instr e in
-    let i_is : here.0 ≡ instr = plain_same here.0 instr here.1.1 in
-    let over = unit_there placed.places 0 before.units.items after.units.items number unit placed.units is_unit in
-    let zip = zip_there (slice_index_or placed.places (0 + number) []) unit.code.items over.0.code.items at here.0 over.1.1.code here.1.0 in
-    let zip_is : zip.0 ≡ moved_instr (slice_index_or placed.places (0 + number) []) here.0 = placed_plain (slice_index_or placed.places (0 + number) []) here.0 instr zip.0 here.1.1 zip.1.1 in
-    let there = linked_there after.units.items number 0 at over.0 zip.0 over.1.0 zip.1.0 in
-    let nothing : 0 + there.0 ≡ there.0 = omega arith in
-    let number_is : 0 + number ≡ number = omega arith in (
-      here.1.0 ∙ ap Some i_is,
-      ap (λ (c : List Instr). slice_get c (start_in after.units.items number 0 + at)) linked
-          ∙ ap (λ (n : ℕ). slice_get (code_from 0 after.units.items) (n + at)) (there.1.0 ∙ nothing)
-          ∙ there.1.1 ∙ ap (λ (o : Instr). Some (moved_by (start_in after.units.items number 0) o)) (zip_is ∙ ap (λ (i : Instr). moved_instr (slice_index_or placed.places (0 + number) []) i) i_is ∙ ap (λ (n : ℕ). moved_instr (slice_index_or placed.places n []) instr) number_is),
+    let h = stands_over image before after placed number unit linked is_unit at (Plain instr) e in
+    let same : h.instr ≡ instr = plain_same h.instr instr h.is in (
+      h.stands ∙ ap Some same,
+      h.there
+          ∙ ap (λ (o : Instr). Some (moved_by (start_in after.units.items number 0) o))
+          (placed_plain (slice_index_or placed.places number []) h.instr instr h.over h.is h.moved ∙ ap (λ (i : Instr). moved_instr (slice_index_or placed.places number []) i) same),
     )

@@ -21,11 +21,11 @@ use Rattle.code_lengths.proofs.Homes.{all_cleared_lead, clears, still_declared}
 use Rattle.lower_base.specs.declared.emit.Out.{Out}
 use Rattle.lower_base.specs.declared.emit.Out.TheVariants as O
 use Rattle.lower_base.specs.Drafts.{Draft, Fails, Made, Makes, first_bits, step as step_of, then_make, with_instr}
-use Rattle.lower_base.specs.Layouts.{entries_of, field_of, register_of}
+use Rattle.lower_base.specs.Layouts.{field_of, register_of}
 use Rattle.lower_expr.specs.Effects.{computed_to, put_length, put_to}
 use Rattle.lower_expr.specs.Operands.{standing}
 use Rattle.lower_expr.specs.Steps.{has_word, register_word, word_for, word_put}
-use Rattle.lower_stmt.specs.Variables.{all_cleared, all_initialised, begins_constant, cleared, cleared_fields, initialised as initialised_in, variable_of, with_home}
+use Rattle.lower_stmt.specs.Variables.{all_cleared, all_initialised, begins_constant, initialised as initialised_in, variable_of}
 use Rattle.paris_code.specs.declared.instr.Instr.TheVariants as I
 use Rattle.paris_code.specs.Code.{CodeState, begun, with_register}
 use Rattle.source_meaning.specs.Constants.{constant_of, is_constant, then_value}
@@ -37,8 +37,8 @@ use Rattle.source_meaning.specs.State.{Outcome, State, is_among, is_same, then_d
 use Rattle.source_meaning.specs.Statements.{Broke, Continued, Leaving, Onward, Returned, initialised, initialised_one, then_go}
 use Rattle.source_meaning.specs.Targets.{OfScalar, Target, stored, variable_target}
 use Rattle.source_meaning.specs.Values.{Active, Scalar, Scope, Value, number}
-use Rattle.code_follows.specs.Fragment.{AreInitials, IsIn, IsInitial, IsScalarLocal, OrAmong, Takes, within, naming}
-use Rattle.code_follows.proofs.Declaring.{Started, AreBefore, among_before, itself_among, later_among, one_among, first_is_named, others_stand, sim_fewer, started_before}
+use Rattle.code_follows.specs.Fragment.{AreInitials, Beside, IsBlockLocal, IsIn, IsInitial, OrAmong, Takes, within, naming}
+use Rattle.code_follows.proofs.Declaring.{Started, never_begins, AreBefore, among_before, itself_among, later_among, one_among, first_is_named, others_stand, sim_fewer, started_before}
 use Rattle.code_follows.proofs.Growing.{Extended, as_it_was}
 use Rattle.code_follows.proofs.Lists.{all_first, all_rest}
 use Rattle.code_follows.proofs.Executing.{RanOn, gives, no_break, no_continue, no_return, ran_from}
@@ -83,10 +83,6 @@ stands_as e word h = by (is_constant e) (Const.value_of e) refl refl h
     by true None is_c is_v is = cc
     by false v is_c is_v is = cc
 
-starts_none : (local : LocalVar) → local.initial ≡ None → begins_constant local ≡ false
-unfolding begins_constant
-starts_none local is = ap (λ (o : Option TExpr). elim o as (λ _. Bool) [ None ↦ false | Some e ↦ has_word true e ]) is
-
 -- a variable begins as a constant, or with another value
 begins_either : {A : Type 0} (local : LocalVar) (e : TExpr) → local.initial ≡ Some e → (b : Bool) → begins_constant local ≡ b → ((word : ℕ) → StandsAsWord e word → A) → (begins_constant local ≡ false → A) → A
 unfolding begins_constant has_word
@@ -96,6 +92,11 @@ begins_either {A = A} local e is true begins one other = by (register_word e) re
     by : (o : Option ℕ) → register_word e ≡ o → not (is_none (register_word e)) ≡ true → A
     by (Some word) there h = one word (stands_as e word there)
     by None there h = let none : not (is_none (register_word e)) ≡ false = ap (λ (o : Option ℕ). not (is_none o)) there in cc
+
+-- one with an initialiser is scalar
+has_initial : (beside : Beside) (local : LocalVar) (e : TExpr) → IsBlockLocal beside local → local.initial ≡ Some e → local.info.shape ≡ None
+has_initial beside local e (inl scalar) is = scalar
+has_initial beside local e (inr parallel) is = let wrong = sym parallel.1 ∙ is in cc
 
 declared_itself : (n : ℕ) → IsDeclared (n + 1) (V.Local n)
 unfolding IsDeclared
@@ -227,30 +228,30 @@ module _ (g : Setting) (has : HasRegisters g) (alive : Variable → Type 0) (fil
   local_grows : (n : ℕ) (e : TExpr) (d : Draft) → (IsIn (naming g.may alive)) e → HasCode g.typed g.instance (n + 1) e → Extends g d (put_to g.typed (layout g) (O.Scalar (register_of (layout g) (V.Local n))) e d)
   local_grows n e d h k = extends_grown g has alive _ d _ _ (put_grows n e d h k)
 
-  pub initials_grow : (locals : List LocalVar) (n : ℕ) (d : Draft) → All IsScalarLocal locals → AreSettled n locals → AreCoded n locals → Extends g d (all_initialised g.typed (layout g) locals n d)
+  pub initials_grow : (locals : List LocalVar) (n : ℕ) (d : Draft) → All (IsBlockLocal g.may.beside) locals → AreSettled n locals → AreCoded n locals → Extends g d (all_initialised g.typed (layout g) locals n d)
   unfolding all_initialised initialised_in AreCoded AreSettled Extends then_make
   initials_grow [] n d isin settled c = (0, as_it_was d)
   initials_grow (local ∷ locals) n d isin settled c =
-      by local.initial settled.1 c.0 (λ e. initials_grow locals (n + 1) e (all_rest IsScalarLocal local locals isin) settled.2 c.1)
+      by local.initial refl settled.1 c.0 (λ e. initials_grow locals (n + 1) e (all_rest (IsBlockLocal g.may.beside) local locals isin) settled.2 c.1)
     where
-      by : (o : Option TExpr) → IfSome o (λ e. Begins local locals n e) → IfSome o (HasCode g.typed g.instance (n + 1)) → ((e : Draft) → Extends g e (all_initialised g.typed (layout g) locals (n + 1) e)) → Extends g d (then_make (initial_put local.info n o d) (λ u after. all_initialised g.typed (layout g) locals (n + 1) after))
-      by None h k rest = rest d
-      by (Some e) h k rest =
-          subst (λ (m : Made (Unit {0})). Extends g d m) (sym (put_is local.info n e d (λ u after. all_initialised g.typed (layout g) locals (n + 1) after) (all_first IsScalarLocal local locals isin)))
+      by : (o : Option TExpr) → local.initial ≡ o → IfSome o (λ e. Begins local locals n e) → IfSome o (HasCode g.typed g.instance (n + 1)) → ((e : Draft) → Extends g e (all_initialised g.typed (layout g) locals (n + 1) e)) → Extends g d (then_make (initial_put local.info n o d) (λ u after. all_initialised g.typed (layout g) locals (n + 1) after))
+      by None is h k rest = rest d
+      by (Some e) is h k rest =
+          subst (λ (m : Made (Unit {0})). Extends g d m) (sym (put_is local.info n e d (λ u after. all_initialised g.typed (layout g) locals (n + 1) after) (has_initial g.may.beside local e (all_first (IsBlockLocal g.may.beside) local locals isin) is)))
           (extends_then g d (put_to g.typed (layout g) (O.Scalar (register_of (layout g) (V.Local n))) e d) (λ out after. all_initialised g.typed (layout g) locals (n + 1) after) (local_grows n e d h.0.0 k) (λ out after. rest after))
 
   -- they declare nothing
-  pub initials_declared : (locals : List LocalVar) (n m : ℕ) (d : Draft) → All IsScalarLocal locals → AreSettled n locals → AreCoded n locals → HasDeclared g.typed g.instance (layout g) m d → DeclaredBy g m (all_initialised g.typed (layout g) locals n d)
+  pub initials_declared : (locals : List LocalVar) (n m : ℕ) (d : Draft) → All (IsBlockLocal g.may.beside) locals → AreSettled n locals → AreCoded n locals → HasDeclared g.typed g.instance (layout g) m d → DeclaredBy g m (all_initialised g.typed (layout g) locals n d)
   unfolding all_initialised initialised_in AreCoded AreSettled DeclaredBy then_make
   initials_declared [] n m d isin settled c known = known
   initials_declared (local ∷ locals) n m d isin settled c known =
-      by local.initial settled.1 c.0 (λ e known_e. initials_declared locals (n + 1) m e (all_rest IsScalarLocal local locals isin) settled.2 c.1 known_e)
+      by local.initial refl settled.1 c.0 (λ e known_e. initials_declared locals (n + 1) m e (all_rest (IsBlockLocal g.may.beside) local locals isin) settled.2 c.1 known_e)
     where
-      by : (o : Option TExpr) → IfSome o (λ e. Begins local locals n e) → IfSome o (HasCode g.typed g.instance (n + 1)) → ((e : Draft) → HasDeclared g.typed g.instance (layout g) m e → DeclaredBy g m (all_initialised g.typed (layout g) locals (n + 1) e))
+      by : (o : Option TExpr) → local.initial ≡ o → IfSome o (λ e. Begins local locals n e) → IfSome o (HasCode g.typed g.instance (n + 1)) → ((e : Draft) → HasDeclared g.typed g.instance (layout g) m e → DeclaredBy g m (all_initialised g.typed (layout g) locals (n + 1) e))
           → DeclaredBy g m (then_make (initial_put local.info n o d) (λ u after. all_initialised g.typed (layout g) locals (n + 1) after))
-      by None h k rest = rest d known
-      by (Some e) h k rest =
-          subst (λ (made : Made (Unit {0})). DeclaredBy g m made) (sym (put_is local.info n e d (λ u after. all_initialised g.typed (layout g) locals (n + 1) after) (all_first IsScalarLocal local locals isin)))
+      by None is h k rest = rest d known
+      by (Some e) is h k rest =
+          subst (λ (made : Made (Unit {0})). DeclaredBy g m made) (sym (put_is local.info n e d (λ u after. all_initialised g.typed (layout g) locals (n + 1) after) (has_initial g.may.beside local e (all_first (IsBlockLocal g.may.beside) local locals isin) is)))
           (declared_then g m (put_to g.typed (layout g) (O.Scalar (register_of (layout g) (V.Local n))) e d) (λ out after. all_initialised g.typed (layout g) locals (n + 1) after)
           (declared_grown g (Unit {0}) m _ d _ _ known (put_grows n e d h.0.0 k)) (λ out after. rest after))
 
@@ -323,24 +324,25 @@ module _ (g : Setting) (has : HasRegisters g) (alive : Variable → Type 0) (fil
         (p.value, record { grown = p.grown; t = p.t; go = p.go; at = p.at; keeps = p.keeps; sim = sim_fewer g (λ z. Now (local ∷ locals) n z) (λ z. Now locals (n + 1) z) (with_scalar (V.Local n) p.word u) p.t (λ y info named later. (later.0, ((λ b e. never b), later.1))) (subst (λ (w : ℕ). Sim g (λ z. Now (local ∷ locals) n z) (with_scalar (V.Local n) w u) p.t) (takes_same local.info.elem (type_of e).elem p.word takes p.small) p.sim) }),
       ))
 
-  pub initials_follow : (locals : List LocalVar) (n : ℕ) (d : Draft) (s : CodeState) (st : State) → All IsScalarLocal locals → StandFrom (variables_of g.instance.body) n (map info_of locals) → AreSettled n locals → AreCoded n locals → Begun g d → At g s (length d.code) → Sim g (λ z. Now locals n z) st s
+  pub initials_follow : (locals : List LocalVar) (n : ℕ) (d : Draft) (s : CodeState) (st : State) → All (IsBlockLocal g.may.beside) locals → StandFrom (variables_of g.instance.body) n (map info_of locals) → AreSettled n locals → AreCoded n locals → Begun g d → At g s (length d.code) → Sim g (λ z. Now locals n z) st s
       → Follows g (RanOn g alive d s) s (initialised scope active n locals st) (all_initialised g.typed (layout g) locals n d)
   unfolding all_initialised initialised_in initialised initialised_one AreCoded AreSettled Follows then_make then_go variable_target stored number Started begins_constant
   initials_follow [] n d s st isin stand settled c free at sim = λ within. (refl, record { grown = (0, as_it_was d); t = s; go = stay g s; at = at; sim = sim_fewer g (λ z. Now [] n z) alive st s (λ x info named h. (h, tt)) sim; keeps = keeps_all g d s })
   initials_follow (local ∷ locals) n d s st isin stand settled c free at sim =
-      by local.initial refl settled.1 c.0 (λ e t u free_e at_e sim_e. initials_follow locals (n + 1) e t u (all_rest IsScalarLocal local locals isin) (others_stand g n local.info (map info_of locals) stand) settled.2 c.1 free_e at_e sim_e)
+      by local.initial refl settled.1 c.0 (λ e t u free_e at_e sim_e. initials_follow locals (n + 1) e t u (all_rest (IsBlockLocal g.may.beside) local locals isin) (others_stand g n local.info (map info_of locals) stand) settled.2 c.1 free_e at_e sim_e)
     where
       there : Target
       there = variable_target local.info.shape (V.Local n) 0
 
-      scalar : IsScalar g (V.Local n) local.info
-      scalar = (first_is_named g n local.info (map info_of locals) stand, (all_first IsScalarLocal local locals isin))
+      scalar_so : (e : TExpr) → local.initial ≡ Some e → IsScalar g (V.Local n) local.info
+      scalar_so e is = (first_is_named g n local.info (map info_of locals) stand, has_initial g.may.beside local e (all_first (IsBlockLocal g.may.beside) local locals isin) is)
 
       by : (o : Option TExpr) → local.initial ≡ o → IfSome o (λ e. Begins local locals n e) → IfSome o (HasCode g.typed g.instance (n + 1))
           → ((e : Draft) (t : CodeState) (u : State) → Begun g e → At g t (length e.code) → Sim g (λ z. Now locals (n + 1) z) u t → Follows g (RanOn g alive e t) t (initialised scope active (n + 1) locals u) (all_initialised g.typed (layout g) locals (n + 1) e))
           → Follows g (RanOn g alive d s) s (then_go (initialised_one scope active there o st) (initialised scope active (n + 1) locals)) (then_make (initial_put local.info n o d) (λ u after. all_initialised g.typed (layout g) locals (n + 1) after))
-      by None is h k rest = rest d s st free at (sim_fewer g (λ z. Now (local ∷ locals) n z) (λ z. Now locals (n + 1) z) st s (λ y info named later. (later.0, ((λ b e. let none = starts_none local is in cc), later.1))) sim)
+      by None is h k rest = rest d s st free at (sim_fewer g (λ z. Now (local ∷ locals) n z) (λ z. Now locals (n + 1) z) st s (λ y info named later. (later.0, ((λ b e. let none = never_begins local is in cc), later.1))) sim)
       by (Some e) is h k rest =
+          let scalar : IsScalar g (V.Local n) local.info = scalar_so e is in
           let x : Variable = V.Local n in
           let next : Draft → Made (Unit {0}) = λ after. all_initialised g.typed (layout g) locals (n + 1) after in
           let go_on : State → Outcome Leaving = λ u. initialised scope active (n + 1) locals u in
@@ -350,19 +352,8 @@ module _ (g : Setting) (has : HasRegisters g) (alive : Variable → Type 0) (fil
           (subst (λ (o : Outcome Leaving). Follows g (RanOn g alive d s) s o (then_make (put_to g.typed (layout g) (O.Scalar (register_of (layout g) x)) e d) (λ out after. next after))) (sym (go_do (evaluated scope e active st) (λ v after. stored active there v after) go_on))
           (subst (λ (target : Target). Follows g (RanOn g alive d s) s (then_do (evaluated scope e active st) (λ v after. go_on (stored active target v after))) (then_make (put_to g.typed (layout g) (O.Scalar (register_of (layout g) x)) e d) (λ out after. next after))) (sym there_is)
           (then_follows g (λ v u (out : Out) f. PutOne local locals n d s v u f) (RanOn g alive d s) s s (evaluated scope e active st) (λ v after. go_on (stored active (OfScalar x) v after)) (put_to g.typed (layout g) (O.Scalar (register_of (layout g) x)) e d) (λ out after. next after) (stay g s)
-          puts (λ out after. initials_grow locals (n + 1) after (all_rest IsScalarLocal local locals isin) settled.2 c.1)
+          puts (λ out after. initials_grow locals (n + 1) after (all_rest (IsBlockLocal g.may.beside) local locals isin) settled.2 c.1)
           (λ v u out f p.
           let ran = p.1.1 in
           subst (λ (after : State). Follows g (RanOn g alive d s) s (go_on after) (next f)) (sym (ap (λ (w : Value). stored active (OfScalar x) w u) p.1.0))
           (run_from d f ran.grown.0 s ran.t (go_on (with_scalar x p.0 u)) (next f) ran.grown.1 ran.go ran.keeps (rest f ran.t (with_scalar x p.0 u) (begun_later g d f ran.grown.0 ran.grown.1 free) ran.at ran.sim))))))
-
-  -- the registers of `main` are zero already
-  pub none_cleared : (locals : List LocalVar) (n : ℕ) (d : Draft) → All IsScalarLocal locals → all_cleared (layout g) true locals n d ≡ Makes tt d
-  unfolding all_cleared cleared then_make
-  none_cleared [] n d isin = refl
-  none_cleared (local ∷ locals) n d isin =
-      ap (λ (o : Option ℕ). then_make (elim o as (λ _. Made (Unit {0})) [
-        | None ↦ Makes tt d
-        | Some s ↦ cleared_fields (entries_of local.info) s local.info.elem.bits (with_home d)
-      ]) (λ u after. all_cleared (layout g) true locals (n + 1) after)) (all_first IsScalarLocal local locals isin)
-      ∙ none_cleared locals (n + 1) d (all_rest IsScalarLocal local locals isin)

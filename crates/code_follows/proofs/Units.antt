@@ -408,6 +408,8 @@ module _ (t : Typed) (image : Image) (p : HasScalarInstances t) (codable : IsCod
     code = ap (λ (d : Draft). d.code) (own_unit number i is).drafted ∙ sym (append-nil (unit_at number i is).code);
     entries = [];
     fields = ap (λ (d : Draft). d.fields) (own_unit number i is).drafted ∙ sym (append-nil (unit_at number i is).fields);
+    homes = [];
+    homes_are = ap (λ (d : Draft). d.homes) (own_unit number i is).drafted ∙ sym (append-nil (unit_at number i is).homes);
     regs = let last = (own_unit number i is).last in let h = ends_within number in omega (arith, last, h);
     own = let last = (own_unit number i is).last in omega (arith, last);
     upto = omega arith;

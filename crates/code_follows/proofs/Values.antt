@@ -60,7 +60,7 @@ abbrev pub with_reg : Draft → Draft
 with_reg d = record d { regs = d.regs + 1 }
 
 pub and_register : (d : Draft) → Extended d 0 (with_reg d)
-and_register d = record { more = []; code = append_nothing d.code; long = refl; entries = []; fields = append_nothing d.fields; regs = omega arith }
+and_register d = record { more = []; code = append_nothing d.code; long = refl; entries = []; fields = append_nothing d.fields; regs = omega arith; homes = []; homes_are = append_nothing d.homes }
 
 pub some_word : (a b : ℕ) → Scalar a ≡ Scalar b → a ≡ b
 unfolding at

@@ -173,6 +173,7 @@ scalars_widened names more fits (T.LogicalAnd' ty p left q right) h = (scalars_w
 scalars_widened names more fits (T.Assign' ty place op p target q value) h = (scalars_widened names more fits target h.0, scalars_widened names more fits value h.1)
 scalars_widened names more fits (T.Step' ty op order p target) h = scalars_widened names more fits target h
 scalars_widened names more fits (T.Reduce' ty op p operand) h = scalars_widened names more fits operand h
+scalars_widened names more fits (T.Scan' ty p source axis combiner direction mode bit within) h = scalars_widened names more fits source h
 scalars_widened names more fits _ h = tt
 
 mutual

@@ -22,7 +22,6 @@ use Rattle.cstar_tree.specs.declared.typed.Variable.{Variable}
 use Rattle.cstar_tree.specs.declared.typed.Variable.TheVariants as V
 use Rattle.cstar_tree.specs.Typed.{type_of}
 use Rattle.cstar_tree.specs.TypedParts.{calls_within}
-use Rattle.cstar_tree.specs.Variables.{variables_of}
 use Rattle.shape_room.specs.CallOrders.{HasNoCycle}
 use Rattle.code_lengths.specs.NamingStatements.{behind}
 use Rattle.source_meaning.specs.State.{is_among}
@@ -57,7 +56,8 @@ pub record Beside : Type 1 where
   pub folds : TExpr → Type 0  -- whose value is a number
   pub conditions : ℕ → TExpr → Type 0  -- of `where`, by its shape
   pub widens : ℕ → Type 0  -- the shapes of `everywhere`
-  pub variables : VarInfo → Type 0  -- of the file
+  pub variables : VarInfo → Type 0  -- of the file, beside scalar ones
+  pub locals : VarInfo → Type 0  -- of blocks, beside scalar ones
 
 -- What the body of a function may do: call which functions, by their instances' numbers, with arguments of which
 -- types, for a value of which type where it is used; return numbers of which types; name which variables; and have
@@ -103,6 +103,7 @@ ScalarsAmong names (T.LogicalAnd' ty p left q right) = ScalarsAmong names left �
 ScalarsAmong names (T.Assign' ty place op p target q value) = ScalarsAmong names target × ScalarsAmong names value
 ScalarsAmong names (T.Step' ty op order p target) = ScalarsAmong names target
 ScalarsAmong names (T.Reduce' ty op p operand) = ScalarsAmong names operand
+ScalarsAmong names (T.Scan' ty p source axis combiner direction mode bit within) = ScalarsAmong names source
 ScalarsAmong names _ = Unit {0}
 
 -- An expression whose value is used: of numbers, variables, `getchar`, operators, conversions and casts to any
@@ -155,6 +156,10 @@ IsScalarVariable info = info.shape ≡ None
 abbrev pub IsScalarLocal : LocalVar → Type 0
 IsScalarLocal local = IsScalarVariable local.info
 
+-- one that a program may have; a parallel one has no initialiser
+abbrev pub IsBlockLocal : Beside → LocalVar → Type 0
+IsBlockLocal beside local = IsScalarLocal local ⊎ (beside.locals local.info × (local.initial ≡ None))
+
 -- the number that a variable of a block begins with
 abbrev pub IsInitial : May → LocalVar → TExpr → Type 0
 IsInitial may local e = IsIn may e × Takes local.info.elem (type_of e).elem
@@ -193,7 +198,7 @@ unfoldable mutual
 -- alone; each function begins with the variables of the file and its parameters.
 unfoldable mutual
   pub IsInStatement : May → ℕ → TStmt → Type 0
-  IsInStatement may n (S.Block' locals p statements) = All IsScalarLocal locals.items × AreInitials may n locals.items × AreInStatements (within may n (length locals.items)) (n + length locals.items) statements
+  IsInStatement may n (S.Block' locals p statements) = All (IsBlockLocal may.beside) locals.items × AreInitials may n locals.items × AreInStatements (within may n (length locals.items)) (n + length locals.items) statements
   IsInStatement may n (S.Expression e) = IsEffect may e
   IsInStatement may n S.Empty = Unit {0}
   IsInStatement may n (S.If' test p first second) = IsIn may test × IsInStatement may n first × IsInElse may (behind n first) second
@@ -237,7 +242,6 @@ pub record IsScalarFunction (may : May) (i : Instance) : Type 0 where
   pub params : All IsScalarVariable i.params.items
   pub result : (info : VarInfo) → i.result ≡ Some info → IsScalarVariable info
   pub body : IsBody may i.body
-  pub locals : All IsScalarVariable (variables_of i.body)
 
 -- parameters take arguments of these types, one each
 abbrev pub AreTaken : List VarInfo → List Elem → Type 0
@@ -274,7 +278,7 @@ pub record IsProgramBeside (beside : Beside) (t : Typed) : Type 0 where
 
 -- one of scalars alone
 abbrev pub nothing_beside : Beside
-nothing_beside = record { effects = λ e. ⊥; folds = λ e. ⊥; conditions = λ shape e. ⊥; widens = λ shape. ⊥; variables = λ info. ⊥ }
+nothing_beside = record { effects = λ e. ⊥; folds = λ e. ⊥; conditions = λ shape e. ⊥; widens = λ shape. ⊥; variables = λ info. ⊥; locals = λ info. ⊥ }
 
 abbrev pub IsScalarProgram : Typed → Type 0
 IsScalarProgram t = IsProgramBeside nothing_beside t

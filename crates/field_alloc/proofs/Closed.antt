@@ -1,6 +1,6 @@
 -- Spans that take in the stretches that they meet.
-use Rattle.field_alloc.specs.Sweep.{HeldBy}
-use Rattle.std.proofs.Common.{◌≡◌, ℕ, ◌+◌, ◌<◌, ◌≤◌, List, Bool, Option, Some, None, length, ⊎_elim, ap, sym, ◌∙◌, subst, arith}
+use Rattle.field_alloc.specs.Sweep.{EndsAt, HeldBy}
+use Rattle.std.proofs.Common.{◌≡◌, ℕ, ◌+◌, ◌<◌, ◌≤◌, List, Bool, Option, Some, None, length, ⊎_elim, refl, ap, sym, ◌∙◌, subst, arith}
 use Rattle.std.proofs.lemmas.Bool.{cases_lt}
 use Rattle.std.proofs.lemmas.Option.{same_Some}
 use Rattle.std.specs.List.{slice_get}
@@ -28,12 +28,12 @@ lasts_by unit entry at loops (Some span) held have l = λ wide low high closed.
     })
 
 -- an entry that is first written where a closed span begins with its own is made there
-pub made_at : (unit : CodeUnit) (entry at : ℕ) (loops : List Span) (o : Option Span) → ((place : ℕ) → IsNamedAt unit entry place → HeldBy o place) → HaveStretches unit loops → IsFirstWritten unit o entry → BeginsAt loops o at → IsMade unit entry at
-made_at unit entry at loops None held have first begins = absurd first
-made_at unit entry at loops (Some span) held have first begins =
+pub made_at : (unit : CodeUnit) (entry at : ℕ) (loops : List Span) (o : Option Span) → ((place : ℕ) → IsNamedAt unit entry place → HeldBy o place) → ((place : ℕ) → EndsAt o place → IsNamedAt unit entry place) → HaveStretches unit loops → IsFirstWritten unit o entry → BeginsAt loops o at → IsMade unit entry at
+made_at unit entry at loops None held ended have first begins = absurd first
+made_at unit entry at loops (Some span) held ended have first begins =
     let wide = begins.1.0 in
     record {
-      written = subst (λ n. IsOnlyWritten unit entry n) begins.0 first;
+      written = subst (λ n. IsOnlyWritten unit entry n) begins.0 first.0;
       span = record { first = wide.first; last = wide.last };
       in_use = record {
         named = λ place is. let h = held place is in (omega (arith, h.0, begins.0, begins.1.1), omega (arith, h.1, begins.1.3));
@@ -43,7 +43,7 @@ made_at unit entry at loops (Some span) held have first begins =
             begins.1.4 h.0 (record { first = stretch.first; last = stretch.last }) h.1 meet.0 meet.1;
       };
       begins = begins.1.1;
-      goes_on = begins.1.2;
+      again = (span.last, omega (arith, begins.0, first.1), ended span.last refl);
     }
 
 -- one more instruction, from the end

@@ -15,7 +15,7 @@ use Rattle.field_alloc.specs.declared.spans.Span.{Span}
 use Rattle.field_alloc.specs.Lasting.{HaveStretches}
 use Rattle.field_alloc.specs.Lent.{AreLentFlags, HasFlag, IsLentBy}
 use Rattle.field_alloc.specs.Made.{BeginsAt, IsFirstWritten, IsHeldThrough, IsUse}
-use Rattle.field_alloc.specs.Named.{AreLifted, AreUnitApart, IsBased, IsUnitAbove, IsUnitUnder, HeldAt, IsInUseAt, IsUsedAt}
+use Rattle.field_alloc.specs.Named.{AreLifted, AreUnitApart, IsBased, IsUnitAbove, IsUnitUnder, EndedAt, HeldAt, IsInUseAt, IsUsedAt}
 use Rattle.field_alloc.specs.Places.{items_of}
 use Rattle.field_alloc.specs.Sweep.{HeldBy, AreBelow, AreStacked, Holds, IsInSet, KeepsOthers}
 use Rattle.field_alloc.proofs.Closed.{lasts_by, made_at}
@@ -148,9 +148,9 @@ flags_more P flags i flag long here old entry is =
 pub held_in_use : (unit : CodeUnit) (lent made : List Bool) (named spans : List (Option Span)) (loops : List Span) (whole : Span)
     → ((entry : ℕ) → entry < length named → IsUse lent made whole loops (slice_index_or named entry None) entry (slice_index_or spans entry None))
     → ((entry : ℕ) → HasFlag made entry → IsFirstWritten unit (slice_index_or named entry None) entry)
-    → length named ≡ length unit.fields.items → ((entry at : ℕ) → entry < length unit.fields.items → IsNamedAt unit entry at → HeldAt named entry at) → HaveStretches unit loops → ((at : ℕ) → at < length unit.code.items → Holds whole at)
+    → length named ≡ length unit.fields.items → ((entry at : ℕ) → entry < length unit.fields.items → IsNamedAt unit entry at → HeldAt named entry at) → ((entry at : ℕ) → EndedAt named entry at → IsNamedAt unit entry at) → HaveStretches unit loops → ((at : ℕ) → at < length unit.code.items → Holds whole at)
     → (entry at : ℕ) → entry < length unit.fields.items → at < length unit.code.items → IsInUseAt unit lent entry at → HeldAt spans entry at
-held_in_use unit lent made named spans loops whole uses first long names have in_whole entry at in_fields in_code used =
+held_in_use unit lent made named spans loops whole uses first long names ended have in_whole entry at in_fields in_code used =
     let is = uses entry (omega arith) in
     let own = slice_index_or named entry None in
     ⊎_elim
@@ -158,7 +158,7 @@ held_in_use unit lent made named spans loops whole uses first long names have in
     (λ (l : IsHeldThrough unit entry at).
     ⊎_elim
     (λ (h : HeldBy (slice_index_or spans entry None) at). h)
-    (λ (b : HasFlag made entry × BeginsAt loops own at). absurd (l.1 (made_at unit entry at loops own (λ place n. names entry place in_fields n) have (first entry b.0) b.1)))
+    (λ (b : HasFlag made entry × BeginsAt loops own at). absurd (l.1 (made_at unit entry at loops own (λ place n. names entry place in_fields n) (ended entry) have (first entry b.0) b.1)))
     (is.held at (in_whole at in_code) (lasts_by unit entry at loops own (λ place n. names entry place in_fields n) have l.0)))
     used
 

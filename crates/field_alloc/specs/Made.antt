@@ -1,13 +1,13 @@
--- Where an instruction makes an entry: it writes the entry and reads it nowhere, and with it begins a
--- span in which the entry is in use. What stood in the bits before is not asked for again, so they can
--- be those of a field that the instruction still reads.
+-- Where an instruction makes an entry: it writes the entry and reads it nowhere, with it begins a span
+-- in which the entry is in use, and one behind it names the entry again. What stood in the bits before
+-- is not asked for again, so they can be those of a field that the instruction still reads.
 use Rattle.std.specs.Prelude.{◌≡◌, ◌≢◌, ◌⊎◌, ℕ, ◌<◌, ◌≤◌, List, ◌∷◌, All, Bool, Option, Some, None}
 use Rattle.paris_code.specs.declared.instr.Instr.{Instr}
 use Rattle.paris_code.specs.declared.instr.Instr.TheVariants as I
 use Rattle.paris_code.specs.declared.operands.Field.{Field}
 use Rattle.paris_code.specs.declared.program.Owner.TheVariants as O
 use Rattle.paris_code.specs.declared.program.Unit.{Unit as CodeUnit}
-use Rattle.paris_code.specs.Spans.{IsInUse, StandsAt, entry_of, fields_of}
+use Rattle.paris_code.specs.Spans.{IsInUse, IsNamedAt, StandsAt, entry_of, fields_of}
 use Rattle.paris_code.specs.Spans.{Span as Stretch}
 use Rattle.field_alloc.specs.declared.spans.Span.{Span}
 use Rattle.field_alloc.specs.Lasting.{IsClosed, LastsBy, LastsThrough}
@@ -46,22 +46,22 @@ pub record WritesOnly (instr : Instr) (entry : ℕ) : Type 0 where
 abbrev pub IsOnlyWritten : CodeUnit → ℕ → ℕ → Type 0
 IsOnlyWritten unit entry at = (instr : Instr) × StandsAt unit at instr × WritesOnly instr entry
 
--- an entry is made at an instruction, and in use behind it
+-- an entry is made at an instruction, and named again behind it; so it is in use there
 pub record IsMade (unit : CodeUnit) (entry at : ℕ) : Type 0 where
   pub written : IsOnlyWritten unit entry at
   pub span : Stretch
   pub in_use : IsInUse unit entry O.Own span
   pub begins : span.first ≡ at
-  pub goes_on : at < span.last
+  pub again : (later : ℕ) × (at < later) × IsNamedAt unit entry later
 
 -- it lasts through an instruction, and is not made there
 abbrev pub IsHeldThrough : CodeUnit → ℕ → ℕ → Type 0
 IsHeldThrough unit entry at = LastsThrough unit entry at × (IsMade unit entry at → ⊥)
 
--- the instruction that first names the entry writes it only
+-- the instruction that first names the entry writes it only, and is not the last that names it
 abbrev pub IsFirstWritten : CodeUnit → Option Span → ℕ → Type 0
 IsFirstWritten unit None entry = ⊥
-IsFirstWritten unit (Some span) entry = IsOnlyWritten unit entry span.first
+IsFirstWritten unit (Some span) entry = IsOnlyWritten unit entry span.first × (span.first < span.last)
 
 -- a closed span round this one begins with it at the instruction, and goes on
 abbrev pub BeginsAt : List Span → Option Span → ℕ → Type 0

@@ -9,11 +9,15 @@ use Rattle.paris_code.specs.Proper.{IsOwn}
 use Rattle.field_alloc.specs.declared.spans.Span.{Span}
 use Rattle.field_alloc.specs.Lent.{HasFlag, IsLentBy}
 use Rattle.field_alloc.specs.Made.{IsHeldThrough}
-use Rattle.field_alloc.specs.Sweep.{HeldBy}
+use Rattle.field_alloc.specs.Sweep.{EndsAt, HeldBy}
 
 -- the span of an entry does
 abbrev pub HeldAt : List (Option Span) → ℕ → ℕ → Type 0
 HeldAt spans entry at = HeldBy (slice_index_or spans entry None) at
+
+-- it ends there
+abbrev pub EndedAt : List (Option Span) → ℕ → ℕ → Type 0
+EndedAt spans entry at = EndsAt (slice_index_or spans entry None) at
 
 -- the flag of the entry is set, and so it is in use throughout, or it is held through the instruction
 abbrev pub IsInUseAt : CodeUnit → List Bool → ℕ → ℕ → Type 0

@@ -14,6 +14,11 @@ abbrev pub HeldBy : Option Span → ℕ → Type 0
 HeldBy None at = ⊥
 HeldBy (Some span) at = Holds span at
 
+-- it ends with the instruction
+abbrev pub EndsAt : Option Span → ℕ → Type 0
+EndsAt None at = ⊥
+EndsAt (Some span) at = span.last ≡ at
+
 -- an own entry of a set, of this length and with this span
 pub record IsInSet (fields : List Virtual) (spans : List (Option Span)) (set entry len : ℕ) (span : Span) : Type 0 where
   pub entry_is : slice_get fields entry ≡ Some (record { set = set; len = len; owner = O.Own })

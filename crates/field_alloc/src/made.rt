@@ -1,4 +1,4 @@
-//! Which entries are made where they are first named.
+//! Which entries are made where they are first named, and named again.
 
 ghost use Rattle.std.specs.Prelude.{◌≡◌, ℕ, IfOk, None, true};
 ghost use Rattle.std.specs.List.{slice_index_or};
@@ -51,7 +51,8 @@ fn writes_only(instr: &Instr, fields: &[Field], entry: usize) -> bool
         && rest.iter().all(|field| field.offset as usize != entry)
 }
 
-/// For each entry, whether the instruction that first names it writes it and reads it nowhere.
+/// For each entry, whether the instruction that first names it writes it and reads it nowhere, and a
+/// later one names it again.
 pub fn made_entries(alloc: Global, unit: &Unit, spans: &[Option<Span>]) -> Result<Vec<bool>, Memory>
     ensures { IfOk result (λ made. (entry : ℕ) → HasFlag made.items entry → IsFirstWritten unit.now (slice_index_or spans.now entry None) entry) }
 {
@@ -64,8 +65,8 @@ pub fn made_entries(alloc: Global, unit: &Unit, spans: &[Option<Span>]) -> Resul
     Ok(made)
 }
 
-/// Whether the first instruction of the span of an entry writes it and reads it nowhere. `fields` is
-/// room for what the instruction names.
+/// Whether the first instruction of the span of an entry writes it and reads it nowhere, and is not
+/// the last. `fields` is room for what the instruction names.
 fn is_first_written(
     unit: &Unit,
     span: Option<Span>,
@@ -77,6 +78,9 @@ fn is_first_written(
     let Some(span) = span else {
         return Ok(false);
     };
+    if span.last <= span.first {
+        return Ok(false);
+    }
     let Some(instr) = unit.code.get(span.first as usize) else {
         return Ok(false);
     };

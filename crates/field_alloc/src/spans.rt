@@ -3,14 +3,14 @@
 //! last from one round to the next. An instruction that makes the entry, with which its span would
 //! begin, does not count: it reads all before it writes, so the entry can have the bits of an operand.
 
-ghost use Rattle.std.specs.Prelude.{◌≡◌, ◌⊎◌, ℕ, ◌<◌, ◌≤◌, IfOk, length, None, OnOk, Some};
+ghost use Rattle.std.specs.Prelude.{◌≡◌, ◌⊎◌, ℕ, ◌<◌, ◌≤◌, Any, IfOk, length, None, OnOk, Some};
 ghost use Rattle.std.specs.List.{slice_index_or};
-ghost use Rattle.paris_code.specs.Spans.{IsNamedAt};
+ghost use Rattle.paris_code.specs.Spans.{IsNamedAt, entry_of};
 ghost use Rattle.field_alloc.specs.Lasting.{AreBehindEnds, HaveStretches, IsClosed, LastsBy};
 ghost use Rattle.field_alloc.specs.Lent.{HasFlag};
 ghost use Rattle.field_alloc.specs.Made.{BeginsAt, IsUse};
-ghost use Rattle.field_alloc.specs.Sweep.{HeldBy, Holds};
-ghost use Rattle.field_alloc.specs.Named.{HeldAt, IsInUseAt};
+ghost use Rattle.field_alloc.specs.Sweep.{EndsAt, HeldBy, Holds};
+ghost use Rattle.field_alloc.specs.Named.{EndedAt, HeldAt, IsInUseAt};
 
 use crate::fields::named;
 use crate::lent::flag_at;
@@ -59,7 +59,7 @@ pub fn spans_of(alloc: Global, unit: &Unit, lent: &[bool]) -> Result<Vec<Option<
 }
 
 /// What tells where entries are in use: which are lent, and so in use throughout the whole unit, which
-/// are made where they are first named, the stretches of the jumps back, and where these end.
+/// are made where they are first named and named again, the stretches of the jumps back, and where these end.
 #[derive(Clone, Copy)]
 struct Uses<'a> {
     lent: &'a [bool],
@@ -138,9 +138,11 @@ fn in_use_all(
 
 /// Goes through the code from its end, and answers the stretches of the jumps back.
 fn name_all(alloc: Global, unit: &Unit, spans: &mut Vec<Option<Span>>) -> Result<Vec<Span>, Memory>
-    requires { length spans.old.items ≡ length unit.now.fields.items }
+    requires length { length spans.old.items ≡ length unit.now.fields.items }
+    requires none { (entry at : ℕ) → EndedAt spans.old.items entry at → ⊥ }
     ensures length { OnOk result (length spans.new.items ≡ length spans.old.items) }
     ensures named { OnOk result ((entry at : ℕ) → entry < length unit.now.fields.items → IsNamedAt unit.now entry at → HeldAt spans.new.items entry at) }
+    ensures ended { OnOk result ((entry at : ℕ) → EndedAt spans.new.items entry at → IsNamedAt unit.now entry at) }
     ensures stretches { IfOk result (λ loops. HaveStretches unit.now loops.items) }
 {
     let mut loops = Vec::new(alloc);
@@ -165,6 +167,7 @@ fn name_fields(named: &[Field], at: u32, spans: &mut Vec<Option<Span>>)
     ensures length { length spans.new.items ≡ length spans.old.items }
     ensures kept { (entry other : ℕ) → at ≤ other → HeldAt spans.old.items entry other → HeldAt spans.new.items entry other }
     ensures named { (k entry : ℕ) (field : Field) → k < length named.now → slice_index_or named.now k field ≡ field → field.offset ≡ entry → entry < length spans.old.items → HeldAt spans.new.items entry at }
+    ensures ended { (entry other : ℕ) → EndedAt spans.new.items entry other → EndedAt spans.old.items entry other ⊎ ((other ≡ at) × Any (λ f. entry_of f ≡ entry) named.now) }
 {
     for field in named {
         let number = field.offset as usize;
@@ -178,6 +181,7 @@ fn name_fields(named: &[Field], at: u32, spans: &mut Vec<Option<Span>>)
 fn widened(span: Option<Span>, at: u32) -> Span
     ensures kept { (other : ℕ) → at ≤ other → HeldBy span other → Holds result other }
     ensures here { Holds result at }
+    ensures ended { (result.last ≡ at) ⊎ EndsAt span result.last }
 {
     let last = match span {
         Some(s) => s.last.max(at),

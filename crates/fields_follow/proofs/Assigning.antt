@@ -54,9 +54,9 @@ use Rattle.source_meaning.specs.Targets.{OfElement, assigned, step_op}
 use Rattle.source_meaning.specs.Values.{Parallel, Value}
 use Rattle.source_meaning.proofs.ConstantLaws.{Boxed}
 use Rattle.cstar_base.proofs.NumberLaws.{kind_bits}
-use Rattle.code_follows.proofs.Following.{HasRegisters, Sim, held}
+use Rattle.code_follows.proofs.Following.{HasRegisters, Sim, held, keeps_less}
 use Rattle.code_follows.proofs.Growing.{Extended, extended}
-use Rattle.code_follows.proofs.Settings.{At, Setting, Within, and_one, layout, onto}
+use Rattle.code_follows.proofs.Settings.{Setting, Within, and_one, layout, onto}
 use Rattle.code_follows.proofs.Words.{below_word}
 use Rattle.fields_follow.specs.Fragment.{HasOperation, IsOperand, IsOperation, IsPromoted, IsPure, IsTarget, IsUpdate, IsWide}
 use Rattle.fields_follow.specs.Fields.{IsElement, file_number}
@@ -80,6 +80,7 @@ use Rattle.fields_follow.proofs.Writing.{TakesBehind, entry_and_below, entry_end
 use Rattle.fields_follow.proofs.Effects.{IsEntryFor, in_place_last, put_last}
 use Rattle.fields_follow.proofs.Expressions.{operand_at}
 use Rattle.code_follows.specs.Fragment.{ScalarsAmong}
+use Rattle.fields_follow.proofs.Starts.{Starts, starts_later}
 
 module _ (g : Setting) (has : HasRegisters g) (alive : Variable → Type 0) (n : ℕ) (ready : (d : Draft) → IsReadyButForFields g.typed g.instance (layout g) n d) (places : PlacesFields g) (fields : HoldsTheFields g) where
   -- What comes last writes the variable where it is active: with the entry for it before, the code leaves a state that
@@ -110,8 +111,8 @@ module _ (g : Setting) (has : HasRegisters g) (alive : Variable → Type 0) (n :
           grown = (0 + (p.grown.0 + last.more.0), extended d entered f 0 (p.grown.0 + last.more.0) (and_entry set info.elem.bits (W.File (file_number g.typed k 0)) d) x);
           t = record p.t { at = last.place; memory = written last.takes.write p.t.memory };
           go = onto g s p.t (record p.t { at = last.place; memory = written last.takes.write p.t.memory }) p.go last.go;
-          at = last.at;
-          registers = p.registers;
+          at = starts_later g alive p.t (record p.t { at = last.place; memory = written last.takes.write p.t.memory }) (length e2.code) e2.regs (length f.code) f.regs longer last.more.1.regs last.at p.at;
+          registers = keeps_less g d entered s p.t (and_entry set info.elem.bits (W.File (file_number g.typed k 0)) d).regs p.registers;
           sim = file_sim g places fields alive set variable p.t st v p.sim refl ends.0 ends.1 last.takes k 0 info is refl file last.place (fields.active set) w (λ q below. refl)
               (λ q below on. same.0 q below (few g places fields alive set variable p.t st v p.sim refl ends.0 ends.1 last.takes q below on)) same.1;
           stays = λ u h first final q below own ends_below before low after high.
@@ -120,15 +121,15 @@ module _ (g : Setting) (has : HasRegisters g) (alive : Variable → Type 0) (n :
         }
 
     -- by an instruction behind code of values alone
-    leaves_value : (v w : ℕ → ℕ) → AreStored v w → (e2 : Draft) (i : Instr) → Within g (with_instr i e2) → (p : Passes g alive (length entered.fields) entered e2 s st (Unit {0})) → Puts g set i variable p.t v
+    pub leaves_value : (v w : ℕ → ℕ) → AreStored v w → (e2 : Draft) (i : Instr) → Within g (with_instr i e2) → (p : Passes g alive (length entered.fields) entered e2 s st (Unit {0})) → Puts g set i variable p.t v
         → Leaves g alive d (with_instr i e2) s (with_positions (V.File k) 0 (fields.active set) w st)
     unfolding tests_passed
     leaves_value v w same e2 i within p puts =
         let file : IsFileField g k 0 variable = entry_for (with_instr i e2) (p.grown.0 + 1) (extended entered e2 (with_instr i e2) p.grown.0 1 p.grown.1 (and_one g i e2)) within in
-        leaves v w same e2 (with_instr i e2) (Unit {0}) within (tests_passed g alive (length entered.fields) entered e2 s st (Unit {0}) (omega arith) p) tt (instr_takes g set i variable e2 p.t v (entry_and_below g places fields alive set k 0 info variable is refl file refl) within p.at puts)
+        leaves v w same e2 (with_instr i e2) (Unit {0}) within (tests_passed g alive (length entered.fields) entered e2 s st (Unit {0}) (omega arith) p) tt (instr_takes g set i variable e2 p.t v (entry_and_below g places fields alive set k 0 info variable is refl file refl) within p.at.stands puts)
 
     -- the variable with all its bits is that entry
-    variable_is : (target : TExpr) (next : Out → Draft → Made Out) → (type_of target).elem ≡ info.elem
+    pub variable_is : (target : TExpr) (next : Out → Draft → Made Out) → (type_of target).elem ≡ info.elem
         → then_make (whole_of g.typed (layout g) target (record { shape = Some set; variable = V.File k }) d) next ≡ next (O.Field variable) entered
     unfolding standing then_make an_entry first_bits
     variable_is target next same =
@@ -136,7 +137,7 @@ module _ (g : Setting) (has : HasRegisters g) (alive : Variable → Type 0) (n :
         ∙ ap (λ (m : Made Field). then_make (then_make m (λ f after. Makes (O.Field (first_bits info.elem.bits f)) after)) next) (field_is g k 0 set info d is)
 
   -- what an assignment without an operator stores
-  plainly : (op : AssignOp) (to from : Elem) (old w : ℕ) → assign_op_of op ≡ None → updated op to from old w ≡ w
+  pub plainly : (op : AssignOp) (to from : Elem) (old w : ℕ) → assign_op_of op ≡ None → updated op to from old w ≡ w
   unfolding assign_op_of updated
   plainly A.Set to from old w e = refl
   plainly A.Add to from old w e = cc
@@ -153,7 +154,7 @@ module _ (g : Setting) (has : HasRegisters g) (alive : Variable → Type 0) (n :
   plainly A.Min to from old w e = cc
   plainly A.Max to from old w e = cc
 
-  own_is : (set k : ℕ) (op : AssignOp) (target value : TExpr) → own_of 1 target ≡ Some (record { shape = Some set; variable = V.File k }) → HasOperation op (type_of target).elem value → assigned_own op target value ≡ Some (record { shape = Some set; variable = V.File k })
+  pub own_is : (set k : ℕ) (op : AssignOp) (target value : TExpr) → own_of 1 target ≡ Some (record { shape = Some set; variable = V.File k }) → HasOperation op (type_of target).elem value → assigned_own op target value ≡ Some (record { shape = Some set; variable = V.File k })
   unfolding writes_itself folds works_within
   own_is set k op target value own known =
       ap (λ (o : Option Own). elim o as (λ _. Option Own) [ Some own ↦ if writes_itself own op (type_of target).elem value then Some own else None | None ↦ None ]) own ∙ by (assign_op_of op) known
@@ -176,7 +177,7 @@ module _ (g : Setting) (has : HasRegisters g) (alive : Variable → Type 0) (n :
       by (Some x) h = ap (λ (b : Bool). if b then Some mine else None) (within x (h.2, h.3))
 
   assigns : (ty : ValueType) (place : Place) (op : AssignOp) (p q : Boxed) (target value : TExpr) (set : ℕ) → ty ≡ type_of target → IsTarget set target → HasOperation op ty.elem value → IsOperand set value → NamesVariables g.typed g.instance n target → HasItsCode g.typed g.instance alive n value
-      → (d : Draft) (s : CodeState) (st : State) → At g s (length d.code) → Sim g alive st s
+      → (d : Draft) (s : CodeState) (st : State) → Starts g alive s (length d.code) d.regs → Sim g alive st s
       → UpdateLeaves g alive fields (T.Assign' ty place op p target q value) d s st
   unfolding effect_of assignment_effect variable_operated
   assigns ty place op p q target value set same is_target operates is_value names c d s st here sim =
@@ -361,7 +362,7 @@ module _ (g : Setting) (has : HasRegisters g) (alive : Variable → Type 0) (n :
       mine = record { shape = Some set; variable = V.File k }
 
   steps : (ty : ValueType) (op : StepOp) (order : StepOrder) (p : Boxed) (target : TExpr) (set : ℕ) → ty ≡ type_of target → IsTarget set target → (ty.elem.bits == 1) ≡ false → NamesVariables g.typed g.instance n target
-      → (d : Draft) (s : CodeState) (st : State) → At g s (length d.code) → Sim g alive st s
+      → (d : Draft) (s : CodeState) (st : State) → Starts g alive s (length d.code) d.regs → Sim g alive st s
       → UpdateLeaves g alive fields (T.Step' ty op order p target) d s st
   unfolding effect_of step_effect variable_stepped word_in
   steps ty op order p target set same is_target no_truth names d s st here sim =
@@ -426,7 +427,7 @@ module _ (g : Setting) (has : HasRegisters g) (alive : Variable → Type 0) (n :
       Q out e = ((meant g fields (T.Step' ty op order p target) st ≡ Gives means.0 u) × Leaves g alive d e s u) ⊎ Ended g s (meant g fields (T.Step' ty op order p target) st)
 
   -- an update leaves what it leaves in the source
-  pub updates_leave : (e : TExpr) → IsUpdate e → HasItsCode g.typed g.instance alive n e → (d : Draft) (s : CodeState) (st : State) → At g s (length d.code) → Sim g alive st s → UpdateLeaves g alive fields e d s st
+  pub updates_leave : (e : TExpr) → IsUpdate e → HasItsCode g.typed g.instance alive n e → (d : Draft) (s : CodeState) (st : State) → Starts g alive s (length d.code) d.regs → Sim g alive st s → UpdateLeaves g alive fields e d s st
   unfolding IsUpdate NamesVariables IsShaped IsLowerable ScalarsAmong
   updates_leave (T.Assign' ty place op p target q value) is c =
       assigns ty place op p q target value set_of is.1.0 is.1.1 is.1.2 is.1.3 c.code.names.0 (record { code = record { shaped = c.code.shaped.3; lowerable = c.code.lowerable.3; names = c.code.names.1 }; among = c.among.1 })

@@ -1,7 +1,8 @@
 -- What is known of the code of parallel expressions and of contexts, wherever fields are known.
-use Rattle.std.proofs.Common.{ℕ, ◌+◌, ◌≡◌, ◌∙◌, inl, inr, true, length, slice_index, List, ap, arith, sym, subst}
+use Rattle.std.proofs.Common.{ℕ, ◌+◌, ◌≡◌, ◌∙◌, inl, inr, true, length, arith, sym, subst}
 use Rattle.cstar_tree.specs.declared.typed.TExpr.{TExpr}
 use Rattle.cstar_tree.specs.declared.typed.Variable.{Variable}
+use Rattle.cstar_tree.specs.declared.typed.Variable.TheVariants as V
 use Rattle.cstar_tree.specs.Typed.{type_of}
 use Rattle.code_lengths.specs.Ready.{IsReadyButForFields}
 use Rattle.lower_base.specs.declared.emit.Out.{Out}
@@ -25,16 +26,23 @@ use Rattle.fields_follow.proofs.Computing.{whole_after}
 use Rattle.fields_follow.proofs.FoldingOnto.{onto_leaves}
 use Rattle.fields_follow.proofs.Onto.{LeavesScalars, scalars_stay}
 use Rattle.fields_follow.proofs.Forms.{HasItsCode}
+use Rattle.fields_follow.proofs.LocalsCleared.{locals_clear}
 use Rattle.fields_follow.proofs.Knowing.{KnowsFields, StaysNamed, kept_open, lasts_within, sim_close, sim_open}
-use Rattle.fields_follow.proofs.Leaving.{Leaves, fields_under, places_under, reaches_again, registers_under, under}
+use Rattle.fields_follow.proofs.Leaving.{Leaves, fields_under, keeps_again, places_under, reaches_again, starts_again, registers_under, under}
 use Rattle.fields_follow.proofs.Ending.{follows_so}
 use Rattle.fields_follow.proofs.Passing.{code_longer}
 use Rattle.fields_follow.proofs.Places.{HoldsTheFields}
 use Rattle.fields_follow.proofs.Reducing.{GivesNumber, number_to}
+use Rattle.fields_follow.proofs.ScanAssigning.{scans_leave}
 use Rattle.fields_follow.proofs.Reductions.{GivesRegister, OperandsStand, fold_type, folds_give}
+use Rattle.fields_follow.proofs.Starts.{Starts}
 
 module _ (g : Setting) (scope : Scope) (active : Active) (known : KnowsFields g scope active) (has : HasRegisters g) where
-  module _ (alive : Variable → Type 0) (n : ℕ) (ready : (d : Draft) → IsReadyButForFields g.typed g.instance (layout g) n d) (e : TExpr) (c : HasItsCode g.typed g.instance alive n e) (d : Draft) (s : CodeState) (st : State) (begun : Begun g d) (here : At g s (length d.code)) (sim : Sim g alive st s) where
+  module _ (alive : Variable → Type 0) (n : ℕ) (ready : (d : Draft) → IsReadyButForFields g.typed g.instance (layout g) n d) (e : TExpr) (c : HasItsCode g.typed g.instance alive n e) (d : Draft) (s : CodeState) (st : State) (begun : Begun g d) (at_place : At g s (length d.code)) (files : (k : ℕ) → alive (V.File k)) (sim : Sim g alive st s) where
+    -- the code starts there
+    here : Starts (under g active) alive s (length d.code) d.regs
+    here = record { stands = at_place; free = begun.regs; low = begun.code; files = files }
+
     -- what is kept of the memory lasts over code behind the draft
     kept_behind : (f : Draft) (t : CodeState) → Within g f → Reaches (under g active) s t → StaysNamed g (length d.code) (length d.fields) (length f.code) s.memory t.memory → known.kept t.memory
     kept_behind f t within go stays =
@@ -46,9 +54,9 @@ module _ (g : Setting) (scope : Scope) (active : Active) (known : KnowsFields g 
       grown = l.grown;
       t = l.t;
       go = reaches_again g active l.go;
-      at = l.at;
+      at = l.at.stands;
       sim = sim_close g scope active known alive u l.t l.sim (kept_behind f l.t within l.go (l.stays tt));
-      keeps = λ r kept. ap (λ (registers : List ℕ). slice_index registers r) l.registers;
+      keeps = keeps_again g active d s l.t l.registers;
     }
 
     -- so it does what a fold onto a variable leaves
@@ -60,7 +68,7 @@ module _ (g : Setting) (scope : Scope) (active : Active) (known : KnowsFields g 
       go = reaches_again g active (onto (under g active) s l.passes.t l.t l.passes.go l.writes.go);
       at = l.writes.at;
       sim = sim_close g scope active known alive u l.t l.writes.sim (kept_behind f l.t within (onto (under g active) s l.passes.t l.t l.passes.go l.writes.go) (λ h first last p inside own ends before early after late. scalars_stay (under g active) alive d s st u f l h first last p inside own ends before early after late));
-      keeps = λ r kept. l.writes.keeps r kept ∙ ap (λ (registers : List ℕ). slice_index registers r) l.passes.registers;
+      keeps = λ r kept. l.writes.keeps r kept ∙ l.passes.registers r kept;
     }
 
     -- the fields of the unit, where these positions are active
@@ -71,12 +79,15 @@ module _ (g : Setting) (scope : Scope) (active : Active) (known : KnowsFields g 
     operands_stand : OperandsStand (under g active) alive there n
     operands_stand bits set o some most is wide code d0 s0 st0 at_o sim_o = whole_after (under g active) (registers_under g active has) alive n ready (places_under g active known.places) there bits set o true some most is wide code d0 s0 st0 at_o sim_o
 
-    -- an update, or a fold onto a variable
+    -- an update, a fold onto a variable, or a scan that is assigned
     effect_follows : IsParallelEffect e → Follows g (λ v u out f. Ran g alive d s u f) s (evaluated scope e active st) (effect_of g.typed (layout g) e d)
     effect_follows (inl is) =
         follows_so g scope active known (λ v u out f. Leaves (under g active) alive d f s u) (λ v u out f. Ran g alive d s u f) s (evaluated scope e active st) (effect_of g.typed (layout g) e d) (λ v u out f within leaves. leaves_ran f u within leaves)
         (updates_leave (under g active) (registers_under g active has) alive n ready (places_under g active known.places) there e is c d s st here (sim_open g scope active known alive st s sim))
-    effect_follows (inr is) =
+    effect_follows (inr (inr is)) =
+        follows_so g scope active known (λ v u out f. Leaves (under g active) alive d f s u) (λ v u out f. Ran g alive d s u f) s (evaluated scope e active st) (effect_of g.typed (layout g) e d) (λ v u out f within leaves. leaves_ran f u within leaves)
+        (scans_leave (under g active) (registers_under g active has) alive n ready (places_under g active known.places) there e is c d s st here (sim_open g scope active known alive st s sim))
+    effect_follows (inr (inl is)) =
         follows_so g scope active known (λ v u out f. LeavesScalars (under g active) alive d s st u f) (λ v u out f. Ran g alive d s u f) s (evaluated scope e active st) (effect_of g.typed (layout g) e d) (λ v u out f within leaves. onto_ran f u within leaves)
         (onto_leaves (under g active) alive n (registers_under g active has) (places_under g active known.places) there operands_stand e is c d s st begun.regs here (sim_open g scope active known alive st s sim))
 
@@ -90,8 +101,8 @@ module _ (g : Setting) (scope : Scope) (active : Active) (known : KnowsFields g 
             grown = p.grown;
             t = p.t;
             go = reaches_again g active p.go;
-            at = p.at;
-            registers = p.registers;
+            at = starts_again g active alive p.t (length given.middle.code) given.middle.regs p.at;
+            registers = keeps_again g active d s p.t p.registers;
             sim = sim_close g scope active known alive st p.t p.sim (kept_behind f p.t within p.go (λ h first last q inside own ends before early after late. p.stays tt h first last q inside own ends before early after (omega (arith, late, longer))));
             stays = p.stays;
           };
@@ -116,9 +127,10 @@ module _ (g : Setting) (scope : Scope) (active : Active) (known : KnowsFields g 
 pub besides : (g : Setting) (scope : Scope) (active : Active) → KnowsFields g scope active → (has : HasRegisters g) → BesideFollows KnowsFields g has scope active
 besides g scope active known has = record {
   expressions = record {
-    effects = λ alive files n ready e h among c d s st free here sim. effect_follows g scope active known has alive n ready e (record { code = c; among = among }) d s st free here sim (known.effects e h);
-    folds = λ alive files n ready e h among c d s st R r free here sim dest. fold_follows g scope active known has alive n ready e (record { code = c; among = among }) d s st free here sim (known.folds e h) R r dest;
+    effects = λ alive files n ready e h among c d s st free here sim. effect_follows g scope active known has alive n ready e (record { code = c; among = among }) d s st free here files sim (known.effects e h);
+    folds = λ alive files n ready e h among c d s st R r free here sim dest. fold_follows g scope active known has alive n ready e (record { code = c; among = among }) d s st free here files sim (known.folds e h) R r dest;
   };
-  wheres = λ alive files n ready shape test p first second h among c f contexts one other. where_follows g has scope active known alive n ready shape test p first second (known.conditions shape test h) among c f contexts one other;
+  locals = locals_clear g scope active known;
+  wheres = λ alive files n ready shape test p first second h among c f contexts one other. where_follows g has scope active known alive files n ready shape test p first second (known.conditions shape test h) among c f contexts one other;
   widenings = λ alive files n ready shape p body h c f contexts part. widening_follows g scope active known alive n shape p body f contexts part;
 }

@@ -14,6 +14,7 @@ use Rattle.code_follows.proofs.Following.{Finishes, finishes_later}
 use Rattle.code_follows.proofs.Growing.{extended}
 use Rattle.code_follows.proofs.Settings.{Setting, and_one, at_next, code_more, ends_now, one, onto}
 use Rattle.fields_follow.proofs.Passing.{Passes}
+use Rattle.fields_follow.proofs.Starts.{starts_next}
 
 module _ (g : Setting) (alive : Variable → Type 0) (i : Instr) (bound : ℕ) (d e : Draft) (s : CodeState) (st : State) (p : Passes g alive bound d e s st (Unit {0})) where
   unfoldable pub check_passes : step g.image p.t ≡ Goes (Machine.onward p.t) → Passes g alive bound d (with_instr i e) s st (Unit {0})
@@ -21,7 +22,7 @@ module _ (g : Setting) (alive : Variable → Type 0) (i : Instr) (bound : ℕ) (
     grown = (p.grown.0 + 1, extended d e (with_instr i e) p.grown.0 1 p.grown.1 (and_one g i e));
     t = Machine.onward p.t;
     go = onto g s p.t (Machine.onward p.t) p.go (one g p.t (Machine.onward p.t) goes refl);
-    at = at_next g i e p.t (p.t.at + 1) p.at refl;
+    at = starts_next g alive i e p.t (Machine.onward p.t) (at_next g i e p.t (p.t.at + 1) p.at.stands refl) p.at;
     registers = p.registers;
     sim = sim_saying g alive st p.t (p.t.at + 1) p.t.memory (g.held.onward p.t.at (p.t.at + 1) st p.t.memory (omega arith) p.sim.memory) p.sim;
     stays = λ u h first last q below own ends before low after high. p.stays u h first last q below own ends before low after (let l = code_more g i e in omega (arith, high, l));

@@ -38,7 +38,8 @@ use Rattle.fields_follow.proofs.Leaving.{PassesTests}
 use Rattle.fields_follow.proofs.Passing.{Behind, GivesField, code_longer, fields_longer, flags_of, names_second, names_third}
 use Rattle.fields_follow.proofs.Values.{and_entry, next_field, one_more, taken, with_entry}
 use Rattle.paris_code.specs.declared.program.Owner.TheVariants as W
-use Rattle.code_follows.proofs.Following.{Sim}
+use Rattle.code_follows.proofs.Following.{Sim, keeps_less}
+use Rattle.fields_follow.proofs.Starts.{starts_later}
 use Rattle.fields_follow.proofs.PassingTests.{tests_on}
 use Rattle.fields_follow.proofs.Places.{HoldsTheFields, IsFileField, IsOwnField, PlacesFields, names_first, of_file, stands_here}
 use Rattle.fields_follow.proofs.Truths.{GivesTruth, either_or_both, joined_bits, truth_still}
@@ -180,7 +181,7 @@ module _ (g : Setting) (places : PlacesFields g) (fields : HoldsTheFields g) (al
   truths_taken one two several file within = (
     passes,
     joined_takes g set offset bits some is_or a b e2 two.passes.t v w (entry_ends g places fields alive set k 0 info (field_at set offset bits) is word is_file refl) (entry_and_below g places fields alive set k 0 info (field_at set offset bits) is word is_file refl) (λ q below. cleared_still a q (one.apart k info is more))
-        (λ q below. cleared_still b q (two.apart k info is more)) within two.passes.at
+        (λ q below. cleared_still b q (two.apart k info is more)) within two.passes.at.stands
         (λ q below on. still q below ∙ one.are q below (active q below ∙ on)) (λ q below on. two.are q below (active q below ∙ on)),
   )
     where
@@ -241,8 +242,8 @@ module _ (g : Setting) (places : PlacesFields g) (fields : HoldsTheFields g) (al
       grown = (0 + (passes.grown.0 + 2), extended d taken_first own_behind 0 (passes.grown.0 + 2) (and_entry set bits W.Own d) whole);
       t = record two.passes.t { at = takes.place; memory = written takes.takes.write two.passes.t.memory };
       go = onto g s two.passes.t (record two.passes.t { at = takes.place; memory = written takes.takes.write two.passes.t.memory }) passes.go takes.go;
-      at = takes.at;
-      registers = passes.registers;
+      at = starts_later g alive two.passes.t (record two.passes.t { at = takes.place; memory = written takes.takes.write two.passes.t.memory }) (length e2.code) e2.regs (length own_behind.code) own_behind.regs (omega (arith, long, behind_long)) (joined_more g is_or set (length d.fields) bits a b e2).regs takes.at two.passes.at;
+      registers = keeps_less g d taken_first s two.passes.t (and_entry set bits W.Own d).regs passes.registers;
       sim = own_sim g places fields alive set dest two.passes.t st joins_to two.passes.sim refl ends.0 ends.1 takes.takes takes.place own;
       stays = λ again h first last q below is_own ends_below before low after high.
           elsewhere g places fields alive set dest two.passes.t st joins_to two.passes.sim refl ends.0 ends.1 takes.takes (place g h) q
@@ -358,5 +359,5 @@ module _ (g : Setting) (places : PlacesFields g) (fields : HoldsTheFields g) (al
 
       takes : TakesBehind g set dest e2 own_behind two.passes.t joins_to
       takes =
-          joined_takes g set (length d.fields) bits some is_or a b e2 two.passes.t v w ends (λ f there. places.own_and_below dest f own there) still_a still_b within two.passes.at
+          joined_takes g set (length d.fields) bits some is_or a b e2 two.passes.t v w ends (λ f there. places.own_and_below dest f own there) still_a still_b within two.passes.at.stands
           (λ q below on. truth_still g alive places fields taken_first e1 e2 s set st v a (Behind g b e2) (length cleared_one.code) one two.passes behind_b named_a (omega (arith, long)) q below ∙ one.are q below (active q below ∙ on)) (λ q below on. two.are q below (active q below ∙ on))

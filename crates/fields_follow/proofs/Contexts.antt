@@ -5,6 +5,7 @@ use Rattle.cstar_tree.specs.declared.typed.TExpr.{TExpr}
 use Rattle.cstar_tree.specs.declared.typed.TStmt.{TStmt, Held-TStmt-If-2, None', Some'}
 use Rattle.cstar_tree.specs.declared.typed.TStmt as S
 use Rattle.cstar_tree.specs.declared.typed.Variable.{Variable}
+use Rattle.cstar_tree.specs.declared.typed.Variable.TheVariants as V
 use Rattle.code_lengths.specs.Lowerable.{InField}
 use Rattle.code_lengths.specs.LowerableStatements.{IsLowerableStatement}
 use Rattle.code_lengths.specs.NamingStatements.{StatementNamesVariables, behind}
@@ -57,7 +58,7 @@ unfolding executed
 where_ends scope a shape test p first second k st g s ended =
     ended_on g s (evaluated scope test a st) (λ x after. then_go (executed scope first k (where_nonzero shape x a) after) (else_executed scope second (k + declared first) (where_zero shape x a))) ended
 
-module _ (g : Setting) (has : HasRegisters g) (scope : Scope) (active : Active) (known : KnowsFields g scope active) (alive : Variable → Type 0) (n : ℕ) (ready : (d : Draft) → IsReadyButForFields g.typed g.instance (layout g) n d) where
+module _ (g : Setting) (has : HasRegisters g) (scope : Scope) (active : Active) (known : KnowsFields g scope active) (alive : Variable → Type 0) (files : (k : ℕ) → alive (V.File k)) (n : ℕ) (ready : (d : Draft) → IsReadyButForFields g.typed g.instance (layout g) n d) where
   -- what is known of the code of the condition
   where_test : (shape : ℕ) (test : TExpr) (p : Boxed) (first : TStmt) (second : Held-TStmt-If-2) → HasStatementCode g.typed g.instance n (S.Where' shape test p first second) → InField g.typed test × HasCode g.typed g.instance n test
   unfolding IsShapedStatement IsLowerableStatement StatementNamesVariables
@@ -75,7 +76,7 @@ module _ (g : Setting) (has : HasRegisters g) (scope : Scope) (active : Active) 
       let w_e : Within g e = earlier g e last 1 (and_one g (I.LoadContext (saved shape d)) e) w in
       let w_inner : Within g inner = earlier g inner e longer.0 longer.1 w_e in
       let w_saves : Within g save = earlier g save inner 1 (and_one g (I.LogandContextWithTest shape) save) w_inner in
-      by w (condition_runs g shape d test tests scope active known alive begun s st has n ready condition c at sim (earlier g after save 1 (and_one g (I.StoreContext (saved shape d)) after) w_saves))))
+      by w (condition_runs g shape d test tests scope active known alive begun s st has n ready condition c files at sim (earlier g after save 1 (and_one g (I.StoreContext (saved shape d)) after) w_saves))))
     where
       v : ℕ → ℕ
       v = λ q. value_in (extents g shape) st test q
@@ -168,7 +169,7 @@ module _ (g : Setting) (has : HasRegisters g) (scope : Scope) (active : Active) 
       let w_inner : Within g inner = earlier g inner e longer.0 longer.1 w_e in
       let w_keep : Within g keep = earlier g keep inner 1 (and_one g (I.LogandContextWithTest shape) keep) w_inner in
       let w_save : Within g save = earlier g save keep 1 (and_one g (I.StoreTest holds_in) save) w_keep in
-      by w (condition_runs g shape d test tests scope active known alive begun s st has n ready condition c at sim (earlier g after save 1 (and_one g (I.StoreContext saved_in) after) w_save))))
+      by w (condition_runs g shape d test tests scope active known alive begun s st has n ready condition c files at sim (earlier g after save 1 (and_one g (I.StoreContext saved_in) after) w_save))))
     where
       v : ℕ → ℕ
       v = λ x. value_in (extents g shape) st test x

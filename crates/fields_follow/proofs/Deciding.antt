@@ -43,10 +43,11 @@ use Rattle.source_meaning.specs.Values.{Parallel, nonzero, unary_of}
 use Rattle.source_meaning.proofs.ConstantLaws.{Boxed}
 use Rattle.code_follows.proofs.Following.{Extends, HasRegisters, Sim}
 use Rattle.code_follows.proofs.Growing.{Extended, extended}
-use Rattle.code_follows.proofs.Settings.{At, Setting, Within, and_one, layout}
+use Rattle.code_follows.proofs.Settings.{Setting, Within, and_one, layout}
 use Rattle.fields_follow.specs.Fields.{IsElement}
 use Rattle.cstar_tree.specs.Typed.{type_of}
 use Rattle.fields_follow.specs.Fragment.{IsCondition, IsNarrowed, IsPure}
+use Rattle.fields_follow.proofs.Starts.{Starts}
 use Rattle.fields_follow.proofs.Clearing.{field_at, joined_behind, joined_more, truths_taken}
 use Rattle.fields_follow.proofs.Conditions.{HaveTheirCode, and_codes, conditions_join, or_codes}
 use Rattle.fields_follow.proofs.Sizes.{brackets_part, convert_part, unary_part, value_small}
@@ -151,7 +152,7 @@ module _ (g : Setting) where
 
   module _ (has : HasRegisters g) (alive : Variable → Type 0) (n : ℕ) (ready : (d : Draft) → IsReadyButForFields g.typed g.instance (layout g) n d) (places : PlacesFields g) (fields : HoldsTheFields g) where
     -- What is said where a truth value goes to a variable of the file, behind code of conditions, is said of its code.
-    module _ (set k offset bits : ℕ) (info : VarInfo) (is_element : IsElement g.typed k info set 0) (some : 0 < bits) (word : info.elem.bits ≡ bits) (d : Draft) (s : CodeState) (st : State) (here : At g s (length d.code)) (sim : Sim g alive st s)
+    module _ (set k offset bits : ℕ) (info : VarInfo) (is_element : IsElement g.typed k info set 0) (some : 0 < bits) (word : info.elem.bits ≡ bits) (d : Draft) (s : CodeState) (st : State) (here : Starts g alive s (length d.code) d.regs) (sim : Sim g alive st s)
         (entry : (f : Draft) (m : ℕ) → Extended d m f → Within g f → IsFileField g k 0 (field_at set offset bits)) (Q : Out → Draft → Type 0) where
       abbrev f : Field
       f = field_at set offset bits
@@ -174,7 +175,7 @@ module _ (g : Setting) where
       takes_behind : (len : ℕ) → len ≡ bits → (i : Instr) (e2 : Draft) (v : ℕ → ℕ) (used : Type 0) (p : PassesTests g alive d e2 s st used) → Within g (with_instr i e2) → Puts g set i (field_at set offset len) p.t v → TakesBehind g set f e2 (with_instr i e2) p.t v
       takes_behind len same i e2 v used p within puts =
           let file : IsFileField g k 0 f = entry (with_instr i e2) (p.grown.0 + 1) (extended d e2 (with_instr i e2) p.grown.0 1 p.grown.1 (and_one g i e2)) within in
-          instr_takes g set i f e2 p.t v (entry_and_below g places fields alive set k 0 info f is_element word file refl) within p.at (subst (λ (m : ℕ). Puts g set i (field_at set offset m) p.t v) same puts)
+          instr_takes g set i f e2 p.t v (entry_and_below g places fields alive set k 0 info f is_element word file refl) within p.at.stands (subst (λ (m : ℕ). Puts g set i (field_at set offset m) p.t v) same puts)
 
       is_bit : (n : ℕ) → n < 2 ^ 1 → (b : Bool) → (n == 0) ≡ b → n ≡ from_bool (not (n == 0))
       is_bit n few true e = eqb-true n 0 e ∙ sym (ap (λ (b : Bool). from_bool (not b)) e)

@@ -151,6 +151,6 @@ module _ (g : Setting) (fields : HoldsTheFields g) where
 
           by : (o : Option ℕ) → zero_at set w ≡ o → Q
           by None none =
-              given none (check_passes g alive (I.CheckDivisor place_of b) bound d e s st both.passes (begins_here g (I.CheckDivisor place_of b) e both.passes.t early refl both.passes.at ∙ begins None none))
+              given none (check_passes g alive (I.CheckDivisor place_of b) bound d e s st both.passes (begins_here g (I.CheckDivisor place_of b) e both.passes.t early refl both.passes.at.stands ∙ begins None none))
               (puts_operate g bits set op signed dest a b (Machine.onward both.passes.t) v w operates keeps long (has_onward bits set a both.passes.t v both.left) (has_onward bits set b both.passes.t w both.right))
-          by (Some q) some = ends q some (check_ends g alive (I.CheckDivisor place_of b) bound d e s st both.passes DivZero place_of q (begins_here g (I.CheckDivisor place_of b) e both.passes.t early refl both.passes.at ∙ begins (Some q) some))
+          by (Some q) some = ends q some (check_ends g alive (I.CheckDivisor place_of b) bound d e s st both.passes DivZero place_of q (begins_here g (I.CheckDivisor place_of b) e both.passes.t early refl both.passes.at.stands ∙ begins (Some q) some))

@@ -45,7 +45,7 @@ use Rattle.vp_sets.specs.Positions.{coordinate}
 use Rattle.code_follows.proofs.Following.{Extends, Finishes, HasRegisters, Sim, extends_then, held}
 use Rattle.code_follows.proofs.Growing.{Extended}
 use Rattle.code_follows.proofs.Words.{held_wide}
-use Rattle.code_follows.proofs.Settings.{At, Setting, Within, and_one, layout}
+use Rattle.code_follows.proofs.Settings.{Setting, Within, and_one, layout}
 use Rattle.fields_follow.specs.Fragment.{AreWrapping, HasKnownKind, IsOperand, IsOperation, IsPromoted, IsPure, IsRelation, IsWide}
 use Rattle.fields_follow.proofs.Extents.{get_names}
 use Rattle.fields_follow.specs.Fields.{IsElement, file_number}
@@ -72,6 +72,7 @@ use Rattle.cstar_base.proofs.NumberLaws.{kind_bits}
 use Rattle.std.proofs.lemmas.Bool.{eqb-true}
 use Rattle.std.proofs.lemmas.Bool.Decides.{nat_tests}
 use Rattle.std.specs.Prelude.{nat_le}
+use Rattle.fields_follow.proofs.Starts.{Starts}
 
 module _ (g : Setting) (has : HasRegisters g) (alive : Variable → Type 0) (n : ℕ) (ready : (d : Draft) → IsReadyButForFields g.typed g.instance (layout g) n d) (places : PlacesFields g) (fields : HoldsTheFields g) where
   abbrev operand : ℕ → Bool → TExpr → Draft → Made Out
@@ -88,7 +89,7 @@ module _ (g : Setting) (has : HasRegisters g) (alive : Variable → Type 0) (n :
 
   abbrev pub PutsLast : ℕ → Field → TExpr → (Draft → Made Out) → Type 1
   PutsLast set f e made =
-      (d : Draft) (s : CodeState) (st : State) → At g s (length d.code) → Sim g alive st s → (Q : Out → Draft → Type 0)
+      (d : Draft) (s : CodeState) (st : State) → Starts g alive s (length d.code) d.regs → Sim g alive st s → (Q : Out → Draft → Type 0)
       → (IsGiven set e st → (e2 : Draft) (i : Instr) → Within g (with_instr i e2) → (p : Passes g alive (length d.fields) d e2 s st (Unit {0})) → Puts g set i f p.t (words_of set e st) → Q (O.Field f) (with_instr i e2))
       → (Ended g s (meant g fields e st) → (x : Out) (after : Draft) → Q x after) → After g Q (made d)
 
@@ -238,7 +239,7 @@ module _ (g : Setting) (has : HasRegisters g) (alive : Variable → Type 0) (n :
           (extended_after g has alive n ready places fields set ty p inner f (length d.fields) d s st is.0 no_truth most is.2 part (pure_after g has alive n ready places fields ty.elem.bits set inner (kind_bits ty.elem.bits ty.elem.signed ty.elem.kind).0 (kind_bits ty.elem.bits ty.elem.signed ty.elem.kind).1 is.2 part) (omega arith) here sim Q last ended)
 
   -- a get from neighbours
-  gone_same : (dest : Out) (Q : Out → Draft → Type 0) (made : Made Out) → After g (λ out e. Q dest e) made → After g Q (gone_to dest made)
+  pub gone_same : (dest : Out) (Q : Out → Draft → Type 0) (made : Made Out) → After g (λ out e. Q dest e) made → After g Q (gone_to dest made)
   unfolding gone_to After then_make
   gone_same dest Q (Makes out e) h = h
   gone_same dest Q Fails h = tt
@@ -329,7 +330,7 @@ module _ (g : Setting) (has : HasRegisters g) (alive : Variable → Type 0) (n :
   IsEntryFor k f d = (e : Draft) (m : ℕ) → Extended d m e → Within g e → IsFileField g k 0 f
 
   pub in_place_last : (set offset k : ℕ) (info : VarInfo) (op : Op) (signed : Bool) (place : Place) (value : TExpr) (d : Draft) (s : CodeState) (st : State) → IsElement g.typed k info set 0 → IsEntryFor k (field_at set offset info.elem.bits) d
-      → IsOperation op value → operation_bits info.elem.bits op value ≡ info.elem.bits → IsOperand set value → HasItsCode g.typed g.instance alive n value → At g s (length d.code) → Sim g alive st s → (Q : Out → Draft → Type 0)
+      → IsOperation op value → operation_bits info.elem.bits op value ≡ info.elem.bits → IsOperand set value → HasItsCode g.typed g.instance alive n value → Starts g alive s (length d.code) d.regs → Sim g alive st s → (Q : Out → Draft → Type 0)
       → (IsGiven set value st → set < length (shapes g) → (divides op ≡ true → zero_at g fields set (words_of set value st) ≡ None) → (e2 : Draft) (i : Instr) → Within g (with_instr i e2) → (p : Passes g alive (length d.fields) d e2 s st (Unit {0})) → Puts g set i (field_at set offset info.elem.bits) p.t (λ q. outcome op 32 (not signed) (held info.elem (st.parallel (V.File k) 0 q)) (words_of set value st q)) → Q (O.Field (field_at set offset info.elem.bits)) (with_instr i e2))
       → (Ended g s (meant g fields value st) → (x : Out) (after : Draft) → Q x after)
       → (IsGiven set value st → set < length (shapes g) → divides op ≡ true → (q : ℕ) → zero_at g fields set (words_of set value st) ≡ Some q → Finishes g (Source.Fault DivZero place (Some q)) st s → (x : Out) (after : Draft) → Q x after)

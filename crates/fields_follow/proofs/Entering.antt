@@ -1,10 +1,11 @@
 -- What the code of `where` has done where what stands under it begins: its condition has run, and the context is saved.
-use Rattle.std.proofs.Common.{◌⊎◌, inl, inr, subst, ◌≡◌, ◌∙◌, ℕ, ◌+◌, ◌<◌, ◌≤◌, List, length, slice_index, refl, ap, arith, [], ◌∷◌}
+use Rattle.std.proofs.Common.{◌⊎◌, inl, inr, subst, ◌≡◌, ◌∙◌, ℕ, ◌+◌, ◌<◌, ◌≤◌, length, refl, arith, [], ◌∷◌}
 use Rattle.lower_expr.specs.Lengths.{tested_length}
 use Rattle.paris_code.specs.declared.program.Owner.{Owner}
 use Rattle.code_follows.proofs.Starting.{DeclaredBy, declared_grown}
 use Rattle.cstar_tree.specs.declared.typed.TExpr.{TExpr}
 use Rattle.cstar_tree.specs.declared.typed.Variable.{Variable}
+use Rattle.cstar_tree.specs.declared.typed.Variable.TheVariants as V
 use Rattle.code_lengths.specs.Growth.{GrowsOr}
 use Rattle.code_lengths.specs.Lowerable.{InField}
 use Rattle.code_lengths.specs.Ready.{IsReadyButForFields, HasDeclared}
@@ -21,7 +22,7 @@ use Rattle.paris_code.specs.Memory.{BitMemory}
 use Rattle.paris_code.specs.Spans.{IsNamedAt}
 use Rattle.source_meaning.specs.State.{State}
 use Rattle.source_meaning.specs.Values.{Parallel, Active, Scope}
-use Rattle.code_follows.proofs.Following.{HasRegisters, Sim}
+use Rattle.code_follows.proofs.Following.{HasRegisters, Sim, kept_later}
 use Rattle.code_follows.proofs.Growing.{Extended, extended, from_growth}
 use Rattle.code_follows.proofs.Settings.{At, Begun, Setting, Within, and_one, code_more, earlier, layout}
 use Rattle.fields_follow.specs.Fragment.{IsCondition}
@@ -34,7 +35,7 @@ use Rattle.source_meaning.specs.State as Source
 use Rattle.fields_follow.proofs.Knowing.{KnowsFields, kept_open, sim_open}
 use Rattle.fields_follow.proofs.Saving.{Kept}
 use Rattle.fields_follow.proofs.Leading.{Led, TestsAre, saves_context}
-use Rattle.fields_follow.proofs.Leaving.{fields_under, places_under, reaches_again, registers_under, under, within_under}
+use Rattle.fields_follow.proofs.Leaving.{fields_under, keeps_again, places_under, reaches_again, registers_under, under, within_under}
 use Rattle.fields_follow.proofs.Meaning.{value_in}
 use Rattle.fields_follow.proofs.Passing.{After, code_longer, fields_longer}
 use Rattle.fields_follow.proofs.Places.{IsOwnField}
@@ -121,13 +122,13 @@ module _ (g : Setting) (shape : ℕ) (d : Draft) (test : TExpr) where
           × LeavesTests (under g active) alive (fields_under g active scope known.same_extents) (for_test shape d) s shape st (λ q. value_in (extents g shape) st test q) after
 
       -- so it is, or both end early
-      pub condition_runs : (has : HasRegisters g) (n : ℕ) (ready : (d : Draft) → IsReadyButForFields g.typed g.instance (layout g) n d) → IsCondition shape test → HasItsCode g.typed g.instance alive n test → At g s (length d.code) → Sim g alive st s → Within g after → HasRun ⊎ Ended g s (evaluated scope test active st)
+      pub condition_runs : (has : HasRegisters g) (n : ℕ) (ready : (d : Draft) → IsReadyButForFields g.typed g.instance (layout g) n d) → IsCondition shape test → HasItsCode g.typed g.instance alive n test → ((k : ℕ) → alive (V.File k)) → At g s (length d.code) → Sim g alive st s → Within g after → HasRun ⊎ Ended g s (evaluated scope test active st)
       unfolding After
-      condition_runs has n ready condition c at sim w =
+      condition_runs has n ready condition c files at sim w =
           by
           (subst (λ (m : Made (Unit {0})). After (under g active) (Known (under g active) s (evaluated scope test active st) v st R) m) made.1.1.0
           (follows_known (under g active) s (evaluated scope test active st) v st R (tested g.typed (layout g) test (for_test shape d))
-          (condition_tested (under g active) (registers_under g active has) alive n ready (places_under g active known.places) (fields_under g active scope known.same_extents) shape test condition c (for_test shape d) s st at (sim_open g scope active known alive st s sim)))
+          (condition_tested (under g active) (registers_under g active has) alive n ready (places_under g active known.places) (fields_under g active scope known.same_extents) shape test condition c (for_test shape d) s st (record { stands = at; free = begun.regs; low = begun.code; files = files }) (sim_open g scope active known alive st s sim)))
           (within_under g active w))
         where
           v : ℕ → ℕ
@@ -147,7 +148,7 @@ module _ (g : Setting) (shape : ℕ) (d : Draft) (test : TExpr) where
             grown = (0 + l.leaves.grown.0, extended d (for_test shape d) after 0 l.leaves.grown.0 (extended d (entered shape d) (for_test shape d) 0 0 (and_entry shape 1 W.Own d) (and_entry shape 1 W.Own (entered shape d))) l.leaves.grown.1);
             t = l.leaves.t;
             go = reaches_again g active l.leaves.go;
-            at = l.leaves.at;
+            at = l.leaves.at.stands;
             sim = l.leaves.sim;
             has = (
               known.lasts.code s.memory l.leaves.t.memory (λ h first last q inside own ends before early named late.
@@ -155,7 +156,7 @@ module _ (g : Setting) (shape : ℕ) (d : Draft) (test : TExpr) where
                   l.leaves.go.below (kept_open g scope active known alive st s sim),
               l.flags,
             );
-            keeps = λ r kept. ap (λ (registers : List ℕ). slice_index registers r) l.leaves.registers;
+            keeps = λ r kept. keeps_again g active (for_test shape d) s l.leaves.t l.leaves.registers r (kept_later g d (for_test shape d) r (omega arith) kept);
           }
 
       abbrev saves : Draft

@@ -2,7 +2,7 @@
 use Rattle.std.proofs.Common.{◌≡◌, ◌∙◌, ℕ, zero, suc, List, [], ◌∷◌, ◌++◌, map, slice_get, slice_index, Some, inl, inr, Global, refl, sym, ap, subst, arith}
 use Rattle.std.proofs.lemmas.List.Elements.{All-cons, All-nil}
 use Rattle.std.proofs.lemmas.Option.{none-some}
-use Rattle.std.specs.List.{All, Contains}
+use Rattle.std.specs.List.{Contains}
 use denote.Hole.Carrier
 use Rattle.cstar_base.specs.Numbers.{residue}
 use Rattle.cstar_base.specs.Operators.{divides}
@@ -19,12 +19,11 @@ use Rattle.cstar_tree.specs.Headers.{Leads, calls_it, is_it}
 use Rattle.cstar_tree.specs.Instances.{main_word}
 use Rattle.cstar_tree.specs.ProgramTypes.{plain_info}
 use Rattle.cstar_tree.specs.TypedParts.{call_step, calls_in, calls_within, concat, optional, statement_call_step}
-use Rattle.cstar_tree.specs.Variables.{variables_of}
-use Rattle.code_lengths.proofs.Declaring.{else_variables, of_block, of_expression, of_return, of_where, of_with, row_variables}
+use Rattle.code_lengths.proofs.Declaring.{else_variables, row_variables}
 use Rattle.lower_base.specs.Operators.{assign_op_of, relates}
 use Rattle.source_meaning.specs.Constants.{constant_of, is_constant, value_of}
 use Rattle.source_meaning.specs.Examples.{number, numbers}
-use Rattle.code_follows.specs.Fragment.{AreClosed, AreIn, AreInitials, AreInStatements, IsBody, IsClosed, IsClosedElse, IsEffect, IsFileVariable, IsGiven, IsIn, IsInElse, IsInStatement, IsScalarFunction, IsScalarLocal, IsScalarVariable, IsVariable, OfFileOrParam, ScalarsAmong, called_in, may_of}
+use Rattle.code_follows.specs.Fragment.{AreClosed, AreIn, AreInitials, AreInStatements, IsBody, IsClosed, IsClosedElse, IsEffect, IsFileVariable, IsGiven, IsIn, IsInElse, IsInStatement, IsBlockLocal, IsScalarFunction, IsScalarVariable, IsVariable, OfFileOrParam, ScalarsAmong, called_in, may_of}
 use Rattle.code_follows.proofs.Standing.{some_same}
 use Rattle.lower_base.specs.Kinds.{folded_kind, kind_of, narrow}
 use Rattle.lower_base.specs.Operators.{fold_of, is_signed, reduce_op_of}
@@ -77,20 +76,19 @@ module _ (heap : Global) where
 lift_is : (heap : Global) → IsScalarFunction (may_of fields_beside (example heap) (lift heap)) (lift heap)
 unfolding kind_of narrow relation_kind word_of register_word kind_with operation_bits is_modular IsBody IsInStatement IsInElse IsClosedElse IsNarrowed else_variables IsEffect IsGiven IsIn IsVariable AreIn AreInitials AreInStatements AreClosed IsClosed OfFileOrParam ScalarsAmong IsFold IsPromoted IsPure IsTarget IsUpdate assign_op_of constant_of relates divides is_constant residue value_of row_variables
 lift_is heap =
-    let no_variables : variables_of (lift heap).body ≡ [] = simp (of_block, of_where, of_expression, of_return) in
     record {
       params = All-nil IsScalarVariable;
       result = λ info is. subst IsScalarVariable (some_same _ info is) refl;
       body = (
         (
-          All-nil IsScalarLocal,
+          All-nil (IsBlockLocal fields_beside),
           tt,
           (
             (
               (((refl, refl), inr (refl, inl (inl refl), inr (refl, refl, (refl, inl (2, refl, omega arith))), tt), inl (refl, inr (refl, refl, (refl, inl (2, refl, omega arith)))), (refl, refl), (refl, refl)), inr (inl refl)),
               ((λ is. inl tt), tt),
               (
-                All-nil IsScalarLocal,
+                All-nil (IsBlockLocal fields_beside),
                 tt,
                 (inr (inl (0, (refl, refl, ((refl, inl refl), refl, refl, refl), inr (refl, refl, (refl, inl (10, refl, omega arith))))), ((λ is. inl (inl tt)), tt)), (tt, tt)),
               ),
@@ -101,24 +99,22 @@ lift_is heap =
         ),
         (((tt, (tt, tt)), tt), tt),
       );
-      locals = subst (All IsScalarVariable) (sym no_variables) (All-nil IsScalarVariable);
     }
 
 main_is : (heap : Global) → IsScalarFunction (may_of fields_beside (example heap) (main heap)) (main heap)
 unfolding folded_kind fold_of reduce_op_of is_signed kind_of narrow relation_kind word_of register_word kind_with operation_bits is_modular IsBody IsInStatement IsInElse IsClosedElse IsNarrowed else_variables IsDivisor IsEffect IsGiven IsIn IsVariable AreIn AreInitials AreInStatements AreClosed IsClosed OfFileOrParam ScalarsAmong IsFold IsPromoted IsPure IsTarget IsUpdate assign_op_of constant_of relates divides is_constant residue value_of row_variables
 main_is heap =
-    let no_variables : variables_of (main heap).body ≡ [] = simp (of_block, of_with, of_where, of_expression) in
     let called : Contains (calls_within (main heap).body) 1 = subst (λ (calls : List ℕ). Contains calls 1) (sym (main_calls heap)) (0, omega arith, refl) in
     record {
       params = All-nil IsScalarVariable;
       result = λ info is. subst IsScalarVariable (some_same _ info is) refl;
       body = (
         (
-          All-nil IsScalarLocal,
+          All-nil (IsBlockLocal fields_beside),
           tt,
           (
             (
-              All-nil IsScalarLocal,
+              All-nil (IsBlockLocal fields_beside),
               tt,
               (
                 inr (inl (0, (refl, refl, refl, inl (refl, refl))), ((λ is. inl (inl tt)), tt)),
@@ -141,7 +137,6 @@ main_is heap =
         ),
         ((tt, (tt, ((tt, tt), (tt, tt)))), (tt, tt)),
       );
-      locals = subst (All IsScalarVariable) (sym no_variables) (All-nil IsScalarVariable);
     }
 
 differ : main_word ≡ lift_word → ⊥

@@ -241,10 +241,10 @@ unfolding is_geometry
 geometry_fits xs is = grind (arith, nat_tests, is)
 
 -- each shape is a grid of few positions
-fits_at : (shapes : List SetShape) (set : ℕ) → All IsShape shapes → set < length shapes → positions_fit (extents_at shapes set) ≡ true
-fits_at [] set all exists = absurd (omega (arith, exists))
-fits_at (x ∷ shapes) zero all exists = geometry_fits x.extents (all 0 x (omega arith)).0
-fits_at (x ∷ shapes) (suc set) all exists = fits_at shapes set (λ k d below. all (suc k) d (omega (arith, below))) (omega (arith, exists))
+geometry_at : (shapes : List SetShape) (set : ℕ) → All IsShape shapes → set < length shapes → is_geometry (extents_at shapes set) ≡ true
+geometry_at [] set all exists = absurd (omega (arith, exists))
+geometry_at (x ∷ shapes) zero all exists = (all 0 x (omega arith)).0
+geometry_at (x ∷ shapes) (suc set) all exists = geometry_at shapes set (λ k d below. all (suc k) d (omega (arith, below))) (omega (arith, exists))
 
 -- a coordinate is below the number of positions, beyond them too
 coordinate_most : (xs : List ℕ) (n axis : ℕ) → are_positive xs ≡ true → coordinate xs n axis < position_count xs
@@ -285,8 +285,11 @@ module _ (t : Typed) (words : List ℕ) (before after : Program) (image : Image)
   pub few_coordinates : (set axis p : ℕ) → coordinate (extents_at (shapes_of image) set) p axis < 2 ^ 32
   few_coordinates set axis p = few_at (shapes_of image) set p axis c.sound.shapes.1
 
+  pub grid_geometry : (set : ℕ) → set < length (shapes_of image) → is_geometry (extents_at (shapes_of image) set) ≡ true
+  grid_geometry set exists = geometry_at (shapes_of image) set c.sound.shapes.1 exists
+
   pub grid_fits : (set : ℕ) → set < length (shapes_of image) → positions_fit (extents_at (shapes_of image) set) ≡ true
-  grid_fits set exists = fits_at (shapes_of image) set c.sound.shapes.1 exists
+  grid_fits set exists = geometry_fits (extents_at (shapes_of image) set) (grid_geometry set exists)
 
   -- the final of an element
   pub final_there : (k : ℕ) (info : VarInfo) (set e : ℕ) → IsElement t k info set e → HasFinal image.finals.items (file_number t k e) info set

@@ -1,5 +1,5 @@
 -- What an assignment leaves that folds a pure parallel value onto a scalar variable.
-use Rattle.std.proofs.Common.{◌≡◌, ◌∙◌, ℕ, ◌≤◌, ◌&&◌, Bool, true, not, List, length, Option, Some, None, refl, sym, ap, subst, if◌then◌else◌, arith}
+use Rattle.std.proofs.Common.{◌≡◌, ◌∙◌, ℕ, ◌≤◌, ◌&&◌, Bool, true, not, List, length, Option, Some, None, refl, sym, ap, subst, if◌then◌else◌, arith, ◌+◌}
 use denote.Hole.Carrier
 use Rattle.cstar_base.specs.declared.elem.Elem.{Elem}
 use Rattle.cstar_base.specs.declared.faults.RunFault.TheVariants.{DivZero}
@@ -46,7 +46,7 @@ use Rattle.code_follows.specs.Fragment.{IsVariable, ScalarsAmong, naming}
 use Rattle.code_follows.proofs.Changing.{scalar_type}
 use Rattle.code_follows.proofs.Following.{Extends, Follows, HasRegisters, Sim, follows_same}
 use Rattle.code_follows.proofs.Operators.{wide_signed}
-use Rattle.code_follows.proofs.Settings.{At, Setting, layout}
+use Rattle.code_follows.proofs.Settings.{Setting, layout}
 use Rattle.code_follows.proofs.Targets.{TargetIs, assign_code, assign_means, bare_target, variable_in}
 use Rattle.code_follows.proofs.Values.{and_register, with_reg}
 use Rattle.fields_follow.specs.Fragment.{IsFoldOnto, IsFolded, IsScalarTarget, assignment_of}
@@ -60,6 +60,7 @@ use Rattle.fields_follow.proofs.Passing.{after_same, gives_from, made_after, the
 use Rattle.fields_follow.proofs.Places.{HoldsTheFields, PlacesFields}
 use Rattle.fields_follow.proofs.Reductions.{GivesPure, OperandsStand, folded_most, folded_some, folds_so}
 use Rattle.fields_follow.proofs.Totals.{never_by_zero, operator_is}
+use Rattle.fields_follow.proofs.Starts.{Starts, starts_later}
 
 lowest_inside : (bits : ℕ) (made : Made Out) (next : Out → Draft → Made Out) → lowest bits (then_make made next) ≡ then_make made (λ v after. lowest bits (next v after))
 unfolding lowest then_make
@@ -196,7 +197,7 @@ module _ (g : Setting) (alive : Variable → Type 0) (n : ℕ) where
               finishes = behind_it.finishes;
             }
 
-        leaves_it : ty ≡ type_of target → HasItsCode g.typed g.instance alive n value → (s : CodeState) → At g s (length d.code) → Sim g alive st s → Follows g (λ x u out f. LeavesScalars g alive d s st u f) s (meant g fields whole st) (effect_of g.typed (layout g) whole d)
+        leaves_it : ty ≡ type_of target → HasItsCode g.typed g.instance alive n value → (s : CodeState) → Starts g alive s (length d.code) d.regs → Sim g alive st s → Follows g (λ x u out f. LeavesScalars g alive d s st u f) s (meant g fields whole st) (effect_of g.typed (layout g) whole d)
         leaves_it same c s here sim =
             outcome_like g s (meant g fields value st) (λ x. value_in (extents g set) st value x) st (meant g fields whole st) (Scalar (stored_over (fields.scope.extents set))) left R (λ x u out f. LeavesScalars g alive d s st u f) (effect_of g.typed (layout g) whole d)
             (λ given. means_it same given) (λ early. ends_it same s early) (λ out f said. said)
@@ -208,7 +209,7 @@ module _ (g : Setting) (alive : Variable → Type 0) (n : ℕ) where
             let regs = gives.passes.grown.1.regs in
             folds_onto g alive has d free v.variable info v.living (known.named, v.scalar) reduction (type_of value).elem is.1.1 d.regs h.0 sign places fields set (λ x. value_in (extents g set) st value x) bits (folds_so g alive places fields n stand reduction value set is c s st sim) e s st (stored_over (fields.scope.extents set))
             (λ exists. ap stored_over (sym (fields.same_extents set exists))) (omega arith) (omega (arith, regs)) (gives_from g alive bits (length d.fields) d (with_reg d) e s set st (λ x. value_in (extents g set) st value x) h.0 (and_register d) gives) within))))
-            (stand bits set value (folded_some g alive places fields n stand (fold_by (reduce_op_of reduction) value) (kind_of value)) (folded_most g alive places fields n stand (fold_by (reduce_op_of reduction) value) set value is.0) is.0.0 is.1 c (with_reg d) s st here sim)))
+            (stand bits set value (folded_some g alive places fields n stand (fold_by (reduce_op_of reduction) value) (kind_of value)) (folded_most g alive places fields n stand (fold_by (reduce_op_of reduction) value) set value is.0) is.0.0 is.1 c (with_reg d) s st (starts_later g alive s s (length d.code) d.regs (length d.code) (d.regs + 1) (omega arith) (omega arith) here.stands here) sim)))
           where
             R : Out → Draft → Type 0
             R out f = LeavesScalars g alive d s st left f
@@ -218,7 +219,7 @@ module _ (g : Setting) (alive : Variable → Type 0) (n : ℕ) where
     abbrev OntoLeaves : TExpr → Draft → CodeState → State → Type 0
     OntoLeaves e d s st = Follows g (λ x u out f. LeavesScalars g alive d s st u f) s (meant g fields e st) (effect_of g.typed (layout g) e d)
 
-    pub onto_leaves : (e : TExpr) → IsFoldOnto e → HasItsCode g.typed g.instance alive n e → (d : Draft) (s : CodeState) (st : State) → g.begins ≤ d.regs → At g s (length d.code) → Sim g alive st s → OntoLeaves e d s st
+    pub onto_leaves : (e : TExpr) → IsFoldOnto e → HasItsCode g.typed g.instance alive n e → (d : Draft) (s : CodeState) (st : State) → g.begins ≤ d.regs → Starts g alive s (length d.code) d.regs → Sim g alive st s → OntoLeaves e d s st
     unfolding IsFoldOnto NamesVariables IsShaped IsLowerable ScalarsAmong
     onto_leaves (T.Assign' ty place op p target q value) is c d s st free here sim =
         subst (λ (o : AssignOp). OntoLeaves (T.Assign' ty place o p target q value) d s st) (sym is.2.1.0) (leaves_it target v ty place is.2.0 p q value is.2.1.1.0 is.2.1.1.1 has names d free places fields stand st is.0 value_code s here sim)

@@ -28,7 +28,7 @@ use Rattle.source_meaning.specs.State.{State}
 use Rattle.vp_sets.specs.Positions.{are_positive, shifted}
 use Rattle.code_follows.proofs.Following.{Sim}
 use Rattle.code_follows.proofs.Growing.{Extended, extended}
-use Rattle.code_follows.proofs.Settings.{At, Setting, Within, and_one, at_next, begins_here, code_more, earlier, one_writes, placed_instr}
+use Rattle.code_follows.proofs.Settings.{Setting, Within, and_one, at_next, begins_here, code_more, earlier, one_writes, placed_instr}
 use Rattle.fields_follow.proofs.Bits.{active_apart, bits_written, field_apart, field_written}
 use Rattle.fields_follow.proofs.Fields.{HoldsFields}
 use Rattle.fields_follow.proofs.FileFields.{apart_back}
@@ -36,6 +36,7 @@ use Rattle.fields_follow.proofs.Instructions.{HasNumbers, Puts, extents, number_
 use Rattle.fields_follow.proofs.Passing.{Passes, names_second, passes_all, passes_on}
 use Rattle.fields_follow.proofs.Places.{HoldsTheFields, IsOwnField, PlacesFields, names_first, of_file, stands_here}
 use Rattle.fields_follow.proofs.Writing.{with_memory}
+use Rattle.fields_follow.proofs.Starts.{Starts, starts_next}
 
 module _ (g : Setting) where
   -- a field of so many bits of a set has the lowest bits of these words at every position
@@ -122,16 +123,16 @@ module _ (g : Setting) where
     hop_plain axis k d a = refl
 
     hop_passes : (bits bound set axis k : ℕ) (d a : Field) (e : Draft) (s : CodeState) (st : State) (v : ℕ → ℕ) → bound ≤ d.offset → IsOwnField g d → d.set ≡ set → d.len ≡ bits → HasAxis set axis → HasEverywhere bits set a s v
-        → Within g (with_instr (hop_instr axis k d a) e) → IsNamedAt g.unit d.offset (length (with_instr (hop_instr axis k d a) e).code) → At g s (length e.code) → Sim g alive st s
+        → Within g (with_instr (hop_instr axis k d a) e) → IsNamedAt g.unit d.offset (length (with_instr (hop_instr axis k d a) e).code) → Starts g alive s (length e.code) e.regs → Sim g alive st s
         → (p : Passes g alive bound e (with_instr (hop_instr axis k d a) e) s st (Unit {0})) × HasEverywhere bits set d p.t (λ q. v (neighbour set axis k q))
     unfolding written
     hop_passes bits bound set axis k d a e s st v newer own of_set long_d grid h within again here sim = (
       record {
         grown = (1, and_one g i e);
         t = wrote g w s;
-        go = one_writes g s (wrote g w s) (begins_here g i e s within (hop_plain axis k d a) here ∙ hop_goes axis k d a s) (λ f p there. field_apart w s.memory f p (places.own_and_below d f own there));
-        at = at_next g i e s (s.at + 1) here refl;
-        registers = refl;
+        go = one_writes g s (wrote g w s) (begins_here g i e s within (hop_plain axis k d a) here.stands ∙ hop_goes axis k d a s) (λ f p there. field_apart w s.memory f p (places.own_and_below d f own there));
+        at = starts_next g alive i e s (wrote g w s) (at_next g i e s (s.at + 1) here.stands refl) here;
+        registers = λ r kept. refl;
         sim = with_memory g places fields alive st st s (s.at + 1) w refl refl refl refl refl (record {
           numbers = λ j element q p info is below. field_apart w s.memory (of_file g j element) p (places.own_file j element q info d is own) ∙ was.numbers j element q p info is below;
           small = was.small;
@@ -177,7 +178,7 @@ module _ (g : Setting) where
     IsFresh bits bound set f = (bound ≤ f.offset) × IsOwnField g f × (f.set ≡ set) × (f.len ≡ bits)
 
     hop_by : (bits bound set axis k : ℕ) (c : Konst) (d a : Field) (e : Draft) (s : CodeState) (st : State) (v : ℕ → ℕ) → c ≡ K.Imm k → IsFresh bits bound set d → HasAxis set axis → HasEverywhere bits set a s v
-        → Within g (with_instr (I.GetFromNewsAlways d a axis c) e) → IsNamedAt g.unit d.offset (length (with_instr (I.GetFromNewsAlways d a axis c) e).code) → At g s (length e.code) → Sim g alive st s
+        → Within g (with_instr (I.GetFromNewsAlways d a axis c) e) → IsNamedAt g.unit d.offset (length (with_instr (I.GetFromNewsAlways d a axis c) e).code) → Starts g alive s (length e.code) e.regs → Sim g alive st s
         → (p : Passes g alive bound e (with_instr (I.GetFromNewsAlways d a axis c) e) s st (Unit {0})) × HasEverywhere bits set d p.t (λ q. v (neighbour set axis (konst_number c []) q))
     hop_by bits bound set axis k c d a e s st v is fresh grid h within again here sim =
         subst
@@ -255,7 +256,7 @@ module _ (g : Setting) where
       OfType set v = (q : ℕ) → q < processors (shapes g) set → has_number elem (v q) ≡ true
 
       pub moves_last : (bound set : ℕ) (steps : List GridStep) (hop : Hop) (v : ℕ → ℕ) (d : Draft) (s : CodeState) (st : State) → AreMoves set steps → OfType set v → IsFresh bits bound set hop.next → IsFresh bits bound set hop.spare → HasEverywhere bits set hop.source s v
-          → Within g (stepwise elem dest steps hop d) → At g s (length d.code) → Sim g alive st s → MovesLast bound set steps hop v d s st
+          → Within g (stepwise elem dest steps hop d) → Starts g alive s (length d.code) d.regs → Sim g alive st s → MovesLast bound set steps hop v d s st
       unfolding AreMoves origin stepwise with_hop hopped passes_on
       moves_last bound set [] hop v d s st are of_type fresh spare h within here sim = by reads
         where
@@ -265,7 +266,7 @@ module _ (g : Setting) where
       moves_last bound set (step ∷ steps) hop v d s st are of_type fresh spare h within here sim = by (on_or_last step steps) (λ u of_u next e t fresh spare h within here sim. moves_last bound set steps next u e t st are.2 of_u fresh spare h within here sim)
         where
           by : GoesOn step steps ⊎ ((steps ≡ []) × (is_extended elem dest ≡ false) × (dest.len ≡ bits))
-              → ((u : ℕ → ℕ) → OfType set u → (next : Hop) (e : Draft) (t : CodeState) → IsFresh bits bound set next.next → IsFresh bits bound set next.spare → HasEverywhere bits set next.source t u → Within g (stepwise elem dest steps next e) → At g t (length e.code) → Sim g alive st t → MovesLast bound set steps next u e t st)
+              → ((u : ℕ → ℕ) → OfType set u → (next : Hop) (e : Draft) (t : CodeState) → IsFresh bits bound set next.next → IsFresh bits bound set next.spare → HasEverywhere bits set next.source t u → Within g (stepwise elem dest steps next e) → Starts g alive t (length e.code) e.regs → Sim g alive st t → MovesLast bound set steps next u e t st)
               → MovesLast bound set (step ∷ steps) hop v d s st
           by (inl on) go =
               let rest = steps_extend steps (hopped hop) (with_hop step hop d) in

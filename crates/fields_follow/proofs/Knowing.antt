@@ -3,6 +3,7 @@
 use Rattle.std.proofs.Common.{◌≡◌, ◌∙◌, ℕ, ◌<◌, ◌≤◌, Bool, length, arith}
 use Rattle.std.specs.Int.{from_bool}
 use Rattle.cstar_tree.specs.declared.typed.TExpr.{TExpr}
+use Rattle.cstar_tree.specs.declared.typed.VarInfo.{VarInfo}
 use Rattle.cstar_tree.specs.declared.typed.Variable.{Variable}
 use Rattle.lower_base.specs.Drafts.{Draft}
 use Rattle.paris_code.specs.declared.instr.Instr.TheVariants as I
@@ -15,7 +16,7 @@ use Rattle.source_meaning.specs.Values.{Active, Scope}
 use Rattle.code_follows.proofs.Besides.{sim_saying, under_held}
 use Rattle.code_follows.proofs.Following.{Finishes, IsKept, Sim}
 use Rattle.code_follows.proofs.Settings.{Held, SameBelow, Setting, Within}
-use Rattle.fields_follow.specs.Fragment.{IsCondition, IsFold, IsParallelEffect}
+use Rattle.fields_follow.specs.Fragment.{IsCondition, IsParallelVariable, IsFold, IsParallelEffect}
 use Rattle.fields_follow.proofs.Fields.{HoldsFields, HoldsNumbers, fields_held}
 use Rattle.fields_follow.proofs.Instructions.{SameExtents, place, shapes}
 use Rattle.fields_follow.proofs.Leaving.{EndsBelow, under}
@@ -75,6 +76,7 @@ pub record KnowsFields (g : Setting) (scope : Scope) (a : Active) : Type 1 where
   pub effects : (e : TExpr) → g.may.beside.effects e → IsParallelEffect e
   pub folds : (e : TExpr) → g.may.beside.folds e → IsFold e
   pub conditions : (set : ℕ) (e : TExpr) → g.may.beside.conditions set e → IsCondition set e
+  pub locals : (info : VarInfo) → g.may.beside.locals info → IsParallelVariable info
   pub kept : BitMemory → Type 0
   pub lasts : Lasts g g.from g.entries g.upto kept
   pub opens : (at : ℕ) (st : State) (m : BitMemory) → g.held.holds at st m → HoldsFields g.typed g.image a st m × kept m
@@ -100,11 +102,12 @@ module _ (g : Setting) (scope : Scope) (a : Active) (k : KnowsFields g scope a) 
 
     pub knows_inner : Lasts g from entries upto kept → KnowsFields inner scope b
     knows_inner lasts = record {
-      places = let p = k.places in record { ends = p.ends; exists = p.exists; files_end = p.files_end; file = p.file; files_apart = p.files_apart; own_file = p.own_file; owns_apart = p.owns_apart; own_and_below = p.own_and_below; file_and_below = p.file_and_below; own_below_called = p.own_below_called; few = p.few; grids = p.grids };
+      places = let p = k.places in record { ends = p.ends; scans = p.scans; exists = p.exists; files_end = p.files_end; file = p.file; files_apart = p.files_apart; own_file = p.own_file; owns_apart = p.owns_apart; owns_apart_at = p.owns_apart_at; own_and_below = p.own_and_below; file_and_below = p.file_and_below; own_below_called = p.own_below_called; few = p.few; address_ends = p.address_ends; geometry = p.geometry; grids = p.grids };
       same_extents = k.same_extents;
       effects = k.effects;
       folds = k.folds;
       conditions = k.conditions;
+      locals = k.locals;
       kept = kept;
       lasts = record { code = lasts.code; calls = lasts.calls };
       opens = λ at st m h. h;
@@ -113,7 +116,7 @@ module _ (g : Setting) (scope : Scope) (a : Active) (k : KnowsFields g scope a) 
     }
 
     pub within_inner : (e : Draft) → length e.code ≤ upto → Within g e → Within inner e
-    within_inner e high w = record { more = w.more; code = w.code; entries = w.entries; fields = w.fields; regs = w.regs; own = w.own; upto = high }
+    within_inner e high w = record { more = w.more; code = w.code; entries = w.entries; fields = w.fields; homes = w.homes; homes_are = w.homes_are; regs = w.regs; own = w.own; upto = high }
 
     pub sim_inner : (alive : Variable → Type 0) (st : State) (s : CodeState) → Sim (under g b) alive st s → kept s.memory → Sim inner alive st s
     sim_inner alive st s h has = sim_saying g alive st s s.at s.memory (h.memory, has) h

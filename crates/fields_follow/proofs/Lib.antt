@@ -30,8 +30,11 @@ pub mod Knowing
 pub mod Leading
 pub mod Leaving
 pub mod Lengths
+pub mod Listed
+pub mod LocalsCleared
 pub mod Meaning
 pub mod Named
+pub mod Naming
 pub mod NarrowKinds
 pub mod Narrowing
 pub mod Neighbours
@@ -50,8 +53,13 @@ pub mod Reducing
 pub mod Reductions
 pub mod Relations
 pub mod Saving
+pub mod Scanning
+pub mod ScanAssigning
+pub mod Scanned
+pub mod Scans
 pub mod Sizes
 pub mod Spreading
+pub mod Starts
 pub mod TestFlags
 pub mod Testing
 pub mod Totals

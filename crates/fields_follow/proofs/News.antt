@@ -35,7 +35,7 @@ use Rattle.source_meaning.specs.State.{State}
 use Rattle.vp_sets.specs.Positions.{are_positive, number_at}
 use Rattle.code_follows.proofs.Following.{Sim, held}
 use Rattle.code_follows.proofs.Growing.{Extended, extended}
-use Rattle.code_follows.proofs.Settings.{At, Setting, Within, layout}
+use Rattle.code_follows.proofs.Settings.{Setting, Within, layout}
 use Rattle.fields_follow.specs.Fragment.{AreWrapping}
 use Rattle.fields_follow.proofs.Extents.{NameExtents, extents_in}
 use Rattle.fields_follow.specs.Fields.{IsElement, file_number}
@@ -50,6 +50,7 @@ use Rattle.fields_follow.proofs.Passing.{After, Passes, after_same, in_file_numb
 use Rattle.fields_follow.proofs.Places.{HoldsTheFields, IsFileField, PlacesFields}
 use Rattle.fields_follow.proofs.Totals.{held_below}
 use Rattle.fields_follow.proofs.Values.{and_entry, next_field, one_more, taken, with_entry}
+use Rattle.fields_follow.proofs.Starts.{Starts}
 
 -- such a get goes by NEWS
 goes : (ty : ValueType) (place : Place) (p : _) (indexes : Row_of-TExpr _) (k of set : ℕ) → ty.shape ≡ Some set → of ≡ set → AreWrapping set 0 indexes → goes_by_news (T.LeftIndex' ty place p indexes (V.File k) of) ≡ true
@@ -144,7 +145,7 @@ module _ (g : Setting) where
 
     -- so the last instruction puts those of the neighbours
     pub get_last : (ty : ValueType) (place : Place) (p : _) (indexes : Row_of-TExpr _) (k of set offset bits : ℕ) (spot : Draft → Made Spot) (bound : ℕ) (d : Draft) (s : CodeState) (st : State) → bits ≤ 32 → ty.shape ≡ Some set → of ≡ set → AreWrapping set 0 indexes
-        → HasVariable g.typed g.instance n (V.File k) (plain (parallel ty.elem of)) → NameExtents (extents_in g.typed of) indexes → bound ≤ length d.fields → At g s (length d.code) → Sim g alive st s → (Q : Out → Draft → Type 0)
+        → HasVariable g.typed g.instance n (V.File k) (plain (parallel ty.elem of)) → NameExtents (extents_in g.typed of) indexes → bound ≤ length d.fields → Starts g alive s (length d.code) d.regs → Sim g alive st s → (Q : Out → Draft → Type 0)
         → ((e2 : Draft) (i : Instr) → Within g (with_instr i e2) → (passes : Passes g alive bound d e2 s st (Unit {0})) → Puts g set i (record { set = set; offset = offset; len = bits }) passes.t (λ q. word_at (extents g set) st (T.LeftIndex' ty place p indexes (V.File k) of) q) → Q (O.Field (record { set = set; offset = offset; len = bits })) (with_instr i e2))
         → After g Q (index_read_to g.typed (layout g) (T.LeftIndex' ty place p indexes (V.File k) of) spot (O.Field (record { set = set; offset = offset; len = bits })) d)
     unfolding passes_from value_in is_extended read_bits

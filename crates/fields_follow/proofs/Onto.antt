@@ -274,7 +274,7 @@ module _ (g : Setting) (alive : Variable → Type 0) where
             total = folds f h.passes.t st there h.passes.sim
 
             done : (last : CodeState) × WritesRegisters d h.passes.t (with_scalar x (converted info.elem from (combined st (whole g alive reduction from.signed places fields set v))) st) (length (stored_in e).code) last
-            done = stores e h.passes.t st (whole g alive reduction from.signed places fields set v) low high h.passes.at h.passes.sim within total.0 total.1
+            done = stores e h.passes.t st (whole g alive reduction from.signed places fields set v) low high h.passes.at.stands h.passes.sim within total.0 total.1
 
             within_fold : Within g (fold_alone e)
             within_fold =

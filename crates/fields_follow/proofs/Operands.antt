@@ -42,7 +42,7 @@ use Rattle.source_meaning.specs.Values.{Parallel}
 use Rattle.source_meaning.proofs.ConstantLaws.{Boxed}
 use Rattle.code_follows.proofs.Following.{Extends, Finishes, Follows, HasRegisters, Sim, extends_made, extends_then, follows_same, held}
 use Rattle.code_follows.proofs.Growing.{as_it_was, extended}
-use Rattle.code_follows.proofs.Settings.{At, Setting, Within, and_one, code_more, earlier, layout}
+use Rattle.code_follows.proofs.Settings.{Setting, Within, and_one, code_more, earlier, layout}
 use Rattle.fields_follow.specs.Fragment.{IsDivisor, IsOperation, IsPromoted, IsPure}
 use Rattle.fields_follow.proofs.Dividing.{divided_after, left_ended, never_zero, operator_ends, operator_gives, right_ended, zero_at}
 use Rattle.fields_follow.proofs.Forms.{HasItsCode, HasItsWord, StandsInRegister, divisor_word, promoted_not_held, promoted_stands, pure_word}
@@ -56,6 +56,7 @@ use Rattle.fields_follow.proofs.Quiet.{pure_quiet}
 use Rattle.fields_follow.proofs.Spreading.{GivesWord, HasBoth, spread_behind}
 use Rattle.fields_follow.proofs.Totals.{held_below}
 use Rattle.fields_follow.proofs.Values.{Gives, IsFlag, Valued, code_of, next_field, one_more, operand_after, operand_of, taken, with_entry}
+use Rattle.fields_follow.proofs.Starts.{Starts}
 
 -- the instruction that operates on a field and what the right operand is
 abbrev pub operating : Op → Bool → Field → Field → Right → Instr
@@ -167,7 +168,7 @@ module _ (g : Setting) where
     register_has e h st s sim = (sim.scalars h.x h.info h.lives (h.known, h.scalar), held_below h.info.elem (st.scalar h.x))
 
     -- a word at every position of a fresh entry
-    word_spread : (bits set : ℕ) (d : Draft) (k : Konst) (v : ℕ → ℕ) (s : CodeState) (st : State) → At g s (length d.code) → Sim g alive st s → word_in g k s < 2 ^ 32 → ((q : ℕ) → v q ≡ word_in g k s) → Within g (with_instr (I.MoveConstant (next_field set bits d) k) (with_entry set bits W.Own d))
+    word_spread : (bits set : ℕ) (d : Draft) (k : Konst) (v : ℕ → ℕ) (s : CodeState) (st : State) → Starts g alive s (length d.code) d.regs → Sim g alive st s → word_in g k s < 2 ^ 32 → ((q : ℕ) → v q ≡ word_in g k s) → Within g (with_instr (I.MoveConstant (next_field set bits d) k) (with_entry set bits W.Own d))
         → GivesField g alive bits (length d.fields) (with_entry set bits W.Own d) s set st v (next_field set bits d) (with_instr (I.MoveConstant (next_field set bits d) k) (with_entry set bits W.Own d))
     word_spread bits set d k v s st here sim few same within =
         let d1 : Draft = with_entry set bits W.Own d in
@@ -177,7 +178,7 @@ module _ (g : Setting) where
         (puts_own g alive places fields bits (length d.fields) set i (next_field set bits d) d1 s st (λ q. word_in g k s) (omega arith) (let one = one_more set bits W.Own d in omega (arith, one)) (taken g set bits W.Own d (with_instr i d1) 1 within (and_one g i d1)) refl refl within here sim (puts_constant g set (next_field set bits d) k s few))
 
     -- a left operand that is not promoted stands in a field, and the fresh one is not used
-    pub pure_left : (bits set : ℕ) (e : TExpr) (quiet : Bool) → IsPure set e → HasItsCode g.typed g.instance alive n e → IsValued bits set e → (dest : Field) (d : Draft) (s : CodeState) (st : State) → At g s (length d.code) → Sim g alive st s
+    pub pure_left : (bits set : ℕ) (e : TExpr) (quiet : Bool) → IsPure set e → HasItsCode g.typed g.instance alive n e → IsValued bits set e → (dest : Field) (d : Draft) (s : CodeState) (st : State) → Starts g alive s (length d.code) d.regs → Sim g alive st s
         → Follows g (Given g (λ q. value_in (extents g set) st e q) st (GivesField g alive bits (length d.fields) d s set st (λ q. word_at (extents g set) st e q))) s (meant g fields e st) (spread_into (operand bits quiet e) e dest d)
     unfolding spread_into in_a_field
     pure_left bits set e quiet pure c whole dest d s st here sim =
@@ -196,7 +197,7 @@ module _ (g : Setting) where
         Q = GivesField g alive bits (length d.fields) d s set st (λ q. word_at (extents g set) st e q)
 
     -- one that is stands in the fresh one
-    pub promoted_left : (bits set : ℕ) (e : TExpr) (quiet : Bool) → quiet ≡ true → IsPromoted set e → HasItsCode g.typed g.instance alive n e → (d : Draft) (s : CodeState) (st : State) → At g s (length d.code) → Sim g alive st s
+    pub promoted_left : (bits set : ℕ) (e : TExpr) (quiet : Bool) → quiet ≡ true → IsPromoted set e → HasItsCode g.typed g.instance alive n e → (d : Draft) (s : CodeState) (st : State) → Starts g alive s (length d.code) d.regs → Sim g alive st s
         → After g (GivesField g alive bits (length d.fields) (with_entry set bits W.Own d) s set st (λ q. word_at (extents g set) st e q)) (spread_into (operand bits quiet e) e (next_field set bits d) (with_entry set bits W.Own d))
     unfolding spread_into in_a_field then_make word_in
     promoted_left bits set e quiet calm promoted c d s st here sim = by (promoted_stands g.typed g.instance alive n set e promoted c.code.names c.among)
@@ -232,7 +233,7 @@ module _ (g : Setting) where
     abbrev pub RightField : ℕ → Draft → CodeState → ℕ → State → (ℕ → ℕ) → Right → Draft → Type 0
     RightField bits d s set st v right e = (b : Field) × ((right ≡ R.Field b) × GivesField g alive bits (length d.fields) d s set st v b e)
 
-    pub pure_right : (bits set : ℕ) (op : Op) (e : TExpr) → IsPure set e → HasItsCode g.typed g.instance alive n e → IsValued bits set e → (d : Draft) (s : CodeState) (st : State) → At g s (length d.code) → Sim g alive st s
+    pub pure_right : (bits set : ℕ) (op : Op) (e : TExpr) → IsPure set e → HasItsCode g.typed g.instance alive n e → IsValued bits set e → (d : Draft) (s : CodeState) (st : State) → Starts g alive s (length d.code) d.regs → Sim g alive st s
         → Follows g (Given g (λ q. value_in (extents g set) st e q) st (RightField bits d s set st (λ q. word_at (extents g set) st e q))) s (meant g fields e st) (right_by (operand bits true e) op e d)
     unfolding right_by word_taken then_make right_given from Extends
     pure_right bits set op e pure c whole d s st here sim =
@@ -259,7 +260,7 @@ module _ (g : Setting) where
         given None after = tt
 
     -- a promoted one is a word: a constant has no code
-    pub promoted_right : (bits set : ℕ) (op : Op) (e : TExpr) → IsPromoted set e → (divides op ≡ false) ⊎ IsDivisor e → HasItsCode g.typed g.instance alive n e → (d : Draft) (s : CodeState) (st : State) → At g s (length d.code) → Sim g alive st s
+    pub promoted_right : (bits set : ℕ) (op : Op) (e : TExpr) → IsPromoted set e → (divides op ≡ false) ⊎ IsDivisor e → HasItsCode g.typed g.instance alive n e → (d : Draft) (s : CodeState) (st : State) → Starts g alive s (length d.code) d.regs → Sim g alive st s
         → After g (λ right f. Takes op right × GivesRight bits (length d.fields) d s set st (λ q. word_at (extents g set) st e q) right f) (right_by (operand bits true e) op e d)
     unfolding right_by word_taken then_make right_given from word_in
     promoted_right bits set op e promoted is c d s st here sim = by (promoted_stands g.typed g.instance alive n set e promoted c.code.names c.among)
@@ -302,7 +303,7 @@ module _ (g : Setting) where
             )))
 
     -- any right operand
-    pub right_after : (bits set : ℕ) (op : Op) (e : TExpr) → (divides op ≡ false) ⊎ IsDivisor e → IsPure set e ⊎ IsPromoted set e → HasItsCode g.typed g.instance alive n e → (IsPure set e → IsValued bits set e) → (d : Draft) (s : CodeState) (st : State) → At g s (length d.code) → Sim g alive st s
+    pub right_after : (bits set : ℕ) (op : Op) (e : TExpr) → (divides op ≡ false) ⊎ IsDivisor e → IsPure set e ⊎ IsPromoted set e → HasItsCode g.typed g.instance alive n e → (IsPure set e → IsValued bits set e) → (d : Draft) (s : CodeState) (st : State) → Starts g alive s (length d.code) d.regs → Sim g alive st s
         → Follows g (Given g (λ q. value_in (extents g set) st e q) st (λ right f. Takes op right × GivesRight bits (length d.fields) d s set st (λ q. word_at (extents g set) st e q) right f)) s (meant g fields e st) (right_by (operand bits true e) op e d)
     right_after bits set op e is (inl pure) c whole d s st here sim =
         given_weaker g s (meant g fields e st) (λ q. value_in (extents g set) st e q) st (RightField bits d s set st (λ q. word_at (extents g set) st e q)) (λ right f. Takes op right × GivesRight bits (length d.fields) d s set st (λ q. word_at (extents g set) st e q) right f) (right_by (operand bits true e) op e d)
@@ -428,7 +429,7 @@ module _ (g : Setting) where
         → ((x : ℕ) → Keeps op (type_of left).elem.signed bits (word_at (extents g set) st right x)) → ((x : ℕ) → x < processors (shapes g) set → word_at (extents g set) st right x ≡ value_in (extents g set) st right x) → dest.len ≡ bits → AreOperands set left right
         → HasItsCode g.typed g.instance alive n left → HasItsCode g.typed g.instance alive n right → (IsPure set left → IsValued bits set left) → (IsPure set right → IsValued bits set right)
         → ((quiet : Bool) (after : Draft) → Extends g after (operand bits quiet left after)) → ((quiet : Bool) (after : Draft) → Extends g after (operand bits quiet right after))
-        → At g s (length d.code) → Sim g alive st s → (Q : Out → Draft → Type 0)
+        → Starts g alive s (length d.code) d.regs → Sim g alive st s → (Q : Out → Draft → Type 0)
         → (meant g fields (T.Binary' ty place op p left q right) st ≡ Source.Gives (Parallel (λ x. value_in (extents g set) st (T.Binary' ty place op p left q right) x)) st → (e2 : Draft) (i : Instr) → Within g (with_instr i e2) → (passes : Passes g alive (length d.fields) (with_entry set bits W.Own d) e2 s st (Unit {0}))
         → Puts g set i dest passes.t (λ x. outcome op 32 (not (type_of left).elem.signed) (word_at (extents g set) st left x) (word_at (extents g set) st right x)) → Q (O.Field dest) (with_instr i e2))
         → (Ended g s (meant g fields (T.Binary' ty place op p left q right) st) → (x : Out) (f : Draft) → Q x f)

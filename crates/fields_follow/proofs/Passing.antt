@@ -1,5 +1,5 @@
 -- Code of a parallel expression as it grows: what it leaves of what stood before it, and where its value stands.
-use Rattle.std.proofs.Common.{◌≡◌, ◌∙◌, ℕ, ◌+◌, ◌<◌, ◌≤◌, ◌%◌, true, List, ◌∷◌, ◌++◌, Any, length, refl, sym, ap, subst, arith, ◌^◌, ◌⊎◌, inl, inr, length-append}
+use Rattle.std.proofs.Common.{◌≡◌, ◌∙◌, ℕ, ◌+◌, ◌<◌, ◌≤◌, ◌%◌, true, List, ◌∷◌, ◌++◌, Any, length, refl, sym, ap, subst, arith, ◌^◌, ◌⊎◌, inl, inr, length-append, slice_index}
 use Rattle.cstar_tree.specs.declared.typed.VarInfo.{VarInfo}
 use Rattle.cstar_tree.specs.declared.typed.Variable.{Variable}
 use Rattle.cstar_tree.specs.declared.typed.Variable.TheVariants as V
@@ -12,16 +12,17 @@ use Rattle.paris_code.specs.Shapes.{bits_at}
 use Rattle.paris_code.specs.Spans.{IsNamedAt, StandsAt, entry_of, fields_of}
 use Rattle.source_meaning.specs.State.{State}
 use Rattle.phase_meaning.proofs.Widths.{cut_cut}
-use Rattle.code_follows.proofs.Following.{Extends, Sim, held}
+use Rattle.code_follows.proofs.Following.{Extends, Keeps, Sim, held, keeps_all, keeps_less, keeps_on}
 use Rattle.code_follows.proofs.Growing.{Extended, as_it_was, extended}
-use Rattle.code_follows.proofs.Settings.{At, Reaches, Setting, Within, and_one, code_more, earlier, onto, stay}
+use Rattle.code_follows.proofs.Settings.{Reaches, Setting, Within, and_one, code_more, earlier, onto, stay}
 use Rattle.fields_follow.specs.Fields.{IsElement}
 use Rattle.fields_follow.proofs.Bits.{first_number}
 use Rattle.fields_follow.proofs.Instructions.{AreAlike, HasNumbers, Puts, has_alike, number_in, place, shapes}
 use Rattle.fields_follow.proofs.Leaving.{EndsBelow}
 use Rattle.fields_follow.proofs.Lengths.{held_first}
-use Rattle.fields_follow.proofs.Places.{HoldsTheFields, IsFileField, IsOwnField, PlacesFields, names_first, of_file, stands_here}
-use Rattle.fields_follow.proofs.Writing.{own_written}
+use Rattle.fields_follow.proofs.Places.{HoldsTheFields, IsFileField, IsOwnField, PlacesFields, names_first, of_file}
+use Rattle.fields_follow.proofs.Writing.{PutsNext, next_written, puts_next}
+use Rattle.fields_follow.proofs.Starts.{Starts, starts_next}
 
 longer : {A : Type 0} (xs ys zs : List A) → ys ≡ xs ++ zs → length xs ≤ length ys
 longer xs ys zs e = let l : length ys ≡ length xs + length zs = ap length e ∙ length-append xs zs in omega (arith, l)
@@ -71,24 +72,24 @@ module _ (g : Setting) where
   Behind f e = (later : ℕ) × (IsNamedAt g.unit f.offset later × (length e.code ≤ later))
 
   module _ (alive : Variable → Type 0) where
-    -- The code from one draft to another leaves the registers, the state and, if its answer is used, what stands in
-    -- own entries below a number, and below the flags, that are named before it and behind it.
+    -- The code from one draft to another leaves the registers that are kept, the state and, if its answer is used, what
+    -- stands in own entries below a number, and below the flags, that are named before it and behind it.
     pub record Passes (bound : ℕ) (d e : Draft) (s : CodeState) (st : State) (used : Type 0) : Type 0 where
       pub grown : (n : ℕ) × Extended d n e
       pub t : CodeState
       pub go : Reaches g s t
-      pub at : At g t (length e.code)
-      pub registers : t.registers ≡ s.registers
+      pub at : Starts g alive t (length e.code) e.regs
+      pub registers : Keeps g d s t
       pub sim : Sim g alive st t
       pub stays : used → (h : Field) (first last p : ℕ) → h.offset < bound → IsOwnField g h → EndsBelow g h → IsNamedAt g.unit h.offset first → first < length d.code → IsNamedAt g.unit h.offset last → length e.code ≤ last → number_in g h t p ≡ number_in g h s p
 
-    abbrev pub passes_all : (bound : ℕ) (d : Draft) (s : CodeState) (st : State) (used : Type 0) → At g s (length d.code) → Sim g alive st s → Passes bound d d s st used
+    abbrev pub passes_all : (bound : ℕ) (d : Draft) (s : CodeState) (st : State) (used : Type 0) → Starts g alive s (length d.code) d.regs → Sim g alive st s → Passes bound d d s st used
     passes_all bound d s st used here sim = record {
       grown = (0, as_it_was d);
       t = s;
       go = stay g s;
       at = here;
-      registers = refl;
+      registers = keeps_all g d s;
       sim = sim;
       stays = λ wanted h first last p below own ends before low after high. refl;
     }
@@ -100,7 +101,7 @@ module _ (g : Setting) where
       t = b.t;
       go = onto g s a.t b.t a.go b.go;
       at = b.at;
-      registers = b.registers ∙ a.registers;
+      registers = keeps_on g d e a.grown.0 s a.t b.t a.grown.1 a.registers b.registers;
       sim = b.sim;
       stays = λ wanted h first last p below own ends before low after high.
           b.stays (use_two wanted) h first last p (omega (arith, below, more)) own ends before (let l = code_longer d e a.grown.0 a.grown.1 in omega (arith, low, l)) after high
@@ -114,7 +115,7 @@ module _ (g : Setting) where
       t = a.t;
       go = a.go;
       at = a.at;
-      registers = a.registers;
+      registers = keeps_less g d e s a.t taken.regs a.registers;
       sim = a.sim;
       stays = λ wanted h first last p below own ends before low after high. a.stays wanted h first last p below own ends before (let l = code_longer d e 0 taken in omega (arith, low, l)) after high;
     }
@@ -286,10 +287,10 @@ module _ (g : Setting) where
           by (inr file) = in_file_has bits set f st v b.t file b.sim
 
       -- an instruction by which an own entry takes numbers
-      pub puts_own : (bits bound : ℕ) (set : ℕ) (i : Instr) (d : Field) (e : Draft) (s : CodeState) (st : State) (v : ℕ → ℕ) → bound ≤ d.offset → d.offset < length e.fields → IsOwnField g d → d.set ≡ set → d.len ≡ bits
-          → Within g (with_instr i e) → At g s (length e.code) → Sim g alive st s → Puts g set i d s v → GivesField bits bound e s set st v d (with_instr i e)
-      puts_own bits bound set i d e s st v newer older own of_set long within here sim puts =
-          let w = own_written g places fields alive set i d e s st v within here sim of_set puts own in
+      pub next_own : (bits bound : ℕ) (set : ℕ) (i : Instr) (d : Field) (e : Draft) (s : CodeState) (st : State) (v : ℕ → ℕ) → bound ≤ d.offset → d.offset < length e.fields → IsOwnField g d → d.set ≡ set → d.len ≡ bits
+          → Starts g alive s (length e.code) e.regs → Sim g alive st s → PutsNext g places fields alive set i d e s v → GivesField bits bound e s set st v d (with_instr i e)
+      next_own bits bound set i d e s st v newer older own of_set long here sim next =
+          let w = next_written g places fields alive set i d e s st v here.stands sim of_set next own in
           let x : Extended e 1 (with_instr i e) = and_one g i e in
           let longer : length (with_instr i e).code ≡ length e.code + 1 = code_more g i e in
           record {
@@ -297,8 +298,8 @@ module _ (g : Setting) where
               grown = (1, x);
               t = w.t;
               go = w.go;
-              at = w.at;
-              registers = w.registers;
+              at = starts_next g alive i e s w.t w.at here;
+              registers = λ r kept. ap (λ (registers : List ℕ). slice_index registers r) w.registers;
               sim = w.sim;
               stays = λ wanted h first last p below is_own ends before low after high.
                   w.stays (wanted.0, (wanted.1.0, let l = wanted.1.1 in omega (arith, l, longer))) h first last p (λ same. omega (arith, same, below, newer)) is_own before after (omega (arith, low)) (omega (arith, high, longer));
@@ -307,12 +308,16 @@ module _ (g : Setting) where
               long = d.len;
               own = own;
               fits = omega arith;
-              ends = (places.ends (length e.code) i d puts.others (stands_here g i e within puts.plain) puts.plain puts.simple puts.names).1;
+              ends = next.ends.1;
               newer = newer;
               older = let l = fields_longer e (with_instr i e) 1 x in omega (arith, older, l);
               somewhere = length e.code;
-              named = names_first g i d puts.others (length e.code) (stands_here g i e within puts.plain) puts.names;
+              named = names_first g i d next.others (length e.code) next.there next.names;
               before = omega (arith, longer);
               has = subst (λ (n : ℕ). HasNumbers g n set d w.t v) long w.has;
             });
           }
+
+      pub puts_own : (bits bound : ℕ) (set : ℕ) (i : Instr) (d : Field) (e : Draft) (s : CodeState) (st : State) (v : ℕ → ℕ) → bound ≤ d.offset → d.offset < length e.fields → IsOwnField g d → d.set ≡ set → d.len ≡ bits
+          → Within g (with_instr i e) → Starts g alive s (length e.code) e.regs → Sim g alive st s → Puts g set i d s v → GivesField bits bound e s set st v d (with_instr i e)
+      puts_own bits bound set i d e s st v newer older own of_set long within here sim puts = next_own bits bound set i d e s st v newer older own of_set long here sim (puts_next g places fields alive set i d e s v within here.stands puts)

@@ -5,6 +5,7 @@ use Rattle.lower_base.specs.Drafts.{Draft}
 use Rattle.paris_code.specs.declared.program.Owner.TheVariants as W
 use Rattle.paris_code.specs.Code.{CodeState}
 use Rattle.source_meaning.specs.State.{State}
+use Rattle.code_follows.proofs.Following.{keeps_less, keeps_on}
 use Rattle.code_follows.proofs.Growing.{extended}
 use Rattle.code_follows.proofs.Settings.{Setting, onto}
 use Rattle.fields_follow.proofs.Leaving.{PassesTests}
@@ -31,7 +32,7 @@ module _ (g : Setting) (alive : Variable → Type 0) where
     t = b.t;
     go = onto g s a.t b.t a.go b.go;
     at = b.at;
-    registers = b.registers ∙ a.registers;
+    registers = keeps_on g d e a.grown.0 s a.t b.t a.grown.1 a.registers b.registers;
     sim = b.sim;
     stays = λ wanted h first last p below own ends before low after high.
         b.stays (use_two wanted) h first last p (let l = fields_longer d e a.grown.0 a.grown.1 in omega (arith, below, l)) own ends before (let l = code_longer d e a.grown.0 a.grown.1 in omega (arith, low, l)) after high
@@ -45,7 +46,7 @@ module _ (g : Setting) (alive : Variable → Type 0) where
     t = a.t;
     go = a.go;
     at = a.at;
-    registers = a.registers;
+    registers = keeps_less g d (with_entry set len W.Own d) s a.t (and_entry set len W.Own d).regs a.registers;
     sim = a.sim;
     stays = λ wanted h first last p below. a.stays wanted h first last p (let l = fields_longer d (with_entry set len W.Own d) 0 (and_entry set len W.Own d) in omega (arith, below, l));
   }

@@ -1,22 +1,29 @@
 -- Where the fields of a unit stand in the image, as the code of its expressions relies on it.
-use Rattle.std.proofs.Common.{◌≡◌, ◌∙◌, ℕ, ◌+◌, ◌<◌, ◌≤◌, ◌^◌, true, List, [], ◌∷◌, ◌++◌, Any, length, slice_get, refl, sym, ap, subst, arith, append_assoc}
+use Rattle.std.proofs.Common.{◌≡◌, ◌∙◌, ℕ, ◌+◌, ◌<◌, ◌≤◌, ◌^◌, true, List, [], ◌∷◌, ◌++◌, Any, length, slice_get, Option, Some, refl, sym, ap, subst, arith, append_assoc}
+use Rattle.std.specs.List.{slice_index_or}
+use Rattle.cstar_base.specs.declared.operators.Direction.{Direction}
+use Rattle.cstar_base.specs.declared.operators.Inclusion.{Inclusion}
+use Rattle.cstar_base.specs.declared.operators.SegmentMode.{SegmentMode}
 use Rattle.cstar_tree.specs.declared.typed.VarInfo.{VarInfo}
 use Rattle.code_lengths.proofs.Declaring.{at_length}
 use Rattle.lower_base.specs.Drafts.{Draft, Plain, step as step_of, with_instr}
 use Rattle.paris_code.specs.declared.instr.Instr.{Instr}
 use Rattle.paris_code.specs.declared.instr.Instr.TheVariants as I
 use Rattle.paris_code.specs.declared.operands.Field.{Field}
+use Rattle.paris_code.specs.declared.operands.Reduction.{Reduction}
 use Rattle.paris_code.specs.declared.program.Owner.TheVariants as W
 use Rattle.paris_code.specs.declared.program.Virtual.{Virtual}
 use Rattle.paris_code.specs.Memory.{BitMemory}
+use Rattle.paris_code.specs.Moving.{moved_bit}
 use Rattle.paris_code.specs.Proper.{IsEntry, IsOwn}
+use Rattle.paris_code.specs.RuleOperands.{BitIsWith}
 use Rattle.paris_code.specs.Shapes.{bits_at}
-use Rattle.paris_code.specs.Spans.{IsNamedAt, StandsAt, entry_of, fields_of}
+use Rattle.paris_code.specs.Spans.{IsInUse, Span, IsNamedAt, StandsAt, entry_of, fields_of}
 use Rattle.source_meaning.specs.State.{State}
 use Rattle.source_meaning.specs.Values.{Active, Scope}
-use Rattle.code_follows.proofs.Settings.{Setting, StandsBelow, Within, stands_here as stands_so}
+use Rattle.code_follows.proofs.Settings.{Setting, StandsBelow, Within, stands_here as stands_so, start}
 use Rattle.fields_follow.proofs.Fields.{HoldsFields}
-use Rattle.vp_sets.specs.Positions.{coordinate, positions_fit}
+use Rattle.vp_sets.specs.Positions.{coordinate, is_geometry, positions_fit}
 use Rattle.fields_follow.proofs.Extents.{extents_in}
 use Rattle.fields_follow.specs.Fields.{IsElement, file_field, file_number}
 use Rattle.fields_follow.proofs.FileFields.{Apart}
@@ -37,12 +44,16 @@ module _ (g : Setting) where
 
   -- What is known of the unit's fields in the image: those that instructions name end below the flags; the
   -- entry of an element is at its field, which ends below them too, and is apart from those of other elements and
-  -- from own entries; two own entries are apart where each is named at an instruction, or before it, and behind it;
+  -- from own entries; two own entries are apart where each is named at an instruction, or before it, and behind it, or where
+  -- the one is in use before an instruction and behind it and the other is named there;
   -- both are apart from what stands below the unit's entries, as an own entry that is named before a call and behind it
   -- stands below those of what is called; and the coordinates of any number are words, and the shapes are grids with the
-  -- extents of the source.
+  -- extents of the source. A field that takes an address ends below the flags too. A scan goes along an axis of its set,
+  -- and its bit is of that set.
   pub record PlacesFields : Type 0 where
     pub ends : (at : ℕ) (i : Instr) (f : Field) (others : List Field) → StandsAt g.unit at i → step_of i ≡ Plain i → NamesFields i → fields_of i ≡ f ∷ others → (f.set < length (shapes g)) × ((place g f).offset + f.len ≤ bits_at (shapes g) f.set)
+    pub scans : (at : ℕ) (combiner : Reduction) (d a : Field) (axis : ℕ) (direction : Direction) (mode : SegmentMode) (bit : Option Field) (within : Inclusion) → StandsAt g.unit at (I.Scan combiner d a axis direction mode bit within)
+        → (axis < length (extents g d.set)) × BitIsWith (shapes g) (place g d) mode (moved_bit (slice_index_or g.placed.places g.number []) bit)
     pub exists : (k element set : ℕ) (info : VarInfo) → IsElement g.typed k info set element → set < length (shapes g)
     pub files_end : (k element set : ℕ) (info : VarInfo) → IsElement g.typed k info set element → (of_file k element).offset + (of_file k element).len ≤ bits_at (shapes g) (of_file k element).set
     pub file : (k element : ℕ) (info : VarInfo) (f : Field) → IsElement g.typed k info f.set element → info.elem.bits ≡ f.len → IsFileField k element f → place g f ≡ of_file k element
@@ -50,11 +61,14 @@ module _ (g : Setting) where
     pub own_file : (k element set : ℕ) (info : VarInfo) (f : Field) → IsElement g.typed k info set element → IsOwnField f → Apart (place g f) (of_file k element)
     pub owns_apart : (f h : Field) (first at last later : ℕ) → (f.offset ≡ h.offset → ⊥) → IsOwnField f → IsOwnField h → h.set < length (shapes g) → IsNamedAt g.unit f.offset first → IsNamedAt g.unit f.offset last → first ≤ at → at < last
         → IsNamedAt g.unit h.offset at → IsNamedAt g.unit h.offset later → at < later → Apart (place g f) (place g h)
+    pub owns_apart_at : (f h : Field) (first at : ℕ) → (f.offset ≡ h.offset → ⊥) → IsOwnField f → IsOwnField h → h.set < length (shapes g) → IsNamedAt g.unit f.offset first → first < at → ((span : Span) → IsInUse g.unit f.offset W.Own span → at + 1 ≤ span.last) → IsNamedAt g.unit h.offset at → Apart (place g f) (place g h)
     pub own_and_below : (f below : Field) → IsOwnField f → StandsBelow g.image g.placed g.number below → Apart (place g f) below
     pub file_and_below : (k element set : ℕ) (info : VarInfo) (below : Field) → IsElement g.typed k info set element → StandsBelow g.image g.placed g.number below → Apart (of_file k element) below
     pub own_below_called : (f : Field) (first at last index : ℕ) → IsOwnField f → f.set < length (shapes g) → (place g f).offset + f.len ≤ bits_at (shapes g) f.set → IsNamedAt g.unit f.offset first → first < at → IsNamedAt g.unit f.offset last → at ≤ last → StandsAt g.unit at (I.FrontCall index)
         → StandsBelow g.image g.placed index (place g f)
     pub few : (set axis p : ℕ) → coordinate (extents g set) p axis < 2 ^ 32
+    pub address_ends : (at : ℕ) (d : Field) (set : ℕ) (over : _) → slice_get g.image.code.items (start g + at) ≡ Some (I.MakeAddress (place g d) set over) → (d.set < length (shapes g)) × ((place g d).offset + d.len ≤ bits_at (shapes g) d.set)
+    pub geometry : (set : ℕ) → set < length (shapes g) → is_geometry (extents g set) ≡ true
     pub grids : (set : ℕ) → set < length (shapes g) → (extents_in g.typed set ≡ extents g set) × (positions_fit (extents g set) ≡ true)
 
   -- what the memory holds of the source's state is the numbers of the fields, where these positions are active; and the

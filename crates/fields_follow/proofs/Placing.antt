@@ -1,9 +1,12 @@
 -- Where the fields of a unit's entries stand in the image, and which of them have no bit in common. An own entry is
 -- in use behind the first instruction that names it and up to the last one.
-use Rattle.std.proofs.Common.{◌≡◌, ◌≢◌, ◌∙◌, ℕ, ◌+◌, ◌<◌, ◌≤◌, ◌⊎◌, inl, inr, List, [], ◌∷◌, length, slice_get, Some, refl, sym, ap, subst, arith, append_assoc}
+use Rattle.std.proofs.Common.{◌≡◌, ◌≢◌, ◌∙◌, ℕ, ◌+◌, ◌<◌, ◌≤◌, ◌⊎◌, inl, inr, List, [], ◌∷◌, length, slice_get, Option, Some, refl, sym, ap, subst, arith, append_assoc}
 use Rattle.std.specs.List.{Contains, slice_index_or}
 use Rattle.std.proofs.lemmas.Bool.{cases_eq}
 use Rattle.std.proofs.lemmas.Option.{slice_get_within}
+use Rattle.cstar_base.specs.declared.operators.Direction.{Direction}
+use Rattle.cstar_base.specs.declared.operators.Inclusion.{Inclusion}
+use Rattle.cstar_base.specs.declared.operators.SegmentMode.{SegmentMode}
 use Rattle.cstar_tree.specs.declared.typed.VarInfo.{VarInfo}
 use Rattle.code_lengths.proofs.Declaring.{at_length}
 use Rattle.field_alloc.specs.Placed.{IsUsed, begins}
@@ -11,17 +14,20 @@ use Rattle.lower_base.specs.Drafts.{Draft, Plain, Step, step as step_of, with_in
 use Rattle.paris_code.specs.declared.instr.Instr.{Instr}
 use Rattle.paris_code.specs.declared.instr.Instr.TheVariants as I
 use Rattle.paris_code.specs.declared.operands.Field.{Field}
+use Rattle.paris_code.specs.declared.operands.Reduction.{Reduction}
 use Rattle.paris_code.specs.declared.program.Owner.TheVariants as W
-use Rattle.paris_code.specs.Moving.{moved}
+use Rattle.paris_code.specs.Moving.{moved, moved_bit}
 use Rattle.paris_code.specs.Proper.{IsEntry, IsOwn}
-use Rattle.paris_code.specs.Shapes.{SetShape, bits_at, shapes_of}
+use Rattle.paris_code.specs.RuleOperands.{BitIsWith}
+use Rattle.paris_code.specs.Shapes.{SetShape, bits_at, extents_at, shapes_of}
 use Rattle.paris_code.specs.Sound.{KeepsRules}
-use Rattle.paris_code.specs.Spans.{IsNamedAt, StandsAt, fields_of}
+use Rattle.paris_code.specs.Spans.{IsInUse, IsNamedAt, Span, StandsAt, fields_of}
 use Rattle.code_follows.proofs.Settings.{Setting, StandsBelow, Within, placed_instr, start, whole}
 use Rattle.code_follows.proofs.Standing.{stands}
 use Rattle.fields_follow.specs.Fields.{IsElement, file_field, file_number}
-use Rattle.fields_follow.proofs.FileFields.{Apart, HasFinal, IsTranslated, file_exists, final_there, same_final, sets_long}
-use Rattle.fields_follow.proofs.Named.{NamesFields, ends_below}
+use Rattle.fields_follow.proofs.FileFields.{Apart, apart_back, HasFinal, IsTranslated, file_exists, final_there, same_final, sets_long}
+use Rattle.fields_follow.proofs.Named.{NamesFields, ends_below, scan_below}
+use Rattle.fields_follow.proofs.Naming.{named_again}
 
 module _ (g : Setting) (made : IsTranslated g.typed g.words g.before g.after g.image) where
   -- where the entries of the unit begin, and where a field of the unit stands
@@ -49,9 +55,15 @@ module _ (g : Setting) (made : IsTranslated g.typed g.words g.before g.after g.i
   rules_there : (i : Instr) (at : ℕ) → IsThere i at → KeepsRules g.image (start g + at) (placed_instr g i)
   rules_there i at is = made.sound.each (start g + at) (placed_instr g i) (stands_so i at is).1
 
-  -- a field of an instruction there: it is of a set of the image, and ends below the flags of the set
-  pub ends : (i : Instr) (at : ℕ) (f : Field) → IsThere i at → NamesFields i → Contains (fields_of i) f → (f.set < length shapes) × ((at_bits f).offset + f.len ≤ bits_at shapes f.set)
-  ends i at f is names has = ends_below g.image (start g + at) (start g) places i f (rules_there i at is) names has
+  -- the first field of an instruction there: it is of a set of the image, and ends below the flags of the set
+  pub ends : (i : Instr) (at : ℕ) (f : Field) (others : List Field) → IsThere i at → NamesFields i → fields_of i ≡ f ∷ others → (f.set < length shapes) × ((at_bits f).offset + f.len ≤ bits_at shapes f.set)
+  ends i at f others is names has = ends_below g.image (start g + at) (start g) places i f others (rules_there i at is) names has
+
+  -- a scan there goes along an axis of its set, and its bit is of the set
+  pub scans : (combiner : Reduction) (d a : Field) (axis : ℕ) (direction : Direction) (mode : SegmentMode) (bit : Option Field) (within : Inclusion) (at : ℕ) → IsThere (I.Scan combiner d a axis direction mode bit within) at
+      → (axis < length (extents_at shapes d.set)) × BitIsWith shapes (at_bits d) mode (moved_bit places bit)
+  scans combiner d a axis direction mode bit within at is =
+      let rules = scan_below g.image (start g + at) places combiner d a axis direction mode bit within (rules_there (I.Scan combiner d a axis direction mode bit within) at is) in (rules.2, rules.3)
 
   pub named : (i : Instr) (at : ℕ) (f : Field) → IsThere i at → Contains (fields_of i) f → IsNamedAt g.unit f.offset at
   named i at f is has = (i, (stands_so i at is).0, (has.0, f, has.1, has.2, refl))
@@ -152,6 +164,25 @@ module _ (g : Setting) (made : IsTranslated g.typed g.words g.before g.after g.i
       → IsNamedAt g.unit h.offset at → IsNamedAt g.unit h.offset later → at < later → Apart (at_bits h) (at_bits f)
   written_apart at first last later f h one other differ exists a b low high c d behind =
       lasts_apart (at + 1) h f other one (λ same. differ (sym same)) exists (goes_on h.offset at later at c d (omega arith) behind) (goes_on f.offset first last at a b low high)
+
+  -- An entry that is in use before an instruction and behind it has no bit of one that the instruction names, though
+  -- that may never be named again.
+  pub apart_at : (at first : ℕ) (f h : Field) → IsOwnField f → IsOwnField h → f.offset ≢ h.offset → h.set < length shapes → IsNamedAt g.unit f.offset first → first < at → ((span : Span) → IsInUse g.unit f.offset W.Own span → at + 1 ≤ span.last) → IsNamedAt g.unit h.offset at → Apart (at_bits f) (at_bits h)
+  apart_at at first f h one other differ exists named_first early late here = by (named_again g.unit h.offset at)
+    where
+      used : (place : ℕ) → at ≤ place → place ≤ at + 1 → IsUsed g.before g.number g.unit f.offset place
+      used place low high = inr (
+        ((first, named_first), (λ span held. let a = (held.named first named_first).0 in let b = late span held in (omega (arith, a, early, low), omega (arith, b, high)))),
+        (λ made_here. let a = (made_here.in_use.named first named_first).0 in let b = made_here.begins in omega (arith, a, b, early, low)),
+      )
+
+      by : ((later : ℕ) × ((at < later) × IsNamedAt g.unit h.offset later)) ⊎ ((later : ℕ) → at < later → IsNamedAt g.unit h.offset later → ⊥) → Apart (at_bits f) (at_bits h)
+      by (inl again) =
+          let more = again.1.0 in
+          let most = inside h.offset again.0 again.1.1 in
+          apart_back (at_bits h) (at_bits f) (owns_apart (at + 1) h f other one (λ same. differ (sym same)) exists (omega (arith, more, most)) (lasts_used h.offset (at + 1) (goes_on h.offset at again.0 at here again.1.1 (omega arith) again.1.0)) (used (at + 1) (omega arith) (omega arith)))
+      by (inr never) =
+          apart_back (at_bits h) (at_bits f) (owns_apart at h f other one (λ same. differ (sym same)) exists (inside h.offset at here) (inr (((at, here), (λ span held. held.named at here)), (λ made_here. never made_here.again.0 made_here.again.1 made_here.again.2))) (used at (omega arith) (omega arith)))
 
   -- ---- what stands below the entries of the unit
 

@@ -64,6 +64,7 @@ module _ (t : Typed) (image : Image) (p : IsParallelProgram t) (codable : IsCoda
     effects = λ e h. h;
     folds = λ e h. h;
     conditions = λ set e h. h;
+    locals = λ info h. h;
     kept = λ m. Unit {0};
     lasts = record { code = λ m other stays same h. tt; calls = λ index at stands low high m other same h. tt };
     opens = λ at st m h. (h, tt);
@@ -85,6 +86,7 @@ module _ (t : Typed) (image : Image) (p : IsParallelProgram t) (codable : IsCoda
     effects = λ e h. h;
     folds = λ e h. h;
     conditions = λ set e h. h;
+    locals = λ info h. h;
     kept = caller.kept;
     lasts = record {
       code = λ memory other stays same has. caller.lasts.calls number here.at here.stands here.low here.high memory other same has;

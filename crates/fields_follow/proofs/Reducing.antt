@@ -115,7 +115,7 @@ module _ (g : Setting) (alive : Variable → Type 0) where
   -- it goes to a register that is to have it
   pub number_to : (has : HasRegisters g) (elem : Elem) (d : Draft) (s : CodeState) (st : State) (R : Value → State → Out → Draft → Type 0) (r w : ℕ) (f : Draft) → elem.bits ≡ 32 → Dest g has alive elem d s R r → GivesNumber d s st r w f → Within g f → R (Scalar w) st (O.Scalar r) f
   number_to has elem d s st R r w f wide dest h within =
-      dest.takes h.middle f h.passes.grown.0 h.puts.more.0 h.passes.t h.puts.place st w h.passes.go h.passes.at h.passes.sim h.passes.grown.1 (λ q kept. ap (λ (registers : List ℕ). slice_index registers q) h.passes.registers) h.puts.more.1 within
+      dest.takes h.middle f h.passes.grown.0 h.puts.more.0 h.passes.t h.puts.place st w h.passes.go h.passes.at.stands h.passes.sim h.passes.grown.1 h.passes.registers h.puts.more.1 within
       (subst (λ (n : ℕ). Reaches g h.passes.t (put_at r n h.puts.place h.passes.t)) (sym (held_wide elem w wide h.puts.few)) h.puts.go) h.puts.at (below_bits elem.bits w wide h.puts.few)
 
   module _ (op : ReduceOp) (signed : Bool) where
@@ -250,7 +250,7 @@ module _ (g : Setting) (alive : Variable → Type 0) where
         middle = e;
         passes = record { grown = h.passes.grown; t = h.passes.t; go = h.passes.go; at = h.passes.at; registers = h.passes.registers; sim = h.passes.sim; stays = λ used. h.passes.stays behind };
         puts = subst (λ (n : ℕ). PutsNumber e (made k r f e) h.passes.t r n) (ap (λ (n : ℕ). ended op (not signed) n) total.0 ∙ sym (reduced_is op (not signed) (fields.active set) v (processors (shapes g) set)) ∙ is has.exists)
-            (signed_ends k op (global r f) e h.passes.t r (fold_of_field f h.passes.t) refl (global_puts r f h.passes.t) (subst (λ (n : ℕ). n < 2 ^ 32) (sym total.0) total.1) h.passes.at within);
+            (signed_ends k op (global r f) e h.passes.t r (fold_of_field f h.passes.t) refl (global_puts r f h.passes.t) (subst (λ (n : ℕ). n < 2 ^ 32) (sym total.0) total.1) h.passes.at.stands within);
       }
         where
           has : HasNumbers g bits set f h.passes.t v

@@ -32,7 +32,7 @@ use Rattle.source_meaning.proofs.ConstantLaws.{Boxed}
 use Rattle.vp_sets.specs.Positions.{position_count}
 use Rattle.code_follows.proofs.Following.{Follows, Sim}
 use Rattle.code_follows.proofs.Operators.{wide_signed}
-use Rattle.code_follows.proofs.Settings.{At, Setting, layout}
+use Rattle.code_follows.proofs.Settings.{Setting, layout}
 use Rattle.fields_follow.specs.Fragment.{HasItsKind, IsFold, IsFolded, IsNarrowed, IsPure, IsWide}
 use Rattle.fields_follow.proofs.Folds.{folding}
 use Rattle.fields_follow.proofs.Forms.{HasItsCode}
@@ -45,6 +45,7 @@ use Rattle.fields_follow.proofs.Outcomes.{Ended, Given, ended_on, meant, outcome
 use Rattle.fields_follow.proofs.Reducing.{FoldsWords, GivesNumber, fold_passes, narrow_whole, whole_is}
 use Rattle.fields_follow.proofs.Sizes.{pure_at}
 use Rattle.code_follows.specs.Fragment.{ScalarsAmong}
+use Rattle.fields_follow.proofs.Starts.{Starts}
 
 -- the number of a fold is a word
 pub fold_type : (e : TExpr) → IsFold e → (type_of e).elem.bits ≡ 32
@@ -63,7 +64,7 @@ module _ (g : Setting) (alive : Variable → Type 0) where
 
   -- what the code of pure parallel expressions of 32 bits does
   abbrev pub OperandsStand : HoldsTheFields g → ℕ → Type 0
-  OperandsStand fields n = (bits set : ℕ) (e : TExpr) → 0 < bits → bits ≤ 32 → IsPure set e → IsWide set (type_of e) → HasItsCode g.typed g.instance alive n e → (d : Draft) (s : CodeState) (st : State) → At g s (length d.code) → Sim g alive st s
+  OperandsStand fields n = (bits set : ℕ) (e : TExpr) → 0 < bits → bits ≤ 32 → IsPure set e → IsWide set (type_of e) → HasItsCode g.typed g.instance alive n e → (d : Draft) (s : CodeState) (st : State) → Starts g alive s (length d.code) d.regs → Sim g alive st s
       → Follows g (Given g (λ q. value_in (extents g set) st e q) st (GivesPure bits set e d s st)) s (meant g fields e st) (next_of g.typed (layout g) bits true e d)
 
   -- the number stands in a register, by code that passes up to its last instructions
@@ -148,7 +149,7 @@ module _ (g : Setting) (alive : Variable → Type 0) where
 
     -- A fold gives a number in the source and changes nothing, or ends early; its code passes, and its last instructions
     -- put that number in the register that is to have it.
-    pub folds_give : (e : TExpr) → IsFold e → HasItsCode g.typed g.instance alive n e → (d : Draft) (s : CodeState) (st : State) (r : ℕ) → At g s (length d.code) → Sim g alive st s
+    pub folds_give : (e : TExpr) → IsFold e → HasItsCode g.typed g.instance alive n e → (d : Draft) (s : CodeState) (st : State) (r : ℕ) → Starts g alive s (length d.code) d.regs → Sim g alive st s
         → Follows g (λ x u out f. (w : ℕ) × ((x ≡ Scalar w) × ((u ≡ st) × GivesRegister r w d s st out f))) s (meant g fields e st) (computed_to g.typed (layout g) (O.Scalar r) e d)
     unfolding IsFold
     folds_give (T.Reduce' ty op p operand) (word, (set, is)) c d s st r here sim =

@@ -42,7 +42,7 @@ use Rattle.source_meaning.proofs.ConstantLaws.{Boxed}
 use Rattle.code_follows.proofs.Following.{Extends, Follows, HasRegisters, Sim, extends_then}
 use Rattle.code_follows.proofs.Growing.{and_instr}
 use Rattle.code_follows.proofs.Operators.{wide_signed}
-use Rattle.code_follows.proofs.Settings.{At, stay, Setting, Within, and_one, earlier, layout, one}
+use Rattle.code_follows.proofs.Settings.{stay, Setting, Within, and_one, earlier, layout, one}
 use Rattle.fields_follow.specs.Fragment.{IsPure}
 use Rattle.fields_follow.proofs.Expressions.{constant_at, operand_at, operand_grows}
 use Rattle.fields_follow.proofs.NarrowKinds.{AreRelated, HaveTheirKinds, narrow_compares, relation_has}
@@ -59,6 +59,7 @@ use Rattle.fields_follow.proofs.Spreading.{GivesWord, HasBoth, spread_behind}
 use Rattle.fields_follow.proofs.Values.{Valued, and_entry, code_of, next_field, one_more, operand_of, with_entry}
 use Rattle.fields_follow.proofs.TestFlags.{ComparesAs, LeavesTests, compares, is_truth, puts_compare, tested_last}
 use Rattle.fields_follow.proofs.Totals.{held_below}
+use Rattle.fields_follow.proofs.Starts.{Starts}
 
 -- the two sides of a relation are operands
 pub relation_operands : (set : ℕ) (left right : TExpr) → HaveTheirKinds set left right → AreOperands set left right
@@ -164,7 +165,7 @@ module _ (g : Setting) (has : HasRegisters g) (alive : Variable → Type 0) (n :
   compared_extends relation a (R.Word k) spare e = (2, and_instr (I.Compare relation a spare) e (with_instr (I.MoveConstant spare k) e) 1 (and_one g (I.MoveConstant spare k) e))
 
   module _ (set : ℕ) (op : Op) (left right : TExpr) (is : AreRelated set op left right) (no_check : divides op ≡ false) (c_left : HasItsCode g.typed g.instance alive n left) (c_right : HasItsCode g.typed g.instance alive n right) (left_valued : IsPure set left → IsValued (bits_of (relation_kind left right)) set left)
-      (right_valued : IsPure set right → IsValued (bits_of (relation_kind left right)) set right) (d : Draft) (s : CodeState) (st : State) (here : At g s (length d.code)) (sim : Sim g alive st s) where
+      (right_valued : IsPure set right → IsValued (bits_of (relation_kind left right)) set right) (d : Draft) (s : CodeState) (st : State) (here : Starts g alive s (length d.code) d.regs) (sim : Sim g alive st s) where
     abbrev bits : ℕ
     bits = bits_of (relation_kind left right)
 

@@ -1,5 +1,5 @@
 -- A right operand that is a word is spread over a field, behind the code of a left one that stands in another.
-use Rattle.std.proofs.Common.{◌≡◌, ◌∙◌, ℕ, ◌+◌, ◌<◌, ◌≤◌, ◌%◌, ◌^◌, inl, inr, true, length, refl, sym, ap, subst, arith}
+use Rattle.std.proofs.Common.{◌≡◌, ◌∙◌, ℕ, ◌+◌, ◌<◌, ◌≤◌, ◌%◌, ◌^◌, inl, inr, true, length, refl, sym, ap, subst, arith, slice_index, List}
 use Rattle.cstar_tree.specs.declared.typed.Variable.{Variable}
 use Rattle.lower_base.specs.Drafts.{Draft, step as step_of, with_instr}
 use Rattle.paris_code.specs.declared.instr.Instr.{Instr}
@@ -18,6 +18,7 @@ use Rattle.fields_follow.proofs.Passing.{Behind, GivesField, Passes, Stands, cod
 use Rattle.fields_follow.proofs.Places.{HoldsTheFields, IsOwnField, PlacesFields}
 use Rattle.fields_follow.proofs.Values.{next_field, one_more, taken, with_entry}
 use Rattle.fields_follow.proofs.Writing.{Written, own_written}
+use Rattle.fields_follow.proofs.Starts.{starts_next}
 
 module _ (g : Setting) (alive : Variable → Type 0) where
   -- code gives a word that is the same at every position
@@ -81,15 +82,15 @@ module _ (g : Setting) (alive : Variable → Type 0) where
         again = (later, (named_spare, omega (arith, long, behind_both)))
 
         moved : Written g places fields alive set spare e2 move right.passes.t st (λ q. word_in g k right.passes.t) Again
-        moved = own_written g places fields alive set move spare e2 right.passes.t st (λ q. word_in g k right.passes.t) within right.passes.at right.passes.sim refl (puts_constant g set spare k right.passes.t right.small) own
+        moved = own_written g places fields alive set move spare e2 right.passes.t st (λ q. word_in g k right.passes.t) within right.passes.at.stands right.passes.sim refl (puts_constant g set spare k right.passes.t right.small) own
 
         spreads : Passes g alive (length d.fields) e2 e3 right.passes.t st (Unit {0})
         spreads = record {
           grown = (1, and_one g move e2);
           t = moved.t;
           go = moved.go;
-          at = moved.at;
-          registers = moved.registers;
+          at = starts_next g alive move e2 right.passes.t moved.t moved.at right.passes.at;
+          registers = λ r kept. ap (λ (registers : List ℕ). slice_index registers r) moved.registers;
           sim = moved.sim;
           stays = λ u h one last q below own_h ends before low after high. moved.stays again h one last q (λ same. omega (arith, same, below)) own_h before after (omega (arith, low)) (omega (arith, high, long));
         }

@@ -33,6 +33,7 @@ use Rattle.fields_follow.proofs.Leaving.{Leaves, PassesTests}
 use Rattle.fields_follow.proofs.Passing.{Passes}
 use Rattle.fields_follow.proofs.PassingTests.{tests_passed}
 use Rattle.fields_follow.proofs.Places.{HoldsTheFields, PlacesFields, of_file}
+use Rattle.fields_follow.proofs.Starts.{starts_next}
 
 -- a relation of the machine holds where that of the language does
 pub record ComparesAs (op : Op) (signed : Bool) : Type 0 where
@@ -130,8 +131,8 @@ module _ (g : Setting) where
       leaves = record {
         grown = (p.grown.0 + 1, extended d e (with_instr i e) p.grown.0 1 p.grown.1 (and_one g i e));
         t = wrote g flag p.t;
-        go = onto g s p.t (wrote g flag p.t) p.go (one_writes g p.t (wrote g flag p.t) (begins_here g i e p.t within puts.plain p.at ∙ puts.goes) (λ f q there. still f q there.ends));
-        at = at_next g i e p.t (p.t.at + 1) p.at refl;
+        go = onto g s p.t (wrote g flag p.t) p.go (one_writes g p.t (wrote g flag p.t) (begins_here g i e p.t within puts.plain p.at.stands ∙ puts.goes) (λ f q there. still f q there.ends));
+        at = starts_next g alive i e p.t (wrote g flag p.t) (at_next g i e p.t (p.t.at + 1) p.at.stands refl) p.at;
         registers = p.registers;
         sim = sim_saying g alive st p.t (p.t.at + 1) (written flag p.t.memory) (fields.closes (p.t.at + 1) st (written flag p.t.memory) (record {
           numbers = λ k element q x info is below. still (of_file g k element) x (places.files_end k element q info is) ∙ was.numbers k element q x info is below;

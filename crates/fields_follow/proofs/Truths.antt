@@ -1,5 +1,5 @@
 -- Fields of one bit tell where a condition holds.
-use Rattle.std.proofs.Common.{◌≡◌, ◌∙◌, inl, inr, ℕ, ◌+◌, ◌%◌, ◌^◌, ◌<◌, ◌≤◌, ◌==◌, Bool, true, false, not, ◌&&◌, ◌||◌, if◌then◌else◌, List, [], ◌∷◌, length, refl, sym, ap, arith}
+use Rattle.std.proofs.Common.{◌≡◌, ◌∙◌, inl, inr, ℕ, ◌+◌, ◌%◌, ◌^◌, ◌<◌, ◌≤◌, ◌==◌, Bool, true, false, not, ◌&&◌, ◌||◌, if◌then◌else◌, List, [], ◌∷◌, length, refl, sym, ap, arith, slice_index}
 use Rattle.std.specs.Int.{from_bool}
 use Rattle.std.proofs.lemmas.Bool.Decides.{nat_tests}
 use Rattle.std.proofs.lemmas.Nat.{mod_below}
@@ -33,6 +33,7 @@ use Rattle.fields_follow.proofs.PassingTests.{tests_passed}
 use Rattle.fields_follow.proofs.Places.{HoldsTheFields, IsOwnField, PlacesFields, names_first, of_file, stands_here}
 use Rattle.fields_follow.proofs.TestFlags.{Tells, numbers_tell}
 use Rattle.fields_follow.proofs.Values.{IsApart}
+use Rattle.fields_follow.proofs.Starts.{starts_next}
 
 zero_bit : (b : Bool) → (from_bool (not b) == 0) ≡ b
 zero_bit true = refl
@@ -147,8 +148,8 @@ module _ (g : Setting) (alive : Variable → Type 0) (places : PlacesFields g) (
         grown = (p.grown.0 + 1, extended d e (with_instr i e) p.grown.0 1 p.grown.1 (and_one g i e));
         t = w.t;
         go = onto g s p.t w.t p.go w.go;
-        at = w.at;
-        registers = w.registers ∙ p.registers;
+        at = starts_next g alive i e p.t w.t w.at p.at;
+        registers = λ r kept. ap (λ (registers : List ℕ). slice_index registers r) w.registers ∙ p.registers r kept;
         sim = whole_sim st w.t w.sim;
         stays = λ behind h first last q below is_own ends before low after high.
             w.stays h first last behind.0 q (λ same. omega (arith, same, below, newer)) is_own before after (let l = code_longer d e p.grown.0 p.grown.1 in omega (arith, low, l)) (omega (arith, high, long)) behind.1.0
@@ -167,7 +168,7 @@ module _ (g : Setting) (alive : Variable → Type 0) (places : PlacesFields g) (
         long = code_more g i e
 
         w : Stored g places alive fields.active set f e i p.t st Takes (λ q. from_bool (nonzero (v q)))
-        w = stored g places alive fields.active set f i others e p.t st (λ q. is_active (shapes g) p.t.memory f.set q) value plain simple names goes own of_set within p.at (fields_sim st p.t p.sim) Takes (λ q. from_bool (nonzero (v q)))
+        w = stored g places alive fields.active set f i others e p.t st (λ q. is_active (shapes g) p.t.memory f.set q) value plain simple names goes own of_set within p.at.stands (fields_sim st p.t p.sim) Takes (λ q. from_bool (nonzero (v q)))
             (λ q active takes. (active ∙ takes.1, ap (λ (n : ℕ). value q % 2 ^ n) len ∙ bits q takes.0 takes.1))
 
   -- the test flags, stored

@@ -34,7 +34,7 @@ use Rattle.source_meaning.specs.State.{State}
 use Rattle.source_meaning.specs.Values.{Value}
 use Rattle.code_follows.proofs.Following.{Follows, HasRegisters, Sim, follows_same, held}
 use Rattle.code_follows.proofs.Growing.{Extended, and_instr, as_it_was}
-use Rattle.code_follows.proofs.Settings.{At, Setting, Within, and_one, layout}
+use Rattle.code_follows.proofs.Settings.{Setting, Within, and_one, layout}
 use Rattle.fields_follow.specs.Fragment.{IsPure}
 use Rattle.fields_follow.specs.Fields.{IsElement, file_number}
 use Rattle.fields_follow.proofs.FileFields.{Apart}
@@ -46,6 +46,7 @@ use Rattle.fields_follow.proofs.Outcomes.{Given, given_follows, meant}
 use Rattle.fields_follow.proofs.Passing.{After, Behind, GivesField, after_same, gives_first, gives_from, gives_numbers, in_file_has, made_after, passes_all, passes_from, puts_own, small_there}
 use Rattle.fields_follow.proofs.Places.{HoldsTheFields, IsFileField, IsOwnField, PlacesFields, entry_is, of_file}
 use Rattle.fields_follow.proofs.Totals.{held_below}
+use Rattle.fields_follow.proofs.Starts.{Starts}
 
 -- one entry more
 abbrev pub with_entry : ℕ → ℕ → Owner → Draft → Draft
@@ -55,7 +56,7 @@ abbrev pub next_field : ℕ → ℕ → Draft → Field
 next_field set len d = record { set = set; offset = length d.fields; len = len }
 
 pub and_entry : (set len : ℕ) (owner : Owner) (d : Draft) → Extended d 0 (with_entry set len owner d)
-and_entry set len owner d = record { more = []; code = append_nothing d.code; long = refl; entries = record { set = set; len = len; owner = owner } ∷ []; fields = refl; regs = omega arith }
+and_entry set len owner d = record { more = []; code = append_nothing d.code; long = refl; entries = record { set = set; len = len; owner = owner } ∷ []; fields = refl; regs = omega arith; homes = []; homes_are = append_nothing d.homes }
 
 pub one_more : (set len : ℕ) (owner : Owner) (d : Draft) → length (with_entry set len owner d).fields ≡ length d.fields + 1
 one_more set len owner d = length-append d.fields (record { set = set; len = len; owner = owner } ∷ [])
@@ -94,7 +95,7 @@ module _ (g : Setting) where
     -- as many of a parallel expression's value, where the source gives one, and it ends as the source does where that ends
     abbrev pub Valued : ℕ → ℕ → TExpr → Code → Type 0
     Valued bits set e code =
-        (d : Draft) (s : CodeState) (st : State) → At g s (length d.code) → Sim g alive st s
+        (d : Draft) (s : CodeState) (st : State) → Starts g alive s (length d.code) d.regs → Sim g alive st s
         → Follows g (Given g (λ q. value_in (extents g set) st e q) st (Gives (IsFlag e) bits (length d.fields) d s set st (λ q. word_at (extents g set) st e q))) s (meant g fields e st) (code d)
 
     -- a variable where it stands
@@ -178,7 +179,7 @@ module _ (g : Setting) where
     )
 
     -- a copy of a variable's field, cut or extended
-    field_copied : (bits set k : ℕ) (info : VarInfo) → bits ≤ 32 → IsElement g.typed k info set 0 → (d : Draft) (s : CodeState) (st : State) → At g s (length d.code) → Sim g alive st s
+    field_copied : (bits set k : ℕ) (info : VarInfo) → bits ≤ 32 → IsElement g.typed k info set 0 → (d : Draft) (s : CodeState) (st : State) → Starts g alive s (length d.code) d.regs → Sim g alive st s
         → (flag : Type 0) → After g (Gives flag bits (length d.fields) d s set st (λ q. held info.elem (st.parallel (V.File k) 0 q))) (field_loaded g.typed (layout g) info.elem.signed (V.File k) 0 (next_field set bits d) (with_entry set bits W.Own d))
     unfolding field_loaded then_make an_entry
     field_copied bits set k info most is d s st here sim flag =

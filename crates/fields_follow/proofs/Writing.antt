@@ -1,5 +1,5 @@
 -- What an instruction on fields leaves: its destination has the numbers, and all else is as it was.
-use Rattle.std.proofs.Common.{◌≡◌, ◌≢◌, ◌∙◌, ℕ, ◌+◌, ◌%◌, ◌<◌, ◌≤◌, ◌^◌, ◌⊎◌, inl, inr, Bool, true, false, ◌&&◌, ◌==◌, List, length, slice_get, refl, sym, ap, subst, arith, if◌then◌else◌}
+use Rattle.std.proofs.Common.{◌≡◌, ◌≢◌, ◌∙◌, ℕ, ◌+◌, ◌%◌, ◌<◌, ◌≤◌, ◌^◌, ◌⊎◌, inl, inr, Bool, true, false, ◌&&◌, ◌==◌, List, ◌∷◌, length, slice_get, refl, sym, ap, subst, arith, if◌then◌else◌}
 use Rattle.std.proofs.lemmas.Bool.{cases_eq}
 use Rattle.std.proofs.lemmas.Bool.Decides.{nat_tests}
 use Rattle.cstar_tree.specs.declared.typed.VarInfo.{VarInfo}
@@ -8,10 +8,10 @@ use Rattle.cstar_tree.specs.declared.typed.Variable.TheVariants as V
 use Rattle.lower_base.specs.Drafts.{Draft, with_instr}
 use Rattle.paris_code.specs.declared.instr.Instr.{Instr}
 use Rattle.paris_code.specs.declared.operands.Field.{Field}
-use Rattle.paris_code.specs.Code.{CodeState}
+use Rattle.paris_code.specs.Code.{CodeState, Goes, step}
 use Rattle.paris_code.specs.Memory.{BitMemory, field_number, is_active, processors}
 use Rattle.paris_code.specs.Shapes.{bits_at}
-use Rattle.paris_code.specs.Spans.{IsNamedAt, StandsAt}
+use Rattle.paris_code.specs.Spans.{IsNamedAt, StandsAt, fields_of}
 use Rattle.paris_code.specs.Writes.{Write, written}
 use Rattle.source_meaning.specs.State.{State, is_same, with_positions}
 use Rattle.code_follows.specs.Agreement.{AreBytes, mark_of}
@@ -232,46 +232,66 @@ module _ (g : Setting) (places : PlacesFields g) (fields : HoldsTheFields g) (al
           small_still j other q p of which (inr differ) any = subst (λ (n : ℕ). n < 2 ^ of.elem.bits) (sym (there_is j other p (st.parallel (V.File j) other p) (inl differ))) (was.small j other q p of which)
           small_still j other q p of which (inl same) (inr differ) = subst (λ (n : ℕ). n < 2 ^ of.elem.bits) (sym (there_is j other p (st.parallel (V.File j) other p) (inr differ))) (was.small j other q p of which)
 
-  module _ (set : ℕ) (i : Instr) (d : Field) (e : Draft) (s : CodeState) (st : State) (v : ℕ → ℕ) (within : Within g (with_instr i e)) (here : At g s (length e.code)) (sim : Sim g alive st s) (of_set : d.set ≡ set) (puts : Puts g set i d s v) where
-    there : StandsAt g.unit (length e.code) i
-    there = stands_here g i e within puts.plain
+  -- An instruction that stands next, by which a field that ends below the flags takes the lowest bits of these words.
+  pub record PutsNext (set : ℕ) (i : Instr) (d : Field) (e : Draft) (s : CodeState) (v : ℕ → ℕ) : Type 0 where
+    pub there : StandsAt g.unit (length e.code) i
+    pub others : List Field
+    pub names : fields_of i ≡ d ∷ others
+    pub ends : (d.set < length (shapes g)) × ((place g d).offset + d.len ≤ bits_at (shapes g) d.set)
+    pub takes : Takes g set d s v
+    pub goes : step g.image s ≡ Goes (wrote g takes.write s)
 
-    d_ends : (d.set < length (shapes g)) × ((place g d).offset + d.len ≤ bits_at (shapes g) d.set)
-    d_ends = places.ends (length e.code) i d puts.others there puts.plain puts.simple puts.names
+  pub puts_next : (set : ℕ) (i : Instr) (d : Field) (e : Draft) (s : CodeState) (v : ℕ → ℕ) → Within g (with_instr i e) → At g s (length e.code) → Puts g set i d s v → PutsNext set i d e s v
+  puts_next set i d e s v within here puts = record {
+    there = there;
+    others = puts.others;
+    names = puts.names;
+    ends = places.ends (length e.code) i d puts.others there puts.plain puts.simple puts.names;
+    takes = puts_take g set i d s v puts;
+    goes = begins_here g i e s within puts.plain here ∙ puts.goes;
+  }
+    where
+      there : StandsAt g.unit (length e.code) i
+      there = stands_here g i e within puts.plain
 
-    abbrev takes : Takes g set d s v
-    takes = puts_take g set i d s v puts
+  -- an own entry takes the numbers
+  pub next_written : (set : ℕ) (i : Instr) (d : Field) (e : Draft) (s : CodeState) (st : State) (v : ℕ → ℕ) → At g s (length e.code) → Sim g alive st s → d.set ≡ set → PutsNext set i d e s v → IsOwnField g d → Written set d e i s st v ((later : ℕ) × (IsNamedAt g.unit d.offset later × (length e.code < later)))
+  next_written set i d e s st v here sim of_set next own = record {
+    t = wrote g takes.write s;
+    go = one_writes g s (wrote g takes.write s) next.goes (λ f p there. still f p (places.own_and_below d f own there));
+    at = at_next g i e s (s.at + 1) here refl;
+    registers = refl;
+    sim = with_memory st st s (s.at + 1) takes.write refl refl refl refl refl (record {
+      numbers = λ k element q p info is below. still (of_file g k element) p (places.own_file k element q info d is own) ∙ (fields.opens s.at st s.memory sim.memory).numbers k element q p info is below;
+      small = (fields.opens s.at st s.memory sim.memory).small;
+      flags = active;
+      winner = winner_still set d s st v sim of_set next.ends.0 next.ends.1 takes;
+      bits = bits_written (shapes g) takes.write s.memory (fields.opens s.at st s.memory sim.memory).bits;
+    }) sim;
+    has = record {
+      of_set = of_set;
+      exists = exists;
+      len = refl;
+      are = λ p below on. value_is set d s st v sim of_set next.ends.0 next.ends.1 takes p below (sym (active set p exists below) ∙ on);
+      small = λ p below on. few set d s st v sim of_set next.ends.0 next.ends.1 takes p below (sym (active set p exists below) ∙ on);
+    };
+    stays = λ again h first last p other is_own before after low high.
+        still (place g h) p (apart_back (place g h) (place g d) (places.owns_apart h d first (length e.code) last again.0 other is_own own next.ends.0 before after low high (names_first g i d next.others (length e.code) next.there next.names) again.1.0 again.1.1));
+  }
+    where
+      takes : Takes g set d s v
+      takes = next.takes
 
-    -- an own entry takes the numbers
-    pub own_written : IsOwnField g d → Written set d e i s st v ((later : ℕ) × (IsNamedAt g.unit d.offset later × (length e.code < later)))
-    own_written own = record {
-      t = wrote g puts.write s;
-      go = one_writes g s (wrote g puts.write s) (begins_here g i e s within puts.plain here ∙ puts.goes) (λ f p there. still f p (places.own_and_below d f own there));
-      at = at_next g i e s (s.at + 1) here refl;
-      registers = refl;
-      sim = with_memory st st s (s.at + 1) puts.write refl refl refl refl refl (record {
-        numbers = λ k element q p info is below. still (of_file g k element) p (places.own_file k element q info d is own) ∙ (fields.opens s.at st s.memory sim.memory).numbers k element q p info is below;
-        small = (fields.opens s.at st s.memory sim.memory).small;
-        flags = active;
-        winner = winner_still set d s st v sim of_set d_ends.0 d_ends.1 takes;
-        bits = bits_written (shapes g) puts.write s.memory (fields.opens s.at st s.memory sim.memory).bits;
-      }) sim;
-      has = record {
-        of_set = of_set;
-        exists = exists;
-        len = refl;
-        are = λ p below on. value_is set d s st v sim of_set d_ends.0 d_ends.1 takes p below (sym (active set p exists below) ∙ on);
-        small = λ p below on. few set d s st v sim of_set d_ends.0 d_ends.1 takes p below (sym (active set p exists below) ∙ on);
-      };
-      stays = λ again h first last p other is_own before after low high.
-          still (place g h) p (apart_back (place g h) (place g d) (places.owns_apart h d first (length e.code) last again.0 other is_own own d_ends.0 before after low high (names_first g i d puts.others (length e.code) there puts.names) again.1.0 again.1.1));
-    }
-      where
-        exists : set < length (shapes g)
-        exists = set_exists set d s st v sim of_set d_ends.0 d_ends.1 takes
+      exists : set < length (shapes g)
+      exists = set_exists set d s st v sim of_set next.ends.0 next.ends.1 takes
 
-        active : (q p : ℕ) → q < length (shapes g) → p < processors (shapes g) q → is_active (shapes g) (written puts.write s.memory) q p ≡ fields.active q p
-        active = active_still set d s st v sim of_set d_ends.0 d_ends.1 takes
+      active : (q p : ℕ) → q < length (shapes g) → p < processors (shapes g) q → is_active (shapes g) (written takes.write s.memory) q p ≡ fields.active q p
+      active = active_still set d s st v sim of_set next.ends.0 next.ends.1 takes
 
-        still : (f : Field) (p : ℕ) → Apart (place g d) f → field_number (written puts.write s.memory) f p ≡ field_number s.memory f p
-        still = elsewhere set d s st v sim of_set d_ends.0 d_ends.1 takes
+      still : (f : Field) (p : ℕ) → Apart (place g d) f → field_number (written takes.write s.memory) f p ≡ field_number s.memory f p
+      still = elsewhere set d s st v sim of_set next.ends.0 next.ends.1 takes
+
+  -- so it is where an instruction puts them
+  pub own_written : (set : ℕ) (i : Instr) (d : Field) (e : Draft) (s : CodeState) (st : State) (v : ℕ → ℕ) → Within g (with_instr i e) → At g s (length e.code) → Sim g alive st s → d.set ≡ set → Puts g set i d s v → IsOwnField g d
+      → Written set d e i s st v ((later : ℕ) × (IsNamedAt g.unit d.offset later × (length e.code < later)))
+  own_written set i d e s st v within here sim of_set puts own = next_written set i d e s st v here sim of_set (puts_next set i d e s v within here puts) own

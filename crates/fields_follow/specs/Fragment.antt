@@ -1,12 +1,15 @@
 -- The programs with parallel variables of which it is said so far that their code means them. Their parallel
 -- expressions are pure ones, of variables of the file of all types, gets from neighbours round the ends of the grid, own
 -- coordinates and promoted scalars, which change nothing; they fail where a divisor is 0 at an active position, and
--- nowhere else. They are assigned to such variables, as truth values of them are, and folded into numbers and onto scalar
--- variables, and they are the conditions of `where`. Folds are of the active positions.
+-- nowhere else. They are assigned to such variables, as truth values of them are, and scans of them and of ones, and folded
+-- into numbers and onto scalar variables, and they are the conditions of `where`. Folds and scans are of the active
+-- positions.
+-- Blocks may have parallel variables without initialisers, which no expression names.
 -- Under `where` and `everywhere` stand the statements of scalar programs with these, also calls, `return` and jumps that
 -- lead out of them.
-use Rattle.std.specs.Prelude.{ℕ, ◌≡◌, ◌<◌, ◌+◌, ◌^◌, ◌⊎◌, ◌==◌, true, false, Some, None}
+use Rattle.std.specs.Prelude.{ℕ, ◌≡◌, ◌<◌, ◌≤◌, ◌+◌, ◌^◌, ◌⊎◌, ◌==◌, true, false, Option, Some, None}
 use Rattle.cstar_base.specs.declared.elem.Elem.{Elem}
+use Rattle.cstar_base.specs.declared.operators.Combiner.TheVariants as C
 use Rattle.cstar_base.specs.declared.operators.Op.{Op}
 use Rattle.cstar_base.specs.Operators.{divides}
 use Rattle.cstar_tree.specs.declared.syntax.AssignOp.{AssignOp}
@@ -18,6 +21,7 @@ use Rattle.cstar_tree.specs.declared.typed.TExpr as T
 use Rattle.cstar_tree.specs.declared.typed.Typed.{Typed}
 use Rattle.cstar_tree.specs.declared.typed.ValueType.{ValueType}
 use Rattle.cstar_tree.specs.declared.typed.VarInfo.{VarInfo}
+use Rattle.cstar_tree.specs.declared.typed.Variable.{Variable}
 use Rattle.cstar_tree.specs.declared.typed.Variable.TheVariants as V
 use Rattle.cstar_tree.specs.Typed.{type_of}
 use Rattle.lower_base.specs.Operators.{assign_op_of, negates, relates}
@@ -165,6 +169,30 @@ IsUpdate (T.Assign' ty place op p target q value) = (set : ℕ) × ((ty ≡ type
 IsUpdate (T.Step' ty op order p target) = (set : ℕ) × ((ty ≡ type_of target) × IsTarget set target × ((ty.elem.bits == 1) ≡ false))
 IsUpdate _ = ⊥
 
+-- the bits that begin the segments of a scan, if it has any, are a variable of the file
+unfoldable pub IsSegments : Option Variable → Type 0
+IsSegments None = Unit {0}
+IsSegments (Some (V.File k)) = Unit {0}
+IsSegments (Some x) = ⊥
+
+-- a scan of a value of 32 bits, by a combiner other than the last one, or of ones; maybe in brackets
+unfoldable pub IsScan : ℕ → TExpr → Type 0
+IsScan set (T.Brackets' ty p inner) = (ty ≡ type_of inner) × IsScan set inner
+IsScan set (T.Scan' ty p source axis combiner direction mode bit within) = (ty ≡ type_of source) × IsPure set source × IsWide set (type_of source) × (combiner ≡ C.Last → ⊥) × IsSegments bit
+IsScan set (T.Enumerate ty axis direction within mode bit) = IsWide set ty × IsSegments bit
+IsScan set _ = ⊥
+
+-- a scan, or one that is converted to a type of at least so many bits, which is no `bool`
+unfoldable pub IsScanned : ℕ → ℕ → TExpr → Type 0
+IsScanned set bits (T.Brackets' ty p inner) = (ty ≡ type_of inner) × IsScanned set bits inner
+IsScanned set bits (T.Convert' ty p operand) = (ty.shape ≡ Some set) × ((ty.elem.bits == 1) ≡ false) × (bits ≤ ty.elem.bits) × IsScan set operand
+IsScanned set bits e = IsScan set e
+
+-- such a value is assigned to a parallel variable of as many bits
+unfoldable pub IsScanAssigned : TExpr → Type 0
+IsScanAssigned (T.Assign' ty place op p target q value) = (ty ≡ type_of target) × (assign_op_of op ≡ None) × ((type_of value).elem.bits ≡ ty.elem.bits) × ((set : ℕ) × (IsTarget set target × IsScanned set ty.elem.bits value))
+IsScanAssigned _ = ⊥
+
 -- a value of 32 bits that is folded
 abbrev pub IsFolded : ℕ → TExpr → Type 0
 IsFolded set e = HasItsKind set e × IsWide set (type_of e)
@@ -197,7 +225,7 @@ IsFoldOnto _ = ⊥
 
 -- a parallel expression whose value is not used
 abbrev pub IsParallelEffect : TExpr → Type 0
-IsParallelEffect e = IsUpdate e ⊎ IsFoldOnto e
+IsParallelEffect e = IsUpdate e ⊎ (IsFoldOnto e ⊎ IsScanAssigned e)
 
 -- a parallel variable, which is no array
 abbrev pub IsParallelVariable : VarInfo → Type 0
@@ -213,6 +241,7 @@ fields_beside = record {
   conditions = IsCondition;
   widens = λ set. Unit {0};
   variables = IsParallelVariable;
+  locals = IsParallelVariable;
 }
 
 abbrev pub IsParallelProgram : Typed → Type 0

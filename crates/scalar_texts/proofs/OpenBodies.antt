@@ -46,6 +46,7 @@ module _ (may : May) (names : Variable → Type 0) (blocks : Open) (fits : Fits 
   scalars_open (T.Assign' ty place op p target q value) n = (scalars_open target n.0, scalars_open value n.1)
   scalars_open (T.Step' ty op order p target) n = scalars_open target n
   scalars_open (T.Reduce' ty op p operand) n = scalars_open operand n
+  scalars_open (T.Scan' ty p source axis combiner direction mode bit within) n = scalars_open source n.1
   scalars_open _ n = tt
 
   mutual

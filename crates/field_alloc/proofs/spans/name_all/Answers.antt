@@ -1,10 +1,10 @@
-use Rattle.std.proofs.Common.{◌≡◌, ℕ, ◌-◌, ◌<◌, ◌≤◌, List, ◌++◌, length, ⊎_elim, refl, sym, ap, ◌∙◌, subst, arith}
+use Rattle.std.proofs.Common.{◌≡◌, ℕ, ◌-◌, ◌<◌, ◌≤◌, Any, List, ◌++◌, length, ⊎_elim, refl, sym, ap, ◌∙◌, subst, arith}
 use Rattle.std.proofs.lemmas.Bool.{cases_lt}
 use Rattle.std.proofs.lemmas.Option.{slice_get_read}
 use Rattle.std.specs.List.{slice_index_or}
 use Rattle.paris_code.specs.declared.operands.Field.{Field}
-use Rattle.paris_code.specs.Spans.{IsNamedAt, StandsAt, fields_of}
-use Rattle.field_alloc.specs.Named.{HeldAt}
+use Rattle.paris_code.specs.Spans.{IsNamedAt, StandsAt, entry_of, fields_of}
+use Rattle.field_alloc.specs.Named.{EndedAt, HeldAt}
 use Rattle.field_alloc.proofs.Closed.{stretches_more}
 use Rattle.field_alloc.proofs.Held.{named_here}
 use Rattle.field_alloc.proofs.spans.name_all.Goals as goal
@@ -20,7 +20,7 @@ loop-left-preserved c =
     let in_code : c.loop-left.left - 1 < length unit.code.items = omega arith in
     let stands = subst (λ k. StandsAt unit k instr) (sym at_is) (slice_get_read unit.code.items (length unit.code.items) (c.loop-left.left - 1) instr refl in_code c.index-instr.ensures) in
     let fields_are = c.as_slice.ensures.value ∙ c.in_ok-named.ensures ∙ ap (λ (l : List Field). l ++ fields_of instr) c.clear.ensures.items in
-    let long : length c.loop-left.spans.items ≡ length unit.fields.items = c.loop-left.invariant.long ∙ c.requires in
+    let long : length c.loop-left.spans.items ≡ length unit.fields.items = c.loop-left.invariant.long ∙ c.requires.length in
     let names = subst (λ n. (k entry : ℕ) (field : Field) → k < length fields → slice_index_or fields k field ≡ field → field.offset ≡ entry → entry < n → HeldAt spans entry here) long c.name_fields.ensures.named in
     record {
       within = omega arith;
@@ -33,5 +33,12 @@ loop-left-preserved c =
           subst (λ k. HeldAt spans entry k) (sym same)
           (named_here unit instr here fields spans stands fields_are names entry in_fields (subst (λ k. IsNamedAt unit entry k) same is_named)))
           (cases_lt here at);
+      ended = λ entry at ends.
+          ⊎_elim
+          (λ (x : EndedAt c.loop-left.spans.items entry at). c.loop-left.invariant.ended entry at x)
+          (λ (x : (at ≡ here) × Any (λ f. entry_of f ≡ entry) fields).
+          subst (λ k. IsNamedAt unit entry k) (sym x.0)
+          (instr, stands, subst (λ (l : List Field). Any (λ f. entry_of f ≡ entry) l) fields_are x.1))
+          (c.name_fields.ensures.ended entry at ends);
       stretches = λ stretch is low. stretches_more unit instr here c.loop-left.left c.loop-left.loops.items c.note_stretch.new.loops.items stands (omega arith) c.loop-left.invariant.stretches c.in_ok-note_stretch.ensures.kept c.in_ok-note_stretch.ensures.noted stretch is (omega arith);
     }

@@ -20,8 +20,8 @@ returns-clause-held c =
     (subst (λ (m : List Bool). (entry : ℕ) → entry < length c.as_slice-6.result.now → IsUse lent m whole loops (slice_index_or c.as_slice-6.result.now entry None) entry (slice_index_or spans entry None)) c.as_slice-3.ensures.value
     (subst (λ (l : List Span). (entry : ℕ) → entry < length c.as_slice-6.result.now → IsUse lent c.as_slice-3.result.now whole l (slice_index_or c.as_slice-6.result.now entry None) entry (slice_index_or spans entry None)) c.as_slice-5.ensures.value c.in_ok-spans.ensures.each)) in
     let first = subst (λ (l : List (Option Span)). (entry : ℕ) → HasFlag made entry → IsFirstWritten unit (slice_index_or l entry None) entry) c.as_slice.ensures.value c.in_ok-made.ensures in
-    let long : length named ≡ length unit.fields.items = c.in_ok-loops.ensures.length ∙ (let e : length c.loop.named.items ≡ length unit.fields.items = omega (arith, c.loop.invariant, ap length c.deref-items.ensures.value) in e) in
-    held_in_use unit lent made named spans loops whole uses first long c.in_ok-loops.ensures.named c.in_ok-loops.ensures.stretches
+    let long : length named ≡ length unit.fields.items = c.in_ok-loops.ensures.length ∙ (let e : length c.loop.named.items ≡ length unit.fields.items = omega (arith, c.loop.invariant.long, ap length c.deref-items.ensures.value) in e) in
+    held_in_use unit lent made named spans loops whole uses first long c.in_ok-loops.ensures.named c.in_ok-loops.ensures.ended c.in_ok-loops.ensures.stretches
     (λ at in_code.
     let low : 0 ≤ at = omega arith in
     let high : at ≤ c.saturating_sub.result = omega (arith, c.saturating_sub.ensures, c.in-Ok.ensures, c.len.ensures) in

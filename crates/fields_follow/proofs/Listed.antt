@@ -1,0 +1,167 @@
+-- Instructions with lists of coordinates: what stands in the unit where its description has such a step, and what the
+-- image has for it.
+use Rattle.std.proofs.Common.{◌≡◌, ◌∙◌, ℕ, ◌+◌, ◌<◌, ◌≤◌, List, [], length, map, slice_get, Option, Some, ap, subst}
+use Rattle.std.specs.List.{slice_index_or}
+use Rattle.cstar_base.specs.declared.operators.Place.{Place}
+use Rattle.cstar_link.specs.Linked.{moved_by}
+use Rattle.lower_base.specs.Drafts.{ChecksTarget, Draft, MakesAddress, Step, step as step_of, with_instr, with_step}
+use Rattle.paris_code.specs.declared.instr.Instr.{Instr}
+use Rattle.paris_code.specs.declared.instr.Instr.TheVariants as I
+use Rattle.paris_code.specs.declared.operands.Coordinate.{Coordinate}
+use Rattle.paris_code.specs.declared.operands.Field.{Field}
+use Rattle.paris_code.specs.declared.operands.SignedCoordinate.{SignedCoordinate}
+use Rattle.paris_code.specs.declared.program.Image.{Image}
+use Rattle.paris_code.specs.Code.{CodeState, begun, begun_at, step}
+use Rattle.paris_code.specs.Moving.{IsMoved, moved, moved_coordinate, moved_signed}
+use Rattle.paris_code.specs.Shapes.{bits_at, shapes_of}
+use Rattle.paris_code.specs.Sound.{KeepsRules}
+use Rattle.paris_code.specs.Spans.{StandsAt}
+use Rattle.code_follows.proofs.Settings.{At, Setting, start}
+use Rattle.code_follows.proofs.Standing.{StandsOver}
+
+-- what a step that makes an address says of it
+dest_of : Field → Step → Field
+dest_of f (MakesAddress d set coordinates) = d
+dest_of f _ = f
+
+set_of : ℕ → Step → ℕ
+set_of n (MakesAddress d set coordinates) = set
+set_of n (ChecksTarget set place coordinates) = set
+set_of n _ = n
+
+made_from : List Coordinate → Step → List Coordinate
+made_from cs (MakesAddress d set coordinates) = coordinates
+made_from cs _ = cs
+
+-- and one that checks a target
+place_of : Place → Step → Place
+place_of p (ChecksTarget set place coordinates) = place
+place_of p _ = p
+
+checked_in : List SignedCoordinate → Step → List SignedCoordinate
+checked_in cs (ChecksTarget set place coordinates) = coordinates
+checked_in cs _ = cs
+
+-- the instruction that makes an address of a list of coordinates
+pub record MakesIt (d : Field) (set : ℕ) (coordinates : List Coordinate) (i : Instr) : Type 0 where
+  pub list : _
+  pub is : i ≡ I.MakeAddress d set list
+  pub items : list.items ≡ coordinates
+
+pub record ChecksIt (set : ℕ) (place : Place) (coordinates : List SignedCoordinate) (i : Instr) : Type 0 where
+  pub list : _
+  pub is : i ≡ I.CheckTarget set place list
+  pub items : list.items ≡ coordinates
+
+makes_it : (d : Field) (set : ℕ) (coordinates : List Coordinate) (i : Instr) → step_of i ≡ MakesAddress d set coordinates → MakesIt d set coordinates i
+unfolding step_of dest_of set_of made_from
+makes_it d set coordinates (I.MakeAddress e t list) same = record {
+  list = list;
+  is = ap (λ (f : Field). I.MakeAddress f t list) (ap (dest_of d) same) ∙ ap (λ (n : ℕ). I.MakeAddress d n list) (ap (set_of set) same);
+  items = ap (made_from coordinates) same;
+}
+makes_it d set coordinates (I.CheckTarget t place list) same = cc
+makes_it d set coordinates (I.CheckGrid t place steps) same = cc
+makes_it d set coordinates (I.FrontMakeAddress dest t list) same = cc
+makes_it d set coordinates (I.FrontCheckTarget t place list) same = cc
+makes_it d set coordinates i same = cc
+
+checks_it : (set : ℕ) (place : Place) (coordinates : List SignedCoordinate) (i : Instr) → step_of i ≡ ChecksTarget set place coordinates → ChecksIt set place coordinates i
+unfolding step_of set_of place_of checked_in
+checks_it set place coordinates (I.CheckTarget t at list) same = record {
+  list = list;
+  is = ap (λ (n : ℕ). I.CheckTarget n at list) (ap (set_of set) same) ∙ ap (λ (x : Place). I.CheckTarget set x list) (ap (place_of place) same);
+  items = ap (checked_in coordinates) same;
+}
+checks_it set place coordinates (I.MakeAddress e t list) same = cc
+checks_it set place coordinates (I.CheckGrid t at steps) same = cc
+checks_it set place coordinates (I.FrontMakeAddress dest t list) same = cc
+checks_it set place coordinates (I.FrontCheckTarget t at list) same = cc
+checks_it set place coordinates i same = cc
+
+-- the same with the fields moved
+made_over : (p : List ℕ) (d : Field) (set : ℕ) (list : _) (over : Instr) → IsMoved p (I.MakeAddress d set list) over → MakesIt (moved p d) set (map (moved_coordinate p) list.items) over
+made_over p d set list (I.MakeAddress e t other) is = record {
+  list = other;
+  is = ap (λ (f : Field). I.MakeAddress f t other) is.0 ∙ ap (λ (n : ℕ). I.MakeAddress (moved p d) n other) is.1;
+  items = is.2;
+}
+made_over p d set list _ is = absurd is
+
+checked_over : (p : List ℕ) (set : ℕ) (place : Place) (list : _) (over : Instr) → IsMoved p (I.CheckTarget set place list) over → ChecksIt set place (map (moved_signed p) list.items) over
+checked_over p set place list (I.CheckTarget t at other) is = record {
+  list = other;
+  is = ap (λ (n : ℕ). I.CheckTarget n at other) is.0 ∙ ap (λ (x : Place). I.CheckTarget set x other) is.1;
+  items = is.2;
+}
+checked_over p set place list _ is = absurd is
+
+-- what such an instruction of an image names first ends below the flags of its set
+pub address_fits : (image : Image) (at : ℕ) (d : Field) (set : ℕ) (list : _) → KeepsRules image at (I.MakeAddress d set list) → (d.set < length (shapes_of image)) × (d.offset + d.len ≤ bits_at (shapes_of image) d.set)
+address_fits image at d set list rules = (rules.set.0, (rules.field.0 rules.set.0).2)
+
+module _ (g : Setting) where
+  abbrev places : List ℕ
+  places = slice_index_or g.placed.places g.number []
+
+  -- the instruction of a step stands at the place of the unit, and another for it in the image
+  abbrev pub Stands : ℕ → Step → Type 0
+  Stands at next = StandsOver g.image g.before g.after g.placed g.number g.unit at next
+
+  -- that of a step that makes an address
+  pub record AddressStands (at : ℕ) (d : Field) (set : ℕ) (coordinates : List Coordinate) : Type 0 where
+    pub list : _
+    pub there : StandsAt g.unit at (I.MakeAddress d set list)
+    pub items : list.items ≡ coordinates
+    pub over : _
+    pub moved_there : slice_get g.image.code.items (start g + at) ≡ Some (I.MakeAddress (moved places d) set over)
+    pub moved_items : over.items ≡ map (moved_coordinate places) coordinates
+
+  pub address_stands : (at : ℕ) (d : Field) (set : ℕ) (coordinates : List Coordinate) → Stands at (MakesAddress d set coordinates) → AddressStands at d set coordinates
+  address_stands at d set coordinates h =
+      let own = makes_it d set coordinates h.instr h.is in
+      let other = made_over places d set own.list h.over (subst (λ (i : Instr). IsMoved places i h.over) own.is h.moved) in
+      record {
+        list = own.list;
+        there = h.stands ∙ ap Some own.is;
+        items = own.items;
+        over = other.list;
+        moved_there = h.there ∙ ap (λ (i : Instr). Some (moved_by (start g) i)) other.is;
+        moved_items = other.items ∙ ap (map (moved_coordinate places)) own.items;
+      }
+
+  -- and that of one that checks a target
+  pub record TargetStands (at set : ℕ) (place : Place) (coordinates : List SignedCoordinate) : Type 0 where
+    pub list : _
+    pub there : StandsAt g.unit at (I.CheckTarget set place list)
+    pub items : list.items ≡ coordinates
+    pub over : _
+    pub moved_there : slice_get g.image.code.items (start g + at) ≡ Some (I.CheckTarget set place over)
+    pub moved_items : over.items ≡ map (moved_signed places) coordinates
+
+  pub target_stands : (at set : ℕ) (place : Place) (coordinates : List SignedCoordinate) → Stands at (ChecksTarget set place coordinates) → TargetStands at set place coordinates
+  target_stands at set place coordinates h =
+      let own = checks_it set place coordinates h.instr h.is in
+      let other = checked_over places set place own.list h.over (subst (λ (i : Instr). IsMoved places i h.over) own.is h.moved) in
+      record {
+        list = own.list;
+        there = h.stands ∙ ap Some own.is;
+        items = own.items;
+        over = other.list;
+        moved_there = h.there ∙ ap (λ (i : Instr). Some (moved_by (start g) i)) other.is;
+        moved_items = other.items ∙ ap (map (moved_signed places)) own.items;
+      }
+
+  -- the code begins what stands in the image where it is
+  pub begins_there : (at : ℕ) (i : Instr) (s : CodeState) → slice_get g.image.code.items (start g + at) ≡ Some i → At g s at → step g.image s ≡ begun g.image i s
+  unfolding step
+  begins_there at i s there here = ap (λ (o : Option Instr). begun_at g.image s o) (ap (λ (n : ℕ). slice_get g.image.code.items n) here ∙ there)
+
+  -- the draft with the instruction is the one with the step
+  pub with_address : (e : Draft) (at : ℕ) (d : Field) (set : ℕ) (coordinates : List Coordinate) (h : AddressStands at d set coordinates) → with_instr (I.MakeAddress d set h.list) e ≡ with_step (MakesAddress d set coordinates) e
+  unfolding with_instr step_of
+  with_address e at d set coordinates h = ap (λ (cs : List Coordinate). with_step (MakesAddress d set cs) e) h.items
+
+  pub with_target : (e : Draft) (at set : ℕ) (place : Place) (coordinates : List SignedCoordinate) (h : TargetStands at set place coordinates) → with_instr (I.CheckTarget set place h.list) e ≡ with_step (ChecksTarget set place coordinates) e
+  unfolding with_instr step_of
+  with_target e at set place coordinates h = ap (λ (cs : List SignedCoordinate). with_step (ChecksTarget set place cs) e) h.items
