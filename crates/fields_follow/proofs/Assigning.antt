@@ -1,5 +1,5 @@
 -- Assignments to parallel variables and steps of them follow.
-use Rattle.std.proofs.Common.{◌⊎◌, ◌≡◌, ◌∙◌, ℕ, ◌+◌, ◌<◌, ◌≤◌, ◌%◌, ◌^◌, ◌==◌, ◌&&◌, ◌||◌, Bool, true, false, not, length, Option, Some, None, refl, sym, ap, subst, arith, inl, inr, if◌then◌else◌, lit<}
+use Rattle.std.proofs.Common.{◌⊎◌, ◌≡◌, ◌∙◌, ℕ, ◌+◌, ◌<◌, ◌≤◌, ◌%◌, ◌^◌, ◌==◌, ◌&&◌, ◌||◌, Bool, true, false, not, length, Option, Some, None, refl, sym, ap, subst, arith, inl, inr, if◌then◌else◌, lit<, ◌∷◌, []}
 use Rattle.std.specs.Prelude.{is_none}
 use Rattle.std.proofs.lemmas.Bool.{eq-eqb}
 use Rattle.std.specs.Int.{from_bool}
@@ -30,7 +30,7 @@ use Rattle.code_lengths.specs.Ready.{IsReadyButForFields}
 use Rattle.code_lengths.specs.Shaped.{IsShaped}
 use Rattle.lower_base.specs.declared.emit.Out.{Out}
 use Rattle.lower_base.specs.declared.emit.Out.TheVariants as O
-use Rattle.lower_base.specs.Drafts.{Draft, Made, Makes, an_entry, first_bits, then_make, with_instr}
+use Rattle.lower_base.specs.Drafts.{Draft, Made, Makes, an_entry, first_bits, step as step_of, then_make, with_instr}
 use Rattle.lower_base.specs.Kinds.{bits_of, is_bitwise, kind_of}
 use Rattle.lower_base.specs.Operators.{assign_op_of, operation_of, relates}
 use Rattle.lower_expr.specs.declared.operands.Own.{Own}
@@ -56,7 +56,7 @@ use Rattle.source_meaning.proofs.ConstantLaws.{Boxed}
 use Rattle.cstar_base.proofs.NumberLaws.{kind_bits}
 use Rattle.code_follows.proofs.Following.{HasRegisters, Sim, held, keeps_less}
 use Rattle.code_follows.proofs.Growing.{Extended, extended}
-use Rattle.code_follows.proofs.Settings.{Setting, Within, and_one, layout, onto}
+use Rattle.code_follows.proofs.Settings.{Setting, Within, and_one, layout, onto, start}
 use Rattle.code_follows.proofs.Words.{below_word}
 use Rattle.fields_follow.specs.Fragment.{HasOperation, IsOperand, IsOperation, IsPromoted, IsPure, IsTarget, IsUpdate, IsWide}
 use Rattle.fields_follow.specs.Fields.{IsElement, file_number}
@@ -71,7 +71,7 @@ use Rattle.fields_follow.proofs.Outcomes.{Ended, meant, outcome_follows}
 use Rattle.fields_follow.proofs.Leaving.{Leaves, PassesTests, UpdateLeaves}
 use Rattle.fields_follow.proofs.Passing.{After, Passes, after_same, code_longer, made_after, passes_all}
 use Rattle.fields_follow.proofs.PassingTests.{tests_passed}
-use Rattle.fields_follow.proofs.Places.{HoldsTheFields, IsFileField, PlacesFields}
+use Rattle.fields_follow.proofs.Places.{HoldsTheFields, IsFileField, PlacesFields, names_first, stands_here}
 use Rattle.fields_follow.proofs.Updates.{IsFileTarget, assign_ends, assign_means, assigned_divides, assigned_is, divides_as, divides_never, file_target, promoted_wide, step_means, updated_is}
 use Rattle.fields_follow.proofs.Sizes.{operand_small}
 use Rattle.fields_follow.proofs.Totals.{held_below}
@@ -81,6 +81,8 @@ use Rattle.fields_follow.proofs.Effects.{IsEntryFor, in_place_last, put_last}
 use Rattle.fields_follow.proofs.Expressions.{operand_at}
 use Rattle.code_follows.specs.Fragment.{ScalarsAmong}
 use Rattle.fields_follow.proofs.Starts.{Starts, starts_later}
+use Rattle.fields_follow.proofs.Variables.{file_carries}
+use Rattle.paris_code.specs.Spans.{IsNamedAt}
 
 module _ (g : Setting) (has : HasRegisters g) (alive : Variable → Type 0) (n : ℕ) (ready : (d : Draft) → IsReadyButForFields g.typed g.instance (layout g) n d) (places : PlacesFields g) (fields : HoldsTheFields g) where
   -- What comes last writes the variable where it is active: with the entry for it before, the code leaves a state that
@@ -364,7 +366,7 @@ module _ (g : Setting) (has : HasRegisters g) (alive : Variable → Type 0) (n :
   steps : (ty : ValueType) (op : StepOp) (order : StepOrder) (p : Boxed) (target : TExpr) (set : ℕ) → ty ≡ type_of target → IsTarget set target → (ty.elem.bits == 1) ≡ false → NamesVariables g.typed g.instance n target
       → (d : Draft) (s : CodeState) (st : State) → Starts g alive s (length d.code) d.regs → Sim g alive st s
       → UpdateLeaves g alive fields (T.Step' ty op order p target) d s st
-  unfolding effect_of step_effect variable_stepped word_in
+  unfolding effect_of step_effect variable_stepped word_in step_of
   steps ty op order p target set same is_target no_truth names d s st here sim =
       outcome_follows g s (meant g fields (T.Step' ty op order p target) st) means.0 u (λ out e. Leaves g alive d e s u) (λ v t out e. Leaves g alive d e s t) (effect_of g.typed (layout g) (T.Step' ty op order p target) d) (λ out e said. said)
       (after_same g Q
@@ -373,7 +375,9 @@ module _ (g : Setting) (has : HasRegisters g) (alive : Variable → Type 0) (n :
       ∙ ap (λ act. Makes (O.Field f) (with_instr (I.OperateConstant act f f (K.Imm 1)) d1)) (step_operates op signed))
       (made_after g Q (O.Field f) (with_instr i d1) (λ within.
       let file : IsFileField g h.k 0 f = entry_for set h.k h.info h.is d s st (with_instr i d1) 1 (and_one g i d1) within in
-      let numbers = variable_has g has alive n ready places fields set h.k h.info f s st h.is file refl refl sim in
+      let named : IsNamedAt g.unit f.offset (length d1.code) = names_first g i f (f ∷ []) (length d1.code) (stands_here g i d1 within refl) refl in
+      let behind : s.at ≤ start g + length d1.code = (let at = here.stands in omega (arith, at)) in
+      let numbers = variable_has g has alive n ready places fields set (V.File h.k) h.info f s st (file_carries g alive places fields set h.k h.info f h.is file refl refl) (length d1.code) named behind sim in
       inl (
         means.1,
         leaves_value set h.k h.info h.is d s st (λ x. outcome (stepping op) 32 (not signed) (held elem (old x)) 1) w

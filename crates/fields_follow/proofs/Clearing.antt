@@ -27,7 +27,7 @@ use Rattle.paris_code.specs.Writes.{Write, covers, written}
 use Rattle.source_meaning.specs.State.{State}
 use Rattle.source_meaning.specs.Values.{nonzero}
 use Rattle.code_follows.proofs.Growing.{Extended, and_instr, extended}
-use Rattle.code_follows.proofs.Settings.{At, Reaches, Setting, StandsBelow, Within, and_one, at_next, begins_here, code_more, earlier, one_writes, onto, placed_instr}
+use Rattle.code_follows.proofs.Settings.{At, Reaches, Setting, StandsBelow, Within, and_one, at_next, begins_here, code_more, earlier, one_writes, onto, placed_instr, start}
 use Rattle.constant_trees.proofs.Words.{from_bool_below}
 use Rattle.fields_follow.specs.Fields.{IsElement}
 use Rattle.fields_follow.proofs.Bits.{active_apart, field_apart}
@@ -182,7 +182,7 @@ module _ (g : Setting) (places : PlacesFields g) (fields : HoldsTheFields g) (al
     passes,
     joined_takes g set offset bits some is_or a b e2 two.passes.t v w (entry_ends g places fields alive set k 0 info (field_at set offset bits) is word is_file refl) (entry_and_below g places fields alive set k 0 info (field_at set offset bits) is word is_file refl) (λ q below. cleared_still a q (one.apart k info is more))
         (λ q below. cleared_still b q (two.apart k info is more)) within two.passes.at.stands
-        (λ q below on. still q below ∙ one.are q below (active q below ∙ on)) (λ q below on. two.are q below (active q below ∙ on)),
+        (λ q below on. still q below ∙ one.are early q below (active q below ∙ on)) (λ q below on. two.are behind_b q below (active q below ∙ on)),
   )
     where
       cleared_one : Draft
@@ -336,6 +336,9 @@ module _ (g : Setting) (places : PlacesFields g) (fields : HoldsTheFields g) (al
       sim_between : Sim g alive st between
       sim_between = own_sim g places fields alive set dest two.passes.t st (λ q. 0) two.passes.sim refl ends.0 ends.1 (record { write = clears g set (length d.fields) bits some is_or a b e2 two.passes.t; run = refl; writes = λ p. refl; value = λ p below active. refl; small = λ p below active. omega arith }) (two.passes.t.at + 1) own
 
+      at_between : between.at ≤ start g + length cleared_one.code
+      at_between = let there = two.passes.at.stands in omega (arith, there, long)
+
       -- own entries that are named by now and where the bits are joined are not cleared
       others_stay : (h : Field) (first q : ℕ) → (h.offset ≡ dest.offset → ⊥) → IsOwnField g h → IsNamedAt g.unit h.offset first → first < length e2.code → IsNamedAt g.unit h.offset (length cleared_one.code) → number_in g h between q ≡ number_in g h two.passes.t q
       others_stay h first q other is_own before early_on after =
@@ -346,13 +349,13 @@ module _ (g : Setting) (places : PlacesFields g) (fields : HoldsTheFields g) (al
           one.lasts between (length cleared_one.code) sim_between
           (λ h first p new inside is_own ends_below before early_on after.
           others_stay h first p (λ same. omega (arith, same, new, first_longer)) is_own before (let more = code_longer e1 e2 two.passes.grown.0 two.passes.grown.1 in omega (arith, early_on, more)) after
-          ∙ two.passes.stays behind_b h first (length cleared_one.code) p inside is_own ends_below before early_on after (omega (arith, long))) named_a q below
+          ∙ two.passes.stays behind_b h first (length cleared_one.code) p inside is_own ends_below before early_on after (omega (arith, long))) named_a (let more = code_longer e1 e2 two.passes.grown.0 two.passes.grown.1 in omega (arith, more, long)) at_between q below
           ∙ sym (truth_still g alive places fields taken_first e1 e2 s set st v a (Behind g b e2) (length cleared_one.code) one two.passes behind_b named_a (omega (arith, long)) q below)
 
       still_b : (q : ℕ) → q < processors (shapes g) set → number_in g b between q ≡ number_in g b two.passes.t q
       still_b q below =
           two.lasts between (length cleared_one.code) sim_between
-          (λ h first p new inside is_own ends_below before early_on after. others_stay h first p (λ same. (let more = fields_longer taken_first e1 one.passes.grown.0 one.passes.grown.1 in omega (arith, same, new, first_longer, more))) is_own before early_on after) named_b q below
+          (λ h first p new inside is_own ends_below before early_on after. others_stay h first p (λ same. (let more = fields_longer taken_first e1 one.passes.grown.0 one.passes.grown.1 in omega (arith, same, new, first_longer, more))) is_own before early_on after) named_b (omega (arith, long)) at_between q below
 
       active : (q : ℕ) → q < processors (shapes g) set → fields.active set q ≡ is_active (shapes g) two.passes.t.memory set q
       active q below = sym (flags_of g alive places fields st two.passes.t set q two.passes.sim two.exists below)
@@ -360,4 +363,4 @@ module _ (g : Setting) (places : PlacesFields g) (fields : HoldsTheFields g) (al
       takes : TakesBehind g set dest e2 own_behind two.passes.t joins_to
       takes =
           joined_takes g set (length d.fields) bits some is_or a b e2 two.passes.t v w ends (λ f there. places.own_and_below dest f own there) still_a still_b within two.passes.at.stands
-          (λ q below on. truth_still g alive places fields taken_first e1 e2 s set st v a (Behind g b e2) (length cleared_one.code) one two.passes behind_b named_a (omega (arith, long)) q below ∙ one.are q below (active q below ∙ on)) (λ q below on. two.are q below (active q below ∙ on))
+          (λ q below on. truth_still g alive places fields taken_first e1 e2 s set st v a (Behind g b e2) (length cleared_one.code) one two.passes behind_b named_a (omega (arith, long)) q below ∙ one.are early q below (active q below ∙ on)) (λ q below on. two.are behind_b q below (active q below ∙ on))

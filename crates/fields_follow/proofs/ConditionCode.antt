@@ -214,8 +214,9 @@ module _ (g : Setting) (alive : Variable → Type 0) (places : PlacesFields g) (
       then_after g (Told d s set st v) (λ _ f. Tests d s set st u f) part (put test) h next_extends (λ x e1 (a, (is, gives)).
       after_same g (λ _ f. Tests d s set st u f) (ap (λ (o : Out). put test o e1) is)
       (made_after g (λ _ f. Tests d s set st u f) tt (with_instr (test a) e1) (λ within.
-      tested_behind g alive fields places set d e1 (test a) s st u (Behind g a e1) gives.passes (length e1.code, (names_first g (test a) a [] (length e1.code) (stands_here g (test a) e1 within (plain a)) (names a), omega arith)) gives.exists within
-      (puts a gives.passes.t gives.tells))))) told
+      let behind : Behind g a e1 = (length e1.code, (names_first g (test a) a [] (length e1.code) (stands_here g (test a) e1 within (plain a)) (names a), omega arith)) in
+      tested_behind g alive fields places set d e1 (test a) s st u (Behind g a e1) gives.passes behind gives.exists within
+      (puts a gives.passes.t (gives.tells behind)))))) told
     where
       next_extends : (x : Out) (e1 : Draft) → Extends g e1 (put test x e1)
       next_extends (O.Field f) e1 = (1, and_one g (test f) e1)

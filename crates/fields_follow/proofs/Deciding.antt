@@ -209,9 +209,10 @@ module _ (g : Setting) where
               (then_known g s (meant g fields inner st) (words_of inner) st (Truth g alive places fields d s set st (words_of inner)) Q (then_make tests (stored_behind set)) (bit_moved f) (flag_after g alive places fields (meant g fields inner st) (words_of inner) set (words_of inner) d s st tests (condition_tested g has alive n ready places fields set inner is c d s st here sim))
               (λ kept e2. (1, and_one g (I.Move false f kept) e2))
               (λ given kept e2 bit. made_after g Q (O.Field f) (with_instr (I.Move false f kept) e2) (λ within.
-              last (gives given) e2 (with_instr (I.Move false f kept) e2) (Behind g kept e2) within bit.passes (length e2.code, (names_second g (I.Move false f kept) f kept [] (length e2.code) (stands_here g (I.Move false f kept) e2 within refl) refl, omega arith))
+              let behind : Behind g kept e2 = (length e2.code, (names_second g (I.Move false f kept) f kept [] (length e2.code) (stands_here g (I.Move false f kept) e2 within refl) refl, omega arith)) in
+              last (gives given) e2 (with_instr (I.Move false f kept) e2) (Behind g kept e2) within bit.passes behind
               (takes_behind bits refl (I.Move false f kept) e2 (words_of e) (Behind g kept e2) bit.passes within
-              (puts_bit g set f kept bit.passes.t (words_of e) bit.len (λ q below on. bit.are q below (sym (flags_of g alive places fields st bit.passes.t set q bit.passes.sim bit.exists below) ∙ on) ∙ ap from_bool (same_truth q below)) truth)))) (λ early. ended (ends early)))
+              (puts_bit g set f kept bit.passes.t (words_of e) bit.len (λ q below on. bit.are behind q below (sym (flags_of g alive places fields st bit.passes.t set q bit.passes.sim bit.exists below) ∙ on) ∙ ap from_bool (same_truth q below)) truth)))) (λ early. ended (ends early)))
 
       by_test : (e : TExpr) → IsCondition set e → has_truth e ≡ true → HasItsCode g.typed g.instance alive n e → ((q : ℕ) → words_of e q ≡ from_bool (nonzero (words_of e q)))
           → computed_to g.typed (layout g) (O.Field f) e d ≡ then_make (truth_of g.typed (layout g) e d) (put_in f) → Last e → Ends e → After g Q (computed_to g.typed (layout g) (O.Field f) e d)
@@ -229,11 +230,12 @@ module _ (g : Setting) where
           (λ given x e2 (a, (same, bit)). after_same g Q (ap (λ (o : Out). bit_turned set offset o e2) same)
           (made_after g Q (O.Field (field_at set offset 1)) (with_instr (I.Lognot (field_at set offset 1) a) e2) (λ within.
           let i : Instr = I.Lognot (field_at set offset 1) a in
+          let behind : Behind g a e2 = (length e2.code, (names_second g i _ a [] (length e2.code) (stands_here g i e2 within refl) refl, omega arith)) in
           let puts : Puts g set i (field_at set offset 1) bit.passes.t (words_of e) =
           subst (λ (v : ℕ → ℕ). Puts g set i (field_at set offset 1) bit.passes.t v) value
-          (puts_turned g set offset a bit.passes.t (words_of operand) (λ q below on. bit.are q below (sym (flags_of g alive places fields st bit.passes.t set q bit.passes.sim bit.exists below) ∙ on))) in
+          (puts_turned g set offset a bit.passes.t (words_of operand) (λ q below on. bit.are behind q below (sym (flags_of g alive places fields st bit.passes.t set q bit.passes.sim bit.exists below) ∙ on))) in
           subst (λ (m : ℕ). Q (O.Field (field_at set offset m)) (with_instr i e2)) is_one
-          (last (gives given) e2 (with_instr i e2) (Behind g a e2) within bit.passes (length e2.code, (names_second g i _ a [] (length e2.code) (stands_here g i e2 within refl) refl, omega arith)) (takes_behind 1 (sym is_one) i e2 (words_of e) (Behind g a e2) bit.passes within puts))))) (λ early. ended (ends early)))
+          (last (gives given) e2 (with_instr i e2) (Behind g a e2) within bit.passes behind (takes_behind 1 (sym is_one) i e2 (words_of e) (Behind g a e2) bit.passes within puts))))) (λ early. ended (ends early)))
         where
           grows : (x : Out) (e2 : Draft) → Extends g e2 (bit_turned set offset x e2)
           grows (O.Field a) e2 = (1, and_one g (I.Lognot (field_at set offset 1) a) e2)
@@ -266,7 +268,7 @@ module _ (g : Setting) where
               let on : (q : ℕ) → q < processors (shapes g) set → is_active (shapes g) right_bit.passes.t.memory set q ≡ true → fields.active set q ≡ true = λ q below active. sym (flags_of g alive places fields st right_bit.passes.t set q right_bit.passes.sim right_bit.exists below) ∙ active in
               let puts : Puts g set i (field_at set offset 1) right_bit.passes.t (words_of e) =
               subst (λ (v : ℕ → ℕ). Puts g set i (field_at set offset 1) right_bit.passes.t v) value
-              (puts_joined g is_or set offset a b right_bit.passes.t (words_of left) (words_of right) (λ q below active. still q below ∙ left_bit.are q below (on q below active)) (λ q below active. right_bit.are q below (on q below active))) in
+              (puts_joined g is_or set offset a b right_bit.passes.t (words_of left) (words_of right) (λ q below active. still q below ∙ left_bit.are early q below (on q below active)) (λ q below active. right_bit.are behind_b q below (on q below active))) in
               subst (λ (m : ℕ). Q (O.Field (field_at set offset m)) (with_instr i e2)) is_one
               (last (gives given exists) e2 (with_instr i e2) (Unit {0}) within passes tt (takes_behind 1 (sym is_one) i e2 (words_of e) (Unit {0}) passes within puts)))) (λ early. ended (ends early)))
 

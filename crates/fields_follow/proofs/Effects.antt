@@ -1,6 +1,6 @@
 -- The code of an assignment to a parallel variable, or of a step of one, follows: its last instruction writes the
 -- variable itself.
-use Rattle.std.proofs.Common.{[], ◌≡◌, ◌∙◌, ℕ, ◌<◌, ◌≤◌, ◌^◌, ◌==◌, ◌||◌, Bool, true, false, not, length, Option, Some, None, refl, sym, ap, subst, arith, ◌⊎◌, inl, inr, if◌then◌else◌, ◌&&◌}
+use Rattle.std.proofs.Common.{[], ◌≡◌, ◌∙◌, ℕ, ◌<◌, ◌≤◌, ◌==◌, ◌||◌, Bool, true, false, not, length, Option, Some, None, refl, sym, ap, subst, arith, ◌⊎◌, inl, inr, if◌then◌else◌, ◌&&◌, ◌+◌}
 use Rattle.cstar_base.specs.declared.operators.Op.{Op}
 use Rattle.cstar_base.specs.declared.operators.Place.{Place}
 use Rattle.cstar_base.specs.declared.faults.RunFault.TheVariants.{DivZero}
@@ -20,13 +20,12 @@ use Rattle.code_lengths.specs.Ready.{IsReadyButForFields}
 use Rattle.lower_base.specs.declared.emit.Out.{Out}
 use Rattle.lower_base.specs.declared.emit.Out.TheVariants as O
 use Rattle.lower_base.specs.Drafts.{Draft, Fails, Made, Makes, a_field, an_entry, in_field, step as step_of, then_make, with_instr}
-use Rattle.lower_base.specs.Layouts.{register_of}
 use Rattle.lower_base.specs.Operators.{negates}
 use Rattle.lower_expr.specs.Effects.{binary_to, bits_for, cast_to, computed_to, converted_to, field_binary_to, field_operated, fits_field, goes_unchanged, gone_to, keeps_bits, moved, put_to}
 use Rattle.lower_expr.specs.Kinds.{done_as, operand_bits, operation_bits, reads_signed, unary_bits}
-use Rattle.lower_expr.specs.Operands.{is_plus, is_quiet, operand_by, own_of}
+use Rattle.lower_expr.specs.Operands.{is_plus, is_quiet, operand_by}
 use Rattle.lower_expr.specs.Spots.{field_loaded, loaded, variable_spot}
-use Rattle.lower_expr.specs.Steps.{is_kept, put_in_field, put_value, right_operated, word_for, word_of, word_put}
+use Rattle.lower_expr.specs.Steps.{is_kept, put_in_field, put_value, right_operated, word_for, word_put}
 use Rattle.lower_expr.specs.Values.{extended, field_binary_of, fields_by, next_of, read_to, right_by, spot_of, tested, truth_put, value_of}
 use Rattle.paris_code.specs.declared.instr.Instr.{Instr}
 use Rattle.paris_code.specs.declared.instr.Instr.TheVariants as I
@@ -45,22 +44,23 @@ use Rattle.vp_sets.specs.Positions.{coordinate}
 use Rattle.code_follows.proofs.Following.{Extends, Finishes, HasRegisters, Sim, extends_then, held}
 use Rattle.code_follows.proofs.Growing.{Extended}
 use Rattle.code_follows.proofs.Words.{held_wide}
-use Rattle.code_follows.proofs.Settings.{Setting, Within, and_one, layout}
+use Rattle.code_follows.proofs.Settings.{Setting, Within, and_one, layout, start}
 use Rattle.fields_follow.specs.Fragment.{AreWrapping, HasKnownKind, IsOperand, IsOperation, IsPromoted, IsPure, IsRelation, IsWide}
 use Rattle.fields_follow.proofs.Extents.{get_names}
 use Rattle.fields_follow.specs.Fields.{IsElement, file_number}
-use Rattle.fields_follow.proofs.Forms.{HasItsCode, HasItsWord, StandsInRegister, element_is, field_is, promoted_stands, pure_kept, pure_word}
+use Rattle.fields_follow.proofs.Forms.{HasItsCode, HasItsWord, element_is, field_is, pure_kept, pure_word}
 use Rattle.fields_follow.proofs.Dividing.{zero_at}
 use Rattle.fields_follow.proofs.Outcomes.{Ended, ended_back, meant, then_known}
 use Rattle.fields_follow.proofs.Pure.{get_gives}
 use Rattle.fields_follow.proofs.Hops.{puts_same}
 use Rattle.fields_follow.proofs.Instructions.{AreAlike, Puts, alike_same, extents, shapes, puts_alike, puts_constant, puts_coordinate, puts_extended, puts_move, word_in}
 use Rattle.fields_follow.proofs.Lengths.{Keeps, divides_wide}
-use Rattle.fields_follow.proofs.Meaning.{as_shaped, promoted_means, read_is, right_of, unary_means, value_in, word_at}
+use Rattle.fields_follow.proofs.Meaning.{as_shaped, read_is, right_of, unary_means, value_in, word_at}
 use Rattle.fields_follow.proofs.News.{get_last}
-use Rattle.fields_follow.proofs.Operands.{GivesRight, Takes, fields_after, operated_after, operated_extends, register_has, register_is, right_after, right_extends}
-use Rattle.fields_follow.proofs.Passing.{After, Behind, GivesField, Passes, after_same, fields_longer, made_after, passes_all, passes_from, then_after}
+use Rattle.fields_follow.proofs.Operands.{GivesRight, Takes, fields_after, operated_after, operated_extends, right_after, right_extends, constant_given}
+use Rattle.fields_follow.proofs.Passing.{After, Behind, GivesField, Passes, after_same, fields_longer, made_after, passes_all, passes_from, then_after, names_second}
 use Rattle.fields_follow.proofs.Places.{HoldsTheFields, IsFileField, PlacesFields, stands_here}
+use Rattle.fields_follow.proofs.Promoted.{IsComputed, computed_after, promoted_stands}
 use Rattle.fields_follow.proofs.Sizes.{binary_parts, brackets_part, convert_part, unary_part}
 use Rattle.fields_follow.proofs.Totals.{held_below}
 use Rattle.fields_follow.proofs.Values.{and_entry, next_field, one_more, operand_of, taken, variable_has, with_entry}
@@ -73,6 +73,9 @@ use Rattle.std.proofs.lemmas.Bool.{eqb-true}
 use Rattle.std.proofs.lemmas.Bool.Decides.{nat_tests}
 use Rattle.std.specs.Prelude.{nat_le}
 use Rattle.fields_follow.proofs.Starts.{Starts}
+use Rattle.fields_follow.proofs.Spreading.{GivesWord}
+use Rattle.fields_follow.proofs.Variables.{file_carries}
+use Rattle.paris_code.specs.Spans.{IsNamedAt}
 
 module _ (g : Setting) (has : HasRegisters g) (alive : Variable → Type 0) (n : ℕ) (ready : (d : Draft) → IsReadyButForFields g.typed g.instance (layout g) n d) (places : PlacesFields g) (fields : HoldsTheFields g) where
   abbrev operand : ℕ → Bool → TExpr → Draft → Made Out
@@ -102,7 +105,7 @@ module _ (g : Setting) (has : HasRegisters g) (alive : Variable → Type 0) (n :
 
   -- a copy of a variable, cut or extended
   copied_last : (set k offset bits : ℕ) (ty : ValueType) → bits ≤ 32 → ty.shape ≡ Some set → HasVariable g.typed g.instance n (V.File k) (plain ty) → PutsWords set offset bits (T.Variable ty (V.File k))
-  unfolding computed_to read_to spot_of variable_spot loaded in_field field_loaded then_make an_entry passes_from value_in evaluated
+  unfolding computed_to read_to spot_of variable_spot loaded in_field field_loaded then_make an_entry passes_from value_in evaluated step_of
   copied_last set k offset bits ty most shaped v d s st here sim Q last ended =
       let f : Field = field_at set offset bits in
       let info : VarInfo = variable_info v.word (plain ty) v.start in
@@ -116,7 +119,9 @@ module _ (g : Setting) (has : HasRegisters g) (alive : Variable → Type 0) (n :
       ∙ ap (λ (m : Made Field). then_make m (λ h after. Makes (O.Field f) (with_instr (I.Move ty.elem.signed f h) after))) (field_is g k 0 set info d is))
       (made_after g Q (O.Field f) (with_instr i d2) (λ within.
       let file : IsFileField g k 0 source = taken g set info.elem.bits owner d (with_instr i d2) 1 within (and_one g i d2) in
-      let numbers = variable_has g has alive n ready places fields set k info source s st is file refl refl sim in
+      let named : IsNamedAt g.unit source.offset (length d2.code) = names_second g i f source [] (length d2.code) (stands_here g i d2 within refl) refl in
+      let behind : s.at ≤ start g + length d2.code = (let at = here.stands in omega (arith, at)) in
+      let numbers = variable_has g has alive n ready places fields set (V.File k) info source s st (file_carries g alive places fields set k info source is file refl refl) (length d2.code) named behind sim in
       last (ap (λ (x : Value). Source.Gives x st) (read_is fields.scope fields.active ty set k st shaped)) d2 i within (passes_from g alive (length d.fields) d d2 d2 s st (Unit {0}) (and_entry set info.elem.bits owner d) (passes_all g alive (length d.fields) d2 s st (Unit {0}) here sim))
       (puts_extended g info.elem set f source s (λ q. held info.elem (st.parallel (V.File k) 0 q)) most (λ q below on. numbers.1 q below) numbers.0)))
 
@@ -276,53 +281,43 @@ module _ (g : Setting) (has : HasRegisters g) (alive : Variable → Type 0) (n :
   computed_last set offset bits (T.LogicalAnd' ty p left q right) some most is plain c = absurd plain
   computed_last set offset bits _ some most is plain c = absurd is
 
-  -- a promoted variable
-  register_code : (set offset bits : ℕ) (e : TExpr) → IsPromoted set e → (h : StandsInRegister g.typed g.instance alive e) → (d : Draft)
-      → computed_to g.typed (layout g) (O.Field (field_at set offset bits)) e d ≡ Makes (O.Field (field_at set offset bits)) (with_instr (I.MoveConstant (field_at set offset bits) (K.Reg (register_of (layout g) h.x))) d)
-  unfolding IsPromoted computed_to moved bits_for then_make put_value put_in_field word_of own_of value_in
-  register_code set offset bits (T.Promote' ty p inner) is h d =
-      ap (λ (m : Made Out). then_make m (λ v after. put_value (O.Field (field_at set offset bits)) v after)) (register_is g has alive n ready places fields bits set (T.Promote' ty p inner) is h d)
-  register_code set offset bits (T.Brackets' ty p inner) is h d =
-      register_code set offset bits inner is.1 (record {
-        x = h.x;
-        info = h.info;
-        no_word = h.no_word;
-        own = h.own;
-        known = h.known;
-        lives = h.lives;
-        scalar = h.scalar;
-        value = λ extents st q. ap (λ (y : ValueType). held y.elem (value_in extents st inner q)) (sym is.0) ∙ h.value extents st q;
-      }) d
-  register_code set offset bits _ is h d = absurd is
+  value_put : (f : Field) (x : Out) (after : Draft) → Extends g after (put_value (O.Field f) x after)
+  unfolding Extends put_value put_in_field
+  value_put f (O.Scalar r) after = (1, and_one g (I.MoveConstant f (K.Reg r)) after)
+  value_put f (O.Field source) after = (1, and_one g (I.Move true f source) after)
+  value_put f O.Nothing after = tt
 
   -- any operand that is no truth value
   pub put_last : (set offset bits : ℕ) (e : TExpr) → 0 < bits → bits ≤ 32 → (IsPure set e × IsPlain bits e) ⊎ IsPromoted set e → HasItsCode g.typed g.instance alive n e → PutsLast set (field_at set offset bits) e (λ d. put_to g.typed (layout g) (O.Field (field_at set offset bits)) e d)
-  unfolding put_to word_for word_put word_in
+  unfolding put_to word_for word_put put_value put_in_field then_make
   put_last set offset bits e some most (inl (pure, plain)) c d s st here sim Q last ended =
       let f : Field = field_at set offset bits in
       after_same g Q (ap (λ (o : Option ℕ). elim o as (λ _. Made Out) [ Some word ↦ word_put (O.Field f) word d | None ↦ computed_to g.typed (layout g) (O.Field f) e d ]) (pure_word set e pure))
       (computed_last set offset bits e some most pure plain c d s st here sim Q last ended)
-  put_last set offset bits e some most (inr promoted) c d s st here sim Q last ended = by (promoted_stands g.typed g.instance alive n set e promoted c.code.names c.among)
+  put_last set offset bits e some most (inr promoted) c d s st here sim Q last ended = by (promoted_stands g alive n set e promoted c)
     where
       f : Field
       f = field_at set offset bits
 
-      is_given : IsGiven set e st
-      is_given = promoted_means fields.scope fields.active set (extents g set) e st promoted
+      P : Out → Draft → Type 0
+      P out e1 = (r : ℕ) × ((out ≡ O.Scalar r) × GivesWord g alive (length d.fields) d s st (words_of set e st) (K.Reg r) e1)
 
-      by : HasItsWord e ⊎ StandsInRegister g.typed g.instance alive e → After g Q (put_to g.typed (layout g) (O.Field f) e d)
-      by (inl h) =
-          let same_all : (λ (q : ℕ). h.word) ≡ words_of set e st = λ j q. sym (h.value (extents g set) st q) j in
-          after_same g Q (ap (λ (o : Option ℕ). elim o as (λ _. Made Out) [ Some word ↦ word_put (O.Field f) word d | None ↦ computed_to g.typed (layout g) (O.Field f) e d ]) h.is)
-          (made_after g Q (O.Field f) (with_instr (I.MoveConstant f (K.Imm h.word)) d) (λ within.
-          last is_given d (I.MoveConstant f (K.Imm h.word)) within (passes_all g alive (length d.fields) d s st (Unit {0}) here sim) (subst (λ (v : ℕ → ℕ). Puts g set (I.MoveConstant f (K.Imm h.word)) f s v) same_all (puts_constant g set f (K.Imm h.word) s h.small))))
-      by (inr h) =
-          let k : Konst = K.Reg (register_of (layout g) h.x) in
-          let holds = register_has g has alive n ready places fields e h st s sim in
-          let same_all : (λ (q : ℕ). word_in g k s) ≡ words_of set e st = λ j q. (holds.0 ∙ sym (h.value (extents g set) st q)) j in
-          after_same g Q (ap (λ (o : Option ℕ). elim o as (λ _. Made Out) [ Some word ↦ word_put (O.Field f) word d | None ↦ computed_to g.typed (layout g) (O.Field f) e d ]) h.no_word ∙ register_code set offset bits e promoted h d)
-          (made_after g Q (O.Field f) (with_instr (I.MoveConstant f k) d) (λ within.
-          last is_given d (I.MoveConstant f k) within (passes_all g alive (length d.fields) d s st (Unit {0}) here sim) (subst (λ (v : ℕ → ℕ). Puts g set (I.MoveConstant f k) f s v) same_all (puts_constant g set f k s (subst (λ (w : ℕ). w < 2 ^ 32) (sym holds.0) holds.1)))))
+      code : Option ℕ → Made Out
+      code o = elim o as (λ _. Made Out) [ Some word ↦ word_put (O.Field f) word d | None ↦ computed_to g.typed (layout g) (O.Field f) e d ]
+
+      -- the word of a register, or a constant, goes to the field
+      move : (k : Konst) (e1 : Draft) → IsGiven set e st → (gives : GivesWord g alive (length d.fields) d s st (words_of set e st) k e1) → Within g (with_instr (I.MoveConstant f k) e1) → Q (O.Field f) (with_instr (I.MoveConstant f k) e1)
+      move k e1 is gives within =
+          let same_all : (λ (q : ℕ). word_in g k gives.passes.t) ≡ words_of set e st = λ j q. sym (gives.same q) j in
+          last is e1 (I.MoveConstant f k) within gives.passes (subst (λ (v : ℕ → ℕ). Puts g set (I.MoveConstant f k) f gives.passes.t v) same_all (puts_constant g set f k gives.passes.t gives.small))
+
+      by : HasItsWord e ⊎ IsComputed g alive n e → After g Q (put_to g.typed (layout g) (O.Field f) e d)
+      by (inl h) = after_same g Q (ap code h.is)
+          (made_after g Q (O.Field f) (with_instr (I.MoveConstant f (K.Imm h.word)) d) (λ within. move (K.Imm h.word) d (h.means fields.scope fields.active (extents g set) st) (constant_given g has alive n ready places fields (length d.fields) set e h d s st here sim) within))
+      by (inr h) = after_same g Q (ap code h.no_word ∙ h.computed f d ∙ ap (λ (m : Made Out). then_make m (λ v after. put_value (O.Field f) v after)) (sym (h.code true bits d)))
+          (then_known g s (meant g fields e st) (λ q. value_in (extents g set) st e q) st P Q (operand_of g has alive n ready places fields bits true e d) (λ v after. put_value (O.Field f) v after)
+          (computed_after g alive n has ready fields set bits (length d.fields) true e h d s st here sim) (λ x after. value_put f x after)
+          (λ is x e1 (r, (is_r, gives)). after_same g Q (ap (λ (o : Out). put_value (O.Field f) o e1) is_r) (made_after g Q (O.Field f) (with_instr (I.MoveConstant f (K.Reg r)) e1) (λ within. move (K.Reg r) e1 is gives within))) ended)
 
   -- An operator on the field of a variable and a value. The field is an entry for the variable wherever the draft is
   -- within the unit.
@@ -340,7 +335,7 @@ module _ (g : Setting) (has : HasRegisters g) (alive : Variable → Type 0) (n :
       then_after g (GivesField g alive bits (length d1.fields) d1 s set st v) Q (Makes f d1) (λ a begun. then_make (right_by (operand bits true value) op value begun) (λ right after. right_operated op signed place f a right spare after))
       (made_after g (GivesField g alive bits (length d1.fields) d1 s set st v) f d1 (λ within. record {
         passes = passes_all g alive (length d1.fields) d1 s st (Behind g f d1) here sim;
-        stands = inr (record { k = k; info = info; is = is; file = entry d1 0 (and_entry set bits W.Own d) within; of_set = refl; len = refl; fits = omega arith; same = λ q below. (refl, held_below info.elem (st.parallel (V.File k) 0 q)) });
+        stands = inr (record { x = V.File k; info = info; carries = file_carries g alive places fields set k info f is (entry d1 0 (and_entry set bits W.Own d) within) refl refl; len = refl; fits = omega arith; same = λ q below. (refl, held_below info.elem (st.parallel (V.File k) 0 q)) });
       }))
       (λ a begun. extends_then g begun (right_by (operand bits true value) op value begun) (λ right after. right_operated op signed place f a right spare after) (right_extends g (operand bits true value) op value (λ after. operand_grows g has alive n ready places fields bits value c true after) begun) (λ right after. operated_extends g op signed place f a spare right after known.0))
       (λ a e1 one. then_known g one.passes.t (meant g fields value st) (λ q. value_in (extents g set) st value q) st (λ right e. Takes op right × GivesRight g has alive n ready places fields bits (length e1.fields) e1 one.passes.t set st w right e) Q (right_by (operand bits true value) op value e1) (λ right after. right_operated op signed place f a right spare after)

@@ -46,7 +46,7 @@ use Rattle.code_follows.proofs.Values.{extends_grown}
 use Rattle.code_follows.proofs.Words.{below_word, held_wide}
 use Rattle.fields_follow.specs.Fragment.{AreWrapping, IsOperation, IsPromoted, IsPure, IsWide}
 use Rattle.fields_follow.proofs.Extents.{get_names}
-use Rattle.fields_follow.proofs.Forms.{HasItsCode, HasItsWord, StandsInRegister, flag_converted, promoted_stands, pure_kept, pure_word}
+use Rattle.fields_follow.proofs.Forms.{HasItsCode, HasItsWord, flag_converted, pure_kept, pure_word}
 use Rattle.fields_follow.proofs.Hops.{puts_same}
 use Rattle.fields_follow.proofs.Instructions.{AreAlike, HasNumbers, Puts, alike_same, extents, has_alike, puts_coordinate, puts_extended, puts_lognot, puts_negate, shapes, whole_keeps}
 use Rattle.fields_follow.proofs.Lengths.{Keeps, converted_first, divides_wide, held_has, operation_keeps, operation_most}
@@ -55,8 +55,9 @@ use Rattle.fields_follow.proofs.News.{get_last}
 use Rattle.fields_follow.proofs.Operands.{fields_after}
 use Rattle.fields_follow.proofs.Outcomes.{Ended, Given, Known, ended_on, follows_like, given_follows, known_follows, meant, then_known}
 use Rattle.fields_follow.proofs.Pure.{get_gives}
-use Rattle.fields_follow.proofs.Passing.{After, Behind, Passes, after_same, fields_longer, gives_alike, gives_from, gives_numbers, gives_on, made_after, names_second, passes_all, puts_own}
+use Rattle.fields_follow.proofs.Passing.{After, Behind, Passes, after_same, fields_longer, gives_alike, gives_from, gives_numbers, gives_on, gives_set, made_after, names_second, passes_all, puts_own}
 use Rattle.fields_follow.proofs.Places.{HoldsTheFields, PlacesFields, stands_here}
+use Rattle.fields_follow.proofs.Promoted.{IsComputed, promoted_stands}
 use Rattle.fields_follow.proofs.Sizes.{binary_parts, convert_part, promoted_small, pure_at, unary_part}
 use Rattle.fields_follow.proofs.Totals.{held_below}
 use Rattle.fields_follow.proofs.Values.{Gives, IsFlag, Valued, and_entry, code_of, first_given, next_field, one_more, operand_after, operand_of, taken, with_entry}
@@ -192,7 +193,7 @@ module _ (g : Setting) (has : HasRegisters g) (alive : Variable → Type 0) (n :
         registers = gives.passes.registers;
         sim = gives.passes.sim;
         stays = λ u h first later p below. gives.passes.stays behind h first later p (omega (arith, below, less));
-      }) (puts a gives.passes.t (gives_numbers g alive places fields bits (length d.fields) d s set st v a e1 gives) gives.passes.sim)))) ended
+      }) (puts a gives.passes.t (gives_numbers g alive places fields bits (length d.fields) d s set st v a e1 gives behind) gives.passes.sim)))) ended
     where
       v : ℕ → ℕ
       v = λ q. word_at (extents g set) st inner q
@@ -288,14 +289,14 @@ module _ (g : Setting) (has : HasRegisters g) (alive : Variable → Type 0) (n :
   -- an operand of 32 bits is its word
   pub operand_at : (set : ℕ) (e : TExpr) (st : State) (s : CodeState) → Sim g alive st s → IsPure set e ⊎ IsPromoted set e → IsWide set (type_of e) → HasItsCode g.typed g.instance alive n e → (q : ℕ) → word_at (extents g set) st e q ≡ value_in (extents g set) st e q
   operand_at set e st s sim (inl pure) wide c q = pure_at g alive n places fields set e st s sim pure wide c q
-  operand_at set e st s sim (inr promoted) wide c q = held_wide (type_of e).elem (value_in (extents g set) st e q) wide.1 (below_word (type_of e).elem.bits _ wide.1 (promoted_small g alive n places fields set e st s sim promoted c.code.names c.among q))
+  operand_at set e st s sim (inr promoted) wide c q = held_wide (type_of e).elem (value_in (extents g set) st e q) wide.1 (below_word (type_of e).elem.bits _ wide.1 (promoted_small g alive n places fields set e st s sim promoted c q))
 
   -- a constant operand has its word
   pub constant_at : (set : ℕ) (e : TExpr) (st : State) → IsPure set e ⊎ IsPromoted set e → HasItsCode g.typed g.instance alive n e → (q word : ℕ) → word_of e ≡ Some word → word_at (extents g set) st e q ≡ word
   constant_at set e st (inl pure) c q word is = let none = sym (pure_word set e pure) ∙ is in cc
-  constant_at set e st (inr promoted) c q word is = by (promoted_stands g.typed g.instance alive n set e promoted c.code.names c.among)
+  constant_at set e st (inr promoted) c q word is = by (promoted_stands g alive n set e promoted c)
     where
-      by : HasItsWord e ⊎ StandsInRegister g.typed g.instance alive e → word_at (extents g set) st e q ≡ word
+      by : HasItsWord e ⊎ IsComputed g alive n e → word_at (extents g set) st e q ≡ word
       by (inl h) = h.value (extents g set) st q ∙ some_same h.word word (sym h.is ∙ is)
       by (inr h) = let none = sym h.no_word ∙ is in cc
 
@@ -354,7 +355,7 @@ module _ (g : Setting) (has : HasRegisters g) (alive : Variable → Type 0) (n :
       (made_after g (Knows bits d s set st (T.Pcoord ty axis)) (O.Field dest) (with_instr i d1) (λ within.
       let given = own_result {flag = IsFlag (T.Pcoord ty axis)} bits set d d1 s st v i within (passes_all g alive (length d.fields) d1 s st (Unit {0}) here sim)
       (puts_same g set i dest s (λ q. coordinate (extents g set) q axis) v (λ q below. sym (held_wide ty.elem (coordinate (extents g set) q axis) wide.1 (places.few set axis q))) (puts_coordinate g set axis dest s refl (λ p below. places.few set axis p))) in
-      inl (coordinate_means set axis ty st wide.0 (gives_numbers g alive places fields bits (length d.fields) d s set st v given.0 (with_instr i d1) given.1.1.0).exists, given))))
+      inl (coordinate_means set axis ty st wide.0 (gives_set g alive places fields bits (length d.fields) d s set st v given.0 (with_instr i d1) given.1.1.0).1, given))))
     where
       d1 : Draft
       d1 = with_entry set bits W.Own d

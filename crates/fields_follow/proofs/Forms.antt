@@ -2,7 +2,6 @@
 use Rattle.std.proofs.Common.{◌≡◌, ◌∙◌, ℕ, ◌+◌, ◌<◌, ◌≤◌, ◌^◌, ◌%◌, Bool, true, false, not, ◌&&◌, ◌||◌, ◌==◌, List, slice_get, Option, Some, None, refl, sym, ap, subst, inl, inr, if◌then◌else◌, ◌⊎◌, arith}
 use Rattle.std.specs.Prelude.{is_none, nat_le}
 use Rattle.std.proofs.lemmas.Bool.Decides.{nat_tests}
-use Rattle.constant_trees.proofs.Bringing.{right_false}
 use Rattle.cstar_base.specs.Numbers.{converted}
 use Rattle.cstar_tree.specs.declared.typed.Instance.{Instance}
 use Rattle.cstar_tree.specs.declared.typed.TExpr.{TExpr}
@@ -22,23 +21,22 @@ use Rattle.lower_expr.specs.declared.operands.Own.{Own}
 use Rattle.lower_expr.specs.Operands.{held, own_of}
 use Rattle.lower_expr.specs.Steps.{is_kept, register_word, word_of}
 use Rattle.paris_code.specs.declared.program.Owner.TheVariants as W
-use Rattle.source_meaning.specs.Constants.{is_constant, then_value}
+use Rattle.source_meaning.specs.Constants.{constant_of, is_constant, then_value}
 use Rattle.source_meaning.specs.Reductions.{int_type}
-use Rattle.source_meaning.specs.Expressions.{evaluated}
+use Rattle.source_meaning.specs.Expressions.{evaluated, mapped}
 use Rattle.source_meaning.specs.State.{Gives, Outcome, State, then_do}
-use Rattle.source_meaning.specs.Values.{Active, Parallel, Scope, Value, at, convert_to, each}
+use Rattle.source_meaning.specs.Values.{Active, Parallel, Scalar, Scope, Value, at, convert_to, each}
 use Rattle.code_follows.specs.Fragment.{ScalarsAmong}
 use Rattle.code_follows.proofs.Settings.{Setting, layout}
 use Rattle.code_follows.proofs.Standing.{some_same}
 use Rattle.std.proofs.lemmas.Bool.{eqb-true}
 use Rattle.code_follows.proofs.Following.{held as word_of_type}
 use Rattle.code_follows.proofs.Numbers.{held_zero}
-use Rattle.code_follows.proofs.Words.{held_converted, held_wide}
 use Rattle.fields_follow.proofs.Totals.{held_below}
-use Rattle.fields_follow.specs.Fragment.{IsConstant, IsDivisor, IsPromoted, IsPure, IsScalarName}
+use Rattle.fields_follow.specs.Fragment.{IsCalm, IsConstant, IsDivisor, IsPromoted, IsPure}
 use Rattle.fields_follow.specs.Fields.{IsElement, file_number}
 use Rattle.fields_follow.proofs.FileFields.{first_there}
-use Rattle.fields_follow.proofs.Meaning.{as_shaped, no_constant, read_is, scalar_constant, scalar_in, value_in, variable_in, word_at}
+use Rattle.fields_follow.proofs.Meaning.{as_shaped, computed_in, constant_means, mapped_is, no_constant, read_is, scalar_in, value_in, word_at}
 use Rattle.fields_follow.proofs.Lengths.{converted_first}
 use Rattle.lower_expr.specs.Kinds.{is_unchanged}
 use Rattle.cstar_base.specs.declared.elem.Elem.{Elem}
@@ -162,20 +160,6 @@ either_some true b own e = refl
 either_some false true own e = refl
 either_some false false own e = cc
 
--- a conversion of a scalar to 32 bits has no code where its operand stands
-unchanged_kept : (bits : ℕ) (elem : Elem) (kept : Bool) → elem.bits ≡ 32 → kept ≡ true → is_unchanged bits elem kept ≡ true
-unfolding is_unchanged
-unchanged_kept bits elem true wide e = ap (λ (n : ℕ). n == 32) wide
-unchanged_kept bits elem false wide e = cc
-
--- the value of a scalar variable stands in a register
-name_kept : (e : TExpr) → IsScalarName e → (type_of e).shape ≡ None → is_kept e ≡ true
-unfolding IsScalarName is_kept
-name_kept (T.Variable ty x) is none = ap is_none none
-name_kept (T.Brackets' ty p inner) is none = name_kept inner is.1 (ap (λ (y : ValueType). y.shape) (sym is.0) ∙ none)
-name_kept (T.Convert' ty p operand) is none = name_kept operand is.2 is.1.0
-name_kept _ is none = absurd is
-
 -- a type of one bit, as it is known, and a conversion to a type of more that is known to have one
 flag_elem : (elem : Elem) → bits_of (narrow elem) ≡ 1 → elem.bits ≡ 1
 unfolding bits_of narrow
@@ -250,21 +234,26 @@ pure_own t i n bits set (T.Pcoord ty axis) is v = inr refl
 pure_own t i n bits set (T.LeftIndex' ty place p indexes (V.File k) of) is v = inr refl
 pure_own t i n bits set _ is v = absurd is
 
--- a promoted scalar is a constant, whose word is known, or a variable of the file, which stands in its register
+-- a promoted scalar that is a constant, whose word is known
 pub record HasItsWord (e : TExpr) : Type 0 where
   pub word : ℕ
   pub is : word_of e ≡ Some word
   pub small : word < 2 ^ 32
   pub value : (extents : List ℕ) (st : State) (q : ℕ) → word_at extents st e q ≡ word
+  pub means : (scope : Scope) (active : Active) (extents : List ℕ) (st : State) → evaluated scope e active st ≡ Gives (Parallel (λ q. value_in extents st e q)) st
 
-constant_word : (set : ℕ) (ty : ValueType) (p : _) (operand : TExpr) → ty.elem ≡ (type_of operand).elem → (constant : IsConstant operand) → (h : HasItsWord (T.Promote' ty p operand)) × (h.word ≡ word_of_type (type_of operand).elem constant.0)
-unfolding word_of register_word value_in scalar_in
-constant_word set ty p operand same constant = (
+pub constant_word : (set : ℕ) (ty : ValueType) (p : _) (operand : TExpr) → ty.shape ≡ Some set → ty.elem ≡ (type_of operand).elem → (constant : IsConstant operand) → (h : HasItsWord (T.Promote' ty p operand)) × (h.word ≡ word_of_type (type_of operand).elem constant.0)
+unfolding word_of register_word value_in scalar_in evaluated then_do at
+constant_word set ty p operand shaped same constant = (
   record {
     word = word_of_type (type_of operand).elem constant.0;
     is = ap (λ (o : Option ℕ). then_value o (λ v. Some (converted int_type (type_of operand).elem v))) constant.1;
     small = held_below (type_of operand).elem constant.0;
-    value = λ extents st q. ap (λ (o : Option ℕ). word_of_type ty.elem (elim o [ Some word ↦ word | None ↦ variable_in st operand ])) constant.1 ∙ ap (λ (e : Elem). word_of_type e constant.0) same;
+    value = λ extents st q. ap (λ (o : Option ℕ). word_of_type ty.elem (elim o [ Some word ↦ word | None ↦ computed_in st operand q ])) constant.1 ∙ ap (λ (e : Elem). word_of_type e constant.0) same;
+    means = λ scope active extents st.
+        ap (λ (o : Outcome Value). then_do o (λ v after. Gives (mapped ty (λ w. w) v) after)) (constant_means scope active operand constant.0 st constant.1)
+        ∙ ap (λ (v : Value). Gives v st) (mapped_is scope active ty set (λ w. w) (Scalar constant.0) shaped)
+        ∙ ap (λ (o : Option ℕ). Gives (Parallel (λ q. elim o [ Some word ↦ word | None ↦ computed_in st operand q ])) st) (sym constant.1);
   },
   refl,
 )
@@ -274,7 +263,7 @@ pub divisor_word : (set : ℕ) (e : TExpr) (word : ℕ) → IsPromoted set e →
 unfolding IsPromoted IsDivisor word_of register_word
 divisor_word set (T.Promote' ty p operand) word is divisor is_word = by is.2.1
   where
-    by : IsConstant operand ⊎ IsScalarName operand → (word == 0) ≡ false
+    by : IsConstant operand ⊎ ((constant_of operand ≡ None) × IsCalm operand) → (word == 0) ≡ false
     by (inl constant) =
         let same : word_of_type (type_of operand).elem constant.0 ≡ word = some_same (word_of_type (type_of operand).elem constant.0) word (sym (ap (λ (o : Option ℕ). then_value o (λ v. Some (converted int_type (type_of operand).elem v))) constant.1) ∙ is_word) in
         ap (λ (w : ℕ). w == 0) (sym same) ∙ held_zero (type_of operand).elem constant.0 constant.2 ∙ unless (constant.0 == 0) refl
@@ -282,98 +271,9 @@ divisor_word set (T.Promote' ty p operand) word is divisor is_word = by is.2.1
         unless : (z : Bool) → (constant.0 == 0) ≡ z → (constant.0 == 0) ≡ false
         unless true none = absurd (divisor (constant.1 ∙ ap Some (eqb-true constant.0 0 none)))
         unless false some = some
-    by (inr variable) = let none = sym (ap (λ (o : Option ℕ). then_value o (λ v. Some (converted int_type (type_of operand).elem v))) (no_constant operand (scalar_constant operand variable))) ∙ is_word in cc
+    by (inr (none, calm)) = let wrong = sym (ap (λ (o : Option ℕ). then_value o (λ v. Some (converted int_type (type_of operand).elem v))) none) ∙ is_word in cc
 divisor_word set (T.Brackets' ty p inner) word is divisor is_word = divisor_word set inner word is.1 divisor is_word
 divisor_word set _ word is divisor is_word = absurd is
-
-pub record StandsInRegister (t : Typed) (i : Instance) (alive : Variable → Type 0) (e : TExpr) : Type 0 where
-  pub x : Variable
-  pub info : VarInfo
-  pub no_word : word_of e ≡ None
-  pub own : (bits : ℕ) → own_of bits e ≡ Some (record { shape = None; variable = x })
-  pub known : variable_named t i x ≡ Some info
-  pub lives : alive x
-  pub scalar : info.shape ≡ None
-  pub value : (extents : List ℕ) (st : State) (q : ℕ) → word_at extents st e q ≡ word_of_type info.elem (st.scalar x)
-
--- the same of the scalar itself
-record IsNamed (t : Typed) (i : Instance) (alive : Variable → Type 0) (e : TExpr) : Type 0 where
-  pub x : Variable
-  pub info : VarInfo
-  pub own : (bits : ℕ) → own_of bits e ≡ Some (record { shape = None; variable = x })
-  pub none : is_constant e ≡ false
-  pub known : variable_named t i x ≡ Some info
-  pub lives : alive x
-  pub scalar : info.shape ≡ None
-  pub value : (st : State) → word_of_type (type_of e).elem (variable_in st e) ≡ word_of_type info.elem (st.scalar x)
-
-named_scalar : (t : Typed) (i : Instance) (alive : Variable → Type 0) (n : ℕ) (e : TExpr) → IsScalarName e → (type_of e).shape ≡ None → NamesVariables t i n e → ScalarsAmong alive e → IsNamed t i alive e
-unfolding IsScalarName own_of NamesVariables variable_in is_constant ScalarsAmong
-named_scalar t i alive n (T.Variable ty x) is no_shape v among = record {
-  x = x;
-  info = variable_info v.word (plain ty) v.start;
-  own = λ bits. ap (λ (o : Option ℕ). if is_none o || nat_le bits ty.elem.bits then Some (record { shape = o; variable = x }) else None) no_shape;
-  none = refl;
-  known = v.named;
-  lives = among no_shape;
-  scalar = no_shape;
-  value = λ st. refl;
-}
-named_scalar t i alive n (T.Brackets' ty p inner) is no_shape v among =
-    let h = named_scalar t i alive n inner is.1 (ap (λ (y : ValueType). y.shape) (sym is.0) ∙ no_shape) v among in
-    record {
-      x = h.x;
-      info = h.info;
-      own = h.own;
-      none = right_false (is_none ty.shape && ty.elem.bits == (type_of inner).elem.bits) (is_constant inner) h.none;
-      known = h.known;
-      lives = h.lives;
-      scalar = h.scalar;
-      value = λ st. ap (λ (y : ValueType). word_of_type y.elem (variable_in st inner)) is.0 ∙ h.value st;
-    }
-named_scalar t i alive n (T.Convert' ty p operand) is no_shape v among =
-    let h = named_scalar t i alive n operand is.2 is.1.0 v among in
-    record {
-      x = h.x;
-      info = h.info;
-      own = λ bits. ap (λ (c : Bool). if c then own_of bits operand else None) (unchanged_kept bits ty.elem (is_kept operand) is.0.1 (name_kept operand is.2 is.1.0)) ∙ h.own bits;
-      none = right_false (is_none ty.shape) (is_constant operand) h.none;
-      known = h.known;
-      lives = h.lives;
-      scalar = h.scalar;
-      value = λ st.
-          ap (λ (w : ℕ). word_of_type ty.elem w) (held_converted ty.elem (type_of operand).elem (variable_in st operand) is.0.1)
-          ∙ held_wide ty.elem (word_of_type (type_of operand).elem (variable_in st operand)) is.0.1 (held_below (type_of operand).elem (variable_in st operand)) ∙ h.value st;
-    }
-named_scalar t i alive n _ is no_shape v among = absurd is
-
-pub promoted_stands : (t : Typed) (i : Instance) (alive : Variable → Type 0) (n set : ℕ) (e : TExpr) → IsPromoted set e → NamesVariables t i n e → ScalarsAmong alive e → HasItsWord e ⊎ StandsInRegister t i alive e
-unfolding IsPromoted word_of register_word own_of NamesVariables value_in scalar_in ScalarsAmong
-promoted_stands t i alive n set (T.Promote' ty p operand) is v among = by is.2.1
-  where
-    by : IsConstant operand ⊎ IsScalarName operand → HasItsWord (T.Promote' ty p operand) ⊎ StandsInRegister t i alive (T.Promote' ty p operand)
-    by (inl constant) = inl (constant_word set ty p operand is.1 constant).0
-    by (inr variable) = inr (
-        let h = named_scalar t i alive n operand variable is.2.0 v among in
-        record {
-          x = h.x;
-          info = h.info;
-          no_word = ap (λ (o : Option ℕ). then_value o (λ v. Some (converted int_type (type_of operand).elem v))) (no_constant operand h.none);
-          own = h.own;
-          known = h.known;
-          lives = h.lives;
-          scalar = h.scalar;
-          value = λ extents st q. ap (λ (o : Option ℕ). word_of_type ty.elem (elim o [ Some word ↦ word | None ↦ variable_in st operand ])) (no_constant operand h.none) ∙ ap (λ (e : Elem). word_of_type e (variable_in st operand)) is.1 ∙ h.value st;
-        })
-promoted_stands t i alive n set (T.Brackets' ty p inner) is v among = by (promoted_stands t i alive n set inner is.1 v among)
-  where
-    same : (extents : List ℕ) (st : State) (q : ℕ) → word_at extents st (T.Brackets' ty p inner) q ≡ word_at extents st inner q
-    same extents st q = ap (λ (y : ValueType). word_of_type y.elem (value_in extents st inner q)) is.0
-
-    by : HasItsWord inner ⊎ StandsInRegister t i alive inner → HasItsWord (T.Brackets' ty p inner) ⊎ StandsInRegister t i alive (T.Brackets' ty p inner)
-    by (inl h) = inl (record { word = h.word; is = h.is; small = h.small; value = λ extents st q. same extents st q ∙ h.value extents st q })
-    by (inr h) = inr (record { x = h.x; info = h.info; no_word = h.no_word; own = h.own; known = h.known; lives = h.lives; scalar = h.scalar; value = λ extents st q. same extents st q ∙ h.value extents st q })
-promoted_stands t i alive n set _ is v among = absurd is
 
 -- the field of an element of the file is a fresh entry for it
 pub field_is : (g : Setting) (k element set : ℕ) (info : VarInfo) (d : Draft) → IsElement g.typed k info set element → field_of g.typed (layout g) (V.File k) element d ≡ an_entry set info.elem.bits (W.File (file_number g.typed k element)) d

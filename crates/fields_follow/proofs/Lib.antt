@@ -1,6 +1,7 @@
 pub mod Assigning
 pub mod Besides
 pub mod Bits
+pub mod Calm
 pub mod Checks
 pub mod Clearing
 pub mod ConditionCode
@@ -47,12 +48,14 @@ pub mod PassingTests
 pub mod Places
 pub mod Placing
 pub mod Programs
+pub mod Promoted
 pub mod Pure
 pub mod Quiet
 pub mod Reducing
 pub mod Reductions
 pub mod Relations
 pub mod Saving
+pub mod Scalars
 pub mod Scanning
 pub mod ScanAssigning
 pub mod Scanned
@@ -69,6 +72,7 @@ pub mod TruthValues
 pub mod Truths
 pub mod Updates
 pub mod Values
+pub mod Variables
 pub mod Widening
 pub mod Wrapping
 pub mod Writing

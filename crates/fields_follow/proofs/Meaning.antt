@@ -1,13 +1,12 @@
 -- The numbers that pure parallel expressions mean, and what their promoted parts do.
 use Rattle.std.proofs.Common.{◌≡◌, ◌∙◌, ℕ, zero, suc, ◌+◌, Bool, true, false, not, ◌&&◌, ◌||◌, ◌==◌, List, [], ◌∷◌, Option, Some, None, refl, sym, ap, subst, inl, inr, if◌then◌else◌, ◌⊎◌}
-use Rattle.std.specs.Prelude.{is_none, slice_index}
+use Rattle.std.specs.Prelude.{slice_index}
 use Rattle.std.specs.Int.{from_bool}
 use Rattle.cstar_base.specs.declared.faults.RunFault.TheVariants.{DivZero}
 use Rattle.cstar_base.specs.declared.operators.Op.{Op}
 use Rattle.cstar_base.specs.declared.operators.Place.{Place}
 use Rattle.cstar_base.specs.Operators.{divides, outcome}
 use Rattle.cstar_base.specs.Orders.{least_below, or_else}
-use Rattle.constant_trees.proofs.Bringing.{right_false}
 use Rattle.cstar_tree.specs.declared.typed.TExpr.{TExpr, items-the_row-TExpr}
 use Rattle.cstar_tree.specs.declared.typed.TExpr as T
 use Rattle.cstar_tree.specs.declared.typed.UnaryOp.{UnaryOp}
@@ -19,24 +18,33 @@ use Rattle.source_meaning.specs.Constants.{constant_of, is_constant}
 use Rattle.source_meaning.specs.Expressions.{evaluated, mapped, operated}
 use Rattle.source_meaning.specs.State.{Ends, Fault, Gives, Outcome, State, then_do}
 use Rattle.source_meaning.specs.Targets.{read, variable_target}
-use Rattle.source_meaning.specs.Values.{Active, Parallel, Scalar, Scope, Value, at, convert_to, each, failing, nonzero, positions, unary_of, unless}
+use Rattle.source_meaning.specs.Values.{Active, Nothing, Parallel, Scalar, Scope, Value, at, each, failing, nonzero, positions, unary_of, unless}
 use Rattle.source_meaning.proofs.ConstantLaws.{Boxed, value_means}
 use Rattle.lower_comm.specs.declared.news.NewsStep.{NewsStep}
 use Rattle.lower_comm.specs.News.{checked_step, step_of}
 use Rattle.vp_sets.specs.Positions.{coordinate, moved, number_at}
-use Rattle.fields_follow.specs.Fragment.{IsEverywhere, IsPromoted, IsPure, IsScalarName}
+use Rattle.fields_follow.specs.Fragment.{IsPromoted, IsPure}
 use Rattle.cstar_base.specs.Numbers.{converted, number_of}
 use Rattle.code_follows.proofs.Following.{held}
 
--- the number of a scalar that is promoted
-unfoldable pub variable_in : State → TExpr → ℕ
-variable_in st (T.Variable ty x) = st.scalar x
-variable_in st (T.Brackets' ty p inner) = variable_in st inner
-variable_in st (T.Convert' ty p operand) = converted ty.elem (type_of operand).elem (variable_in st operand)
-variable_in st _ = 0
+-- where nothing is known, and no position is active
+abbrev pub nowhere : Scope
+nowhere = record { extents = λ s. []; length_of = λ x. 0; call = λ index given active st. Gives Nothing st }
 
-unfoldable pub scalar_in : State → TExpr → ℕ
-scalar_in st e = elim (constant_of e) [ Some word ↦ word | None ↦ variable_in st e ]
+abbrev pub nobody : Active
+nobody = λ s p. false
+
+-- the value that an outcome gives
+unfoldable pub given_in : Outcome Value → Value
+given_in (Gives v st) = v
+given_in (Ends early st) = Nothing
+
+-- the number of a scalar that is promoted, which is the same at each position and wherever it stands
+abbrev pub computed_in : State → TExpr → ℕ → ℕ
+computed_in st e q = at (given_in (evaluated nowhere e nobody st)) q
+
+unfoldable pub scalar_in : State → TExpr → ℕ → ℕ
+scalar_in st e q = elim (constant_of e) [ Some word ↦ word | None ↦ computed_in st e q ]
 
 -- the coordinate on an axis to which a step leads, round the ends
 unfoldable pub coordinate_behind : List ℕ → ℕ → Option NewsStep → ℕ → ℕ
@@ -52,7 +60,7 @@ coordinates_behind extents of axis (index ∷ indexes) q = coordinate_behind ext
 unfoldable pub value_in : List ℕ → State → TExpr → ℕ → ℕ
 value_in extents st (T.Variable ty x) q = st.parallel x 0 q
 value_in extents st (T.Brackets' ty p inner) q = value_in extents st inner q
-value_in extents st (T.Promote' ty p operand) q = scalar_in st operand
+value_in extents st (T.Promote' ty p operand) q = scalar_in st operand q
 value_in extents st (T.Unary' ty op p operand) q = unary_of op (value_in extents st operand q)
 value_in extents st (T.Binary' ty place op p left r right) q = outcome op 32 (not (type_of left).elem.signed) (value_in extents st left q) (value_in extents st right q)
 value_in extents st (T.LogicalOr' ty p left r right) q = from_bool (nonzero (value_in extents st left q) || nonzero (value_in extents st right q))
@@ -75,9 +83,6 @@ always_checked (Some k) step is = ap (λ (o : Option NewsStep). elim o as (λ _.
 -- a type of a shape, by its parts
 pub as_shaped : (ty : ValueType) (set : ℕ) → ty.shape ≡ Some set → ty ≡ record { elem = ty.elem; shape = Some set }
 as_shaped ty set is i = record { elem = ty.elem; shape = is i }
-
-as_scalar : (ty : ValueType) → ty.shape ≡ None → ty ≡ record { elem = ty.elem; shape = None }
-as_scalar ty is i = record { elem = ty.elem; shape = is i }
 
 -- nothing fails where nothing is tested
 pub none_fails : (active : ℕ → Bool) (n : ℕ) → least_below (λ p. active p && false) n ≡ None
@@ -108,13 +113,6 @@ right_of set left right (inr h) = inl h.1
 pub either : {A B C : Type 0} → (A → C) → (B → C) → A ⊎ B → C
 either f g (inl x) = f x
 either f g (inr y) = g y
-
-pub scalar_constant : (e : TExpr) → IsScalarName e → is_constant e ≡ false
-unfolding IsScalarName is_constant
-scalar_constant (T.Variable ty x) is = refl
-scalar_constant (T.Brackets' ty p inner) is = right_false (is_none ty.shape && ty.elem.bits == (type_of inner).elem.bits) (is_constant inner) (scalar_constant inner is.1)
-scalar_constant (T.Convert' ty p operand) is = right_false (is_none ty.shape) (is_constant operand) (scalar_constant operand is.2)
-scalar_constant _ is = absurd is
 
 module _ (scope : Scope) (active : Active) where
   -- an operator on two operands, which fails where it divides by 0
@@ -156,37 +154,13 @@ module _ (scope : Scope) (active : Active) where
   unfolding read variable_target
   read_is ty set k st shaped = ap (λ (o : Option ℕ). read st (variable_target o (V.File k) 0)) shaped
 
-  name_means : (e : TExpr) (st : State) → IsScalarName e → (type_of e).shape ≡ None → evaluated scope e active st ≡ Gives (Scalar (variable_in st e)) st
-  unfolding IsScalarName evaluated variable_in read variable_target then_do convert_to each at
-  name_means (T.Variable ty x) st is none = ap (λ (o : Option ℕ). Gives (read st (variable_target o x 0)) st) none
-  name_means (T.Brackets' ty p inner) st is none = name_means inner st is.1 (ap (λ (y : ValueType). y.shape) (sym is.0) ∙ none)
-  name_means (T.Convert' ty p operand) st is none =
-      ap (λ (o : Outcome Value). then_do o (λ v after. Gives (convert_to ty (type_of operand).elem v) after)) (name_means operand st is.2 is.1.0)
-      ∙ ap (λ (y : ValueType). Gives (convert_to y (type_of operand).elem (Scalar (variable_in st operand))) st) (as_scalar ty none)
-  name_means _ st is none = absurd is
-
-  constant_means : (e : TExpr) (word : ℕ) (st : State) → constant_of e ≡ Some word → evaluated scope e active st ≡ Gives (Scalar word) st
+  pub constant_means : (e : TExpr) (word : ℕ) (st : State) → constant_of e ≡ Some word → evaluated scope e active st ≡ Gives (Scalar word) st
   unfolding constant_of
   constant_means e word st is = by (is_constant e) (Const.value_of e) refl refl is
     where
       by : (c : Bool) (o : Option ℕ) → is_constant e ≡ c → Const.value_of e ≡ o → (if c then o else None) ≡ Some word → evaluated scope e active st ≡ Gives (Scalar word) st
       by true o is_c is_o h = subst (λ (o : Option ℕ). Const.IsValueOf e o) (is_o ∙ h) (value_means e is_c) scope active st
       by false o is_c is_o h = cc
-
-  pub everywhere_means : (e : TExpr) (st : State) → IsEverywhere e → evaluated scope e active st ≡ Gives (Scalar (scalar_in st e)) st
-  unfolding scalar_in
-  everywhere_means e st (none, inl constant) =
-      constant_means e constant.0 st constant.1 ∙ ap (λ (o : Option ℕ). Gives (Scalar (elim o [ Some word ↦ word | None ↦ variable_in st e ])) st) (sym constant.1)
-  everywhere_means e st (none, inr variable) =
-      name_means e st variable none ∙ ap (λ (o : Option ℕ). Gives (Scalar (elim o [ Some word ↦ word | None ↦ variable_in st e ])) st) (sym (no_constant e (scalar_constant e variable)))
-
-  pub promoted_means : (set : ℕ) (extents : List ℕ) (e : TExpr) (st : State) → IsPromoted set e → evaluated scope e active st ≡ Gives (Parallel (λ q. value_in extents st e q)) st
-  unfolding IsPromoted evaluated value_in then_do at
-  promoted_means set extents (T.Promote' ty p operand) st is =
-      ap (λ (o : Outcome Value). then_do o (λ v after. Gives (mapped ty (λ w. w) v) after)) (everywhere_means operand st is.2)
-      ∙ ap (λ (v : Value). Gives v st) (mapped_is ty set (λ w. w) (Scalar (scalar_in st operand)) is.0)
-  promoted_means set extents (T.Brackets' ty p inner) st is = promoted_means set extents inner st is.1
-  promoted_means set extents _ st is = absurd is
 
   -- an operator on two operands that change nothing
   pub binary_so : (ty : ValueType) (place : Place) (op : Op) (p q : Boxed) (left right : TExpr) (v w : ℕ → ℕ) (st : State) → evaluated scope left active st ≡ Gives (Parallel v) st → evaluated scope right active st ≡ Gives (Parallel w) st

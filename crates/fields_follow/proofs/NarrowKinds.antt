@@ -23,12 +23,11 @@ use Rattle.constant_trees.proofs.Words.{converted_below, from_bool_below}
 use Rattle.lower_base.specs.Kinds.{binary_kind, bits_of, common_kind, converted_kind, has_all, is_bitwise, kind_of, narrow, truth_type}
 use Rattle.lower_base.specs.Operators.{negates, relates}
 use Rattle.lower_expr.specs.Kinds.{has_number, kind_with, relation_kind}
-use Rattle.lower_expr.specs.Steps.{register_word, word_of}
+use Rattle.lower_expr.specs.Steps.{word_of}
 use Rattle.paris_code.specs.Code.{CodeState}
 use Rattle.paris_code.specs.Memory.{processors}
 use Rattle.short_values.proofs.Comparisons.{comparison}
 use Rattle.short_values.proofs.NarrowTypes.{is_word, wider_has, zero_test}
-use Rattle.source_meaning.specs.Constants.{then_value}
 use Rattle.source_meaning.specs.Reductions.{int_type}
 use Rattle.source_meaning.specs.State.{State}
 use Rattle.source_meaning.specs.Values.{nonzero, unary_of}
@@ -37,7 +36,7 @@ use Rattle.code_follows.proofs.Numbers.{held_zero, word_converted}
 use Rattle.code_follows.proofs.Settings.{Setting}
 use Rattle.code_follows.proofs.Standing.{some_same}
 use Rattle.code_follows.proofs.Words.{held_wide}
-use Rattle.fields_follow.specs.Fragment.{HasItsKind, HasKnownKind, IsConstant, IsNarrowed, IsPromoted, IsPure, IsRelation, IsScalarName, IsWide, ReadsSigns}
+use Rattle.fields_follow.specs.Fragment.{HasItsKind, HasKnownKind, IsNarrowed, IsPromoted, IsPure, IsRelation, IsSide, IsWide, ReadsSigns}
 use Rattle.fields_follow.proofs.Forms.{HasItsCode, promoted_kept, pure_kept, pure_word}
 use Rattle.fields_follow.proofs.Instructions.{extents, shapes}
 use Rattle.fields_follow.proofs.JoinedBits.{bitwise_has}
@@ -139,32 +138,37 @@ not_bit U.Plus x e = cc
 not_bit U.Minus x e = cc
 not_bit U.Complement x e = cc
 
--- of the two sides of a relation one may be a promoted scalar of 32 bits
-abbrev pub HaveTheirKinds : ℕ → TExpr → TExpr → Type 0
-HaveTheirKinds set left right = (HasItsKind set left × (HasItsKind set right ⊎ IsPromoted set right)) ⊎ (IsPromoted set left × HasItsKind set right)
-
--- a relation, with the types of its sides
-abbrev pub AreRelated : ℕ → Op → TExpr → TExpr → Type 0
-AreRelated set op left right = (relates op ≡ true) × HaveTheirKinds set left right × IsWide set (type_of left) × IsWide set (type_of right) × ReadsSigns left right
-
-kind_known : (set : ℕ) (e : TExpr) → IsPure set e → HasKnownKind e ⊎ IsPromoted set e → HasItsKind set e
-kind_known set e pure (inl known) = (pure, known)
-kind_known set e pure (inr promoted) = let wrong = sym (pure_kept set e pure) ∙ promoted_kept set e promoted in cc
-
-pub are_related : (set : ℕ) (op : Op) (left right : TExpr) → IsRelation set op left right → AreOperands set left right → IsWide set (type_of left) → IsWide set (type_of right) → AreRelated set op left right
-are_related set op left right is operands wide other = (is.0, kinds operands, wide, other, is.3)
-  where
-    kinds : AreOperands set left right → HaveTheirKinds set left right
-    kinds (inl (pure, inl also)) = inl (kind_known set left pure is.1, inl (kind_known set right also is.2))
-    kinds (inl (pure, inr promoted)) = inl (kind_known set left pure is.1, inr promoted)
-    kinds (inr (promoted, pure)) = inr (promoted, kind_known set right pure is.2)
-
 -- neither of them is promoted
 not_promoted : (set : ℕ) (e : TExpr) → IsPromoted set e → IsNarrowed e → ⊥
 unfolding IsPromoted IsNarrowed
 not_promoted set (T.Promote' ty p operand) is so = so
 not_promoted set (T.Brackets' ty p inner) is so = not_promoted set inner is.1 so
 not_promoted set _ is so = is
+
+-- of the two sides of a relation one may be a promoted scalar
+abbrev pub HaveTheirKinds : ℕ → TExpr → TExpr → Type 0
+HaveTheirKinds set left right = (HasItsKind set left × (HasItsKind set right ⊎ IsSide set right)) ⊎ (IsSide set left × HasItsKind set right)
+
+-- a relation, with the types of its sides
+abbrev pub AreRelated : ℕ → Op → TExpr → TExpr → Type 0
+AreRelated set op left right = (relates op ≡ true) × HaveTheirKinds set left right × IsWide set (type_of left) × IsWide set (type_of right) × ReadsSigns left right
+
+kind_known : (set : ℕ) (e : TExpr) → IsPure set e → HasKnownKind e ⊎ IsSide set e → HasItsKind set e
+kind_known set e pure (inl known) = (pure, known)
+kind_known set e pure (inr side) = let wrong = sym (pure_kept set e pure) ∙ promoted_kept set e side.0 in cc
+
+side_known : (set : ℕ) (e : TExpr) → IsPromoted set e → HasKnownKind e ⊎ IsSide set e → IsSide set e
+side_known set e promoted (inl (inl none)) = (promoted, λ no_word. none)
+side_known set e promoted (inl (inr narrowed)) = absurd (not_promoted set e promoted narrowed)
+side_known set e promoted (inr side) = side
+
+pub are_related : (set : ℕ) (op : Op) (left right : TExpr) → IsRelation set op left right → AreOperands set left right → IsWide set (type_of left) → IsWide set (type_of right) → AreRelated set op left right
+are_related set op left right is operands wide other = (is.0, kinds operands, wide, other, is.3)
+  where
+    kinds : AreOperands set left right → HaveTheirKinds set left right
+    kinds (inl (pure, inl also)) = inl (kind_known set left pure is.1, inl (kind_known set right also is.2))
+    kinds (inl (pure, inr promoted)) = inl (kind_known set left pure is.1, inr (side_known set right promoted is.2))
+    kinds (inr (promoted, pure)) = inr (side_known set left promoted is.1, kind_known set right pure is.2)
 
 both_pure : (set : ℕ) (left right : TExpr) → (IsPure set left × (IsPure set right ⊎ IsPromoted set right)) ⊎ (IsPromoted set left × IsPure set right) → IsNarrowed left → IsNarrowed right → IsPure set left × IsPure set right
 both_pure set left right (inl (one, inl other)) so also = (one, other)
@@ -301,30 +305,12 @@ module _ (g : Setting) (alive : Variable → Type 0) (n : ℕ) (places : PlacesF
 
   -- ---- the two sides of a relation
 
-  -- a scalar variable of 32 bits is of no narrow type
-  name_kind : (e : TExpr) → IsScalarName e → (type_of e).elem.bits ≡ 32 → kind_of e ≡ None
-  unfolding IsScalarName kind_of converted_kind narrow
-  name_kind (T.Variable ty x) is wide = ap (λ (b : ℕ). if b == 32 then None else Some ty.elem) wide
-  name_kind (T.Brackets' ty p inner) is wide = name_kind inner is.1 (ap (λ (y : ValueType). y.elem.bits) (sym is.0) ∙ wide)
-  name_kind (T.Convert' ty p operand) is wide = ap (λ (o : Option Elem). converted_kind ty.elem o) (name_kind operand is.2 is.1.1) ∙ ap (λ (b : ℕ). if b == 32 then None else Some ty.elem) wide
-  name_kind _ is wide = absurd is
-
-  promoted_kind : (set : ℕ) (e : TExpr) → IsPromoted set e → (type_of e).elem.bits ≡ 32 → word_of e ≡ None → kind_of e ≡ None
-  unfolding IsPromoted kind_of word_of register_word
-  promoted_kind set (T.Promote' ty p operand) is wide none = by is.2.1
-    where
-      by : IsConstant operand ⊎ IsScalarName operand → kind_of operand ≡ None
-      by (inl constant) = let some = sym (ap (λ (o : Option ℕ). then_value o (λ v. Some (converted int_type (type_of operand).elem v))) constant.1) ∙ none in cc
-      by (inr name) = name_kind operand name (ap (λ (e : Elem). e.bits) (sym is.1) ∙ wide)
-  promoted_kind set (T.Brackets' ty p inner) is wide none = promoted_kind set inner is.1 (ap (λ (y : ValueType). y.elem.bits) (sym is.0) ∙ wide) none
-  promoted_kind set _ is wide none = absurd is
-
   -- a side that has no word of its own
-  side_has : (set : ℕ) (e : TExpr) (st : State) (s : CodeState) → Sim g alive st s → HasItsKind set e ⊎ IsPromoted set e → (type_of e).elem.bits ≡ 32 → HasItsCode g.typed g.instance alive n e → word_of e ≡ None → (q : ℕ) → q < processors (shapes g) set → (kind : Elem) → kind_of e ≡ Some kind
+  side_has : (set : ℕ) (e : TExpr) (st : State) (s : CodeState) → Sim g alive st s → HasItsKind set e ⊎ IsSide set e → (type_of e).elem.bits ≡ 32 → HasItsCode g.typed g.instance alive n e → word_of e ≡ None → (q : ℕ) → q < processors (shapes g) set → (kind : Elem) → kind_of e ≡ Some kind
       → HasWord kind (word_at (extents g set) st e q)
   side_has set e st s sim (inl (pure, inl none)) wide c no_word q below kind is = let wrong = sym none ∙ is in cc
   side_has set e st s sim (inl (pure, inr narrowed)) wide c no_word q below kind is = kind_has set e st s sim pure narrowed c q kind is
-  side_has set e st s sim (inr promoted) wide c no_word q below kind is = let wrong = sym (promoted_kind set e promoted wide no_word) ∙ is in cc
+  side_has set e st s sim (inr side) wide c no_word q below kind is = let wrong = sym (side.1 no_word) ∙ is in cc
 
   kind_given : (o : Option Elem) (word : ℕ) (kind : Elem) → kind_with o word ≡ Some kind → (o ≡ Some kind) × (has_number kind word ≡ true)
   unfolding kind_with
@@ -335,11 +321,11 @@ module _ (g : Setting) (alive : Variable → Type 0) (n : ℕ) (places : PlacesF
       by true it_has h = let same : Some k ≡ Some kind = ap (λ (b : Bool). if b then Some k else None) (sym it_has) ∙ h in (same, subst (λ (e : Elem). has_number e word ≡ true) (some_same k kind same) it_has)
       by false other h = let wrong = ap (λ (b : Bool). if b then Some k else None) (sym other) ∙ h in cc
 
-  left_side : (set : ℕ) (left right : TExpr) → HaveTheirKinds set left right → HasItsKind set left ⊎ IsPromoted set left
+  left_side : (set : ℕ) (left right : TExpr) → HaveTheirKinds set left right → HasItsKind set left ⊎ IsSide set left
   left_side set left right (inl h) = inl h.0
   left_side set left right (inr h) = inr h.0
 
-  right_side : (set : ℕ) (left right : TExpr) → HaveTheirKinds set left right → HasItsKind set right ⊎ IsPromoted set right
+  right_side : (set : ℕ) (left right : TExpr) → HaveTheirKinds set left right → HasItsKind set right ⊎ IsSide set right
   right_side set left right (inl h) = h.1
   right_side set left right (inr h) = inl h.1
 

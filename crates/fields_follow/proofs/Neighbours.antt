@@ -25,14 +25,14 @@ use Rattle.source_meaning.specs.Expressions.{evaluated, mapped, operands, operat
 use Rattle.source_meaning.specs.Gets.{Operand, are_within, coordinates_of, gotten, index_at, is_within, named_by}
 use Rattle.source_meaning.specs.State.{Gives, Outcome, State, then_do}
 use Rattle.source_meaning.specs.Targets.{indexed_target, position_target, read}
-use Rattle.source_meaning.specs.Values.{Active, Parallel, Scope, Value, at, each, failing, own_coordinate, positions, unless}
+use Rattle.source_meaning.specs.Values.{Active, Parallel, Scope, Value, at, each, failing, own_coordinate, positions, unless, Scalar}
 use Rattle.vp_sets.specs.Positions.{are_positive, coordinate, moved, number_at, position_count, positions_fit}
 use Rattle.vp_sets.proofs.PositionLaws.{extent_bound, extent_positive}
 use Rattle.code_follows.proofs.Standing.{some_same}
 use Rattle.code_follows.proofs.Words.{within_word}
-use Rattle.fields_follow.specs.Fragment.{AreWrapping, IsConstant, IsDot, IsIndex, IsOffset, IsPromoted, IsScalarName, IsWrapping}
+use Rattle.fields_follow.specs.Fragment.{AreWrapping, IsConstant, IsDot, IsIndex, IsOffset, IsCalm, IsPromoted, IsWrapping}
 use Rattle.fields_follow.proofs.Extents.{NameExtents, NamesExtent}
-use Rattle.fields_follow.proofs.Meaning.{always_checked, coordinate_behind, coordinates_behind, no_constant, none_fails, scalar_constant, operated_is, promoted_means, scalar_in, value_in, variable_in}
+use Rattle.fields_follow.proofs.Meaning.{always_checked, coordinate_behind, coordinates_behind, computed_in, constant_means, mapped_is, none_fails, operated_is, scalar_in, value_in}
 use Rattle.fields_follow.proofs.Wrapping.{IsStep, index_number, near_is, moved_within, still_there, turned_step, within_extent, wrapped_word}
 
 -- a grid of few positions
@@ -57,19 +57,35 @@ module _ (scope : Scope) (active : Active) where
   unfolding IsPromoted step_number value_in scalar_in
   number_is set k q (T.Promote' ty p operand) extents st is known = by (is_conversion operand || not (is_int (type_of operand).elem)) known
     where
-      by_near : (c : ℕ) → constant_of operand ≡ Some c → c < 2 ^ 32 → then_value (constant_of operand) near ≡ Some k → (scalar_in st operand ≡ k) × IsStep k
+      by_near : (c : ℕ) → constant_of operand ≡ Some c → c < 2 ^ 32 → then_value (constant_of operand) near ≡ Some k → (scalar_in st operand q ≡ k) × IsStep k
       by_near c constant few h =
           let near_by : (c ≡ k) × IsStep c = near_is c k (ap (λ (o : Option ℕ). then_value o near) (sym constant) ∙ h) few in
-          (ap (λ (o : Option ℕ). elim o [ Some word ↦ word | None ↦ variable_in st operand ]) constant ∙ near_by.0, subst IsStep near_by.0 near_by.1)
+          (ap (λ (o : Option ℕ). elim o [ Some word ↦ word | None ↦ computed_in st operand q ]) constant ∙ near_by.0, subst IsStep near_by.0 near_by.1)
 
-      by_constant : IsConstant operand ⊎ IsScalarName operand → then_value (constant_of operand) near ≡ Some k → (scalar_in st operand ≡ k) × IsStep k
+      by_constant : IsConstant operand ⊎ ((constant_of operand ≡ None) × IsCalm operand) → then_value (constant_of operand) near ≡ Some k → (scalar_in st operand q ≡ k) × IsStep k
       by_constant (inl constant) h = by_near constant.0 constant.1 (within_word (type_of operand).elem constant.0 constant.2) h
-      by_constant (inr name) h = let none : None ≡ Some k = ap (λ (o : Option ℕ). then_value o near) (sym (no_constant operand (scalar_constant operand name))) ∙ h in cc
+      by_constant (inr (none, calm)) h = let wrong : None ≡ Some k = ap (λ (o : Option ℕ). then_value o near) (sym none) ∙ h in cc
 
-      by : (b : Bool) → (if b then None else then_value (constant_of operand) near) ≡ Some k → (scalar_in st operand ≡ k) × IsStep k
+      by : (b : Bool) → (if b then None else then_value (constant_of operand) near) ≡ Some k → (scalar_in st operand q ≡ k) × IsStep k
       by true h = cc
       by false h = by_constant is.2.1 h
   number_is set k q _ extents st is known = cc
+
+  step_means : (set k : ℕ) (e : TExpr) (extents : List ℕ) (st : State) → IsPromoted set e → step_number e ≡ Some k → evaluated scope e active st ≡ Gives (Parallel (λ q. value_in extents st e q)) st
+  unfolding IsPromoted step_number value_in scalar_in evaluated then_do at
+  step_means set k (T.Promote' ty p operand) extents st is known = by (is_conversion operand || not (is_int (type_of operand).elem)) known
+    where
+      by_constant : IsConstant operand ⊎ ((constant_of operand ≡ None) × IsCalm operand) → then_value (constant_of operand) near ≡ Some k → evaluated scope (T.Promote' ty p operand) active st ≡ Gives (Parallel (λ q. scalar_in st operand q)) st
+      by_constant (inl constant) h =
+          ap (λ (o : Outcome Value). then_do o (λ v after. Gives (mapped ty (λ w. w) v) after)) (constant_means scope active operand constant.0 st constant.1)
+          ∙ ap (λ (v : Value). Gives v st) (mapped_is scope active ty set (λ w. w) (Scalar constant.0) is.0)
+          ∙ ap (λ (o : Option ℕ). Gives (Parallel (λ q. elim o [ Some word ↦ word | None ↦ computed_in st operand q ])) st) (sym constant.1)
+      by_constant (inr (none, calm)) h = let wrong : None ≡ Some k = ap (λ (o : Option ℕ). then_value o near) (sym none) ∙ h in cc
+
+      by : (b : Bool) → (if b then None else then_value (constant_of operand) near) ≡ Some k → evaluated scope (T.Promote' ty p operand) active st ≡ Gives (Parallel (λ q. scalar_in st operand q)) st
+      by true h = cc
+      by false h = by_constant is.2.1 h
+  step_means set k _ extents st is known = cc
 
   turned_sum : (a c : ℕ) → (a + (2 ^ 32 - c)) % 2 ^ 32 ≡ (a + negated c) % 2 ^ 32
   unfolding negated
@@ -93,10 +109,10 @@ module _ (scope : Scope) (active : Active) where
       number : ℕ → ℕ
       number = λ q. value_in (scope.extents set) st right q
 
-      whole : (op : Op) → divides op ≡ false → evaluated scope (T.Binary' ty place op p left q right) active st ≡ Gives (Parallel (λ q. outcome op 32 unsigned (own q) (number q))) st
-      whole op no_check =
+      whole : (op : Op) (c : ℕ) → step_number right ≡ Some c → divides op ≡ false → evaluated scope (T.Binary' ty place op p left q right) active st ≡ Gives (Parallel (λ q. outcome op 32 unsigned (own q) (number q))) st
+      whole op c is_c no_check =
           ap (λ (o : Outcome Value). then_do o (λ v between. then_do (evaluated scope right active between) (λ w after. operated scope active ty place op unsigned v w after))) (dot_means set axis left st is.1)
-          ∙ ap (λ (o : Outcome Value). then_do o (λ w after. operated scope active ty place op unsigned (Parallel own) w after)) (promoted_means scope active set (scope.extents set) right st is.2)
+          ∙ ap (λ (o : Outcome Value). then_do o (λ w after. operated scope active ty place op unsigned (Parallel own) w after)) (step_means set c right (scope.extents set) st is.2 is_c)
           ∙ operated_is scope active ty set place op unsigned (Parallel own) (Parallel number) st is.0 no_check
 
       by_op : (op : Op) (c : ℕ) → step_number right ≡ Some c → step_by op c ≡ Some k → Offset set axis k (T.Binary' ty place op p left q right) st
@@ -107,7 +123,7 @@ module _ (scope : Scope) (active : Active) where
             (
               λ q. outcome P.Add 32 unsigned (own q) (number q),
               (
-                whole P.Add refl,
+                whole P.Add c is_c refl,
                 λ q.
                     sum_by_residues 32 unsigned (own q) (number q) ∙ ap (λ (n : ℕ). (own q + n) % 2 ^ 32) ((number_of_it q).0 ∙ same),
               ),
@@ -120,7 +136,7 @@ module _ (scope : Scope) (active : Active) where
             (
               λ q. outcome P.Sub 32 unsigned (own q) (number q),
               (
-                whole P.Sub refl,
+                whole P.Sub c is_c refl,
                 λ q.
                     ap (λ (n : ℕ). difference_of 32 unsigned (own q) n) (number_of_it q).0 ∙ difference_by_residues 32 unsigned (own q) c (let few = (number_of_it q).1.0 in omega (arith, few)) ∙ turned_sum (own q) c ∙ ap (λ (n : ℕ). (own q + n) % 2 ^ 32) same,
               ),

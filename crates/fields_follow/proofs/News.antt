@@ -46,11 +46,12 @@ use Rattle.fields_follow.proofs.Instructions.{Puts, extents, number_in, shapes}
 use Rattle.fields_follow.proofs.Lengths.{held_has}
 use Rattle.fields_follow.proofs.Meaning.{coordinates_behind, value_in, word_at}
 use Rattle.fields_follow.proofs.Neighbours.{fit_positive}
-use Rattle.fields_follow.proofs.Passing.{After, Passes, after_same, in_file_numbers, made_after, passes_from, small_there}
+use Rattle.fields_follow.proofs.Passing.{After, Passes, after_same, first_words, made_after, passes_from, small_there}
 use Rattle.fields_follow.proofs.Places.{HoldsTheFields, IsFileField, PlacesFields}
 use Rattle.fields_follow.proofs.Totals.{held_below}
 use Rattle.fields_follow.proofs.Values.{and_entry, next_field, one_more, taken, with_entry}
 use Rattle.fields_follow.proofs.Starts.{Starts}
+use Rattle.fields_follow.proofs.Variables.{Carries, file_carries, file_numbers}
 
 -- such a get goes by NEWS
 goes : (ty : ValueType) (place : Place) (p : _) (indexes : Row_of-TExpr _) (k of set : ℕ) → ty.shape ≡ Some set → of ≡ set → AreWrapping set 0 indexes → goes_by_news (T.LeftIndex' ty place p indexes (V.File k) of) ≡ true
@@ -140,8 +141,16 @@ module _ (g : Setting) where
       small = λ p below. (numbers p below).1;
     }
       where
+        carries : Carries g alive (V.File k) info set (record f { len = info.elem.bits })
+        carries = file_carries g alive places fields set k info (record f { len = info.elem.bits }) is file of_set refl
+
         numbers : (p : ℕ) → p < processors (shapes g) set → (number_in g f s p ≡ held info.elem (st.parallel (V.File k) 0 p) % 2 ^ bits) × (held info.elem (st.parallel (V.File k) 0 p) < 2 ^ 32)
-        numbers = in_file_numbers g alive places fields bits set f st (λ q. held info.elem (st.parallel (V.File k) 0 q)) s (record { k = k; info = info; is = is; file = file; of_set = of_set; len = len; fits = subst (λ (n : ℕ). n ≤ info.elem.bits) (sym len) fits; same = λ p below. (refl, held_below info.elem (st.parallel (V.File k) 0 p)) }) sim
+        numbers p below = (
+          first_words g alive places fields (V.File k) info set f st s carries (subst (λ (n : ℕ). n ≤ info.elem.bits) (sym len) fits) sim p below
+              (file_numbers g alive places fields set k info (record f { len = info.elem.bits }) is file of_set refl st s sim p below)
+              ∙ ap (λ (n : ℕ). held info.elem (st.parallel (V.File k) 0 p) % 2 ^ n) len,
+          held_below info.elem (st.parallel (V.File k) 0 p),
+        )
 
     -- so the last instruction puts those of the neighbours
     pub get_last : (ty : ValueType) (place : Place) (p : _) (indexes : Row_of-TExpr _) (k of set offset bits : ℕ) (spot : Draft → Made Spot) (bound : ℕ) (d : Draft) (s : CodeState) (st : State) → bits ≤ 32 → ty.shape ≡ Some set → of ≡ set → AreWrapping set 0 indexes

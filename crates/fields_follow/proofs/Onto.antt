@@ -267,15 +267,6 @@ module _ (g : Setting) (alive : Variable → Type 0) where
               (sym (onto_is reduction info.elem from (st.scalar x) (fields.active set) v (processors (shapes g) set) wide (λ p below on. small_there h.passes.t st there h.passes.sim p below on)) ∙ is there.exists) done.1;
         }
           where
-            there : HasNumbers g bits set f h.passes.t v
-            there = gives_numbers g alive places fields bits (length d.fields) d s set st v f e h
-
-            total : (put_back k (global_fold (shapes g) h.passes.t.memory (folding reduction from.signed) (place g f)) ≡ whole g alive reduction from.signed places fields set v) × (whole g alive reduction from.signed places fields set v < 2 ^ 32)
-            total = folds f h.passes.t st there h.passes.sim
-
-            done : (last : CodeState) × WritesRegisters d h.passes.t (with_scalar x (converted info.elem from (combined st (whole g alive reduction from.signed places fields set v))) st) (length (stored_in e).code) last
-            done = stores e h.passes.t st (whole g alive reduction from.signed places fields set v) low high h.passes.at.stands h.passes.sim within total.0 total.1
-
             within_fold : Within g (fold_alone e)
             within_fold =
                 let x = folded_more e in
@@ -290,3 +281,12 @@ module _ (g : Setting) (alive : Variable → Type 0) where
                 (let more = code_more g (load e) (with_reg e) in omega (arith, more)),
               ),
             )
+
+            there : HasNumbers g bits set f h.passes.t v
+            there = gives_numbers g alive places fields bits (length d.fields) d s set st v f e h behind
+
+            total : (put_back k (global_fold (shapes g) h.passes.t.memory (folding reduction from.signed) (place g f)) ≡ whole g alive reduction from.signed places fields set v) × (whole g alive reduction from.signed places fields set v < 2 ^ 32)
+            total = folds f h.passes.t st there h.passes.sim
+
+            done : (last : CodeState) × WritesRegisters d h.passes.t (with_scalar x (converted info.elem from (combined st (whole g alive reduction from.signed places fields set v))) st) (length (stored_in e).code) last
+            done = stores e h.passes.t st (whole g alive reduction from.signed places fields set v) low high h.passes.at.stands h.passes.sim within total.0 total.1

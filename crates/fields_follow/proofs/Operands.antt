@@ -1,6 +1,6 @@
 -- The operands of a parallel operator: the left one in a field, the right one in a field or as a word, and the
 -- instruction that operates on them.
-use Rattle.std.proofs.Common.{◌≡◌, ◌∙◌, ℕ, ◌+◌, ◌<◌, ◌≤◌, ◌^◌, ◌==◌, ◌&&◌, Bool, true, false, not, [], ◌∷◌, length, Option, Some, None, refl, sym, ap, subst, arith, ◌⊎◌, inl, inr, if◌then◌else◌}
+use Rattle.std.proofs.Common.{◌≡◌, ◌∙◌, ℕ, ◌+◌, ◌<◌, ◌≤◌, ◌==◌, ◌&&◌, Bool, true, false, not, [], ◌∷◌, length, Option, Some, None, refl, sym, ap, subst, arith, ◌⊎◌, inl, inr, if◌then◌else◌}
 use Rattle.constant_trees.proofs.Bringing.{right_false}
 use Rattle.cstar_base.specs.declared.faults.RunFault.TheVariants.{DivZero}
 use Rattle.cstar_base.specs.declared.operators.Op.{Op}
@@ -17,12 +17,10 @@ use Rattle.lower_base.specs.declared.emit.Out.TheVariants as O
 use Rattle.lower_base.specs.declared.operators.Machine.{Machine}
 use Rattle.lower_base.specs.declared.operators.Machine.TheVariants as M
 use Rattle.lower_base.specs.Drafts.{Draft, Made, Makes, from, step as step_of, then_make, with_instr}
-use Rattle.lower_base.specs.Layouts.{register_of}
 use Rattle.lower_base.specs.Operators.{operation_of, relates}
-use Rattle.lower_expr.specs.declared.operands.Own.{Own}
 use Rattle.lower_expr.specs.declared.steps.Right.{Right}
 use Rattle.lower_expr.specs.declared.steps.Right.TheVariants as R
-use Rattle.lower_expr.specs.Operands.{in_place, is_quiet, operand_by, own_of, standing}
+use Rattle.lower_expr.specs.Operands.{is_quiet}
 use Rattle.lower_expr.specs.Steps.{fields_operated, in_a_field, on_fields, on_word, right_operated, takes_word, with_field_check, word_taken}
 use Rattle.lower_expr.specs.Values.{Code, fields_by, right_by, right_given, spread_into}
 use Rattle.paris_code.specs.declared.instr.Instr.{Instr}
@@ -40,21 +38,20 @@ use Rattle.source_meaning.specs.State as Source
 use Rattle.source_meaning.specs.State.{Outcome, State, then_do}
 use Rattle.source_meaning.specs.Values.{Parallel}
 use Rattle.source_meaning.proofs.ConstantLaws.{Boxed}
-use Rattle.code_follows.proofs.Following.{Extends, Finishes, Follows, HasRegisters, Sim, extends_made, extends_then, follows_same, held}
+use Rattle.code_follows.proofs.Following.{Extends, Finishes, Follows, HasRegisters, Sim, extends_made, extends_then, follows_same}
 use Rattle.code_follows.proofs.Growing.{as_it_was, extended}
 use Rattle.code_follows.proofs.Settings.{Setting, Within, and_one, code_more, earlier, layout}
 use Rattle.fields_follow.specs.Fragment.{IsDivisor, IsOperation, IsPromoted, IsPure}
 use Rattle.fields_follow.proofs.Dividing.{divided_after, left_ended, never_zero, operator_ends, operator_gives, right_ended, zero_at}
-use Rattle.fields_follow.proofs.Forms.{HasItsCode, HasItsWord, StandsInRegister, divisor_word, promoted_not_held, promoted_stands, pure_word}
+use Rattle.fields_follow.proofs.Forms.{HasItsCode, HasItsWord, divisor_word, pure_word}
 use Rattle.fields_follow.proofs.Lengths.{Keeps}
 use Rattle.fields_follow.proofs.Instructions.{Puts, extents, operation_is, puts_constant, puts_operate, puts_operate_constant, shapes, word_in}
-use Rattle.fields_follow.proofs.Meaning.{AreOperands, promoted_means, value_in, word_at}
+use Rattle.fields_follow.proofs.Meaning.{AreOperands, value_in, word_at}
 use Rattle.fields_follow.proofs.Outcomes.{Ended, Given, given_follows, given_through, given_weaker, meant, then_known}
-use Rattle.fields_follow.proofs.Passing.{After, Behind, GivesField, Passes, after_same, code_longer, fields_longer, gives_numbers, made_after, names_second, names_third, passes_all, passes_less, passes_on, puts_own, still_numbers, then_after}
+use Rattle.fields_follow.proofs.Passing.{After, Behind, GivesField, Passes, after_same, code_longer, fields_longer, gives_numbers, gives_on, made_after, names_second, names_third, passes_all, passes_less, passes_on, puts_own, still_numbers, then_after, gives_set}
 use Rattle.fields_follow.proofs.Places.{HoldsTheFields, PlacesFields, stands_here}
-use Rattle.fields_follow.proofs.Quiet.{pure_quiet}
+use Rattle.fields_follow.proofs.Promoted.{IsComputed, computed_after, promoted_stands}
 use Rattle.fields_follow.proofs.Spreading.{GivesWord, HasBoth, spread_behind}
-use Rattle.fields_follow.proofs.Totals.{held_below}
 use Rattle.fields_follow.proofs.Values.{Gives, IsFlag, Valued, code_of, next_field, one_more, operand_after, operand_of, taken, with_entry}
 use Rattle.fields_follow.proofs.Starts.{Starts}
 
@@ -155,27 +152,24 @@ module _ (g : Setting) where
     abbrev IsValued : ℕ → ℕ → TExpr → Type 0
     IsValued bits set e = Valued g has alive n ready places fields bits set e (λ d. code_of g has alive n ready places fields bits e d)
 
-    -- a promoted variable is used where it stands
-    pub register_is : (bits set : ℕ) (e : TExpr) → IsPromoted set e → (h : StandsInRegister g.typed g.instance alive e) → (d : Draft) → operand bits true e d ≡ Makes (O.Scalar (register_of (layout g) h.x)) d
-    unfolding operand_by in_place standing
-    register_is bits set e is h d =
-        ap (λ (o : Option ℕ). elim o as (λ _. Made Out) [ Some r ↦ Makes (O.Scalar r) d | None ↦ elim (own_of bits e) as (λ _. Made Out) [ Some own ↦ standing g.typed (layout g) bits own d | None ↦ code_of g has alive n ready places fields bits e d ] ]) (promoted_not_held set (layout g) e is)
-        ∙ ap (λ (o : Option Own). elim o as (λ _. Made Out) [ Some own ↦ standing g.typed (layout g) bits own d | None ↦ code_of g has alive n ready places fields bits e d ]) (h.own bits)
-
-    -- and its register has its word
-    pub register_has : (e : TExpr) (h : StandsInRegister g.typed g.instance alive e) (st : State) (s : CodeState) → Sim g alive st s → (word_in g (K.Reg (register_of (layout g) h.x)) s ≡ held h.info.elem (st.scalar h.x)) × (held h.info.elem (st.scalar h.x) < 2 ^ 32)
-    unfolding word_in
-    register_has e h st s sim = (sim.scalars h.x h.info h.lives (h.known, h.scalar), held_below h.info.elem (st.scalar h.x))
-
-    -- a word at every position of a fresh entry
-    word_spread : (bits set : ℕ) (d : Draft) (k : Konst) (v : ℕ → ℕ) (s : CodeState) (st : State) → Starts g alive s (length d.code) d.regs → Sim g alive st s → word_in g k s < 2 ^ 32 → ((q : ℕ) → v q ≡ word_in g k s) → Within g (with_instr (I.MoveConstant (next_field set bits d) k) (with_entry set bits W.Own d))
-        → GivesField g alive bits (length d.fields) (with_entry set bits W.Own d) s set st v (next_field set bits d) (with_instr (I.MoveConstant (next_field set bits d) k) (with_entry set bits W.Own d))
-    word_spread bits set d k v s st here sim few same within =
+    -- a word at every position of a fresh entry, behind the code that gives it
+    pub word_spread : (bits set : ℕ) (d e : Draft) (k : Konst) (v : ℕ → ℕ) (s : CodeState) (st : State) → GivesWord g alive (length d.fields) (with_entry set bits W.Own d) s st v k e → Within g (with_instr (I.MoveConstant (next_field set bits d) k) e)
+        → GivesField g alive bits (length d.fields) (with_entry set bits W.Own d) s set st v (next_field set bits d) (with_instr (I.MoveConstant (next_field set bits d) k) e)
+    word_spread bits set d e k v s st h within =
         let d1 : Draft = with_entry set bits W.Own d in
         let i : Instr = I.MoveConstant (next_field set bits d) k in
-        let same_all : (λ (q : ℕ). word_in g k s) ≡ v = λ j q. sym (same q) j in
-        subst (λ (w : ℕ → ℕ). GivesField g alive bits (length d.fields) d1 s set st w (next_field set bits d) (with_instr i d1)) same_all
-        (puts_own g alive places fields bits (length d.fields) set i (next_field set bits d) d1 s st (λ q. word_in g k s) (omega arith) (let one = one_more set bits W.Own d in omega (arith, one)) (taken g set bits W.Own d (with_instr i d1) 1 within (and_one g i d1)) refl refl within here sim (puts_constant g set (next_field set bits d) k s few))
+        let same_all : (λ (q : ℕ). word_in g k h.passes.t) ≡ v = λ j q. sym (h.same q) j in
+        let first = one_more set bits W.Own d in
+        let more = fields_longer d1 e h.passes.grown.0 h.passes.grown.1 in
+        subst (λ (w : ℕ → ℕ). GivesField g alive bits (length d.fields) d1 s set st w (next_field set bits d) (with_instr i e)) same_all
+        (gives_on g alive bits (length d.fields) (length d.fields) d1 e (with_instr i e) s set st (λ q. word_in g k h.passes.t) (next_field set bits d) (Unit {0}) (omega arith) h.passes (λ behind. tt)
+        (puts_own g alive places fields bits (length d.fields) set i (next_field set bits d) e h.passes.t st (λ q. word_in g k h.passes.t) (omega arith) (omega (arith, first, more))
+        (taken g set bits W.Own d (with_instr i e) (h.passes.grown.0 + 1) within (extended d1 e (with_instr i e) h.passes.grown.0 1 h.passes.grown.1 (and_one g i e))) refl refl within h.passes.at h.passes.sim (puts_constant g set (next_field set bits d) k h.passes.t h.small)))
+
+    -- a constant has its word wherever the code stands
+    pub constant_given : (bound : ℕ) (set : ℕ) (e : TExpr) (h : HasItsWord e) (d : Draft) (s : CodeState) (st : State) → Starts g alive s (length d.code) d.regs → Sim g alive st s → GivesWord g alive bound d s st (λ q. word_at (extents g set) st e q) (K.Imm h.word) d
+    unfolding word_in
+    constant_given bound set e h d s st here sim = record { passes = passes_all g alive bound d s st (Unit {0}) here sim; small = h.small; same = λ q. h.value (extents g set) st q }
 
     -- a left operand that is not promoted stands in a field, and the fresh one is not used
     pub pure_left : (bits set : ℕ) (e : TExpr) (quiet : Bool) → IsPure set e → HasItsCode g.typed g.instance alive n e → IsValued bits set e → (dest : Field) (d : Draft) (s : CodeState) (st : State) → Starts g alive s (length d.code) d.regs → Sim g alive st s
@@ -197,10 +191,10 @@ module _ (g : Setting) where
         Q = GivesField g alive bits (length d.fields) d s set st (λ q. word_at (extents g set) st e q)
 
     -- one that is stands in the fresh one
-    pub promoted_left : (bits set : ℕ) (e : TExpr) (quiet : Bool) → quiet ≡ true → IsPromoted set e → HasItsCode g.typed g.instance alive n e → (d : Draft) (s : CodeState) (st : State) → Starts g alive s (length d.code) d.regs → Sim g alive st s
-        → After g (GivesField g alive bits (length d.fields) (with_entry set bits W.Own d) s set st (λ q. word_at (extents g set) st e q)) (spread_into (operand bits quiet e) e (next_field set bits d) (with_entry set bits W.Own d))
-    unfolding spread_into in_a_field then_make word_in
-    promoted_left bits set e quiet calm promoted c d s st here sim = by (promoted_stands g.typed g.instance alive n set e promoted c.code.names c.among)
+    pub promoted_left : (bits set : ℕ) (e : TExpr) (quiet : Bool) → IsPromoted set e → HasItsCode g.typed g.instance alive n e → (d : Draft) (s : CodeState) (st : State) → Starts g alive s (length d.code) d.regs → Sim g alive st s
+        → Follows g (Given g (λ q. value_in (extents g set) st e q) st (GivesField g alive bits (length d.fields) (with_entry set bits W.Own d) s set st (λ q. word_at (extents g set) st e q))) s (meant g fields e st) (spread_into (operand bits quiet e) e (next_field set bits d) (with_entry set bits W.Own d))
+    unfolding spread_into in_a_field then_make
+    promoted_left bits set e quiet promoted c d s st here sim = by (promoted_stands g alive n set e promoted c)
       where
         d1 : Draft
         d1 = with_entry set bits W.Own d
@@ -209,20 +203,27 @@ module _ (g : Setting) where
         dest = next_field set bits d
 
         v : ℕ → ℕ
-        v = λ q. word_at (extents g set) st e q
+        v = λ q. value_in (extents g set) st e q
 
-        by : HasItsWord e ⊎ StandsInRegister g.typed g.instance alive e → After g (GivesField g alive bits (length d.fields) d1 s set st v) (spread_into (operand bits quiet e) e dest d1)
-        by (inl h) = after_same g (GivesField g alive bits (length d.fields) d1 s set st v) (ap (λ (o : Option ℕ). elim o as (λ _. Made Field) [ Some word ↦ Makes dest (with_instr (I.MoveConstant dest (K.Imm word)) d1) | None ↦ then_make (operand bits quiet e d1) (λ x after. in_a_field x dest after) ]) h.is)
-            (made_after g (GivesField g alive bits (length d.fields) d1 s set st v) dest (with_instr (I.MoveConstant dest (K.Imm h.word)) d1) (λ within. word_spread bits set d (K.Imm h.word) v s st here sim h.small (λ q. h.value (extents g set) st q) within))
+        Q : Field → Draft → Type 0
+        Q = GivesField g alive bits (length d.fields) d1 s set st (λ q. word_at (extents g set) st e q)
+
+        P : Out → Draft → Type 0
+        P out f = (r : ℕ) × ((out ≡ O.Scalar r) × GivesWord g alive (length d.fields) d1 s st (λ q. word_at (extents g set) st e q) (K.Reg r) f)
+
+        code : Option ℕ → Made Field
+        code o = elim o as (λ _. Made Field) [ Some word ↦ Makes dest (with_instr (I.MoveConstant dest (K.Imm word)) d1) | None ↦ then_make (operand bits quiet e d1) (λ x after. in_a_field x dest after) ]
+
+        by : HasItsWord e ⊎ IsComputed g alive n e → Follows g (Given g v st Q) s (meant g fields e st) (spread_into (operand bits quiet e) e dest d1)
+        by (inl h) =
+            given_follows g s (meant g fields e st) v st Q (spread_into (operand bits quiet e) e dest d1) (h.means fields.scope fields.active (extents g set) st)
+            (after_same g Q (ap code h.is) (made_after g Q dest (with_instr (I.MoveConstant dest (K.Imm h.word)) d1) (λ within. word_spread bits set d d1 (K.Imm h.word) (λ q. word_at (extents g set) st e q) s st (constant_given (length d.fields) set e h d1 s st here sim) within)))
         by (inr h) =
-            let r : ℕ = register_of (layout g) h.x in
-            let holds = register_has e h st s sim in
-            after_same g (GivesField g alive bits (length d.fields) d1 s set st v)
-            (ap (λ (o : Option ℕ). elim o as (λ _. Made Field) [ Some word ↦ Makes dest (with_instr (I.MoveConstant dest (K.Imm word)) d1) | None ↦ then_make (operand bits quiet e d1) (λ x after. in_a_field x dest after) ]) h.no_word
-            ∙ ap (λ (b : Bool). then_make (operand bits b e d1) (λ x after. in_a_field x dest after)) calm
-            ∙ ap (λ (m : Made Out). then_make m (λ x after. in_a_field x dest after)) (register_is bits set e promoted h d1))
-            (made_after g (GivesField g alive bits (length d.fields) d1 s set st v) dest (with_instr (I.MoveConstant dest (K.Reg r)) d1) (λ within.
-            word_spread bits set d (K.Reg r) v s st here sim (subst (λ (w : ℕ). w < 2 ^ 32) (sym holds.0) holds.1) (λ q. h.value (extents g set) st q ∙ sym holds.0) within))
+            follows_same g (Given g v st Q) s refl (ap code h.no_word)
+            (given_through g s (meant g fields e st) v st P Q (operand bits quiet e d1) (λ x after. in_a_field x dest after) (λ x after. in_field_extends x dest after)
+            (λ part said. then_after g P Q part (λ x after. in_a_field x dest after) said (λ x after. in_field_extends x dest after) (λ x after (r, (is, gives)). after_same g Q (ap (λ (o : Out). in_a_field o dest after) is)
+            (made_after g Q dest (with_instr (I.MoveConstant dest (K.Reg r)) after) (λ within. word_spread bits set d after (K.Reg r) (λ q. word_at (extents g set) st e q) s st gives within))))
+            (computed_after g alive n has ready fields set bits (length d.fields) quiet e h d1 s st here sim))
 
     -- the right operand stands in a field, or is a word that is the same at every position
     abbrev pub GivesRight : ℕ → ℕ → Draft → CodeState → ℕ → State → (ℕ → ℕ) → Right → Draft → Type 0
@@ -261,9 +262,9 @@ module _ (g : Setting) where
 
     -- a promoted one is a word: a constant has no code
     pub promoted_right : (bits set : ℕ) (op : Op) (e : TExpr) → IsPromoted set e → (divides op ≡ false) ⊎ IsDivisor e → HasItsCode g.typed g.instance alive n e → (d : Draft) (s : CodeState) (st : State) → Starts g alive s (length d.code) d.regs → Sim g alive st s
-        → After g (λ right f. Takes op right × GivesRight bits (length d.fields) d s set st (λ q. word_at (extents g set) st e q) right f) (right_by (operand bits true e) op e d)
-    unfolding right_by word_taken then_make right_given from word_in
-    promoted_right bits set op e promoted is c d s st here sim = by (promoted_stands g.typed g.instance alive n set e promoted c.code.names c.among)
+        → Follows g (Given g (λ q. value_in (extents g set) st e q) st (λ right f. Takes op right × GivesRight bits (length d.fields) d s set st (λ q. word_at (extents g set) st e q) right f)) s (meant g fields e st) (right_by (operand bits true e) op e d)
+    unfolding right_by word_taken then_make right_given from Extends
+    promoted_right bits set op e promoted is c d s st here sim = by (promoted_stands g alive n set e promoted c)
       where
         v : ℕ → ℕ
         v = λ q. word_at (extents g set) st e q
@@ -285,22 +286,31 @@ module _ (g : Setting) where
         imm_same : (a b : ℕ) → R.Word (K.Imm a) ≡ R.Word (K.Imm b) → a ≡ b
         imm_same a b same = ap (λ (r : Right). elim r as (λ _. ℕ) [ R.Field f ↦ a | R.Word k ↦ elim k as (λ _. ℕ) [ K.Imm x ↦ x | K.Reg x ↦ a ] ]) same
 
-        by : HasItsWord e ⊎ StandsInRegister g.typed g.instance alive e → After g Q (right_by (operand bits true e) op e d)
+        P : Out → Draft → Type 0
+        P out f = (r : ℕ) × ((out ≡ O.Scalar r) × GivesWord g alive (length d.fields) d s st v (K.Reg r) f)
+
+        next : Out → Draft → Made Right
+        next x after = from (right_given x) (λ right. Makes right after)
+
+        given : (o : Option Right) (after : Draft) → Extends g after (from o (λ right. Makes right after))
+        given (Some right) after = (0, as_it_was after)
+        given None after = tt
+
+        by : HasItsWord e ⊎ IsComputed g alive n e → Follows g (Given g (λ q. value_in (extents g set) st e q) st Q) s (meant g fields e st) (right_by (operand bits true e) op e d)
         by (inl h) =
-            after_same g Q
-            (ap code h.is ∙ ap (λ (b : Bool). elim (if b then None else Some h.word) as (λ _. Made Right) [ Some word ↦ Makes (R.Word (K.Imm word)) d | None ↦ then_make (operand bits true e d) (λ x after. from (right_given x) (λ right. Makes right after)) ]) (unless h (divides op) (h.word == 0) refl refl))
+            given_follows g s (meant g fields e st) (λ q. value_in (extents g set) st e q) st Q (right_by (operand bits true e) op e d) (h.means fields.scope fields.active (extents g set) st)
+            (after_same g Q
+            (ap code h.is ∙ ap (λ (b : Bool). elim (if b then None else Some h.word) as (λ _. Made Right) [ Some word ↦ Makes (R.Word (K.Imm word)) d | None ↦ then_make (operand bits true e d) next ]) (unless h (divides op) (h.word == 0) refl refl))
             (made_after g Q (R.Word (K.Imm h.word)) d (λ within. (
               λ word same divided. ap (λ (x : ℕ). x == 0) (sym (imm_same h.word word same)) ∙ some h is divided,
-              inr (K.Imm h.word, (refl, record { passes = passes_all g alive (length d.fields) d s st (Unit {0}) here sim; small = h.small; same = λ q. h.value (extents g set) st q })),
-            )))
+              inr (K.Imm h.word, (refl, constant_given (length d.fields) set e h d s st here sim)),
+            ))))
         by (inr h) =
-            let r : ℕ = register_of (layout g) h.x in
-            let holds = register_has e h st s sim in
-            after_same g Q (ap code h.no_word ∙ ap (λ (m : Made Out). then_make m (λ x after. from (right_given x) (λ right. Makes right after))) (register_is bits set e promoted h d))
-            (made_after g Q (R.Word (K.Reg r)) d (λ within. (
-              λ word same divided. cc,
-              inr (K.Reg r, (refl, record { passes = passes_all g alive (length d.fields) d s st (Unit {0}) here sim; small = subst (λ (w : ℕ). w < 2 ^ 32) (sym holds.0) holds.1; same = λ q. h.value (extents g set) st q ∙ sym holds.0 })),
-            )))
+            follows_same g (Given g (λ q. value_in (extents g set) st e q) st Q) s refl (ap code h.no_word)
+            (given_through g s (meant g fields e st) (λ q. value_in (extents g set) st e q) st P Q (operand bits true e d) next (λ x after. given (right_given x) after)
+            (λ part said. then_after g P Q part next said (λ x after. given (right_given x) after) (λ x after (r, (is_r, gives)). after_same g Q (ap (λ (o : Out). next o after) is_r)
+            (made_after g Q (R.Word (K.Reg r)) after (λ within. ((λ word same divided. cc), inr (K.Reg r, (refl, gives)))))))
+            (computed_after g alive n has ready fields set bits (length d.fields) true e h d s st here sim))
 
     -- any right operand
     pub right_after : (bits set : ℕ) (op : Op) (e : TExpr) → (divides op ≡ false) ⊎ IsDivisor e → IsPure set e ⊎ IsPromoted set e → HasItsCode g.typed g.instance alive n e → (IsPure set e → IsValued bits set e) → (d : Draft) (s : CodeState) (st : State) → Starts g alive s (length d.code) d.regs → Sim g alive st s
@@ -308,9 +318,7 @@ module _ (g : Setting) where
     right_after bits set op e is (inl pure) c whole d s st here sim =
         given_weaker g s (meant g fields e st) (λ q. value_in (extents g set) st e q) st (RightField bits d s set st (λ q. word_at (extents g set) st e q)) (λ right f. Takes op right × GivesRight bits (length d.fields) d s set st (λ q. word_at (extents g set) st e q) right f) (right_by (operand bits true e) op e d)
         (λ right f h. ((λ word same divided. let wrong = sym h.1.0 ∙ same in cc), inl h)) (pure_right bits set op e pure c (whole pure) d s st here sim)
-    right_after bits set op e is (inr promoted) c whole d s st here sim =
-        given_follows g s (meant g fields e st) (λ q. value_in (extents g set) st e q) st (λ right f. Takes op right × GivesRight bits (length d.fields) d s set st (λ q. word_at (extents g set) st e q) right f) (right_by (operand bits true e) op e d)
-        (promoted_means fields.scope fields.active set (extents g set) e st promoted) (promoted_right bits set op e promoted is c d s st here sim)
+    right_after bits set op e is (inr promoted) c whole d s st here sim = promoted_right bits set op e promoted is c d s st here sim
 
     -- A word is spread over the entry that was taken first only where the left operand does not stand there.
     abbrev pub Spares : ℕ → ℕ → ℕ → Draft → Right → Type 0
@@ -336,7 +344,7 @@ module _ (g : Setting) where
         Gives_right right = GivesRight bits (length e1.fields) e1 left.passes.t set st w right e2
 
         there : set < length (shapes g)
-        there = (gives_numbers g alive places fields bits bound d1 s set st v a e1 left).exists
+        there = (gives_set g alive places fields bits bound d1 s set st v a e1 left).1
 
         -- behind a right one in a field, where both are named later
         both_behind : (b : Field) → (gives : GivesField g alive bits (length e1.fields) e1 left.passes.t set st w b e2) → Behind g a e2 → Behind g b e2 → HasBoth g alive bits set (length d.fields) a b d1 e2 s st v w
@@ -344,7 +352,7 @@ module _ (g : Setting) where
           passes = passes_less g alive (length d.fields) bound d1 e2 s st (Unit {0}) low (passes_on g alive bound (length e1.fields) d1 e1 e2 s st (Behind g a e1) (Behind g b e2) (Unit {0}) less left.passes gives.passes
               (λ u. (behind_a.0, (behind_a.1.0, (let longer = code_longer e1 e2 gives.passes.grown.0 gives.passes.grown.1 in let later = behind_a.1.1 in omega (arith, longer, later))))) (λ u. behind_b));
           left = still_numbers g alive places fields bits bound (length e1.fields) d1 s set st v a e1 e2 (Behind g b e2) left gives.passes behind_b (omega arith) behind_a;
-          right = gives_numbers g alive places fields bits (length e1.fields) e1 left.passes.t set st w b e2 gives;
+          right = gives_numbers g alive places fields bits (length e1.fields) e1 left.passes.t set st w b e2 gives behind_b;
         }
 
         -- without a check
@@ -491,10 +499,11 @@ module _ (g : Setting) where
             (right_after bits set op right is.1 any c_right whole_right e1 one.passes.t st one.passes.at one.passes.sim)))
             (λ early z f. ended (left_ended g fields ty place op p q left right s st early) z f)
         by (inr (promoted, pure)) =
-            then_after g (GivesField g alive bits (length d.fields) d1 s set st (λ x. word_at (extents g set) st left x)) Q (spread_into (operand bits (is_quiet right) left) left spare d1) (λ a between. next a between)
-            (promoted_left bits set left (is_quiet right) (pure_quiet set right pure) promoted c_left d s st here sim) next_extends
-            (λ a e1 one. behind (length d.fields) (omega arith) a e1 (promoted_means fields.scope fields.active set (extents g set) left st promoted) (let more = fields_longer d1 e1 one.passes.grown.0 one.passes.grown.1 in omega (arith, first, more)) one
+            then_known g s (meant g fields left st) v st (GivesField g alive bits (length d.fields) d1 s set st (λ x. word_at (extents g set) st left x)) Q (spread_into (operand bits (is_quiet right) left) left spare d1) (λ a between. next a between)
+            (promoted_left bits set left (is_quiet right) promoted c_left d s st here sim) next_extends
+            (λ is_left a e1 one. behind (length d.fields) (omega arith) a e1 is_left (let more = fields_longer d1 e1 one.passes.grown.0 one.passes.grown.1 in omega (arith, first, more)) one
             (given_weaker g one.passes.t (meant g fields right st) w st (RightField bits e1 one.passes.t set st (λ x. word_at (extents g set) st right x))
             (λ b f. Spares bits set (length d.fields) d b × (Takes op b × GivesRight bits (length e1.fields) e1 one.passes.t set st (λ x. word_at (extents g set) st right x) b f)) (right_by (operand bits true right) op right e1)
             (λ b f h. ((λ k same. let wrong = sym h.1.0 ∙ same in cc), ((λ word same divided. let wrong = sym h.1.0 ∙ same in cc), inl h)))
             (pure_right bits set op right pure c_right (whole_right pure) e1 one.passes.t st one.passes.at one.passes.sim)))
+            (λ early z f. ended (left_ended g fields ty place op p q left right s st early) z f)

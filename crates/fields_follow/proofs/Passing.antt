@@ -7,20 +7,21 @@ use Rattle.lower_base.specs.Drafts.{Draft, Fails, Made, Makes, then_make, with_i
 use Rattle.paris_code.specs.declared.instr.Instr.{Instr}
 use Rattle.paris_code.specs.declared.operands.Field.{Field}
 use Rattle.paris_code.specs.Code.{CodeState}
-use Rattle.paris_code.specs.Memory.{field_number, is_active, processors}
+use Rattle.paris_code.specs.Memory.{is_active, processors}
 use Rattle.paris_code.specs.Shapes.{bits_at}
 use Rattle.paris_code.specs.Spans.{IsNamedAt, StandsAt, entry_of, fields_of}
 use Rattle.source_meaning.specs.State.{State}
 use Rattle.phase_meaning.proofs.Widths.{cut_cut}
 use Rattle.code_follows.proofs.Following.{Extends, Keeps, Sim, held, keeps_all, keeps_less, keeps_on}
 use Rattle.code_follows.proofs.Growing.{Extended, as_it_was, extended}
-use Rattle.code_follows.proofs.Settings.{Reaches, Setting, Within, and_one, code_more, earlier, onto, stay}
+use Rattle.code_follows.proofs.Settings.{At, Reaches, Setting, Within, and_one, code_more, earlier, onto, start, stay}
 use Rattle.fields_follow.specs.Fields.{IsElement}
 use Rattle.fields_follow.proofs.Bits.{first_number}
 use Rattle.fields_follow.proofs.Instructions.{AreAlike, HasNumbers, Puts, has_alike, number_in, place, shapes}
 use Rattle.fields_follow.proofs.Leaving.{EndsBelow}
 use Rattle.fields_follow.proofs.Lengths.{held_first}
-use Rattle.fields_follow.proofs.Places.{HoldsTheFields, IsFileField, IsOwnField, PlacesFields, names_first, of_file}
+use Rattle.fields_follow.proofs.Places.{HoldsTheFields, IsOwnField, PlacesFields, names_first}
+use Rattle.fields_follow.proofs.Variables.{Carries}
 use Rattle.fields_follow.proofs.Writing.{PutsNext, next_written, puts_next}
 use Rattle.fields_follow.proofs.Starts.{Starts, starts_next}
 
@@ -70,6 +71,10 @@ module _ (g : Setting) where
   -- a field is named behind a draft
   abbrev pub Behind : Field → Draft → Type 0
   Behind f e = (later : ℕ) × (IsNamedAt g.unit f.offset later × (length e.code ≤ later))
+
+  -- so it is at the place where the code stands, or behind it
+  there_behind : (t : CodeState) (e : Draft) (later : ℕ) → At g t (length e.code) → length e.code ≤ later → t.at ≤ start g + later
+  there_behind t e later there behind = omega (arith, there, behind)
 
   module _ (alive : Variable → Type 0) where
     -- The code from one draft to another leaves the registers that are kept, the state and, if its answer is used, what
@@ -146,18 +151,16 @@ module _ (g : Setting) where
       pub before : somewhere < length e.code
       pub has : HasNumbers g bits set f t v
 
-    pub record InFile (bits set : ℕ) (f : Field) (st : State) (v : ℕ → ℕ) : Type 0 where
-      pub k : ℕ
+    pub record InVariable (bits set : ℕ) (f : Field) (st : State) (v : ℕ → ℕ) : Type 0 where
+      pub x : Variable
       pub info : VarInfo
-      pub is : IsElement g.typed k info set 0
-      pub file : IsFileField g k 0 (record f { len = info.elem.bits })
-      pub of_set : f.set ≡ set
+      pub carries : Carries g alive x info set (record f { len = info.elem.bits })
       pub len : f.len ≡ bits
       pub fits : f.len ≤ info.elem.bits
-      pub same : (p : ℕ) → p < processors (shapes g) set → (v p % 2 ^ bits ≡ held info.elem (st.parallel (V.File k) 0 p) % 2 ^ bits) × (v p < 2 ^ 32)
+      pub same : (p : ℕ) → p < processors (shapes g) set → (v p % 2 ^ bits ≡ held info.elem (st.parallel x 0 p) % 2 ^ bits) × (v p < 2 ^ 32)
 
     abbrev pub Stands : ℕ → ℕ → Draft → ℕ → Field → CodeState → State → (ℕ → ℕ) → Type 0
-    Stands bits bound e set f t st v = InOwn bits bound e set f t v ⊎ InFile bits set f st v
+    Stands bits bound e set f t st v = InOwn bits bound e set f t v ⊎ InVariable bits set f st v
 
     -- the field is given by code that passes, and it has the lowest bits of the words
     pub record GivesField (bits bound : ℕ) (d : Draft) (s : CodeState) (set : ℕ) (st : State) (v : ℕ → ℕ) (f : Field) (e : Draft) : Type 0 where
@@ -196,36 +199,45 @@ module _ (g : Setting) where
       first_there set f long st t sim of_set exists fits ends p below =
           first_number (shapes g) t.memory (place g (record f { len = long })) p f.len (fields.opens t.at st t.memory sim.memory).bits (subst (λ (n : ℕ). n < length (shapes g)) (sym of_set) exists) (subst (λ (n : ℕ). p < processors (shapes g) n) (sym of_set) below) ends fits
 
-      -- the words of a variable are there at every position
-      pub in_file_numbers : (bits set : ℕ) (f : Field) (st : State) (v : ℕ → ℕ) (t : CodeState) → InFile bits set f st v → Sim g alive st t → (p : ℕ) → p < processors (shapes g) set → (number_in g f t p ≡ v p % 2 ^ bits) × (v p < 2 ^ 32)
-      in_file_numbers bits set f st v t h sim p below =
-          let exists : set < length (shapes g) = places.exists h.k 0 set h.info h.is in
-          let at_file : place g (record f { len = h.info.elem.bits }) ≡ of_file g h.k 0 = places.file h.k 0 h.info (record f { len = h.info.elem.bits }) (subst (λ (n : ℕ). IsElement g.typed h.k h.info n 0) (sym h.of_set) h.is) refl h.file in
-          let ends : (place g f).offset + h.info.elem.bits ≤ bits_at (shapes g) f.set = subst (λ (x : Field). x.offset + x.len ≤ bits_at (shapes g) x.set) (sym at_file) (places.files_end h.k 0 set h.info h.is) in (
-            first_there set f h.info.elem.bits st t sim h.of_set exists h.fits ends p below
-                ∙ ap (λ (x : Field). field_number t.memory x p % 2 ^ f.len) at_file
-                ∙ ap (λ (n : ℕ). n % 2 ^ f.len) ((fields.opens t.at st t.memory sim.memory).numbers h.k 0 set p h.info h.is below)
-                ∙ sym (held_first h.info.elem (st.parallel (V.File h.k) 0 p) f.len (small_there set h.k h.info st t h.is sim p) h.fits)
-                ∙ ap (λ (n : ℕ). held h.info.elem (st.parallel (V.File h.k) 0 p) % 2 ^ n) h.len ∙ sym (h.same p below).0,
-            (h.same p below).1,
-          )
+      -- first bits of a variable's field have the lowest bits of its words, where the field has its numbers
+      pub first_words : (x : Variable) (info : VarInfo) (set : ℕ) (f : Field) (st : State) (t : CodeState) → Carries g alive x info set (record f { len = info.elem.bits }) → f.len ≤ info.elem.bits → Sim g alive st t → (p : ℕ) → p < processors (shapes g) set
+          → number_in g (record f { len = info.elem.bits }) t p ≡ st.parallel x 0 p → number_in g f t p ≡ held info.elem (st.parallel x 0 p) % 2 ^ f.len
+      first_words x info set f st t carries fits sim p below there =
+          first_there set f info.elem.bits st t sim carries.of_set carries.exists fits carries.ends p below
+          ∙ ap (λ (n : ℕ). n % 2 ^ f.len) there ∙ sym (held_first info.elem (st.parallel x 0 p) f.len (carries.small st t sim p) fits)
 
-      pub in_file_has : (bits set : ℕ) (f : Field) (st : State) (v : ℕ → ℕ) (t : CodeState) → InFile bits set f st v → Sim g alive st t → HasNumbers g bits set f t v
-      in_file_has bits set f st v t h sim = record {
-        of_set = h.of_set;
-        exists = places.exists h.k 0 set h.info h.is;
+      -- so the words of a variable are there at every position, where an instruction names its field at this place or behind it
+      pub in_variable_numbers : (bits set : ℕ) (f : Field) (st : State) (v : ℕ → ℕ) (t : CodeState) → InVariable bits set f st v → Sim g alive st t → (later : ℕ) → IsNamedAt g.unit f.offset later → t.at ≤ start g + later → (p : ℕ) → p < processors (shapes g) set → (number_in g f t p ≡ v p % 2 ^ bits) × (v p < 2 ^ 32)
+      in_variable_numbers bits set f st v t h sim later named behind p below = (
+        first_words h.x h.info set f st t h.carries h.fits sim p below (h.carries.numbers st t sim later named behind p below)
+            ∙ ap (λ (n : ℕ). held h.info.elem (st.parallel h.x 0 p) % 2 ^ n) h.len ∙ sym (h.same p below).0,
+        (h.same p below).1,
+      )
+
+      pub in_variable_has : (bits set : ℕ) (f : Field) (st : State) (v : ℕ → ℕ) (t : CodeState) → InVariable bits set f st v → Sim g alive st t → (later : ℕ) → IsNamedAt g.unit f.offset later → t.at ≤ start g + later → HasNumbers g bits set f t v
+      in_variable_has bits set f st v t h sim later named behind = record {
+        of_set = h.carries.of_set;
+        exists = h.carries.exists;
         len = h.len;
-        are = λ p below on. (in_file_numbers bits set f st v t h sim p below).0;
+        are = λ p below on. (in_variable_numbers bits set f st v t h sim later named behind p below).0;
         small = λ p below on. (h.same p below).1;
       }
 
-      -- so the numbers are there at once
-      pub gives_numbers : (bits bound : ℕ) (d : Draft) (s : CodeState) (set : ℕ) (st : State) (v : ℕ → ℕ) (f : Field) (e : Draft) → (h : GivesField bits bound d s set st v f e) → HasNumbers g bits set f h.passes.t v
-      gives_numbers bits bound d s set st v f e h = by h.stands
+      -- so the numbers are there at once, where an instruction names the field behind the code
+      pub gives_numbers : (bits bound : ℕ) (d : Draft) (s : CodeState) (set : ℕ) (st : State) (v : ℕ → ℕ) (f : Field) (e : Draft) → (h : GivesField bits bound d s set st v f e) → Behind f e → HasNumbers g bits set f h.passes.t v
+      gives_numbers bits bound d s set st v f e h behind = by h.stands
         where
           by : Stands bits bound e set f h.passes.t st v → HasNumbers g bits set f h.passes.t v
           by (inl own) = own.has
-          by (inr file) = in_file_has bits set f st v h.passes.t file h.passes.sim
+          by (inr variable) = in_variable_has bits set f st v h.passes.t variable h.passes.sim behind.0 behind.1.0 (there_behind h.passes.t e behind.0 h.passes.at.stands behind.1.1)
+
+      -- its set, and how many bits it has
+      pub gives_set : (bits bound : ℕ) (d : Draft) (s : CodeState) (set : ℕ) (st : State) (v : ℕ → ℕ) (f : Field) (e : Draft) → GivesField bits bound d s set st v f e → (f.set ≡ set) × (set < length (shapes g)) × (f.len ≡ bits)
+      gives_set bits bound d s set st v f e h = by h.stands
+        where
+          by : Stands bits bound e set f h.passes.t st v → (f.set ≡ set) × (set < length (shapes g)) × (f.len ≡ bits)
+          by (inl own) = (own.has.of_set, own.has.exists, own.has.len)
+          by (inr variable) = (variable.carries.of_set, variable.carries.exists, variable.len)
 
       -- other words with the same lowest bits are there too
       pub gives_alike : (bits bound : ℕ) (d : Draft) (s : CodeState) (set : ℕ) (st : State) (v w : ℕ → ℕ) (f : Field) (e : Draft) → AreAlike g bits set v w → GivesField bits bound d s set st v f e → GivesField bits bound d s set st w f e
@@ -233,7 +245,7 @@ module _ (g : Setting) where
         where
           by : Stands bits bound e set f h.passes.t st v → Stands bits bound e set f h.passes.t st w
           by (inl own) = inl (record { long = own.long; own = own.own; fits = own.fits; ends = own.ends; newer = own.newer; older = own.older; somewhere = own.somewhere; named = own.named; before = own.before; has = has_alike g bits set f h.passes.t v w alike own.has })
-          by (inr file) = inr (record { k = file.k; info = file.info; is = file.is; file = file.file; of_set = file.of_set; len = file.len; fits = file.fits; same = λ p below. let same = file.same p below in let other = alike p below same.1 in (other.0 ∙ same.0, other.1) })
+          by (inr variable) = inr (record { x = variable.x; info = variable.info; carries = variable.carries; len = variable.len; fits = variable.fits; same = λ p below. let same = variable.same p below in let other = alike p below same.1 in (other.0 ∙ same.0, other.1) })
 
       -- fewer bits of a field that is given
       pub gives_first : (bits fewer bound : ℕ) (d : Draft) (s : CodeState) (set : ℕ) (st : State) (v : ℕ → ℕ) (f : Field) (e : Draft) → fewer ≤ bits → GivesField bits bound d s set st v f e → GivesField fewer bound d s set st v (record f { len = fewer }) e
@@ -262,7 +274,7 @@ module _ (g : Setting) where
                   small = own.has.small;
                 };
               })
-          by (inr file) = inr (record { k = file.k; info = file.info; is = file.is; file = file.file; of_set = file.of_set; len = refl; fits = (let whole = subst (λ (n : ℕ). n ≤ file.info.elem.bits) file.len file.fits in omega (arith, less, whole)); same = λ p below. (sym (cut_cut (v p) fewer bits less) ∙ ap (λ (n : ℕ). n % 2 ^ fewer) (file.same p below).0 ∙ cut_cut (held file.info.elem (st.parallel (V.File file.k) 0 p)) fewer bits less, (file.same p below).1) })
+          by (inr variable) = inr (record { x = variable.x; info = variable.info; carries = variable.carries; len = refl; fits = (let whole = subst (λ (n : ℕ). n ≤ variable.info.elem.bits) variable.len variable.fits in omega (arith, less, whole)); same = λ p below. (sym (cut_cut (v p) fewer bits less) ∙ ap (λ (n : ℕ). n % 2 ^ fewer) (variable.same p below).0 ∙ cut_cut (held variable.info.elem (st.parallel variable.x 0 p)) fewer bits less, (variable.same p below).1) })
 
       -- and behind code that passes, where an instruction names the field then
       pub still_numbers : (bits bound other : ℕ) (d : Draft) (s : CodeState) (set : ℕ) (st : State) (v : ℕ → ℕ) (f : Field) (e e2 : Draft) (used : Type 0) → (h : GivesField bits bound d s set st v f e) → (b : Passes other e e2 h.passes.t st used) → used → length e.fields ≤ other → Behind f e2
@@ -284,7 +296,7 @@ module _ (g : Setting) where
             where
               was_on : set < length (shapes g) → (p : ℕ) → p < processors (shapes g) set → is_active (shapes g) b.t.memory set p ≡ true → is_active (shapes g) h.passes.t.memory set p ≡ true
               was_on exists p below on = flags_of st h.passes.t set p h.passes.sim exists below ∙ sym (flags_of st b.t set p b.sim exists below) ∙ on
-          by (inr file) = in_file_has bits set f st v b.t file b.sim
+          by (inr variable) = in_variable_has bits set f st v b.t variable b.sim behind.0 behind.1.0 (there_behind b.t e2 behind.0 b.at.stands behind.1.1)
 
       -- an instruction by which an own entry takes numbers
       pub next_own : (bits bound : ℕ) (set : ℕ) (i : Instr) (d : Field) (e : Draft) (s : CodeState) (st : State) (v : ℕ → ℕ) → bound ≤ d.offset → d.offset < length e.fields → IsOwnField g d → d.set ≡ set → d.len ≡ bits

@@ -24,7 +24,7 @@ use Rattle.vp_sets.specs.Positions.{number_at, positions_fit}
 use Rattle.lower_expr.specs.Operands.{ignores_context}
 use Rattle.fields_follow.specs.Fragment.{AreWrapping, IsPure}
 use Rattle.fields_follow.proofs.Extents.{NameExtents, extents_in}
-use Rattle.fields_follow.proofs.Meaning.{as_shaped, binary_means, coordinates_behind, either, left_of, promoted_means, read_is, right_of, unary_means, value_in}
+use Rattle.fields_follow.proofs.Meaning.{as_shaped, binary_means, coordinates_behind, either, left_of, read_is, right_of, unary_means, value_in}
 use Rattle.fields_follow.specs.Fields.{IsElement}
 use Rattle.fields_follow.proofs.Forms.{element_is, pure_shape}
 use Rattle.fields_follow.proofs.Neighbours.{get_means}
@@ -32,6 +32,7 @@ use Rattle.code_follows.proofs.Settings.{Setting}
 use Rattle.fields_follow.proofs.Instructions.{SameExtents, extents}
 use Rattle.fields_follow.proofs.Outcomes.{meant}
 use Rattle.fields_follow.proofs.Places.{HoldsTheFields, PlacesFields}
+use Rattle.fields_follow.proofs.Promoted.{promoted_free}
 
 -- an operator that ignores the context divides nothing, and its operands ignore it
 pub ignores_both : (op : Op) (left right : TExpr) → (not (divides op) && ignores_context left && ignores_context right) ≡ true → (divides op ≡ false) × (ignores_context left ≡ true) × (ignores_context right ≡ true)
@@ -87,7 +88,7 @@ module _ (scope : Scope) where
   pure_means active set (T.Binary' ty place op p left q right) st is free =
       let parts = ignores_both op left right free in
       binary_means scope active set ty place op p q left right (λ q. value_in (scope.extents set) st left q) (λ q. value_in (scope.extents set) st right q) st is.0.0 parts.0
-      (either (λ h. pure_means active set left st h parts.1) (λ h. promoted_means scope active set (scope.extents set) left st h) (left_of set left right is.2)) (either (λ h. pure_means active set right st h parts.2) (λ h. promoted_means scope active set (scope.extents set) right st h) (right_of set left right is.2))
+      (either (λ h. pure_means active set left st h parts.1) (λ h. promoted_free scope active set (scope.extents set) left st h parts.1) (left_of set left right is.2)) (either (λ h. pure_means active set right st h parts.2) (λ h. promoted_free scope active set (scope.extents set) right st h parts.2) (right_of set left right is.2))
   pure_means active set (T.LogicalOr' ty p left q right) st is free =
       let parts = both_ignore left right free in
       or_means scope active set ty p q left right (λ x. value_in (scope.extents set) st left x) (λ x. value_in (scope.extents set) st right x) st is.1.0 (pure_means active set left st is.1.0 parts.0)

@@ -9,7 +9,8 @@ use Rattle.lower_comm.specs.News.{is_extent, offset_of, step_of, wrapped_step}
 use Rattle.lower_expr.specs.Operands.{are_quiet, is_quiet}
 use Rattle.source_meaning.specs.Constants as Const
 use Rattle.source_meaning.specs.Constants.{constant_of, is_constant}
-use Rattle.fields_follow.specs.Fragment.{AreWrapping, IsConstant, IsDot, IsIndex, IsOffset, IsPromoted, IsPure, IsScalarName}
+use Rattle.fields_follow.specs.Fragment.{AreWrapping, IsCalm, IsConstant, IsDot, IsIndex, IsOffset, IsPromoted, IsPure}
+use Rattle.fields_follow.proofs.Calm.{calm_quiet}
 use Rattle.fields_follow.proofs.Meaning.{always_checked, either, left_of, right_of}
 
 both : (a b : Bool) → a ≡ true → b ≡ true → (a && b) ≡ true
@@ -55,16 +56,9 @@ known_constant e word is = by (is_constant e) (Const.value_of e) is
     by true o h = refl
     by false o h = cc
 
-variable_quiet : (e : TExpr) → IsScalarName e → is_quiet e ≡ true
-unfolding IsScalarName is_quiet
-variable_quiet (T.Variable ty x) is = refl
-variable_quiet (T.Brackets' ty p inner) is = variable_quiet inner is.1
-variable_quiet (T.Convert' ty p operand) is = variable_quiet operand is.2
-variable_quiet _ is = absurd is
-
 pub promoted_quiet : (set : ℕ) (e : TExpr) → IsPromoted set e → is_quiet e ≡ true
 unfolding IsPromoted is_quiet
-promoted_quiet set (T.Promote' ty p operand) is = either (λ (constant : IsConstant operand). constant_quiet operand (known_constant operand constant.0 constant.1)) (λ variable. variable_quiet operand variable) is.2.1
+promoted_quiet set (T.Promote' ty p operand) is = either (λ (constant : IsConstant operand). constant_quiet operand (known_constant operand constant.0 constant.1)) (λ (computed : (constant_of operand ≡ None) × IsCalm operand). calm_quiet operand computed.1) is.2.1
 promoted_quiet set (T.Brackets' ty p inner) is = promoted_quiet set inner is.1
 promoted_quiet set _ is = absurd is
 

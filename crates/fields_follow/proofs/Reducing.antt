@@ -253,17 +253,17 @@ module _ (g : Setting) (alive : Variable → Type 0) where
             (signed_ends k op (global r f) e h.passes.t r (fold_of_field f h.passes.t) refl (global_puts r f h.passes.t) (subst (λ (n : ℕ). n < 2 ^ 32) (sym total.0) total.1) h.passes.at.stands within);
       }
         where
-          has : HasNumbers g bits set f h.passes.t v
-          has = gives_numbers g alive places fields bits (length d.fields) d s set st v f e h
-
-          total : (put_back k (fold_of_field f h.passes.t) ≡ whole) × (whole < 2 ^ 32)
-          total = folds f h.passes.t st has h.passes.sim
-
           after_fold : Within g (with_instr (global r f) e)
           after_fold = let x = made_more k r f 0 (with_instr (global r f) e) e (as_it_was (with_instr (global r f) e)) in earlier g (with_instr (global r f) e) (made k r f e) x.0 x.1 within
 
           behind : Behind g f e
           behind = (length e.code, (names_first g (global r f) f [] (length e.code) (stands_here g (global r f) e after_fold refl) refl, omega arith))
+
+          has : HasNumbers g bits set f h.passes.t v
+          has = gives_numbers g alive places fields bits (length d.fields) d s set st v f e h behind
+
+          total : (put_back k (fold_of_field f h.passes.t) ≡ whole) × (whole < 2 ^ 32)
+          total = folds f h.passes.t st has h.passes.sim
 
   module _ (places : PlacesFields g) (fields : HoldsTheFields g) (ty : ValueType) (op : ReduceOp) (p : Boxed) (operand : TExpr) (set : ℕ) (wide : IsWide set (type_of operand)) where
     abbrev signed_operand : Bool

@@ -48,13 +48,12 @@ use Rattle.fields_follow.proofs.Expressions.{constant_at, operand_at, operand_gr
 use Rattle.fields_follow.proofs.NarrowKinds.{AreRelated, HaveTheirKinds, narrow_compares, relation_has}
 use Rattle.fields_follow.proofs.Forms.{HasItsCode}
 use Rattle.fields_follow.proofs.Instructions.{HasNumbers, shapes, extents, place}
-use Rattle.fields_follow.proofs.Meaning.{AreOperands, binary_means, left_of, promoted_means, right_of, value_in, word_at}
+use Rattle.fields_follow.proofs.Meaning.{AreOperands, binary_means, left_of, right_of, value_in, word_at}
 use Rattle.fields_follow.proofs.Operands.{GivesRight, RightField, Takes, promoted_left, pure_left, pure_right, right_after, right_extends}
 use Rattle.fields_follow.proofs.Dividing.{left_ended, right_ended}
 use Rattle.fields_follow.proofs.Outcomes.{Ended, Given, Known, ended_back, known_follows, meant, then_known}
-use Rattle.fields_follow.proofs.Passing.{After, Behind, GivesField, after_same, code_longer, fields_longer, gives_numbers, made_after, names_second, passes_from, passes_on, still_numbers, then_after}
+use Rattle.fields_follow.proofs.Passing.{After, Behind, GivesField, after_same, code_longer, fields_longer, gives_numbers, made_after, names_second, passes_from, passes_on, still_numbers}
 use Rattle.fields_follow.proofs.Places.{HoldsTheFields, PlacesFields, names_first, stands_here}
-use Rattle.fields_follow.proofs.Quiet.{pure_quiet}
 use Rattle.fields_follow.proofs.Spreading.{GivesWord, HasBoth, spread_behind}
 use Rattle.fields_follow.proofs.Values.{Valued, and_entry, code_of, next_field, one_more, operand_of, with_entry}
 use Rattle.fields_follow.proofs.TestFlags.{ComparesAs, LeavesTests, compares, is_truth, puts_compare, tested_last}
@@ -64,8 +63,8 @@ use Rattle.fields_follow.proofs.Starts.{Starts}
 -- the two sides of a relation are operands
 pub relation_operands : (set : ℕ) (left right : TExpr) → HaveTheirKinds set left right → AreOperands set left right
 relation_operands set left right (inl (one, inl other)) = inl (one.0, inl other.0)
-relation_operands set left right (inl (one, inr other)) = inl (one.0, inr other)
-relation_operands set left right (inr (one, other)) = inr (one, other.0)
+relation_operands set left right (inl (one, inr other)) = inl (one.0, inr other.0)
+relation_operands set left right (inr (one, other)) = inr (one.0, other.0)
 
 -- how it reads them, at so many bits
 read_as : (op : Op) (left right : TExpr) → relates op ≡ true → reads_signed op left right ≡ (elim (relation_kind left right) as (λ _. Bool) [ None ↦ is_signed (type_of left).elem | Some kind ↦ kind.signed ])
@@ -105,7 +104,7 @@ module _ (g : Setting) (has : HasRegisters g) (alive : Variable → Type 0) (n :
   field_compared bits set relation bound a b v w u d e1 e2 s st same low less left right within =
       tested_last g alive fields places bound set d e2 compare s st u (Unit {0}) low
       (passes_from g alive bound d d1 e2 s st (Unit {0}) (and_entry set bits W.Own d) (passes_on g alive bound (length e1.fields) d1 e1 e2 s st (Behind g a e1) (Behind g b e2) (Unit {0}) less left.passes right.passes (λ u. early) (λ u. behind_b)))
-      tt numbers.exists within (puts_compare g bits set relation a b right.passes.t v w u same numbers (gives_numbers g alive places fields bits (length e1.fields) e1 left.passes.t set st w b e2 right))
+      tt numbers.exists within (puts_compare g bits set relation a b right.passes.t v w u same numbers (gives_numbers g alive places fields bits (length e1.fields) e1 left.passes.t set st w b e2 right behind_b))
     where
       d1 : Draft
       d1 = with_entry set bits W.Own d
@@ -266,16 +265,14 @@ module _ (g : Setting) (has : HasRegisters g) (alive : Variable → Type 0) (n :
             after_same g (Known g s o u st Q) (ap (λ (x : Right). compared (M.Compare c.relation) a x spare e2) same)
             (made_after g (Known g s o u st Q) tt (with_instr (I.Compare c.relation a spare) (with_instr (I.MoveConstant spare k) e2)) (λ within. inl (is_given, word_compared bits set c.relation a k v w u d e1 e2 s st words_compare one gives within)))
     chosen o gives left_ends right_ends (inr (promoted, pure)) =
-        then_after g (GivesField g alive bits (length d.fields) d1 s set st v) (Known g s o u st Q) (spread_into (operand bits (is_quiet right) left) left spare d1) (λ a e. next a e)
-        (promoted_left g has alive n ready places fields bits set left (is_quiet right) (pure_quiet set right pure) promoted c_left d s st here sim) next_extends
-        (λ a e1 one. then_known g one.passes.t (meant g fields right st) (number right) st (RightField g has alive n ready places fields bits e1 one.passes.t set st w) (Known g s o u st Q) (right_by (operand bits true right) op right e1) (λ b after. compared (M.Compare c.relation) a b spare after)
+        then_known g s (meant g fields left st) (number left) st (GivesField g alive bits (length d.fields) d1 s set st v) (Known g s o u st Q) (spread_into (operand bits (is_quiet right) left) left spare d1) (λ a e. next a e)
+        (promoted_left g has alive n ready places fields bits set left (is_quiet right) promoted c_left d s st here sim) next_extends
+        (λ is_left a e1 one. then_known g one.passes.t (meant g fields right st) (number right) st (RightField g has alive n ready places fields bits e1 one.passes.t set st w) (Known g s o u st Q) (right_by (operand bits true right) op right e1) (λ b after. compared (M.Compare c.relation) a b spare after)
         (pure_right g has alive n ready places fields bits set op right pure c_right (right_valued pure) e1 one.passes.t st one.passes.at one.passes.sim) (λ b after. compared_extends c.relation a b spare after)
         (λ is_right b e2 (f, (same, given)). after_same g (Known g s o u st Q) (ap (λ (x : Right). compared (M.Compare c.relation) a x spare e2) same)
         (made_after g (Known g s o u st Q) tt (with_instr (I.Compare c.relation a f) e2) (λ within. inl (gives is_left is_right, field_compared bits set c.relation (length d.fields) a f v w u d e1 e2 s st words_compare (omega arith) (let first = one_more set bits W.Own d in let more = fields_longer d1 e1 one.passes.grown.0 one.passes.grown.1 in omega (arith, first, more)) one given within))))
         (λ early z f. inr (right_ends is_left (ended_back g s one.passes.t (meant g fields right st) one.passes.go early))))
-      where
-        is_left : meant g fields left st ≡ Source.Gives (Parallel (number left)) st
-        is_left = promoted_means fields.scope fields.active set (extents g set) left st promoted
+        (λ early z f. inr (left_ends early))
 
     pub relation_after : (ty : ValueType) (place : Place) (p q : Boxed) → ty.shape ≡ Some set → Follows g (Given g u st Q) s (meant g fields (T.Binary' ty place op p left q right) st) (then_make (spread_into (operand bits (is_quiet right) left) left spare d1) (λ a e. next a e))
     relation_after ty place p q shaped =

@@ -163,7 +163,7 @@ module _ (g : Setting) (has : HasRegisters g) (alive : Variable → Type 0) (n :
         registers = gives.passes.registers;
         sim = gives.passes.sim;
         stays = λ u h first later p below. gives.passes.stays behind h first later p (omega (arith, below, less));
-      }) (puts_move g f.len set true f a gives.passes.t (λ q. number e st q) refl (gives_numbers g alive places fields f.len (length d.fields) d s set st (λ q. number e st q) a e1 gives))))) ended
+      }) (puts_move g f.len set true f a gives.passes.t (λ q. number e st q) refl (gives_numbers g alive places fields f.len (length d.fields) d s set st (λ q. number e st q) a e1 gives behind))))) ended
     where
       grows : (x : Out) (after : Draft) → Extends g after (put_value (O.Field f) x after)
       grows (O.Scalar r) after = (1, and_one g (I.MoveConstant f (K.Reg r)) after)

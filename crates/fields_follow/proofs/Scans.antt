@@ -143,14 +143,14 @@ module _ (g : Setting) (alive : Variable → Type 0) (n : ℕ) (places : PlacesF
         i : Instr
         i = instr f a b.bits
 
-        has : HasNumbers g 32 set a gives.passes.t v
-        has = gives_numbers g alive places fields 32 bound d s set st v a e gives
-
         same_length : length b.after.code ≡ length e.code
         same_length = ap length b.same
 
         behind : Behind g a e
         behind = (length b.after.code, (names_second g i f a _ (length b.after.code) (stands_here g i b.after within refl) refl, omega (arith, same_length)))
+
+        has : HasNumbers g 32 set a gives.passes.t v
+        has = gives_numbers g alive places fields 32 bound d s set st v a e gives behind
 
         rules : (axis < length (extents g f.set)) × BitIsWith (shapes g) (place g f) mode (moved_field b.bits)
         rules = places.scans (length b.after.code) (scan_fold_of combiner (not unsigned)) f a axis direction mode b.bits way (stands_here g i b.after within refl)

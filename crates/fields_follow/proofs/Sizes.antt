@@ -1,5 +1,5 @@
 -- The numbers of parallel values are numbers of their types.
-use Rattle.std.proofs.Common.{◌≡◌, ◌∙◌, ℕ, ◌<◌, ◌^◌, true, false, not, Option, Some, None, ◌⊎◌, inl, inr, sym, ap, subst}
+use Rattle.std.proofs.Common.{◌≡◌, ℕ, ◌<◌, ◌^◌, true, false, not, Option, Some, None, ◌⊎◌, inl, inr, sym, ap, subst}
 use Rattle.cstar_base.specs.declared.elem.Elem.{Elem}
 use Rattle.cstar_base.specs.declared.operators.Op.{Op}
 use Rattle.cstar_base.specs.declared.operators.Place.{Place}
@@ -20,20 +20,31 @@ use Rattle.constant_trees.proofs.Words.{converted_below, from_bool_below, unary_
 use Rattle.cstar_base.specs.Operators.{outcome}
 use Rattle.lower_base.specs.Operators.{negates}
 use Rattle.paris_code.specs.Code.{CodeState}
-use Rattle.source_meaning.specs.State.{State}
-use Rattle.source_meaning.specs.Values.{unary_of}
+use Rattle.source_meaning.specs.State as Source
+use Rattle.source_meaning.specs.State.{State, Outcome}
 use Rattle.source_meaning.proofs.ConstantLaws.{Boxed}
 use Rattle.code_follows.specs.Fragment.{ScalarsAmong}
 use Rattle.code_follows.proofs.Following.{Sim}
 use Rattle.code_follows.proofs.Settings.{Setting}
 use Rattle.code_follows.proofs.Words.{below_bits, below_word, held_wide}
-use Rattle.fields_follow.specs.Fragment.{HasKnownKind, IsConstant, IsOperation, IsPromoted, IsPure, IsRelation, IsScalarName, IsWide}
+use Rattle.fields_follow.specs.Fragment.{HasKnownKind, IsCalm, IsConstant, IsOperation, IsPromoted, IsPure, IsRelation, IsWide}
 use Rattle.fields_follow.proofs.Forms.{HasItsCode, element_is}
 use Rattle.fields_follow.proofs.Instructions.{extents, operation_below}
-use Rattle.fields_follow.proofs.Meaning.{no_constant, scalar_constant, scalar_in, value_in, variable_in, word_at}
+use Rattle.fields_follow.proofs.Meaning.{computed_in, nobody, nowhere, scalar_in, value_in, word_at, given_in}
 use Rattle.fields_follow.proofs.Passing.{small_there}
 use Rattle.fields_follow.proofs.Places.{HoldsTheFields, PlacesFields}
+use Rattle.std.proofs.lemmas.Nat.{pow_pos}
+use Rattle.fields_follow.proofs.Calm.{IsCalmly, calm_gives}
+use Rattle.source_meaning.specs.Constants.{constant_of}
+use Rattle.source_meaning.specs.Expressions.{evaluated}
+use Rattle.source_meaning.specs.Values.{Value, at, unary_of}
 use Rattle.fields_follow.proofs.TestFlags.{is_truth}
+
+-- what is given is a number of the type
+number_small : (bits : ℕ) (st : State) (o : Outcome Value) (q : ℕ) → IsCalmly bits st o → at (given_in o) q < 2 ^ bits
+unfolding IsCalmly given_in at
+number_small bits st (Source.Gives v u) q h = subst (λ (x : Value). at x q < 2 ^ bits) (sym h.0) h.1
+number_small bits st (Source.Ends early u) q h = pow_pos bits
 
 module _ (g : Setting) (alive : Variable → Type 0) (n : ℕ) (places : PlacesFields g) (fields : HoldsTheFields g) where
   -- what has code of its parts
@@ -54,24 +65,18 @@ module _ (g : Setting) (alive : Variable → Type 0) (n : ℕ) (places : PlacesF
   convert_part ty p inner h = record { code = record { shaped = h.code.shaped.1; lowerable = h.code.lowerable.1; names = h.code.names }; among = h.among }
 
   -- a scalar is one of its type
-  name_small : (e : TExpr) (st : State) (s : CodeState) → Sim g alive st s → IsScalarName e → (type_of e).shape ≡ None → NamesVariables g.typed g.instance n e → ScalarsAmong alive e → variable_in st e < 2 ^ (type_of e).elem.bits
-  unfolding IsScalarName variable_in NamesVariables ScalarsAmong
-  name_small (T.Variable ty x) st s sim is none names among = sim.small x (variable_info names.word (plain ty) names.start) (among none) (names.named, none)
-  name_small (T.Brackets' ty p inner) st s sim is none names among = subst (λ (y : ValueType). variable_in st inner < 2 ^ y.elem.bits) (sym is.0) (name_small inner st s sim is.1 (ap (λ (y : ValueType). y.shape) (sym is.0) ∙ none) names among)
-  name_small (T.Convert' ty p operand) st s sim is none names among = converted_below ty.elem (type_of operand).elem (variable_in st operand)
-  name_small _ st s sim is none names among = absurd is
-
-  pub promoted_small : (set : ℕ) (e : TExpr) (st : State) (s : CodeState) → Sim g alive st s → IsPromoted set e → NamesVariables g.typed g.instance n e → ScalarsAmong alive e → (q : ℕ) → value_in (extents g set) st e q < 2 ^ (type_of e).elem.bits
+  pub promoted_small : (set : ℕ) (e : TExpr) (st : State) (s : CodeState) → Sim g alive st s → IsPromoted set e → HasItsCode g.typed g.instance alive n e → (q : ℕ) → value_in (extents g set) st e q < 2 ^ (type_of e).elem.bits
   unfolding IsPromoted value_in scalar_in NamesVariables ScalarsAmong
-  promoted_small set (T.Promote' ty p operand) st s sim is names among q = subst (λ (e : Elem). scalar_in st operand < 2 ^ e.bits) (sym is.1) (by is.2.1)
+  promoted_small set (T.Promote' ty p operand) st s sim is c q = subst (λ (e : Elem). scalar_in st operand q < 2 ^ e.bits) (sym is.1) (by is.2.1)
     where
-      by : IsConstant operand ⊎ IsScalarName operand → scalar_in st operand < 2 ^ (type_of operand).elem.bits
-      by (inl constant) = subst (λ (o : Option ℕ). (elim o [ Some word ↦ word | None ↦ variable_in st operand ]) < 2 ^ (type_of operand).elem.bits) (sym constant.1) constant.2
-      by (inr variable) =
-          subst (λ (o : Option ℕ). (elim o [ Some word ↦ word | None ↦ variable_in st operand ]) < 2 ^ (type_of operand).elem.bits) (sym (no_constant operand (scalar_constant operand variable)))
-          (name_small operand st s sim variable is.2.0 names among)
-  promoted_small set (T.Brackets' ty p inner) st s sim is names among q = subst (λ (y : ValueType). value_in (extents g set) st inner q < 2 ^ y.elem.bits) (sym is.0) (promoted_small set inner st s sim is.1 names among q)
-  promoted_small set _ st s sim is names among q = absurd is
+      Small : Option ℕ → Type 0
+      Small o = (elim o [ Some word ↦ word | None ↦ computed_in st operand q ]) < 2 ^ (type_of operand).elem.bits
+
+      by : IsConstant operand ⊎ ((constant_of operand ≡ None) × IsCalm operand) → scalar_in st operand q < 2 ^ (type_of operand).elem.bits
+      by (inl constant) = subst Small (sym constant.1) constant.2
+      by (inr (none, calm)) = subst Small (sym none) (number_small (type_of operand).elem.bits st (evaluated nowhere operand nobody st) q (calm_gives g alive n nowhere nobody st sim.small operand calm c.code.names c.among))
+  promoted_small set (T.Brackets' ty p inner) st s sim is c q = subst (λ (y : ValueType). value_in (extents g set) st inner q < 2 ^ y.elem.bits) (sym is.0) (promoted_small set inner st s sim is.1 (brackets_part ty p inner c) q)
+  promoted_small set _ st s sim is c q = absurd is
 
   pub value_small : (set : ℕ) (e : TExpr) (st : State) (s : CodeState) → Sim g alive st s → IsPure set e → HasItsCode g.typed g.instance alive n e → (q : ℕ) → value_in (extents g set) st e q < 2 ^ (type_of e).elem.bits
   unfolding IsPure value_in unary_of negates NamesVariables
@@ -104,11 +109,11 @@ module _ (g : Setting) (alive : Variable → Type 0) (n : ℕ) (places : PlacesF
 
       left_small : Operands → HasItsCode g.typed g.instance alive n left → (IsPure set left → value_in (extents g set) st left q < 2 ^ (type_of left).elem.bits) → value_in (extents g set) st left q < 2 ^ 32
       left_small (inl h) code small = below_word (type_of left).elem.bits _ is.3.1 (small h.0)
-      left_small (inr h) code small = below_word (type_of left).elem.bits _ is.3.1 (promoted_small set left st s sim h.0 code.code.names code.among q)
+      left_small (inr h) code small = below_word (type_of left).elem.bits _ is.3.1 (promoted_small set left st s sim h.0 code q)
 
       pure_or_not : IsPure set right ⊎ IsPromoted set right → HasItsCode g.typed g.instance alive n right → (IsPure set right → value_in (extents g set) st right q < 2 ^ (type_of right).elem.bits) → value_in (extents g set) st right q < 2 ^ 32
       pure_or_not (inl pure) code small = below_word (type_of right).elem.bits _ is.4.1 (small pure)
-      pure_or_not (inr promoted) code small = below_word (type_of right).elem.bits _ is.4.1 (promoted_small set right st s sim promoted code.code.names code.among q)
+      pure_or_not (inr promoted) code small = below_word (type_of right).elem.bits _ is.4.1 (promoted_small set right st s sim promoted code q)
 
       right_small : Operands → HasItsCode g.typed g.instance alive n right → (IsPure set right → value_in (extents g set) st right q < 2 ^ (type_of right).elem.bits) → value_in (extents g set) st right q < 2 ^ 32
       right_small h code small = pure_or_not (by_right h) code small
@@ -129,4 +134,4 @@ module _ (g : Setting) (alive : Variable → Type 0) (n : ℕ) (places : PlacesF
 
   pub operand_small : (set : ℕ) (e : TExpr) (st : State) (s : CodeState) → Sim g alive st s → IsPure set e ⊎ IsPromoted set e → HasItsCode g.typed g.instance alive n e → (q : ℕ) → value_in (extents g set) st e q < 2 ^ (type_of e).elem.bits
   operand_small set e st s sim (inl pure) c q = value_small set e st s sim pure c q
-  operand_small set e st s sim (inr promoted) c q = promoted_small set e st s sim promoted c.code.names c.among q
+  operand_small set e st s sim (inr promoted) c q = promoted_small set e st s sim promoted c q

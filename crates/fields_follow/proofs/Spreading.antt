@@ -14,7 +14,7 @@ use Rattle.source_meaning.specs.State.{State}
 use Rattle.code_follows.proofs.Growing.{extended}
 use Rattle.code_follows.proofs.Settings.{Setting, Within, and_one, code_more}
 use Rattle.fields_follow.proofs.Instructions.{HasNumbers, puts_constant, shapes, word_in}
-use Rattle.fields_follow.proofs.Passing.{Behind, GivesField, Passes, Stands, code_longer, first_there, flags_of, in_file_has, passes_less, passes_on, still_numbers}
+use Rattle.fields_follow.proofs.Passing.{Behind, GivesField, Passes, Stands, code_longer, first_there, flags_of, in_variable_has, passes_less, passes_on, still_numbers}
 use Rattle.fields_follow.proofs.Places.{HoldsTheFields, IsOwnField, PlacesFields}
 use Rattle.fields_follow.proofs.Values.{next_field, one_more, taken, with_entry}
 use Rattle.fields_follow.proofs.Writing.{Written, own_written}
@@ -114,7 +114,7 @@ module _ (g : Setting) (alive : Variable → Type 0) where
               ∙ numbers.are q below (was_on q below on);
           small = λ q below on. numbers.small q below (was_on q below on);
         }
-        still (inr h) = in_file_has g alive places fields bits set a st v moved.t h moved.sim
+        still (inr h) = in_variable_has g alive places fields bits set a st v moved.t h moved.sim later named_a (let there = moved.at in omega (arith, there, behind_both))
 
         same_all : (λ (q : ℕ). word_in g k right.passes.t) ≡ w
         same_all = λ j q. sym (right.same q) j

@@ -1,5 +1,5 @@
 -- The code of a condition leaves the test flags.
-use Rattle.std.proofs.Common.{◌%◌, ◌≡◌, ◌∙◌, ℕ, ◌<◌, ◌≤◌, ◌^◌, ◌==◌, Bool, true, false, List, length, Option, Some, None, refl, sym, ap, arith, if◌then◌else◌}
+use Rattle.std.proofs.Common.{[], ◌+◌, ◌%◌, ◌≡◌, ◌∙◌, ℕ, ◌<◌, ◌≤◌, ◌^◌, ◌==◌, Bool, true, false, List, length, Option, Some, None, refl, sym, ap, arith, if◌then◌else◌}
 use Rattle.cstar_base.specs.declared.operators.Op.{Op}
 use Rattle.cstar_base.specs.declared.operators.Place.{Place}
 use Rattle.cstar_tree.specs.declared.typed.TExpr.{TExpr}
@@ -39,7 +39,7 @@ use Rattle.std.proofs.Math.Nat.{mod-eq_of_lt}
 use Rattle.std.proofs.lemmas.Bool.{eqb-true}
 use Rattle.code_follows.proofs.Following.{Extends, Follows, HasRegisters, Sim, extends_then, follows_same, held}
 use Rattle.code_follows.proofs.Values.{extends_grown}
-use Rattle.code_follows.proofs.Settings.{Setting, and_one, layout}
+use Rattle.code_follows.proofs.Settings.{Setting, and_one, layout, start, start}
 use Rattle.fields_follow.specs.Fields.{IsElement, file_number}
 use Rattle.fields_follow.specs.Fragment.{HasItsKind, HasKnownKind, IsPure}
 use Rattle.fields_follow.proofs.Starts.{Starts}
@@ -53,7 +53,9 @@ use Rattle.fields_follow.proofs.Meaning.{read_is, unary_means, value_in, word_at
 use Rattle.fields_follow.proofs.Lengths.{relates_plainly}
 use Rattle.fields_follow.proofs.Outcomes.{Ended, Given, ended_on, follows_given, follows_like, given_follows, given_weaker, meant, then_known}
 use Rattle.fields_follow.proofs.Passing.{After, after_same, made_after, passes_all, passes_from, small_there, then_after}
-use Rattle.fields_follow.proofs.Places.{HoldsTheFields, PlacesFields}
+use Rattle.fields_follow.proofs.Places.{HoldsTheFields, PlacesFields, names_first, stands_here}
+use Rattle.fields_follow.proofs.Variables.{Carries, file_carries}
+use Rattle.paris_code.specs.Spans.{IsNamedAt}
 use Rattle.fields_follow.proofs.Pure.{and_means, or_means, pure_means}
 use Rattle.fields_follow.proofs.NarrowKinds.{AreRelated, zero_told}
 use Rattle.fields_follow.proofs.Sizes.{binary_parts}
@@ -109,7 +111,10 @@ module _ (g : Setting) (has : HasRegisters g) (alive : Variable → Type 0) (n :
       (ap (λ (x : Value). Source.Gives x st) (read_is fields.scope fields.active ty set k st shaped))
       (after_same g (λ _ f. LeavesTests g alive fields d s set st number f) (ap (λ (m : Made Field). then_make m (λ source after. Makes tt (with_instr (I.NeZero source) after))) (field_is g k 0 set info d is))
       (made_after g (λ _ f. LeavesTests g alive fields d s set st number f) tt (with_instr (I.NeZero source) d1) (λ within.
-      let numbers = variable_has g has alive n ready places fields set k info source s st is (taken g set info.elem.bits (W.File (file_number g.typed k 0)) d (with_instr (I.NeZero source) d1) 1 within (and_one g (I.NeZero source) d1)) refl refl sim in
+      let carries : Carries g alive (V.File k) info set source = file_carries g alive places fields set k info source is (taken g set info.elem.bits (W.File (file_number g.typed k 0)) d (with_instr (I.NeZero source) d1) 1 within (and_one g (I.NeZero source) d1)) refl refl in
+      let named : IsNamedAt g.unit source.offset (length d1.code) = names_first g (I.NeZero source) source [] (length d1.code) (stands_here g (I.NeZero source) d1 within refl) refl in
+      let behind : s.at ≤ start g + length d1.code = (let at = here.stands in omega (arith, at)) in
+      let numbers = variable_has g has alive n ready places fields set (V.File k) info source s st carries (length d1.code) named behind sim in
       tested_last g alive fields places (length d.fields) set d d1 (I.NeZero source) s st number (Unit {0}) (omega arith)
       (passes_from g alive (length d.fields) d d1 d1 s st (Unit {0}) (and_entry set info.elem.bits (W.File (file_number g.typed k 0)) d) (passes_all g alive (length d.fields) d1 s st (Unit {0}) here sim)) tt numbers.0.exists within
       (puts_nonzero g set source s number (numbers_tell g info.elem.bits set source s (λ q. held info.elem (number q)) number (λ q below. ap (λ (m : ℕ). m == 0) (held_first info.elem (number q) info.elem.bits (small q) (omega arith) ∙ mod-eq_of_lt (small q))) numbers.0)))))

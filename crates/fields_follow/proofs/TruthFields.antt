@@ -121,12 +121,13 @@ module _ (g : Setting) (has : HasRegisters g) (alive : Variable → Type 0) (n :
           (flag_after g alive places fields (meant g fields inner st) (number set inner st) set (number set inner st) (with_entry set bits W.Own d) s st made tests) (λ kept e2. (1, and_one g (I.Move false dest kept) e2))
           (λ given kept e2 bit. made_after g (Q bits) (O.Field dest) (with_instr (I.Move false dest kept) e2) (λ within.
           let i : Instr = I.Move false dest kept in
+          let behind : Behind g kept e2 = (length e2.code, (names_second g i dest kept [] (length e2.code) (stands_here g i e2 within refl) refl, omega arith)) in
           let on = active bit.passes.t bit.passes.sim bit.exists in
           inl (
             comes.gives given,
             own_result g has alive n ready places fields bits set d e2 s st (λ q. word_at (extents g set) st e q) i within
-                (passes_of (length d.fields) (with_entry set bits W.Own d) e2 s st (Behind g kept e2) (taken_less bits) bit.passes (length e2.code, (names_second g i dest kept [] (length e2.code) (stands_here g i e2 within refl) refl, omega arith)))
-                (as_words (λ v. Puts g set i dest bit.passes.t v) (puts_bit g set dest kept bit.passes.t (number set e st) bit.len (λ q below active_there. bit.are q below (on q below active_there) ∙ ap from_bool (same_truth q below)) truth)),
+                (passes_of (length d.fields) (with_entry set bits W.Own d) e2 s st (Behind g kept e2) (taken_less bits) bit.passes behind)
+                (as_words (λ v. Puts g set i dest bit.passes.t v) (puts_bit g set dest kept bit.passes.t (number set e st) bit.len (λ q below active_there. bit.are behind q below (on q below active_there) ∙ ap from_bool (same_truth q below)) truth)),
           )))
           (λ early x e2. inr (comes.ends early))))
         where
@@ -149,12 +150,13 @@ module _ (g : Setting) (has : HasRegisters g) (alive : Variable → Type 0) (n :
         (then_known g s (meant g fields inner st) (number set inner st) st (Bit g alive places fields (with_entry set 1 W.Own d) s set st (number set inner st)) (Q 1) made (turned_in g set d) bits grows
         (λ given x e2 (a, (is, bit)). after_same g (Q 1) (ap (λ (o : Out). turned_in g set d o e2) is) (made_after g (Q 1) (O.Field dest) (with_instr (I.Lognot dest a) e2) (λ within.
         let i : Instr = I.Lognot dest a in
+        let behind : Behind g a e2 = (length e2.code, (names_second g i dest a [] (length e2.code) (stands_here g i e2 within refl) refl, omega arith)) in
         let on = active bit.passes.t bit.passes.sim bit.exists in
         inl (
           comes.gives given,
           own_result g has alive n ready places fields 1 set d e2 s st (λ q. word_at (extents g set) st e q) i within
-              (passes_of (length d.fields) (with_entry set 1 W.Own d) e2 s st (Behind g a e2) (taken_less 1) bit.passes (length e2.code, (names_second g i dest a [] (length e2.code) (stands_here g i e2 within refl) refl, omega arith)))
-              (as_words (λ v. Puts g set i dest bit.passes.t v) (subst (λ (v : ℕ → ℕ). Puts g set i dest bit.passes.t v) (λ j q. same q j) (puts_turned g set (length d.fields) a bit.passes.t (number set inner st) (λ q below active_there. bit.are q below (on q below active_there))))),
+              (passes_of (length d.fields) (with_entry set 1 W.Own d) e2 s st (Behind g a e2) (taken_less 1) bit.passes behind)
+              (as_words (λ v. Puts g set i dest bit.passes.t v) (subst (λ (v : ℕ → ℕ). Puts g set i dest bit.passes.t v) (λ j q. same q j) (puts_turned g set (length d.fields) a bit.passes.t (number set inner st) (λ q below active_there. bit.are behind q below (on q below active_there))))),
         ))))
         (λ early x e2. inr (comes.ends early)))
       where
@@ -175,14 +177,15 @@ module _ (g : Setting) (has : HasRegisters g) (alive : Variable → Type 0) (n :
           let named_f : IsNamedAt g.unit f.offset (length e2.code) = names_second g i dest f (h ∷ []) (length e2.code) there refl in
           let behind_h : Behind g h e2 = (length e2.code, (names_third g i dest f h [] (length e2.code) there refl, omega arith)) in
           let longer = code_longer e1 e2 two.passes.grown.0 two.passes.grown.1 in
-          let passes : PassesTests g alive d1 e2 s st (Unit {0}) = tests_on g alive d1 e1 e2 s st (Behind g f e1) (Behind g h e2) (Unit {0}) one.passes two.passes (λ u. (length e2.code, (named_f, longer))) (λ u. behind_h) in
+          let early_f : Behind g f e1 = (length e2.code, (named_f, longer)) in
+          let passes : PassesTests g alive d1 e2 s st (Unit {0}) = tests_on g alive d1 e1 e2 s st (Behind g f e1) (Behind g h e2) (Unit {0}) one.passes two.passes (λ u. early_f) (λ u. behind_h) in
           let on = active two.passes.t two.passes.sim two.exists in
           inl (
             is_given,
             own_result g has alive n ready places fields 1 set d e2 s st (λ q. word_at (extents g set) st e q) i within (passes_of (length d.fields) d1 e2 s st (Unit {0}) (taken_less 1) passes tt)
                 (as_words (λ v. Puts g set i dest two.passes.t v) (subst (λ (v : ℕ → ℕ). Puts g set i dest two.passes.t v) (λ j q. same q j)
-                (puts_joined g is_or set (length d.fields) f h two.passes.t v w (λ q below active_there. truth_still g alive places fields d1 e1 e2 s set st v f (Behind g h e2) (length e2.code) one two.passes behind_h named_f (omega arith) q below ∙ one.are q below (on q below active_there))
-                (λ q below active_there. two.are q below (on q below active_there))))),
+                (puts_joined g is_or set (length d.fields) f h two.passes.t v w (λ q below active_there. truth_still g alive places fields d1 e1 e2 s set st v f (Behind g h e2) (length e2.code) one two.passes behind_h named_f (omega arith) q below ∙ one.are early_f q below (on q below active_there))
+                (λ q below active_there. two.are behind_h q below (on q below active_there))))),
           ))
         where
           dest : Field

@@ -21,14 +21,14 @@ use Rattle.source_meaning.specs.Values.{nonzero}
 use Rattle.code_follows.proofs.Besides.{sim_saying}
 use Rattle.code_follows.proofs.Following.{Sim}
 use Rattle.code_follows.proofs.Growing.{extended}
-use Rattle.code_follows.proofs.Settings.{Setting, Within, and_one, code_more, onto, placed_instr}
+use Rattle.code_follows.proofs.Settings.{Setting, Within, and_one, code_more, onto, placed_instr, start}
 use Rattle.fields_follow.specs.Fields.{IsElement}
 use Rattle.fields_follow.proofs.FileFields.{Apart}
 use Rattle.fields_follow.proofs.Flags.{Stored, bit_fits, stored, written_to}
-use Rattle.fields_follow.proofs.Instructions.{HasNumbers, number_in, place, shapes, wrote}
+use Rattle.fields_follow.proofs.Instructions.{number_in, place, shapes, wrote}
 use Rattle.fields_follow.proofs.Leaving.{EndsBelow, PassesTests, under}
 use Rattle.fields_follow.proofs.Named.{NamesFields}
-use Rattle.fields_follow.proofs.Passing.{Behind, GivesField, Stands, code_longer, fields_longer, first_there, flags_of, gives_numbers, in_file_numbers}
+use Rattle.fields_follow.proofs.Passing.{Behind, GivesField, Stands, code_longer, fields_longer, first_there, flags_of, gives_numbers, gives_set, in_variable_numbers}
 use Rattle.fields_follow.proofs.PassingTests.{tests_passed}
 use Rattle.fields_follow.proofs.Places.{HoldsTheFields, IsOwnField, PlacesFields, names_first, of_file, stands_here}
 use Rattle.fields_follow.proofs.TestFlags.{Tells, numbers_tell}
@@ -62,78 +62,83 @@ module _ (g : Setting) (alive : Variable → Type 0) (places : PlacesFields g) (
   whole_sim : (st : State) (s : CodeState) → Sim (under g fields.active) alive st s → Sim g alive st s
   whole_sim st s h = sim_saying g alive st s s.at s.memory (fields.closes s.at st s.memory h.memory) h
 
-  -- Code of conditions gives a field that is zero where these numbers are.
+  -- Code of conditions gives a field that is zero where these numbers are, if an instruction behind it names the field.
   pub record GivesTold (d : Draft) (s : CodeState) (set : ℕ) (st : State) (v : ℕ → ℕ) (f : Field) (e : Draft) : Type 0 where
     pub passes : PassesTests g alive d e s st (Behind g f e)
     pub exists : set < length (shapes g)
-    pub tells : Tells g set f passes.t v
+    pub tells : Behind g f e → Tells g set f passes.t v
 
   -- what stands in own entries behind a draft and below the flags that are named by now is there in another state too, where
   -- they are named
   abbrev pub Stays : Draft → Draft → CodeState → CodeState → ℕ → Type 0
   Stays d e s t last = (h : Field) (first q : ℕ) → length d.fields ≤ h.offset → h.offset < length e.fields → IsOwnField g h → EndsBelow g h → IsNamedAt g.unit h.offset first → first < length e.code → IsNamedAt g.unit h.offset last → number_in g h t q ≡ number_in g h s q
 
-  -- It gives a field of one bit that is 1 where, at active positions, these numbers are not zero. That lasts to where the
-  -- field is named, and it is apart from variables of more bits.
+  -- It gives a field of one bit that is 1 where, at active positions, these numbers are not zero, if an instruction behind
+  -- it names the field. That lasts to where the field is named, and it is apart from variables of more bits.
   pub record GivesTruth (d : Draft) (s : CodeState) (set : ℕ) (st : State) (v : ℕ → ℕ) (f : Field) (e : Draft) : Type 0 where
     pub passes : PassesTests g alive d e s st (Behind g f e)
     pub of_set : f.set ≡ set
     pub exists : set < length (shapes g)
     pub len : f.len ≡ 1
-    pub are : (q : ℕ) → q < processors (shapes g) set → fields.active set q ≡ true → number_in g f passes.t q ≡ from_bool (nonzero (v q))
-    pub lasts : (t : CodeState) (last : ℕ) → Sim g alive st t → Stays d e passes.t t last → IsNamedAt g.unit f.offset last → (q : ℕ) → q < processors (shapes g) set → number_in g f t q ≡ number_in g f passes.t q
+    pub are : Behind g f e → (q : ℕ) → q < processors (shapes g) set → fields.active set q ≡ true → number_in g f passes.t q ≡ from_bool (nonzero (v q))
+    pub lasts : (t : CodeState) (last : ℕ) → Sim g alive st t → Stays d e passes.t t last → IsNamedAt g.unit f.offset last → length e.code ≤ last → t.at ≤ start g + last → (q : ℕ) → q < processors (shapes g) set → number_in g f t q ≡ number_in g f passes.t q
     pub apart : (k : ℕ) (info : VarInfo) → IsElement g.typed k info set 0 → 1 < info.elem.bits → Apart (place g f) (of_file g k 0)
 
   -- so it is behind more code of conditions
   pub truth_still : (d e e2 : Draft) (s : CodeState) (set : ℕ) (st : State) (v : ℕ → ℕ) (f : Field) (used : Type 0) (last : ℕ) → (one : GivesTruth d s set st v f e) → (two : PassesTests g alive e e2 one.passes.t st used) → used → IsNamedAt g.unit f.offset last → length e2.code ≤ last
       → (q : ℕ) → q < processors (shapes g) set → number_in g f two.t q ≡ number_in g f one.passes.t q
-  truth_still d e e2 s set st v f used last one two wanted named late q below = one.lasts two.t last two.sim (λ h first p new inside own ends before early there. two.stays wanted h first last p inside own ends before early there late) named q below
+  truth_still d e e2 s set st v f used last one two wanted named late q below = one.lasts two.t last two.sim (λ h first p new inside own ends before early there. two.stays wanted h first last p inside own ends before early there late) named
+      (let longer = code_longer e e2 two.grown.0 two.grown.1 in omega (arith, longer, late)) (let there = two.at.stands in omega (arith, there, late)) q below
 
   -- a field of one bit of a value that is zero where its lowest bit is, apart from wider variables
   pub field_truth : (d : Draft) (s : CodeState) (set : ℕ) (st : State) (v u : ℕ → ℕ) (f : Field) (e : Draft) → ((q : ℕ) → q < processors (shapes g) set → (v q % 2 ^ 1 == 0) ≡ (u q == 0)) → IsApart g set f → GivesField g alive 1 (length d.fields) d s set st v f e → GivesTruth d s set st u f e
   unfolding tests_passed
   field_truth d s set st v u f e same apart h = record {
     passes = tests_passed g alive (length d.fields) d e s st (Behind g f e) (omega arith) h.passes;
-    of_set = numbers.of_set;
-    exists = numbers.exists;
-    len = numbers.len;
-    are = λ q below on.
-        numbers.are q below (flags_of g alive places fields st h.passes.t set q h.passes.sim numbers.exists below ∙ on)
+    of_set = of.0;
+    exists = of.1;
+    len = of.2;
+    are = λ behind q below on.
+        (gives_numbers g alive places fields 1 (length d.fields) d s set st v f e h behind).are q below (flags_of g alive places fields st h.passes.t set q h.passes.sim of.1 below ∙ on)
         ∙ is_bit (v q % 2 ^ 1) (mod_below (v q) (2 ^ 1) (omega arith)) (u q == 0) (same q below);
-    lasts = λ t last sim stays named q below. by h.stands t last sim stays named q below;
+    lasts = λ t last sim stays named early late q below. by h.stands t last sim stays named early late q below;
     apart = apart;
   }
     where
-      numbers : HasNumbers g 1 set f h.passes.t v
-      numbers = gives_numbers g alive places fields 1 (length d.fields) d s set st v f e h
+      of : (f.set ≡ set) × (set < length (shapes g)) × (f.len ≡ 1)
+      of = gives_set g alive places fields 1 (length d.fields) d s set st v f e h
 
       is_bit : (n : ℕ) → n < 2 ^ 1 → (b : Bool) → (n == 0) ≡ b → n ≡ from_bool (not b)
       is_bit n few true e = grind (arith, nat_tests, few, e)
       is_bit n few false e = grind (arith, nat_tests, few, e)
 
-      by : Stands g alive 1 (length d.fields) e set f h.passes.t st v → (t : CodeState) (last : ℕ) → Sim g alive st t → Stays d e h.passes.t t last → IsNamedAt g.unit f.offset last → (q : ℕ) → q < processors (shapes g) set → number_in g f t q ≡ number_in g f h.passes.t q
-      by (inl own) t last sim stays named q below =
-          first_there g alive places fields set f own.long st t sim numbers.of_set numbers.exists own.fits own.ends q below
+      by : Stands g alive 1 (length d.fields) e set f h.passes.t st v → (t : CodeState) (last : ℕ) → Sim g alive st t → Stays d e h.passes.t t last → IsNamedAt g.unit f.offset last → length e.code ≤ last → t.at ≤ start g + last → (q : ℕ) → q < processors (shapes g) set → number_in g f t q ≡ number_in g f h.passes.t q
+      by (inl own) t last sim stays named early late q below =
+          first_there g alive places fields set f own.long st t sim of.0 of.1 own.fits own.ends q below
           ∙ ap (λ (m : ℕ). m % 2 ^ f.len) (stays (record f { len = own.long }) own.somewhere q own.newer own.older own.own own.ends own.named own.before named)
-          ∙ sym (first_there g alive places fields set f own.long st h.passes.t h.passes.sim numbers.of_set numbers.exists own.fits own.ends q below)
-      by (inr file) t last sim stays named q below =
-          (in_file_numbers g alive places fields 1 set f st v t file sim q below).0 ∙ sym (in_file_numbers g alive places fields 1 set f st v h.passes.t file h.passes.sim q below).0
+          ∙ sym (first_there g alive places fields set f own.long st h.passes.t h.passes.sim of.0 of.1 own.fits own.ends q below)
+      by (inr variable) t last sim stays named early late q below =
+          (in_variable_numbers g alive places fields 1 set f st v t variable sim last named late q below).0
+          ∙ sym (in_variable_numbers g alive places fields 1 set f st v h.passes.t variable h.passes.sim last named (let there = h.passes.at.stands in omega (arith, there, early)) q below).0
 
   pub truth_told : (d : Draft) (s : CodeState) (set : ℕ) (st : State) (v : ℕ → ℕ) (f : Field) (e : Draft) → GivesTruth d s set st v f e → GivesTold d s set st v f e
   truth_told d s set st v f e h = record {
     passes = h.passes;
     exists = h.exists;
-    tells = (
+    tells = λ behind. (
       h.of_set,
-      λ q below on. ap (λ (n : ℕ). n == 0) (h.are q below (sym (flags_of g alive places fields st h.passes.t set q h.passes.sim h.exists below) ∙ on)) ∙ zero_bit (v q == 0),
+      λ q below on. ap (λ (n : ℕ). n == 0) (h.are behind q below (sym (flags_of g alive places fields st h.passes.t set q h.passes.sim h.exists below) ∙ on)) ∙ zero_bit (v q == 0),
     );
   }
 
   pub field_told : (bits : ℕ) (d : Draft) (s : CodeState) (set : ℕ) (st : State) (v u : ℕ → ℕ) (f : Field) (e : Draft) → ((q : ℕ) → q < processors (shapes g) set → (v q % 2 ^ bits == 0) ≡ (u q == 0)) → GivesField g alive bits (length d.fields) d s set st v f e → GivesTold d s set st u f e
   unfolding tests_passed
   field_told bits d s set st v u f e same h =
-      let numbers = gives_numbers g alive places fields bits (length d.fields) d s set st v f e h in
-      record { passes = tests_passed g alive (length d.fields) d e s st (Behind g f e) (omega arith) h.passes; exists = numbers.exists; tells = numbers_tell g bits set f h.passes.t v u same numbers }
+      record {
+        passes = tests_passed g alive (length d.fields) d e s st (Behind g f e) (omega arith) h.passes;
+        exists = (gives_set g alive places fields bits (length d.fields) d s set st v f e h).1;
+        tells = λ behind. numbers_tell g bits set f h.passes.t v u same (gives_numbers g alive places fields bits (length d.fields) d s set st v f e h behind);
+      }
 
   -- behind code of conditions, an instruction by which an own entry that is new takes these bits
   module _ (set : ℕ) (d e : Draft) (i : Instr) (f : Field) (others : List Field) (s : CodeState) (st : State) (v value : ℕ → ℕ) (used : Type 0) (p : PassesTests g alive d e s st used) (wanted : used) (newer : length d.fields ≤ f.offset) (older : f.offset < length e.fields) (own : IsOwnField g f)
@@ -159,8 +164,8 @@ module _ (g : Setting) (alive : Variable → Type 0) (places : PlacesFields g) (
       of_set = of_set;
       exists = w.exists;
       len = len;
-      are = λ q below on. w.has q below (below, on);
-      lasts = λ t last sim stays named q below. stays f (length e.code) q newer (let l = fields_longer e (with_instr i e) 1 (and_one g i e) in omega (arith, older, l)) own w.ends (names_first g i f others (length e.code) (stands_here g i e within plain) names) (omega (arith, long)) named;
+      are = λ behind q below on. w.has q below (below, on);
+      lasts = λ t last sim stays named early late q below. stays f (length e.code) q newer (let l = fields_longer e (with_instr i e) 1 (and_one g i e) in omega (arith, older, l)) own w.ends (names_first g i f others (length e.code) (stands_here g i e within plain) names) (omega (arith, long)) named;
       apart = λ k info is more. places.own_file k 0 set info f is own;
     }
       where

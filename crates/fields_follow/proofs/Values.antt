@@ -13,7 +13,7 @@ use Rattle.code_lengths.specs.Ready.{IsReadyButForFields}
 use Rattle.code_lengths.proofs.Drafting.{append_nothing}
 use Rattle.lower_base.specs.declared.emit.Out.{Out}
 use Rattle.lower_base.specs.declared.emit.Out.TheVariants as O
-use Rattle.lower_base.specs.Drafts.{Draft, Fails, Made, Makes, an_entry, first_bits, fresh_for, in_field, shortened, then_make, with_instr}
+use Rattle.lower_base.specs.Drafts.{Draft, Fails, Made, Makes, an_entry, first_bits, fresh_for, in_field, shortened, step as step_of, then_make, with_instr}
 use Rattle.lower_expr.specs.declared.operands.Own.{Own}
 use Rattle.lower_base.specs.Kinds.{bits_of, kind_of}
 use Rattle.lower_expr.specs.Kinds.{has_number}
@@ -34,7 +34,7 @@ use Rattle.source_meaning.specs.State.{State}
 use Rattle.source_meaning.specs.Values.{Value}
 use Rattle.code_follows.proofs.Following.{Follows, HasRegisters, Sim, follows_same, held}
 use Rattle.code_follows.proofs.Growing.{Extended, and_instr, as_it_was}
-use Rattle.code_follows.proofs.Settings.{Setting, Within, and_one, layout}
+use Rattle.code_follows.proofs.Settings.{Setting, Within, and_one, layout, start}
 use Rattle.fields_follow.specs.Fragment.{IsPure}
 use Rattle.fields_follow.specs.Fields.{IsElement, file_number}
 use Rattle.fields_follow.proofs.FileFields.{Apart}
@@ -43,10 +43,12 @@ use Rattle.fields_follow.proofs.Instructions.{HasNumbers, extents, place, puts_e
 use Rattle.fields_follow.proofs.Lengths.{held_has}
 use Rattle.fields_follow.proofs.Meaning.{as_shaped, read_is, value_in, word_at}
 use Rattle.fields_follow.proofs.Outcomes.{Given, given_follows, meant}
-use Rattle.fields_follow.proofs.Passing.{After, Behind, GivesField, after_same, gives_first, gives_from, gives_numbers, in_file_has, made_after, passes_all, passes_from, puts_own, small_there}
-use Rattle.fields_follow.proofs.Places.{HoldsTheFields, IsFileField, IsOwnField, PlacesFields, entry_is, of_file}
+use Rattle.fields_follow.proofs.Passing.{After, Behind, GivesField, after_same, gives_first, gives_from, gives_set, in_variable_has, made_after, names_second, passes_all, passes_from, puts_own}
+use Rattle.fields_follow.proofs.Places.{HoldsTheFields, IsFileField, IsOwnField, PlacesFields, entry_is, of_file, stands_here}
 use Rattle.fields_follow.proofs.Totals.{held_below}
 use Rattle.fields_follow.proofs.Starts.{Starts}
+use Rattle.fields_follow.proofs.Variables.{Carries, file_carries}
+use Rattle.paris_code.specs.Spans.{IsNamedAt}
 
 -- one entry more
 abbrev pub with_entry : ℕ → ℕ → Owner → Draft → Draft
@@ -112,11 +114,9 @@ module _ (g : Setting) where
               record {
                 passes = passes_from g alive (length d.fields) d d1 d1 s st (Behind g (next_field set bits d) d1) (and_entry set h.info.elem.bits owner d) (passes_all g alive (length d.fields) d1 s st (Behind g (next_field set bits d) d1) here sim);
                 stands = inr (record {
-                  k = h.k;
+                  x = V.File h.k;
                   info = h.info;
-                  is = h.is;
-                  file = taken set h.info.elem.bits owner d d1 0 within (as_it_was d1);
-                  of_set = refl;
+                  carries = file_carries g alive places fields set h.k h.info (next_field set h.info.elem.bits d) h.is (taken set h.info.elem.bits owner d d1 0 within (as_it_was d1)) refl refl;
                   len = refl;
                   fits = h.fits;
                   same = λ q below. (h.value (extents g set) st q, held_below (type_of e).elem (value_in (extents g set) st e q));
@@ -161,27 +161,26 @@ module _ (g : Setting) where
         by true (inr none) = follows_same g R s refl (ap (λ (o : Option Own). elim o as (λ _. Made Out) [ Some own ↦ standing g.typed (layout g) bits own d | None ↦ code_of bits e d ]) none) (whole d s st here sim)
         by false any = whole d s st here sim
 
-    -- the field of a variable, all of it, has its words, which its type has
-    pub variable_has : (set k : ℕ) (info : VarInfo) (f : Field) (s : CodeState) (st : State) → IsElement g.typed k info set 0 → IsFileField g k 0 f → f.set ≡ set → f.len ≡ info.elem.bits → Sim g alive st s
-        → HasNumbers g info.elem.bits set f s (λ q. held info.elem (st.parallel (V.File k) 0 q)) × ((q : ℕ) → q < processors (shapes g) set → has_number info.elem (held info.elem (st.parallel (V.File k) 0 q)) ≡ true)
-    variable_has set k info f s st is file of_set len sim = (
-      in_file_has g alive places fields info.elem.bits set f st (λ q. held info.elem (st.parallel (V.File k) 0 q)) s (record {
-        k = k;
+    -- The field of a variable, all of it, has its words, which its type has, where an instruction names it at this place or
+    -- behind it.
+    pub variable_has : (set : ℕ) (x : Variable) (info : VarInfo) (f : Field) (s : CodeState) (st : State) → Carries g alive x info set f → (later : ℕ) → IsNamedAt g.unit f.offset later → s.at ≤ start g + later → Sim g alive st s
+        → HasNumbers g info.elem.bits set f s (λ q. held info.elem (st.parallel x 0 q)) × ((q : ℕ) → q < processors (shapes g) set → has_number info.elem (held info.elem (st.parallel x 0 q)) ≡ true)
+    variable_has set x info f s st carries later named behind sim = (
+      in_variable_has g alive places fields info.elem.bits set f st (λ q. held info.elem (st.parallel x 0 q)) s (record {
+        x = x;
         info = info;
-        is = is;
-        file = subst (λ (n : ℕ). IsFileField g k 0 (record f { len = n })) len file;
-        of_set = of_set;
-        len = len;
-        fits = subst (λ (n : ℕ). n ≤ info.elem.bits) (sym len) (omega arith);
-        same = λ q below. (refl, held_below info.elem (st.parallel (V.File k) 0 q));
-      }) sim,
-      λ q below. held_has info.elem (st.parallel (V.File k) 0 q) (small_there g alive places fields set k info st s is sim q),
+        carries = subst (λ (n : ℕ). Carries g alive x info set (record f { len = n })) carries.len carries;
+        len = carries.len;
+        fits = subst (λ (n : ℕ). n ≤ info.elem.bits) (sym carries.len) (omega arith);
+        same = λ q below. (refl, held_below info.elem (st.parallel x 0 q));
+      }) sim later named behind,
+      λ q below. held_has info.elem (st.parallel x 0 q) (carries.small st s sim q),
     )
 
     -- a copy of a variable's field, cut or extended
     field_copied : (bits set k : ℕ) (info : VarInfo) → bits ≤ 32 → IsElement g.typed k info set 0 → (d : Draft) (s : CodeState) (st : State) → Starts g alive s (length d.code) d.regs → Sim g alive st s
         → (flag : Type 0) → After g (Gives flag bits (length d.fields) d s set st (λ q. held info.elem (st.parallel (V.File k) 0 q))) (field_loaded g.typed (layout g) info.elem.signed (V.File k) 0 (next_field set bits d) (with_entry set bits W.Own d))
-    unfolding field_loaded then_make an_entry
+    unfolding field_loaded then_make an_entry step_of
     field_copied bits set k info most is d s st here sim flag =
         let dest : Field = next_field set bits d in
         let d1 : Draft = with_entry set bits W.Own d in
@@ -194,7 +193,9 @@ module _ (g : Setting) where
         (made_after g (Gives flag bits (length d.fields) d s set st v) (O.Field dest) (with_instr i d2) (λ within.
         let own : IsOwnField g dest = taken set bits W.Own d (with_instr i d2) 1 within (and_instr i d1 d2 0 (and_entry set info.elem.bits owner d1)) in
         let file : IsFileField g k 0 source = taken set info.elem.bits owner d1 (with_instr i d2) 1 within (and_one g i d2) in
-        let numbers = variable_has set k info source s st is file refl refl sim in
+        let named : IsNamedAt g.unit source.offset (length d2.code) = names_second g i dest source [] (length d2.code) (stands_here g i d2 within refl) refl in
+        let behind : s.at ≤ start g + length d2.code = (let at = here.stands in omega (arith, at)) in
+        let numbers = variable_has set (V.File k) info source s st (file_carries g alive places fields set k info source is file refl refl) (length d2.code) named behind sim in
         let h = puts_own g alive places fields bits (length d.fields) set i dest d2 s st v (omega arith) (let one = one_more set bits W.Own d in let two = one_more set info.elem.bits owner d1 in omega (arith, one, two)) own refl refl within here sim
         (puts_extended g info.elem set dest source s v most (λ q below on. numbers.1 q below) numbers.0) in (
           dest,
@@ -233,7 +234,7 @@ module _ (g : Setting) where
               ap (λ (y : Field). O.Field (record y { len = fewer })) (same f x is),
               (
                 gives_first g alive places fields bits fewer bound d s set st v x e less gives,
-                λ so k info one more. shorter_apart (record (place g x) { len = fewer }) x.len (of_file g k 0) (subst (λ (m : ℕ). fewer ≤ m) (sym (gives_numbers g alive places fields bits bound d s set st v x e gives).len) less) (apart so k info one more),
+                λ so k info one more. shorter_apart (record (place g x) { len = fewer }) x.len (of_file g k 0) (subst (λ (m : ℕ). fewer ≤ m) (sym (gives_set g alive places fields bits bound d s set st v x e gives).2) less) (apart so k info one more),
               ),
             ),
           ),

@@ -1,9 +1,9 @@
 -- The programs with parallel variables of which it is said so far that their code means them. Their parallel
 -- expressions are pure ones, of variables of the file of all types, gets from neighbours round the ends of the grid, own
--- coordinates and promoted scalars, which change nothing; they fail where a divisor is 0 at an active position, and
--- nowhere else. They are assigned to such variables, as truth values of them are, and scans of them and of ones, and folded
--- into numbers and onto scalar variables, and they are the conditions of `where`. Folds and scans are of the active
--- positions.
+-- coordinates and promoted scalars, which are computed by operators, conversions, casts and `?:`, and change nothing; they
+-- fail where a divisor is 0 at an active position, or that of a scalar is, and nowhere else. They are assigned to such
+-- variables, as truth values of them are, and scans of them and of ones, and folded into numbers and onto scalar variables,
+-- and they are the conditions of `where`. Folds and scans are of the active positions.
 -- Blocks may have parallel variables without initialisers, which no expression names.
 -- Under `where` and `everywhere` stand the statements of scalar programs with these, also calls, `return` and jumps that
 -- lead out of them.
@@ -30,8 +30,10 @@ use Rattle.lower_comm.specs.declared.news.NewsStep.{NewsStep}
 use Rattle.lower_comm.specs.News.{step_of}
 use Rattle.lower_expr.specs.Kinds.{operation_bits, relation_kind}
 use Rattle.lower_expr.specs.Operands.{ignores_context}
+use Rattle.lower_expr.specs.Steps.{word_of}
 use Rattle.source_meaning.specs.Constants.{constant_of}
-use Rattle.code_follows.specs.Fragment.{Beside, IsProgramBeside, IsScalarType, IsWord}
+use Rattle.source_meaning.specs.Values.{cast_type}
+use Rattle.code_follows.specs.Fragment.{Beside, IsOperand as OperatesOn, IsProgramBeside, IsScalarType, IsWord}
 
 -- a type of 32 bits of a shape
 abbrev pub IsWide : ℕ → ValueType → Type 0
@@ -51,16 +53,27 @@ IsDivisor _ = Unit {0}
 abbrev pub IsOperation : Op → TExpr → Type 0
 IsOperation op right = (relates op ≡ false) × ((divides op ≡ false) ⊎ IsDivisor right)
 
--- a scalar variable, maybe converted to another type of 32 bits
-unfoldable pub IsScalarName : TExpr → Type 0
-IsScalarName (T.Variable ty x) = Unit {0}
-IsScalarName (T.Brackets' ty p inner) = (ty ≡ type_of inner) × IsScalarName inner
-IsScalarName (T.Convert' ty p operand) = IsWord ty × IsWord (type_of operand) × IsScalarName operand
-IsScalarName _ = ⊥
+-- A scalar that changes nothing: of numbers, variables, operators, conversions and casts of any scalar types, and `?:`.
+-- Where it divides by 0 the run ends.
+unfoldable pub IsCalm : TExpr → Type 0
+IsCalm (T.Number ty value) = IsWord ty × (value < 2 ^ 32)
+IsCalm (T.PositionsOf ty shape value) = IsWord ty × (value < 2 ^ 32)
+IsCalm (T.RankOf ty shape value) = IsWord ty × (value < 2 ^ 32)
+IsCalm (T.DimOf ty shape axis value) = IsWord ty × (value < 2 ^ 32)
+IsCalm (T.Variable ty x) = IsScalarType ty
+IsCalm (T.Brackets' ty p inner) = (ty ≡ type_of inner) × IsCalm inner
+IsCalm (T.Convert' ty p operand) = IsScalarType ty × IsCalm operand
+IsCalm (T.Casts' ty elems p operand) = IsScalarType ty × (ty.elem ≡ cast_type elems.items (type_of operand).elem) × IsCalm operand
+IsCalm (T.Unary' ty op p operand) = IsWord ty × IsCalm operand × OperatesOn op (type_of operand)
+IsCalm (T.Binary' ty place op p left q right) = IsWord ty × IsCalm left × IsCalm right × IsWord (type_of left) × IsWord (type_of right)
+IsCalm (T.LogicalOr' ty p left q right) = IsWord ty × IsCalm left × IsCalm right
+IsCalm (T.LogicalAnd' ty p left q right) = IsWord ty × IsCalm left × IsCalm right
+IsCalm (T.Choice' ty p test q first r second) = IsWord ty × IsCalm test × IsCalm first × IsCalm second × IsWord (type_of first) × IsWord (type_of second)
+IsCalm _ = ⊥
 
--- a scalar: a constant, or a variable
+-- a scalar: a constant, or one that is computed
 abbrev pub IsEverywhere : TExpr → Type 0
-IsEverywhere e = ((type_of e).shape ≡ None) × (IsConstant e ⊎ IsScalarName e)
+IsEverywhere e = ((type_of e).shape ≡ None) × (IsConstant e ⊎ ((constant_of e ≡ None) × IsCalm e))
 
 -- such a scalar, promoted to a shape
 unfoldable pub IsPromoted : ℕ → TExpr → Type 0
@@ -117,9 +130,13 @@ HasKnownKind e = (kind_of e ≡ None) ⊎ IsNarrowed e
 abbrev pub ReadsSigns : TExpr → TExpr → Type 0
 ReadsSigns left right = elim (relation_kind left right) [ None ↦ Unit {0} | Some kind ↦ kind.signed ≡ true → (type_of left).elem.signed ≡ true ]
 
--- a relation of two operands, of which one may be a promoted scalar
+-- a side of a relation that is a promoted scalar: a constant, or one of which no type of fewer than 32 bits is known
+abbrev pub IsSide : ℕ → TExpr → Type 0
+IsSide set e = IsPromoted set e × (word_of e ≡ None → kind_of e ≡ None)
+
+-- a relation of two operands, of which one may be such a scalar
 abbrev pub IsRelation : ℕ → Op → TExpr → TExpr → Type 0
-IsRelation set op left right = (relates op ≡ true) × (HasKnownKind left ⊎ IsPromoted set left) × (HasKnownKind right ⊎ IsPromoted set right) × ReadsSigns left right
+IsRelation set op left right = (relates op ≡ true) × (HasKnownKind left ⊎ IsSide set left) × (HasKnownKind right ⊎ IsSide set right) × ReadsSigns left right
 
 -- A parallel expression that is not promoted; of an operator's two operands one may be. Operators work at 32 bits, to
 -- which narrower values are converted. Truth values are relations, `!`, conversions to `bool`, and two values that are

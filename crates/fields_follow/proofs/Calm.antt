@@ -1,0 +1,223 @@
+-- Scalars that change nothing: what they mean wherever they stand, and how the laws of scalar programs see them.
+use Rattle.std.proofs.Common.{◌≡◌, ◌∙◌, ℕ, ◌<◌, ◌^◌, ◌==◌, ◌&&◌, Bool, true, false, not, Option, Some, None, refl, sym, ap, subst, if◌then◌else◌}
+use Rattle.std.specs.Int.{from_bool}
+use Rattle.constant_trees.proofs.Words.{converted_below, from_bool_below, unary_below}
+use Rattle.cstar_base.specs.declared.faults.RunFault.TheVariants.{DivZero}
+use Rattle.cstar_base.specs.declared.operators.Op.{Op}
+use Rattle.cstar_base.specs.declared.operators.Place.{Place}
+use Rattle.cstar_base.specs.Numbers.{converted}
+use Rattle.cstar_base.specs.Operators.{divides, outcome}
+use Rattle.cstar_tree.specs.declared.typed.TExpr.{TExpr}
+use Rattle.cstar_tree.specs.declared.typed.TExpr as T
+use Rattle.cstar_tree.specs.declared.typed.ValueType.{ValueType}
+use Rattle.cstar_tree.specs.declared.typed.VarInfo.{VarInfo}
+use Rattle.cstar_tree.specs.declared.typed.Variable.{Variable}
+use Rattle.cstar_tree.specs.StatementTypes.{variable_info}
+use Rattle.cstar_tree.specs.Typed.{type_of}
+use Rattle.code_lengths.specs.Naming.{NamesVariables, plain}
+use Rattle.lower_base.specs.Operators.{machine_of}
+use Rattle.lower_expr.specs.Operands.{is_quiet}
+use Rattle.source_meaning.specs.Expressions.{evaluated, mapped, operated}
+use Rattle.source_meaning.specs.Narrowing.{Operand, and_then, choose, or_then}
+use Rattle.source_meaning.specs.State.{Ends, Fault, Gives, Outcome, State, then_do}
+use Rattle.source_meaning.specs.Targets.{read, variable_target}
+use Rattle.source_meaning.specs.Values.{Active, Scalar, Scope, Value, at, cast_through, convert_to, each, failing, nonzero, number, unary_of, unless}
+use Rattle.code_follows.specs.Fragment.{IsIn, May, ScalarsAmong, naming}
+use Rattle.code_follows.proofs.Following.{IsScalar}
+use Rattle.code_follows.proofs.Operators.{machine_below, machine_same}
+use Rattle.code_follows.proofs.Settings.{Setting}
+use Rattle.code_follows.proofs.Words.{below_bits, through_below, within_word}
+use Rattle.fields_follow.specs.Fragment.{IsCalm}
+
+pub calm_scalar : (e : TExpr) → IsCalm e → (type_of e).shape ≡ None
+unfolding IsCalm
+calm_scalar (T.Number ty value) h = h.0.0
+calm_scalar (T.PositionsOf ty shape value) h = h.0.0
+calm_scalar (T.RankOf ty shape value) h = h.0.0
+calm_scalar (T.DimOf ty shape axis value) h = h.0.0
+calm_scalar (T.Variable ty x) h = h
+calm_scalar (T.Brackets' ty p inner) h = ap (λ (y : ValueType). y.shape) h.0 ∙ calm_scalar inner h.1
+calm_scalar (T.Convert' ty p operand) h = h.0
+calm_scalar (T.Casts' ty elems p operand) h = h.0
+calm_scalar (T.Unary' ty op p operand) h = h.0.0
+calm_scalar (T.Binary' ty place op p left q right) h = h.0.0
+calm_scalar (T.LogicalOr' ty p left q right) h = h.0.0
+calm_scalar (T.LogicalAnd' ty p left q right) h = h.0.0
+calm_scalar (T.Choice' ty p test q first r second) h = h.0.0
+calm_scalar _ h = absurd h
+
+-- it is an expression of scalar programs, of the variables that it names
+pub calm_in : (may : May) (names : Variable → Type 0) (e : TExpr) → IsCalm e → ScalarsAmong names e → IsIn (naming may names) e
+unfolding IsCalm ScalarsAmong IsIn
+calm_in may names (T.Number ty value) h among = h
+calm_in may names (T.PositionsOf ty shape value) h among = h
+calm_in may names (T.RankOf ty shape value) h among = h
+calm_in may names (T.DimOf ty shape axis value) h among = h
+calm_in may names (T.Variable ty x) h among = (h, among h)
+calm_in may names (T.Brackets' ty p inner) h among = (h.0, calm_in may names inner h.1 among)
+calm_in may names (T.Convert' ty p operand) h among = (h.0, calm_in may names operand h.1 among)
+calm_in may names (T.Casts' ty elems p operand) h among = (h.0, h.1, calm_in may names operand h.2 among)
+calm_in may names (T.Unary' ty op p operand) h among = (h.0, calm_in may names operand h.1 among, h.2)
+calm_in may names (T.Binary' ty place op p left q right) h among = (h.0, calm_in may names left h.1 among.0, calm_in may names right h.2 among.1, h.3, h.4)
+calm_in may names (T.LogicalOr' ty p left q right) h among = (h.0, calm_in may names left h.1 among.0, calm_in may names right h.2 among.1)
+calm_in may names (T.LogicalAnd' ty p left q right) h among = (h.0, calm_in may names left h.1 among.0, calm_in may names right h.2 among.1)
+calm_in may names (T.Choice' ty p test q first r second) h among = (h.0, calm_in may names test h.1 among.0, calm_in may names first h.2 among.1, calm_in may names second h.3 among.2, h.4, h.5)
+calm_in may names _ h among = absurd h
+
+both : (a b : Bool) → a ≡ true → b ≡ true → (a && b) ≡ true
+both true b e f = f
+both false b e f = cc
+
+-- it is quiet
+pub calm_quiet : (e : TExpr) → IsCalm e → is_quiet e ≡ true
+unfolding IsCalm is_quiet
+calm_quiet (T.Number ty value) h = refl
+calm_quiet (T.PositionsOf ty shape value) h = refl
+calm_quiet (T.RankOf ty shape value) h = refl
+calm_quiet (T.DimOf ty shape axis value) h = refl
+calm_quiet (T.Variable ty x) h = refl
+calm_quiet (T.Brackets' ty p inner) h = calm_quiet inner h.1
+calm_quiet (T.Convert' ty p operand) h = calm_quiet operand h.1
+calm_quiet (T.Casts' ty elems p operand) h = calm_quiet operand h.2
+calm_quiet (T.Unary' ty op p operand) h = calm_quiet operand h.1
+calm_quiet (T.Binary' ty place op p left q right) h = both (is_quiet left) (is_quiet right) (calm_quiet left h.1) (calm_quiet right h.2)
+calm_quiet (T.LogicalOr' ty p left q right) h = both (is_quiet left) (is_quiet right) (calm_quiet left h.1) (calm_quiet right h.2)
+calm_quiet (T.LogicalAnd' ty p left q right) h = both (is_quiet left) (is_quiet right) (calm_quiet left h.1) (calm_quiet right h.2)
+calm_quiet (T.Choice' ty p test q first r second) h = both (is_quiet test && is_quiet first) (is_quiet second) (both (is_quiet test) (is_quiet first) (calm_quiet test h.1) (calm_quiet first h.2)) (calm_quiet second h.3)
+calm_quiet _ h = absurd h
+
+-- Its meaning is the same under any contexts, and whatever surrounds it.
+module _ (scope other : Scope) (active others : Active) where
+  operated_same : (ty : ValueType) (place : Place) (op : Op) (unsigned : Bool) (v w : Value) (st : State) → ty.shape ≡ None → operated scope active ty place op unsigned v w st ≡ operated other others ty place op unsigned v w st
+  unfolding operated failing
+  operated_same ty place op unsigned v w st scalar =
+      ap (λ (o : Option ℕ). unless (failing scope active o (λ p. divides op && at w p == 0)) DivZero place st (Gives (each ty.shape (λ p. outcome op 32 unsigned (at v p) (at w p))) st)) scalar
+      ∙ sym (ap (λ (o : Option ℕ). unless (failing other others o (λ p. divides op && at w p == 0)) DivZero place st (Gives (each ty.shape (λ p. outcome op 32 unsigned (at v p) (at w p))) st)) scalar)
+
+  and_same : (whole of : Option ℕ) (v : Value) (f g : Operand) (st : State) → of ≡ None → f active st ≡ g others st → and_then whole of v f active st ≡ and_then whole of v g others st
+  unfolding and_then
+  and_same whole of v f g st none same =
+      ap (λ (o : Option ℕ). and_then whole o v f active st) none
+      ∙ ap (λ (o : Outcome Value). elim (nonzero (number v)) as (λ _. Outcome Value) [ true ↦ then_do o (λ w after. Gives (each whole (λ p. from_bool (nonzero (at w p)))) after) | false ↦ Gives (each whole (λ _. 0)) st ]) same
+      ∙ sym (ap (λ (o : Option ℕ). and_then whole o v g others st) none)
+
+  or_same : (whole of : Option ℕ) (v : Value) (f g : Operand) (st : State) → of ≡ None → f active st ≡ g others st → or_then whole of v f active st ≡ or_then whole of v g others st
+  unfolding or_then
+  or_same whole of v f g st none same =
+      ap (λ (o : Option ℕ). or_then whole o v f active st) none
+      ∙ ap (λ (o : Outcome Value). elim (nonzero (number v)) as (λ _. Outcome Value) [ true ↦ Gives (each whole (λ _. 1)) st | false ↦ then_do o (λ w after. Gives (each whole (λ p. from_bool (nonzero (at w p)))) after) ]) same
+      ∙ sym (ap (λ (o : Option ℕ). or_then whole o v g others st) none)
+
+  choose_same : (of : Option ℕ) (v : Value) (f g h k : Operand) (st : State) → of ≡ None → f active st ≡ h others st → g active st ≡ k others st → choose of v f g active st ≡ choose of v h k others st
+  unfolding choose
+  choose_same of v f g h k st none one two =
+      ap (λ (o : Option ℕ). choose o v f g active st) none
+      ∙ (λ i. elim (nonzero (number v)) as (λ _. Outcome Value) [ true ↦ one i | false ↦ two i ])
+      ∙ sym (ap (λ (o : Option ℕ). choose o v h k others st) none)
+
+  pub calm_same : (e : TExpr) → IsCalm e → (st : State) → evaluated scope e active st ≡ evaluated other e others st
+  unfolding IsCalm evaluated
+  calm_same (T.Number ty value) h st = refl
+  calm_same (T.PositionsOf ty shape value) h st = refl
+  calm_same (T.RankOf ty shape value) h st = refl
+  calm_same (T.DimOf ty shape axis value) h st = refl
+  calm_same (T.Variable ty x) h st = refl
+  calm_same (T.Brackets' ty p inner) h st = calm_same inner h.1 st
+  calm_same (T.Convert' ty p operand) h st = ap (λ (o : Outcome Value). then_do o (λ v after. Gives (convert_to ty (type_of operand).elem v) after)) (calm_same operand h.1 st)
+  calm_same (T.Casts' ty elems p operand) h st = λ i. then_do (calm_same operand h.2 st i) (λ v after. Gives (mapped ty (λ w. cast_through elems.items (type_of operand).elem w) v) after)
+  calm_same (T.Unary' ty op p operand) h st = λ i. then_do (calm_same operand h.1 st i) (λ v after. Gives (mapped ty (λ w. unary_of op w) v) after)
+  calm_same (T.Binary' ty place op p left q right) h st = λ i. then_do (calm_same left h.1 st i) (λ v between. then_do (calm_same right h.2 between i) (λ w after. operated_same ty place op (not (type_of left).elem.signed) v w after h.0.0 i))
+  calm_same (T.LogicalOr' ty p left q right) h st = λ i. then_do (calm_same left h.1 st i) (λ v after. or_same ty.shape (type_of left).shape v (λ a u. evaluated scope right a u) (λ a u. evaluated other right a u) after (calm_scalar left h.1) (calm_same right h.2 after) i)
+  calm_same (T.LogicalAnd' ty p left q right) h st = λ i. then_do (calm_same left h.1 st i) (λ v after. and_same ty.shape (type_of left).shape v (λ a u. evaluated scope right a u) (λ a u. evaluated other right a u) after (calm_scalar left h.1) (calm_same right h.2 after) i)
+  calm_same (T.Choice' ty p test q first r second) h st =
+      λ i. then_do (calm_same test h.1 st i) (λ v after. choose_same (type_of test).shape v (λ a u. evaluated scope first a u) (λ a u. evaluated scope second a u) (λ a u. evaluated other first a u) (λ a u. evaluated other second a u) after (calm_scalar test h.1) (calm_same first h.2 after) (calm_same second h.3 after) i)
+  calm_same _ h st = absurd h
+
+-- It gives a number of its type, and the state as it was, or ends early.
+unfoldable pub IsCalmly : ℕ → State → Outcome Value → Type 0
+IsCalmly bits st (Gives v u) = (v ≡ Scalar (at v 0)) × (at v 0 < 2 ^ bits) × (u ≡ st)
+IsCalmly bits st (Ends early u) = Unit {0}
+
+gives_calmly : (bits : ℕ) (st : State) (w : ℕ) → w < 2 ^ bits → IsCalmly bits st (Gives (Scalar w) st)
+unfolding IsCalmly at
+gives_calmly bits st w few = (refl, few, refl)
+
+ends_calmly : (bits : ℕ) (st u : State) (early : _) → IsCalmly bits st (Ends early u)
+unfolding IsCalmly
+ends_calmly bits st u early = tt
+
+then_calmly : (few bits : ℕ) (st : State) (o : Outcome Value) (k : Value → State → Outcome Value) → IsCalmly few st o → ((w : ℕ) → w < 2 ^ few → IsCalmly bits st (k (Scalar w) st)) → IsCalmly bits st (then_do o k)
+unfolding IsCalmly then_do
+then_calmly few bits st (Gives v u) k h next = subst (λ (t : State). IsCalmly bits st (k v t)) (sym h.2) (subst (λ (x : Value). IsCalmly bits st (k x st)) (sym h.0) (next (at v 0) h.1))
+then_calmly few bits st (Ends early u) k h next = tt
+
+module _ (g : Setting) (alive : Variable → Type 0) (n : ℕ) (scope : Scope) (active : Active) (st : State) (small : (x : Variable) (info : VarInfo) → alive x → IsScalar g x info → st.scalar x < 2 ^ info.elem.bits) where
+  -- a value of scalars
+  each_calmly : (ty : ValueType) (f : ℕ → ℕ) → ty.shape ≡ None → f 0 < 2 ^ ty.elem.bits → IsCalmly ty.elem.bits st (Gives (each ty.shape f) st)
+  unfolding each
+  each_calmly ty f scalar few = subst (λ (o : Option ℕ). IsCalmly ty.elem.bits st (Gives (each o f) st)) (sym scalar) (gives_calmly ty.elem.bits st (f 0) few)
+
+  scalar_operated : (ty : ValueType) (place : Place) (op : Op) (unsigned : Bool) (x y : ℕ) → ty.shape ≡ None → operated scope active ty place op unsigned (Scalar x) (Scalar y) st ≡ (if divides op && (y == 0) then Ends (Fault DivZero place None) st else Gives (Scalar (outcome op 32 unsigned x y)) st)
+  unfolding operated failing unless each at
+  scalar_operated ty place op unsigned x y scalar =
+      ap (λ (o : Option ℕ). unless (failing scope active o (λ p. divides op && (y == 0))) DivZero place st (Gives (each o (λ p. outcome op 32 unsigned x y)) st)) scalar ∙ by (divides op && (y == 0))
+    where
+      by : (b : Bool) → unless (if b then Some None else None) DivZero place st (Gives (Scalar (outcome op 32 unsigned x y)) st) ≡ (if b then Ends (Fault DivZero place None) st else Gives (Scalar (outcome op 32 unsigned x y)) st)
+      by true = refl
+      by false = refl
+
+  operated_calmly : (ty : ValueType) (place : Place) (op : Op) (signed : Bool) (x y : ℕ) → ty.shape ≡ None → ty.elem.bits ≡ 32 → x < 2 ^ 32 → y < 2 ^ 32 → IsCalmly ty.elem.bits st (operated scope active ty place op (not signed) (Scalar x) (Scalar y) st)
+  operated_calmly ty place op signed x y scalar wide few small = subst (λ (o : Outcome Value). IsCalmly ty.elem.bits st o) (sym (scalar_operated ty place op (not signed) x y scalar)) (by (divides op) (y == 0) refl refl)
+    where
+      given : (divides op ≡ true → (y == 0) ≡ false) → IsCalmly ty.elem.bits st (Gives (Scalar (outcome op 32 (not signed) x y)) st)
+      given some = gives_calmly ty.elem.bits st (outcome op 32 (not signed) x y) (below_bits ty.elem.bits _ wide (subst (λ (w : ℕ). w < 2 ^ 32) (machine_same x y few small op signed some) (machine_below x y few small (machine_of op signed))))
+
+      by : (c z : Bool) → divides op ≡ c → (y == 0) ≡ z → IsCalmly ty.elem.bits st (if c && z then Ends (Fault DivZero place None) st else Gives (Scalar (outcome op 32 (not signed) x y)) st)
+      by true true is_c is_z = ends_calmly ty.elem.bits st st (Fault DivZero place None)
+      by true false is_c is_z = given (λ divided. is_z)
+      by false z is_c is_z = given (λ divided. cc)
+
+  truth_calmly : (ty : ValueType) (few : ℕ) (o : Outcome Value) → ty.shape ≡ None → ty.elem.bits ≡ 32 → IsCalmly few st o → IsCalmly ty.elem.bits st (then_do o (λ w after. Gives (each ty.shape (λ p. from_bool (nonzero (at w p)))) after))
+  truth_calmly ty few o scalar wide h = then_calmly few ty.elem.bits st o _ h (λ w below. each_calmly ty (λ p. from_bool (nonzero (at (Scalar w) p))) scalar (below_bits ty.elem.bits _ wide (from_bool_below (nonzero (at (Scalar w) 0)))))
+
+  pub calm_gives : (e : TExpr) → IsCalm e → NamesVariables g.typed g.instance n e → ScalarsAmong alive e → IsCalmly (type_of e).elem.bits st (evaluated scope e active st)
+  unfolding IsCalm NamesVariables ScalarsAmong evaluated mapped convert_to at read variable_target or_then and_then choose
+  calm_gives (T.Number ty value) h names among = gives_calmly ty.elem.bits st value (below_bits ty.elem.bits value h.0.1 h.1)
+  calm_gives (T.PositionsOf ty shape value) h names among = gives_calmly ty.elem.bits st value (below_bits ty.elem.bits value h.0.1 h.1)
+  calm_gives (T.RankOf ty shape value) h names among = gives_calmly ty.elem.bits st value (below_bits ty.elem.bits value h.0.1 h.1)
+  calm_gives (T.DimOf ty shape axis value) h names among = gives_calmly ty.elem.bits st value (below_bits ty.elem.bits value h.0.1 h.1)
+  calm_gives (T.Variable ty x) h names among = subst (λ (o : Option ℕ). IsCalmly ty.elem.bits st (Gives (read st (variable_target o x 0)) st)) (sym h) (gives_calmly ty.elem.bits st (st.scalar x) (small x (variable_info names.word (plain ty) names.start) (among h) (names.named, h)))
+  calm_gives (T.Brackets' ty p inner) h names among = subst (λ (y : ValueType). IsCalmly y.elem.bits st (evaluated scope inner active st)) (sym h.0) (calm_gives inner h.1 names among)
+  calm_gives (T.Convert' ty p operand) h names among =
+      then_calmly (type_of operand).elem.bits ty.elem.bits st (evaluated scope operand active st) _ (calm_gives operand h.1 names among) (λ w few. each_calmly ty (λ p. converted ty.elem (type_of operand).elem w) h.0 (converted_below ty.elem (type_of operand).elem w))
+  calm_gives (T.Casts' ty elems p operand) h names among =
+      then_calmly (type_of operand).elem.bits ty.elem.bits st (evaluated scope operand active st) _ (calm_gives operand h.2 names among)
+      (λ w few. each_calmly ty (λ p. cast_through elems.items (type_of operand).elem w) h.0 (subst (λ (e : _). cast_through elems.items (type_of operand).elem w < 2 ^ e.bits) (sym h.1) (through_below elems.items (type_of operand).elem w few)))
+  calm_gives (T.Unary' ty op p operand) h names among =
+      then_calmly (type_of operand).elem.bits ty.elem.bits st (evaluated scope operand active st) _ (calm_gives operand h.1 names among) (λ w few. each_calmly ty (λ p. unary_of op w) h.0.0 (below_bits ty.elem.bits _ h.0.1 (unary_below op w (within_word (type_of operand).elem w few))))
+  calm_gives (T.Binary' ty place op p left q right) h names among =
+      then_calmly (type_of left).elem.bits ty.elem.bits st (evaluated scope left active st) _ (calm_gives left h.1 names.0 among.0) (λ x few.
+      then_calmly (type_of right).elem.bits ty.elem.bits st (evaluated scope right active st) _ (calm_gives right h.2 names.1 among.1) (λ y less.
+      operated_calmly ty place op (type_of left).elem.signed x y h.0.0 h.0.1 (within_word (type_of left).elem x few) (within_word (type_of right).elem y less)))
+  calm_gives (T.LogicalOr' ty p left q right) h names among =
+      then_calmly (type_of left).elem.bits ty.elem.bits st (evaluated scope left active st) _ (calm_gives left h.1 names.0 among.0) (λ x few.
+      subst (λ (o : Option ℕ). IsCalmly ty.elem.bits st (or_then ty.shape o (Scalar x) (λ a u. evaluated scope right a u) active st)) (sym (calm_scalar left h.1)) (by (calm_gives right h.2 names.1 among.1) (nonzero (number (Scalar x)))))
+    where
+      by : IsCalmly (type_of right).elem.bits st (evaluated scope right active st) → (b : Bool) → IsCalmly ty.elem.bits st (elim b as (λ _. Outcome Value) [ true ↦ Gives (each ty.shape (λ _. 1)) st | false ↦ then_do (evaluated scope right active st) (λ w after. Gives (each ty.shape (λ p. from_bool (nonzero (at w p)))) after) ])
+      by other true = each_calmly ty (λ p. 1) h.0.0 (below_bits ty.elem.bits 1 h.0.1 (from_bool_below true))
+      by other false = truth_calmly ty (type_of right).elem.bits (evaluated scope right active st) h.0.0 h.0.1 other
+  calm_gives (T.LogicalAnd' ty p left q right) h names among =
+      then_calmly (type_of left).elem.bits ty.elem.bits st (evaluated scope left active st) _ (calm_gives left h.1 names.0 among.0) (λ x few.
+      subst (λ (o : Option ℕ). IsCalmly ty.elem.bits st (and_then ty.shape o (Scalar x) (λ a u. evaluated scope right a u) active st)) (sym (calm_scalar left h.1)) (by (calm_gives right h.2 names.1 among.1) (nonzero (number (Scalar x)))))
+    where
+      by : IsCalmly (type_of right).elem.bits st (evaluated scope right active st) → (b : Bool) → IsCalmly ty.elem.bits st (elim b as (λ _. Outcome Value) [ true ↦ then_do (evaluated scope right active st) (λ w after. Gives (each ty.shape (λ p. from_bool (nonzero (at w p)))) after) | false ↦ Gives (each ty.shape (λ _. 0)) st ])
+      by other true = truth_calmly ty (type_of right).elem.bits (evaluated scope right active st) h.0.0 h.0.1 other
+      by other false = each_calmly ty (λ p. 0) h.0.0 (below_bits ty.elem.bits 0 h.0.1 (from_bool_below false))
+  calm_gives (T.Choice' ty p test q first r second) h names among =
+      then_calmly (type_of test).elem.bits ty.elem.bits st (evaluated scope test active st) _ (calm_gives test h.1 names.0 among.0) (λ x few.
+      subst (λ (o : Option ℕ). IsCalmly ty.elem.bits st (choose o (Scalar x) (λ a u. evaluated scope first a u) (λ a u. evaluated scope second a u) active st)) (sym (calm_scalar test h.1)) (by (calm_gives first h.2 names.1 among.1) (calm_gives second h.3 names.2 among.2) (nonzero (number (Scalar x)))))
+    where
+      by : IsCalmly (type_of first).elem.bits st (evaluated scope first active st) → IsCalmly (type_of second).elem.bits st (evaluated scope second active st) → (b : Bool) → IsCalmly ty.elem.bits st (elim b as (λ _. Outcome Value) [ true ↦ evaluated scope first active st | false ↦ evaluated scope second active st ])
+      by one other true = subst (λ (m : ℕ). IsCalmly m st (evaluated scope first active st)) (h.4.1 ∙ sym h.0.1) one
+      by one other false = subst (λ (m : ℕ). IsCalmly m st (evaluated scope second active st)) (h.5.1 ∙ sym h.0.1) other
+  calm_gives _ h names among = absurd h

@@ -1,0 +1,164 @@
+-- Promoted scalars: a constant, or one that is computed in a register.
+use Rattle.std.proofs.Common.{◌≡◌, ◌∙◌, ℕ, ◌⊎◌, inl, inr, Bool, true, length, Option, Some, None, sym, ap, subst}
+use Rattle.cstar_base.specs.Numbers.{converted}
+use Rattle.cstar_tree.specs.declared.typed.TExpr.{TExpr}
+use Rattle.cstar_tree.specs.declared.typed.TExpr as T
+use Rattle.cstar_tree.specs.declared.typed.ValueType.{ValueType}
+use Rattle.cstar_tree.specs.declared.typed.Variable.{Variable}
+use Rattle.cstar_tree.specs.Typed.{type_of}
+use Rattle.code_lengths.specs.Lowerable.{IsLowerable}
+use Rattle.code_lengths.specs.Naming.{NamesVariables}
+use Rattle.code_lengths.specs.Ready.{HasCode, IsReadyButForFields}
+use Rattle.code_lengths.specs.Shaped.{IsShaped}
+use Rattle.lower_base.specs.declared.emit.Out.{Out}
+use Rattle.lower_base.specs.declared.emit.Out.TheVariants as O
+use Rattle.lower_base.specs.Drafts.{Draft, Made, Makes, then_make}
+use Rattle.lower_expr.specs.Effects.{bits_for, computed_to, moved}
+use Rattle.lower_expr.specs.Operands.{held as held_in, ignores_context, in_place, operand_by, own_of, standing}
+use Rattle.lower_expr.specs.Steps.{put_value, register_word, word_of}
+use Rattle.lower_expr.specs.Values.{value_of}
+use Rattle.paris_code.specs.declared.operands.Field.{Field}
+use Rattle.paris_code.specs.declared.operands.Konst.TheVariants as K
+use Rattle.paris_code.specs.Code.{CodeState}
+use Rattle.quiet_operands.proofs.Contexts.{ignored}
+use Rattle.source_meaning.specs.Constants.{constant_of, then_value}
+use Rattle.source_meaning.specs.Expressions.{evaluated, mapped}
+use Rattle.source_meaning.specs.Reductions.{int_type}
+use Rattle.source_meaning.specs.State as Source
+use Rattle.source_meaning.specs.State.{Gives, Outcome, State, then_do}
+use Rattle.source_meaning.specs.Values.{Active, Parallel, Scalar, Scope, Value, at}
+use Rattle.code_follows.specs.Fragment.{ScalarsAmong}
+use Rattle.code_follows.proofs.Following.{Follows, HasRegisters, Sim, follows_same, held, knowing, then_gives}
+use Rattle.code_follows.proofs.Settings.{Setting, layout}
+use Rattle.fields_follow.specs.Fragment.{IsCalm, IsConstant, IsPromoted}
+use Rattle.fields_follow.proofs.Calm.{calm_same}
+use Rattle.fields_follow.proofs.Forms.{HasItsCode, HasItsWord, constant_word, promoted_not_held}
+use Rattle.fields_follow.proofs.Instructions.{extents}
+use Rattle.fields_follow.proofs.Meaning.{computed_in, constant_means, given_in, mapped_is, nobody, nowhere, scalar_in, value_in, word_at}
+use Rattle.fields_follow.proofs.Outcomes.{Given, meant}
+use Rattle.fields_follow.proofs.Places.{HoldsTheFields}
+use Rattle.fields_follow.proofs.Scalars.{GivesScalar, scalar_follows}
+use Rattle.fields_follow.proofs.Spreading.{GivesWord}
+use Rattle.fields_follow.proofs.Starts.{Starts}
+use Rattle.lower_base.specs.Constants.{constant_register}
+
+-- what an outcome gives, whatever surrounds it
+unfoldable ignoring : (scope : Scope) (active : Active) (e : TExpr) (st : State) → IsCalm e → ignores_context e ≡ true → evaluated scope e active st ≡ Gives (given_in (evaluated nowhere e nobody st)) st
+unfolding given_in
+ignoring scope active e st calm free =
+    let same : evaluated scope e active st ≡ evaluated nowhere e nobody st = calm_same scope nowhere active nobody e calm st in
+    let gives = ignored scope e active active st free in
+    gives ∙ ap (λ (v : Value). Gives v st) (ap (λ (o : Outcome Value). given_in o) (sym gives) ∙ ap (λ (o : Outcome Value). given_in o) same)
+
+-- one that ignores the context has its value, and never fails
+pub promoted_free : (scope : Scope) (active : Active) (set : ℕ) (extents : _) (e : TExpr) (st : State) → IsPromoted set e → ignores_context e ≡ true → evaluated scope e active st ≡ Gives (Parallel (λ q. value_in extents st e q)) st
+unfolding IsPromoted ignores_context evaluated value_in scalar_in then_do at
+promoted_free scope active set extents (T.Promote' ty p operand) st is free = by is.2.1
+  where
+    by : IsConstant operand ⊎ ((constant_of operand ≡ None) × IsCalm operand) → evaluated scope (T.Promote' ty p operand) active st ≡ Gives (Parallel (λ q. scalar_in st operand q)) st
+    by (inl constant) =
+        ap (λ (o : Outcome Value). then_do o (λ v after. Gives (mapped ty (λ w. w) v) after)) (constant_means scope active operand constant.0 st constant.1)
+        ∙ ap (λ (v : Value). Gives v st) (mapped_is scope active ty set (λ w. w) (Scalar constant.0) is.0)
+        ∙ ap (λ (o : Option ℕ). Gives (Parallel (λ q. elim o [ Some word ↦ word | None ↦ computed_in st operand q ])) st) (sym constant.1)
+    by (inr (none, calm)) =
+        ap (λ (o : Outcome Value). then_do o (λ v after. Gives (mapped ty (λ w. w) v) after)) (ignoring scope active operand st calm free)
+        ∙ ap (λ (v : Value). Gives v st) (mapped_is scope active ty set (λ w. w) (given_in (evaluated nowhere operand nobody st)) is.0)
+        ∙ ap (λ (o : Option ℕ). Gives (Parallel (λ q. elim o [ Some word ↦ word | None ↦ computed_in st operand q ])) st) (sym none)
+promoted_free scope active set extents (T.Brackets' ty p inner) st is free = promoted_free scope active set extents inner st is.1 free
+promoted_free scope active set extents _ st is free = absurd is
+
+-- what a scalar gives at each position
+abbrev everywhere : Value → Value
+everywhere v = Parallel (λ q. at v q)
+
+module _ (g : Setting) (alive : Variable → Type 0) (n : ℕ) where
+  -- the scalar of one that is computed
+  pub record IsComputed (e : TExpr) : Type 0 where
+    pub operand : TExpr
+    pub calm : IsCalm operand
+    pub elem : (type_of e).elem ≡ (type_of operand).elem
+    pub no_word : word_of e ≡ None
+    pub code : (quiet : Bool) (bits : ℕ) (d : Draft) → operand_by g.typed (layout g) bits (λ after. value_of g.typed (layout g) bits e after) quiet e d ≡ operand_by g.typed (layout g) bits (λ after. value_of g.typed (layout g) bits operand after) quiet operand d
+    pub computed : (f : Field) (d : Draft) → computed_to g.typed (layout g) (O.Field f) e d ≡ then_make (operand_by g.typed (layout g) f.len (λ after. value_of g.typed (layout g) f.len operand after) true operand d) (λ v after. put_value (O.Field f) v after)
+    pub means : (scope : Scope) (active : Active) (st : State) → evaluated scope e active st ≡ then_do (evaluated scope operand active st) (λ v after. Gives (everywhere v) after)
+    pub value : (extents : _) (st : State) (q : ℕ) → value_in extents st e q ≡ computed_in st operand q
+    pub has : HasCode g.typed g.instance n operand
+    pub among : ScalarsAmong alive operand
+
+  pub promoted_stands : (set : ℕ) (e : TExpr) → IsPromoted set e → HasItsCode g.typed g.instance alive n e → HasItsWord e ⊎ IsComputed e
+  unfolding IsPromoted word_of register_word own_of NamesVariables IsShaped IsLowerable value_in scalar_in ScalarsAmong evaluated value_of operand_by in_place held_in computed_to moved bits_for
+  promoted_stands set (T.Promote' ty p operand) is c = by is.2.1
+    where
+      by : IsConstant operand ⊎ ((constant_of operand ≡ None) × IsCalm operand) → HasItsWord (T.Promote' ty p operand) ⊎ IsComputed (T.Promote' ty p operand)
+      by (inl constant) = inl (constant_word set ty p operand is.0 is.1 constant).0
+      by (inr (none, calm)) =
+          let code : (quiet : Bool) (bits : ℕ) (d : Draft) → operand_by g.typed (layout g) bits (λ after. value_of g.typed (layout g) bits operand after) quiet (T.Promote' ty p operand) d ≡ operand_by g.typed (layout g) bits (λ after. value_of g.typed (layout g) bits operand after) quiet operand d =
+          λ quiet bits d.
+          ap (λ (o : Option ℕ). elim o as (λ _. Made Out) [ Some r ↦ Makes (O.Scalar r) d | None ↦ elim (in_place bits quiet operand) as (λ _. Made Out) [ Some own ↦ standing g.typed (layout g) bits own d | None ↦ value_of g.typed (layout g) bits operand d ] ]) (promoted_not_held set (layout g) (T.Promote' ty p operand) is)
+          ∙ sym (ap (λ (o : Option ℕ). elim o as (λ _. Made Out) [ Some r ↦ Makes (O.Scalar r) d | None ↦ elim (in_place bits quiet operand) as (λ _. Made Out) [ Some own ↦ standing g.typed (layout g) bits own d | None ↦ value_of g.typed (layout g) bits operand d ] ]) (ap (λ (o : Option ℕ). then_value o (λ w. constant_register (layout g) w)) (ap (λ (o : Option ℕ). then_value o (λ v. Some (converted int_type (type_of operand).elem v))) none))) in
+          let no_word : register_word operand ≡ None = ap (λ (o : Option ℕ). then_value o (λ v. Some (converted int_type (type_of operand).elem v))) none in
+          inr (record {
+            operand = operand;
+            calm = calm;
+            elem = is.1;
+            no_word = no_word;
+            code = code;
+            computed = λ f d. ap (λ (m : Made Out). then_make m (λ v after. put_value (O.Field f) v after)) (code true f.len d);
+            means = λ scope active st i. then_do (evaluated scope operand active st) (λ v after. Gives (mapped_is scope active ty set (λ w. w) v is.0 i) after);
+            value = λ extents st q. ap (λ (o : Option ℕ). elim o [ Some word ↦ word | None ↦ computed_in st operand q ]) none;
+            has = record { shaped = c.code.shaped.1; lowerable = c.code.lowerable.1; names = c.code.names };
+            among = c.among;
+          })
+  promoted_stands set (T.Brackets' ty p inner) is c = by (promoted_stands set inner is.1 (record { code = record { shaped = c.code.shaped.1; lowerable = c.code.lowerable; names = c.code.names }; among = c.among }))
+    where
+      by : HasItsWord inner ⊎ IsComputed inner → HasItsWord (T.Brackets' ty p inner) ⊎ IsComputed (T.Brackets' ty p inner)
+      by (inl h) = inl (record { word = h.word; is = h.is; small = h.small; value = λ extents st q. ap (λ (y : ValueType). held y.elem (value_in extents st inner q)) is.0 ∙ h.value extents st q; means = h.means })
+      by (inr h) = inr (record {
+        operand = h.operand;
+        calm = h.calm;
+        elem = ap (λ (y : ValueType). y.elem) is.0 ∙ h.elem;
+        no_word = h.no_word;
+        code = λ quiet bits d.
+            ap (λ (o : Option ℕ). elim o as (λ _. Made Out) [ Some r ↦ Makes (O.Scalar r) d | None ↦ elim (in_place bits quiet inner) as (λ _. Made Out) [ Some own ↦ standing g.typed (layout g) bits own d | None ↦ value_of g.typed (layout g) bits inner d ] ]) (promoted_not_held set (layout g) (T.Brackets' ty p inner) is)
+            ∙ sym (ap (λ (o : Option ℕ). elim o as (λ _. Made Out) [ Some r ↦ Makes (O.Scalar r) d | None ↦ elim (in_place bits quiet inner) as (λ _. Made Out) [ Some own ↦ standing g.typed (layout g) bits own d | None ↦ value_of g.typed (layout g) bits inner d ] ]) (promoted_not_held set (layout g) inner is.1))
+            ∙ h.code quiet bits d;
+        computed = h.computed;
+        means = h.means;
+        value = h.value;
+        has = h.has;
+        among = h.among;
+      })
+  promoted_stands set _ is c = absurd is
+
+  module _ (has : HasRegisters g) (ready : (d : Draft) → IsReadyButForFields g.typed g.instance (layout g) n d) (fields : HoldsTheFields g) where
+    -- the code leaves its word in a register
+    pub computed_after : (set bits bound : ℕ) (quiet : Bool) (e : TExpr) → IsComputed e → (d : Draft) (s : CodeState) (st : State) → Starts g alive s (length d.code) d.regs → Sim g alive st s
+        → Follows g (Given g (λ q. value_in (extents g set) st e q) st (λ out f. (r : ℕ) × ((out ≡ O.Scalar r) × GivesWord g alive bound d s st (λ q. word_at (extents g set) st e q) (K.Reg r) f))) s (meant g fields e st) (operand_by g.typed (layout g) bits (λ after. value_of g.typed (layout g) bits e after) quiet e d)
+    unfolding given_in at
+    computed_after set bits bound quiet e h d s st here sim =
+        follows_same g Q s (h.means fields.scope fields.active st) (h.code quiet bits d)
+        (then_gives g Told Q s o everywhere made (knowing g R s o made (scalar_follows g has alive n ready fields quiet bits bound h.operand h.calm h.among h.has d s st here sim)) gives)
+      where
+        o : Outcome Value
+        o = evaluated fields.scope h.operand fields.active st
+
+        made : Made Out
+        made = operand_by g.typed (layout g) bits (λ after. value_of g.typed (layout g) bits h.operand after) quiet h.operand d
+
+        R : Value → State → Out → Draft → Type 0
+        R = GivesScalar g has alive n ready fields bound d s st h.operand
+
+        Told : Value → State → Out → Draft → Type 0
+        Told x u out f = (o ≡ Source.Gives x u) × R x u out f
+
+        Q : Value → State → Out → Draft → Type 0
+        Q = Given g (λ q. value_in (extents g set) st e q) st (λ out f. (r : ℕ) × ((out ≡ O.Scalar r) × GivesWord g alive bound d s st (λ q. word_at (extents g set) st e q) (K.Reg r) f))
+
+        gives : (x : Value) (u : State) (out : Out) (f : Draft) → Told x u out f → Q (everywhere x) u out f
+        gives x u out f (given, (w, (is, (same, (r, (place, word)))))) =
+            let number : (q : ℕ) → value_in (extents g set) st e q ≡ w =
+            λ q. h.value (extents g set) st q ∙ ap (λ (y : Outcome Value). at (given_in y) q) (sym (calm_same fields.scope nowhere fields.active nobody h.operand h.calm st) ∙ given) ∙ ap (λ (v : Value). at v q) is in (
+              ap (λ (v : Value). everywhere v) is ∙ (λ i. Parallel (λ q. sym (number q) i)),
+              same,
+              (r, (place, subst (λ (v : ℕ → ℕ). GivesWord g alive bound d s st v (K.Reg r) f) (λ i q. held (sym h.elem i) (sym (number q) i)) word)),
+            )

@@ -1,0 +1,48 @@
+-- The field in which a parallel variable stands, as code that names it relies on it.
+use Rattle.std.proofs.Common.{◌≡◌, ◌∙◌, ℕ, ◌+◌, ◌<◌, ◌≤◌, ◌^◌, length, sym, ap, subst}
+use Rattle.cstar_tree.specs.declared.typed.VarInfo.{VarInfo}
+use Rattle.cstar_tree.specs.declared.typed.Variable.{Variable}
+use Rattle.cstar_tree.specs.declared.typed.Variable.TheVariants as V
+use Rattle.paris_code.specs.declared.operands.Field.{Field}
+use Rattle.paris_code.specs.Code.{CodeState}
+use Rattle.paris_code.specs.Memory.{field_number, processors}
+use Rattle.paris_code.specs.Shapes.{bits_at}
+use Rattle.paris_code.specs.Spans.{IsNamedAt}
+use Rattle.source_meaning.specs.State.{State}
+use Rattle.code_follows.proofs.Following.{Sim}
+use Rattle.code_follows.proofs.Settings.{Setting, start}
+use Rattle.fields_follow.specs.Fields.{IsElement}
+use Rattle.fields_follow.proofs.Instructions.{number_in, place, shapes}
+use Rattle.fields_follow.proofs.Places.{HoldsTheFields, IsFileField, PlacesFields, of_file}
+
+module _ (g : Setting) (alive : Variable → Type 0) where
+  -- All bits of a variable stand in the field: where an instruction at this place or behind it names the field, it has
+  -- the variable's numbers, which are of its type.
+  pub record Carries (x : Variable) (info : VarInfo) (set : ℕ) (f : Field) : Type 0 where
+    pub of_set : f.set ≡ set
+    pub exists : set < length (shapes g)
+    pub len : f.len ≡ info.elem.bits
+    pub ends : (place g f).offset + f.len ≤ bits_at (shapes g) f.set
+    pub small : (st : State) (t : CodeState) → Sim g alive st t → (p : ℕ) → st.parallel x 0 p < 2 ^ info.elem.bits
+    pub numbers : (st : State) (t : CodeState) → Sim g alive st t → (later : ℕ) → IsNamedAt g.unit f.offset later → t.at ≤ start g + later → (p : ℕ) → p < processors (shapes g) set → number_in g f t p ≡ st.parallel x 0 p
+
+  -- The entry of a variable of the file has them, whatever names it.
+  pub file_numbers : PlacesFields g → (fields : HoldsTheFields g) → (set k : ℕ) (info : VarInfo) (f : Field) → IsElement g.typed k info set 0 → IsFileField g k 0 f → f.set ≡ set → f.len ≡ info.elem.bits → (st : State) (t : CodeState) → Sim g alive st t → (p : ℕ) → p < processors (shapes g) set
+      → number_in g f t p ≡ st.parallel (V.File k) 0 p
+  file_numbers places fields set k info f is file of_set len st t sim p below =
+      ap (λ (x : Field). field_number t.memory x p) (places.file k 0 info f (subst (λ (n : ℕ). IsElement g.typed k info n 0) (sym of_set) is) (sym len) file)
+      ∙ (fields.opens t.at st t.memory sim.memory).numbers k 0 set p info is below
+
+  -- so it carries the variable
+  pub file_carries : PlacesFields g → HoldsTheFields g → (set k : ℕ) (info : VarInfo) (f : Field) → IsElement g.typed k info set 0 → IsFileField g k 0 f → f.set ≡ set → f.len ≡ info.elem.bits → Carries (V.File k) info set f
+  file_carries places fields set k info f is file of_set len = record {
+    of_set = of_set;
+    exists = places.exists k 0 set info is;
+    len = len;
+    ends = subst (λ (x : Field). x.offset + x.len ≤ bits_at (shapes g) x.set) (sym at_file) (places.files_end k 0 set info is);
+    small = λ st t sim p. (fields.opens t.at st t.memory sim.memory).small k 0 set p info is;
+    numbers = λ st t sim later named behind p below. file_numbers places fields set k info f is file of_set len st t sim p below;
+  }
+    where
+      at_file : place g f ≡ of_file g k 0
+      at_file = places.file k 0 info f (subst (λ (n : ℕ). IsElement g.typed k info n 0) (sym of_set) is) (sym len) file
