@@ -131,7 +131,7 @@ module _ (g : Setting) (has : HasRegisters g) (alive : Variable → Type 0) (n :
       )
 
   -- an operator works at the bits that it needs
-  binary_code : (bits set : ℕ) (ty : ValueType) (place : Place) (op : Op) (p q : Boxed) (left right : TExpr) (d : Draft) → ty.shape ≡ Some set → relates op ≡ false → (type_of left).elem.bits ≡ 32
+  pub binary_code : (bits set : ℕ) (ty : ValueType) (place : Place) (op : Op) (p q : Boxed) (left right : TExpr) (d : Draft) → ty.shape ≡ Some set → relates op ≡ false → (type_of left).elem.bits ≡ 32
       → code bits (T.Binary' ty place op p left q right) d
       ≡ lowest bits (fields_by op (type_of left).elem.signed place (next_field set (operation_bits bits op right) d) (next_field set (operation_bits bits op right) d) (operand (operation_bits bits op right) (is_quiet right) left) left (operand (operation_bits bits op right) true right) right (with_entry set (operation_bits bits op right) W.Own d))
   unfolding value_of binary_by parallel_binary_by spare_for then_make an_entry
@@ -370,7 +370,7 @@ module _ (g : Setting) (has : HasRegisters g) (alive : Variable → Type 0) (n :
       v = λ q. word_at (extents g set) st (T.Pcoord ty axis) q
 
   -- a conversion to another type takes what is wanted of the operand, or extends as many bits as the type has
-  convert_code : (bits : ℕ) (ty : ValueType) (p : Boxed) (inner : TExpr) (d : Draft) → (ty.elem.bits == 1) ≡ false → is_kept inner ≡ false
+  pub convert_code : (bits : ℕ) (ty : ValueType) (p : Boxed) (inner : TExpr) (d : Draft) → (ty.elem.bits == 1) ≡ false → is_kept inner ≡ false
       → code bits (T.Convert' ty p inner) d ≡ (if nat_lt ty.elem.bits bits then then_make (a_field (unwrap_or ty.shape 0) bits d) (λ dest begun. extended ty.elem.signed dest (operand ty.elem.bits true inner) begun) else code bits inner d)
   unfolding value_of cast_from spread_by cast_by
   convert_code bits ty p inner d no_truth fresh =

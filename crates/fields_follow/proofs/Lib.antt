@@ -32,6 +32,7 @@ pub mod Leading
 pub mod Leaving
 pub mod Lengths
 pub mod Listed
+pub mod Locals
 pub mod LocalsCleared
 pub mod Meaning
 pub mod Named
@@ -58,6 +59,8 @@ pub mod Saving
 pub mod Scalars
 pub mod Scanning
 pub mod ScanAssigning
+pub mod ScanForms
+pub mod ScanOperands
 pub mod Scanned
 pub mod Scans
 pub mod Sizes

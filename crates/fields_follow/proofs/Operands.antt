@@ -69,7 +69,7 @@ abbrev pub Takes : Op → Right → Type 0
 Takes op right = (word : ℕ) → right ≡ R.Word (K.Imm word) → divides op ≡ true → (word == 0) ≡ false
 
 module _ (g : Setting) where
-  in_field_extends : (v : Out) (dest : Field) (d : Draft) → Extends g d (in_a_field v dest d)
+  pub in_field_extends : (v : Out) (dest : Field) (d : Draft) → Extends g d (in_a_field v dest d)
   unfolding Extends in_a_field
   in_field_extends (O.Field f) dest d = (0, as_it_was d)
   in_field_extends (O.Scalar r) dest d = (1, and_one g (I.MoveConstant dest (K.Reg r)) d)

@@ -13,7 +13,7 @@ use Rattle.fields_follow.specs.Fragment.{AreWrapping, IsCalm, IsConstant, IsDot,
 use Rattle.fields_follow.proofs.Calm.{calm_quiet}
 use Rattle.fields_follow.proofs.Meaning.{always_checked, either, left_of, right_of}
 
-both : (a b : Bool) → a ≡ true → b ≡ true → (a && b) ≡ true
+pub both : (a b : Bool) → a ≡ true → b ≡ true → (a && b) ≡ true
 both true b e f = f
 both false b e f = cc
 

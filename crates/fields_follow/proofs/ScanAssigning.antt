@@ -59,7 +59,7 @@ module _ (g : Setting) (has : HasRegisters g) (alive : Variable → Type 0) (n :
       (own_is g has alive n ready places fields set h.k op target value h.own operates)
       ∙ variable_is g has alive n ready places fields set h.k h.info h.is d s st target (λ dest after. variable_assigned g.typed (layout g) op place target value dest after) h.elem
       ∙ ap (λ (o : Option Op). elim o as (λ _. Made Out) [ None ↦ put_to g.typed (layout g) (O.Field f) value d1 | Some x ↦ variable_operated g.typed (layout g) x place target value (O.Field f) d1 ]) none)
-      (scanned_last g has alive n ready places fields set f bits value (kind_bits h.info.elem.bits h.info.elem.signed h.info.elem.kind).1 refl refl (subst (λ (e : Elem). IsScanned set e.bits value) is_elem is) c (length d1.fields) d1 s st (omega arith) here sim Q
+      (scanned_last g has alive n ready places fields set f bits value (kind_bits h.info.elem.bits h.info.elem.signed h.info.elem.kind).0 (kind_bits h.info.elem.bits h.info.elem.signed h.info.elem.kind).1 refl refl (subst (λ (e : Elem). IsScanned set e.bits value) is_elem is) c (length d1.fields) d1 s st (omega arith) here sim Q
       (λ given e2 i within passes puts. inl (gives given, leaves_value g has alive n ready places fields set h.k h.info h.is d s st number w ((λ x below small. stored x ∙ sym (mod-eq_of_lt (few x))), λ x. subst (λ (m : ℕ). m < 2 ^ bits) (sym (stored x)) (few x)) e2 i within passes puts)) (λ early out e. inr (ends early))))
     where
       h : IsFileTarget g.typed set target

@@ -12,6 +12,7 @@ use Rattle.cstar_base.specs.declared.operators.Inclusion.TheVariants as N
 use Rattle.cstar_base.specs.declared.operators.SegmentMode.{SegmentMode}
 use Rattle.cstar_base.specs.declared.operators.SegmentMode.TheVariants as M
 use Rattle.cstar_base.specs.Numbers.{converted}
+use Rattle.cstar_base.specs.Operators.{outcome}
 use Rattle.cstar_base.proofs.FoldLaws.{fold_once_below}
 use Rattle.cstar_tree.specs.declared.typed.TExpr.{TExpr}
 use Rattle.cstar_tree.specs.declared.typed.TExpr as T
@@ -135,13 +136,14 @@ module _ (g : Setting) (alive : Variable → Type 0) (places : PlacesFields g) (
       by M.StartBit with_bit counted = number (with_bit d_exists there)
       by M.SegmentBit with_bit counted = number (with_bit d_exists there)
 
-  -- the numbers of a scan, maybe converted
+  -- the numbers of a value with scans in it, and of its operands
   unfoldable pub scanned_in : State → TExpr → ℕ → ℕ
   scanned_in st (T.Brackets' ty p inner) q = scanned_in st inner q
+  scanned_in st (T.Binary' ty place op p left r right) q = outcome op 32 (not (type_of left).elem.signed) (scanned_in st left q) (scanned_in st right q)
   scanned_in st (T.Convert' ty p operand) q = converted ty.elem (type_of operand).elem (scanned_in st operand q)
   scanned_in st (T.Scan' ty p source axis combiner direction mode bit inclusion) q = scan_numbers g fields set axis combiner (not ty.elem.signed) direction mode bit inclusion st (λ x. value_in (extents g set) st source x) q
   scanned_in st (T.Enumerate ty axis direction inclusion mode bit) q = scan_numbers g fields set axis C.Add (not ty.elem.signed) direction mode bit inclusion st (λ x. 1) q
-  scanned_in st _ q = 0
+  scanned_in st e q = value_in (extents g set) st e q
 
   -- in the source it gives them
   abbrev pub ScanGives : TExpr → State → Type 0

@@ -1,5 +1,5 @@
 -- The field in which a parallel variable stands, as code that names it relies on it.
-use Rattle.std.proofs.Common.{◌≡◌, ◌∙◌, ℕ, ◌+◌, ◌<◌, ◌≤◌, ◌^◌, length, sym, ap, subst}
+use Rattle.std.proofs.Common.{refl, ◌≡◌, ◌∙◌, ℕ, ◌+◌, ◌<◌, ◌≤◌, ◌^◌, length, sym, ap, subst}
 use Rattle.cstar_tree.specs.declared.typed.VarInfo.{VarInfo}
 use Rattle.cstar_tree.specs.declared.typed.Variable.{Variable}
 use Rattle.cstar_tree.specs.declared.typed.Variable.TheVariants as V
@@ -13,6 +13,7 @@ use Rattle.code_follows.proofs.Following.{Sim}
 use Rattle.code_follows.proofs.Settings.{Setting, start}
 use Rattle.fields_follow.specs.Fields.{IsElement}
 use Rattle.fields_follow.proofs.Instructions.{number_in, place, shapes}
+use Rattle.fields_follow.proofs.Locals.{HoldsLocal, HoldsLocals, IsLocalField, same_local, used_up_to}
 use Rattle.fields_follow.proofs.Places.{HoldsTheFields, IsFileField, PlacesFields, of_file}
 
 module _ (g : Setting) (alive : Variable → Type 0) where
@@ -46,3 +47,20 @@ module _ (g : Setting) (alive : Variable → Type 0) where
     where
       at_file : place g f ≡ of_file g k 0
       at_file = places.file k 0 info f (subst (λ (n : ℕ). IsElement g.typed k info n 0) (sym of_set) is) (sym len) file
+
+  -- where what is held tells the variables of blocks that live, the own entry of one of them carries it
+  pub local_carries : (lives : ℕ → Type 0) → ((st : State) (t : CodeState) → Sim g alive st t → HoldsLocals g lives t.at st t.memory) → (k : ℕ) → lives k → (info : VarInfo) (f : Field) → IsLocalField g k info f → (st : State) (s : CodeState) → Sim g alive st s → Carries (V.Local k) info f.set f
+  local_carries lives holds k living info f is st s sim = record {
+    of_set = refl;
+    exists = (local_holds st s sim).exists;
+    len = is.len;
+    ends = (local_holds st s sim).ends;
+    small = λ st t sim p. (local_holds st t sim).small p;
+    numbers = λ st t sim later named behind p below. (local_holds st t sim).numbers (used_up_to g f.offset later t.at named behind) p below;
+  }
+    where
+      local_holds : (st : State) (t : CodeState) → Sim g alive st t → HoldsLocal g k info f t.at st t.memory
+      local_holds st t sim =
+          let (of, (h, (other, there))) = holds st t sim k living in
+          let same = same_local g k info of f h is other in
+          subst (λ (x : VarInfo). HoldsLocal g k x f t.at st t.memory) (sym same.0) (subst (λ (x : Field). HoldsLocal g k of x t.at st t.memory) (sym same.1) there)

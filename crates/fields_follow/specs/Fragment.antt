@@ -2,8 +2,8 @@
 -- expressions are pure ones, of variables of the file of all types, gets from neighbours round the ends of the grid, own
 -- coordinates and promoted scalars, which are computed by operators, conversions, casts and `?:`, and change nothing; they
 -- fail where a divisor is 0 at an active position, or that of a scalar is, and nowhere else. They are assigned to such
--- variables, as truth values of them are, and scans of them and of ones, and folded into numbers and onto scalar variables,
--- and they are the conditions of `where`. Folds and scans are of the active positions.
+-- variables, as truth values of them are, and scans of them and of ones with operators on these, and folded into numbers
+-- and onto scalar variables, and they are the conditions of `where`. Folds and scans are of the active positions.
 -- Blocks may have parallel variables without initialisers, which no expression names.
 -- Under `where` and `everywhere` stand the statements of scalar programs with these, also calls, `return` and jumps that
 -- lead out of them.
@@ -192,14 +192,18 @@ IsSegments None = Unit {0}
 IsSegments (Some (V.File k)) = Unit {0}
 IsSegments (Some x) = ⊥
 
--- a scan of a value of 32 bits, by a combiner other than the last one, or of ones; maybe in brackets
+-- A value of 32 bits with scans in it: a scan of a pure value, by a combiner other than the last one, or of ones, maybe
+-- converted, and operators on such values and operands.
 unfoldable pub IsScan : ℕ → TExpr → Type 0
 IsScan set (T.Brackets' ty p inner) = (ty ≡ type_of inner) × IsScan set inner
 IsScan set (T.Scan' ty p source axis combiner direction mode bit within) = (ty ≡ type_of source) × IsPure set source × IsWide set (type_of source) × (combiner ≡ C.Last → ⊥) × IsSegments bit
 IsScan set (T.Enumerate ty axis direction within mode bit) = IsWide set ty × IsSegments bit
+IsScan set (T.Convert' ty p operand) = IsWide set ty × IsScan set operand
+IsScan set (T.Binary' ty place op p left q right) =
+    IsWide set ty × IsOperation op right × ((IsScan set left × (IsScan set right ⊎ IsOperand set right)) ⊎ (IsOperand set left × IsScan set right)) × IsWide set (type_of left) × IsWide set (type_of right)
 IsScan set _ = ⊥
 
--- a scan, or one that is converted to a type of at least so many bits, which is no `bool`
+-- such a value, or one that is converted to a type of at least so many bits, which is no `bool`
 unfoldable pub IsScanned : ℕ → ℕ → TExpr → Type 0
 IsScanned set bits (T.Brackets' ty p inner) = (ty ≡ type_of inner) × IsScanned set bits inner
 IsScanned set bits (T.Convert' ty p operand) = (ty.shape ≡ Some set) × ((ty.elem.bits == 1) ≡ false) × (bits ≤ ty.elem.bits) × IsScan set operand

@@ -10,5 +10,4 @@ pub mod ScalarDeclarations
 pub mod ScalarExpressions
 pub mod ScalarPlaces
 pub mod ScalarStatements
-pub mod ScalarVariables
 pub mod WholeFiles

@@ -14,7 +14,10 @@ use Rattle.code_follows.specs.Fragment.{AreIn, AreInStatements, AreInitials, IsB
 use Rattle.code_lengths.specs.NamingStatements.{behind}
 use Rattle.open_names.specs.Opens.{AllNameOpen, ElseNamesOpen, InitialsNameOpen, IsAmong, IsOpen, NamesOpen, Open, StatementNamesOpen, StatementsNameOpen, opened}
 use Rattle.source_meaning.specs.State.{is_among}
-use Rattle.scalar_texts.proofs.ScalarVariables.{HasNoContexts}
+
+-- no statement may be under a context
+abbrev pub HasNoContexts : May → Type 0
+HasNoContexts may = ((shape : ℕ) (e : TExpr) → may.beside.conditions shape e → ⊥) × ((shape : ℕ) → may.beside.widens shape → ⊥)
 
 -- the open variables are among these
 abbrev Fits : Open → (Variable → Type 0) → Type 0

@@ -2,7 +2,7 @@
 use Rattle.std.proofs.Common.{◌≡◌, ℕ, ◌+◌, Bool, true, false, inl, inr, IfSome, List, ◌++◌, length, map, Option, Some, None, Vec, refl, ◌∙◌, sym, subst, append-nil}
 use Rattle.std.specs.declared.alloc.Global.{Global}
 use Rattle.std.specs.List.{All, Contains}
-use Rattle.std.proofs.lemmas.List.Elements.{All-nil, All-cons, All-head, All-tail}
+use Rattle.std.proofs.lemmas.List.Elements.{All-nil, All-cons, All-head, All-tail, All-weaker}
 use Rattle.std.proofs.lemmas.Option.{none-some}
 use mathlib.Core.Former.{Count}
 use Rattle.cstar_tree.specs.declared.syntax.Block.{Block}
@@ -24,8 +24,7 @@ use Rattle.cstar_tree.specs.StatementTypes as Y
 use Rattle.cstar_tree.specs.SyntaxParts.{locals_in}
 use Rattle.cstar_tree.specs.Typed.{type_of}
 use Rattle.cstar_tree.specs.TypedParts.{calls_in, calls_within, concat, optional, optional_box}
-use Rattle.cstar_tree.specs.Variables.{variables_of}
-use Rattle.code_follows.specs.Fragment.{AreClosed, AreInStatements, AreInitials, IsBody, IsClosed, IsClosedElse, IsEffect, IsIn, IsInElse, IsInStatement, IsScalarLocal, IsScalarVariable, IsTested, May, within}
+use Rattle.code_follows.specs.Fragment.{AreClosed, AreInStatements, AreInitials, IsBlockLocal, IsBody, IsClosed, IsClosedElse, IsEffect, IsIn, IsInElse, IsInStatement, IsScalarLocal, IsTested, May, within}
 use Rattle.code_lengths.specs.NamingStatements.{behind}
 use Rattle.shape_room.proofs.CallsInParts.{block_calls, branching_calls, expression_calls, for_calls, loop_calls, return_calls}
 use Rattle.shaped_trees.specs.Casts.{BlockNamesShapes, ElseNamesShapes, ExpressionNamesShapes, StatementNamesShapes}
@@ -39,7 +38,6 @@ use Rattle.scalar_texts.proofs.ScalarConversions.{IsScalarValue, fitted}
 use Rattle.scalar_texts.proofs.ScalarDeclarations.{IsAllowing, IsCalledIf, Plainly, called_if, declarations_are, initial_calls, inside}
 use Rattle.scalar_texts.proofs.ScalarExpressions.{expression_is}
 use Rattle.scalar_texts.proofs.ScalarPlaces.{at_hand_scalar, goes_on, in_block, no_shape}
-use Rattle.scalar_texts.proofs.ScalarVariables.{HasNoContexts, variables_scalar}
 
 -- ---- statements of the fragment in a row
 
@@ -80,7 +78,7 @@ module _ (may : May) (n : ℕ) (loop : Bool) (locals : Vec LocalVar Global) (sta
   unfolding IsInStatement
   block_in parts =
       let row = typed_statements (S.Block locals statements) in
-      (parts.0, parts.1, row_in (within may n (length locals.items)) loop row.0 row.1 (in_a_row parts) (n + length locals.items))
+      (All-weaker IsScalarLocal (IsBlockLocal may.beside) (λ local scalar. inl scalar) locals.items parts.0, parts.1, row_in (within may n (length locals.items)) loop row.0 row.1 (in_a_row parts) (n + length locals.items))
 
   block_closed : AreParts may n loop locals.items statements.items → loop ≡ false → IsClosed (S.Block locals statements)
   unfolding IsClosed
@@ -88,11 +86,9 @@ module _ (may : May) (n : ℕ) (loop : Bool) (locals : Vec LocalVar Global) (sta
       let row = typed_statements (S.Block locals statements) in
       row_closed (within may n (length locals.items)) loop row.0 row.1 (in_a_row parts) none
 
-block_body : (may : May) → HasNoContexts may → (locals : Vec LocalVar Global) (statements : Vec TStmt Global) → AreParts may 0 false locals.items statements.items → IsBody may (S.Block locals statements) × All IsScalarVariable (variables_of (S.Block locals statements))
+block_body : (may : May) (locals : Vec LocalVar Global) (statements : Vec TStmt Global) → AreParts may 0 false locals.items statements.items → IsBody may (S.Block locals statements)
 unfolding IsBody IsClosed
-block_body may alone locals statements parts =
-    let is = block_in may 0 false locals statements parts in
-    ((is, block_closed may 0 false locals statements parts refl), variables_scalar may alone 0 (S.Block locals statements) is)
+block_body may locals statements parts = (block_in may 0 false locals statements parts, block_closed may 0 false locals statements parts refl)
 
 module _ (program : Program) (shapes : List (List ℕ)) (around : ℕ) (Called : ℕ → Type 0) (returns : Returns) where
   abbrev Allowing : May → Type 0
@@ -206,13 +202,13 @@ module _ (program : Program) (shapes : List (List ℕ)) (around : ℕ) (Called :
               (statements_are inner (inside program shapes around Called returns m (length locals) a) declared.place n.1 w.1 d typed),
         )
 
-module _ (program : Program) (shapes : List (List ℕ)) (around : ℕ) (Called : ℕ → Type 0) (may : May) (alone : HasNoContexts may) (every : (x : Variable) → may.names x) (allows : AllowsCalls program shapes around Called may.calls) where
+module _ (program : Program) (shapes : List (List ℕ)) (around : ℕ) (Called : ℕ → Type 0) (may : May) (every : (x : Variable) → may.names x) (allows : AllowsCalls program shapes around Called may.calls) where
   -- the body of a function, in the scope of its parameters
   pub body_is : {returns : Returns} {here : Here} {block : Block} {locals : List LocalVar} {statements : List TStmt} {body : TStmt} → IsScalarPlace shapes around here → TypesBlock program returns here block locals statements → Z.IsBody locals statements body →
-      InBlock Plainly here block → BlockNamesShapes block → ((k : ℕ) → Contains (calls_within body) k → Called k) → ((ty : ValueType) → returns ≡ a_value ty → may.returns ty.elem) → here.loop ≡ false → IsBody may body × All IsScalarVariable (variables_of body)
+      InBlock Plainly here block → BlockNamesShapes block → ((k : ℕ) → Contains (calls_within body) k → Called k) → ((ty : ValueType) → returns ≡ a_value ty → may.returns ty.elem) → here.loop ≡ false → IsBody may body
   body_is {returns = returns} {here = here} {block = block} {statements = statements} s typed (Z.body ls ss same_locals same_statements) n w c returned no_loop =
       let calls = both_called Called (initial_calls ls.items) (concat (map calls_within ss.items)) (block_calls _ ls ss refl) c in
       let own = subst (λ (ts : List TStmt). TypesBlock program returns here block ls.items ts) (sym same_statements) (subst (λ (locals : List LocalVar). TypesBlock program returns here block locals statements) (sym same_locals) typed) in
       let allowing : IsAllowing program shapes around Called returns may = record { every = every; calls = allows; returned = returned } in
       let parts = parts_are program shapes around Called returns may 0 allowing s n w calls.0 calls.1 own in
-      block_body may alone ls ss (subst (λ (loop : Bool). AreParts may 0 loop ls.items ss.items) no_loop parts)
+      block_body may ls ss (subst (λ (loop : Bool). AreParts may 0 loop ls.items ss.items) no_loop parts)

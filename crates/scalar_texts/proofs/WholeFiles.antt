@@ -69,13 +69,12 @@ module _ (tree : Tree) (typed : Typed) (named : NamesShapes tree) (plain : IsPla
       let own = instance_scalar is placed.names (under_none number r at.1) in
       let may = naming (may_of nothing_beside typed i) (λ (x : Variable). Unit {0}) in
       let here = body_place shapes is.placed r in
-      let body = body_is (program_of tree) shapes r.function (Contains (calls_within i.body)) may ((λ shape e h. h), (λ shape h. h)) (λ x. tt) (calls_allowed tree typed file number r i at.1)
+      let body = body_is (program_of tree) shapes r.function (Contains (calls_within i.body)) may (λ x. tt) (calls_allowed tree typed file number r i at.1)
       own.parameters.place is.block is.body (placed.plain here) fit.casts (λ k called. called) (returned is.result) own.parameters.loop in
       record {
         params = own.parameters.scalar;
         result = own.result;
-        body = body_open may ((λ shape e h. h), (λ shape h. h)) OfFileOrParam of_file_or_param i.body body.0 (all_at HasOpenBody typed.instances.items number i (file_names tree typed file) at_number);
-        locals = body.1;
+        body = body_open may ((λ shape e h. h), (λ shape h. h)) OfFileOrParam of_file_or_param i.body body (all_at HasOpenBody typed.instances.items number i (file_names tree typed file) at_number);
       }
 
   file_scalar : HasMain typed → IsScalarProgram typed

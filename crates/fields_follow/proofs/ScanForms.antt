@@ -1,0 +1,131 @@
+-- What the lowering sees of values with scans in them, and the numbers of their operands.
+use Rattle.std.proofs.Common.{◌≡◌, ◌∙◌, ℕ, ◌==◌, ◌&&◌, not, Bool, true, false, Option, None, Some, refl, ap, ◌⊎◌, inl, inr, if◌then◌else◌}
+use Rattle.std.specs.Prelude.{is_none}
+use Rattle.cstar_base.specs.Numbers.{converted}
+use Rattle.cstar_base.specs.Operators.{outcome}
+use Rattle.cstar_tree.specs.declared.typed.TExpr.{TExpr}
+use Rattle.cstar_tree.specs.declared.typed.TExpr as T
+use Rattle.cstar_tree.specs.declared.typed.ValueType.{ValueType}
+use Rattle.cstar_tree.specs.declared.typed.Variable.{Variable}
+use Rattle.cstar_tree.specs.declared.typed.Variable.TheVariants as V
+use Rattle.cstar_tree.specs.Typed.{type_of}
+use Rattle.lower_expr.specs.Kinds.{is_unchanged}
+use Rattle.lower_expr.specs.Operands.{is_quiet, own_of}
+use Rattle.lower_expr.specs.Steps.{is_kept, word_of}
+use Rattle.source_meaning.specs.Constants.{is_constant}
+use Rattle.source_meaning.specs.State.{State}
+use Rattle.code_follows.proofs.Settings.{Setting}
+use Rattle.fields_follow.specs.Fragment.{IsOperand, IsPromoted, IsPure, IsScan, IsScanned}
+use Rattle.fields_follow.proofs.Instructions.{extents}
+use Rattle.fields_follow.proofs.Meaning.{either, left_of, right_of, value_in}
+use Rattle.fields_follow.proofs.Places.{HoldsTheFields, PlacesFields}
+use Rattle.fields_follow.proofs.Quiet.{both, promoted_quiet, pure_quiet}
+use Rattle.fields_follow.proofs.Scanning.{scanned_in}
+
+-- it has a shape, and 32 bits
+pub scan_shape : (set : ℕ) (e : TExpr) → IsScan set e → ((type_of e).shape ≡ Some set) × ((type_of e).elem.bits ≡ 32)
+unfolding IsScan
+scan_shape set (T.Brackets' ty p inner) is = let h = scan_shape set inner is.1 in (ap (λ (y : ValueType). y.shape) is.0 ∙ h.0, ap (λ (y : ValueType). y.elem.bits) is.0 ∙ h.1)
+scan_shape set (T.Scan' ty p source axis combiner direction mode bit way) is = (ap (λ (y : ValueType). y.shape) is.0 ∙ is.2.0, ap (λ (y : ValueType). y.elem.bits) is.0 ∙ is.2.1)
+scan_shape set (T.Enumerate ty axis direction way mode bit) is = is.0
+scan_shape set (T.Convert' ty p operand) is = is.0
+scan_shape set (T.Binary' ty place op p left q right) is = is.0
+scan_shape set _ is = absurd is
+
+-- it is no constant
+pub scan_constant : (set : ℕ) (e : TExpr) → IsScan set e → is_constant e ≡ false
+unfolding IsScan is_constant
+scan_constant set (T.Brackets' ty p inner) is = ap (λ (o : Option ℕ). is_none o && ty.elem.bits == (type_of inner).elem.bits && is_constant inner) (ap (λ (y : ValueType). y.shape) is.0 ∙ (scan_shape set inner is.1).0)
+scan_constant set (T.Scan' ty p source axis combiner direction mode bit way) is = refl
+scan_constant set (T.Enumerate ty axis direction way mode bit) is = refl
+scan_constant set (T.Convert' ty p operand) is = ap (λ (o : Option ℕ). is_none o && is_constant operand) is.0.0
+scan_constant set (T.Binary' ty place op p left q right) is = ap (λ (o : Option ℕ). is_none o && ty.elem.bits == 32 && is_constant left && is_constant right) is.0.0
+scan_constant set _ is = absurd is
+
+-- it stands in no variable's field, and has no word
+pub scan_own : (bits set : ℕ) (e : TExpr) → IsScan set e → own_of bits e ≡ None
+unfolding IsScan own_of
+scan_own bits set (T.Brackets' ty p inner) is = scan_own bits set inner is.1
+scan_own bits set (T.Scan' ty p source axis combiner direction mode bit way) is = refl
+scan_own bits set (T.Enumerate ty axis direction way mode bit) is = refl
+scan_own bits set (T.Convert' ty p operand) is = by (is_unchanged bits ty.elem (is_kept operand)) (scan_own bits set operand is.1)
+  where
+    by : (b : Bool) → own_of bits operand ≡ None → (if b then own_of bits operand else None) ≡ None
+    by true none = none
+    by false none = refl
+scan_own bits set (T.Binary' ty place op p left q right) is = refl
+scan_own bits set _ is = absurd is
+
+pub scanned_word : (set bits : ℕ) (e : TExpr) → IsScanned set bits e → word_of e ≡ None
+unfolding IsScan IsScanned word_of
+scanned_word set bits (T.Brackets' ty p inner) is = scanned_word set bits inner is.1
+scanned_word set bits (T.Convert' ty p operand) is = refl
+scanned_word set bits (T.Scan' ty p source axis combiner direction mode bit way) is = refl
+scanned_word set bits (T.Enumerate ty axis direction way mode bit) is = refl
+scanned_word set bits (T.Binary' ty place op p left q right) is = refl
+scanned_word set bits _ is = absurd is
+
+pub scan_word : (set : ℕ) (e : TExpr) → IsScan set e → word_of e ≡ None
+unfolding IsScan word_of
+scan_word set (T.Brackets' ty p inner) is = scan_word set inner is.1
+scan_word set (T.Scan' ty p source axis combiner direction mode bit way) is = refl
+scan_word set (T.Enumerate ty axis direction way mode bit) is = refl
+scan_word set (T.Convert' ty p operand) is = refl
+scan_word set (T.Binary' ty place op p left q right) is = refl
+scan_word set _ is = absurd is
+
+-- it is in no register
+pub scan_kept : (set : ℕ) (e : TExpr) → IsScan set e → is_kept e ≡ false
+unfolding IsScan is_kept
+scan_kept set (T.Brackets' ty p inner) is = scan_kept set inner is.1
+scan_kept set (T.Scan' ty p source axis combiner direction mode bit way) is = ap (λ (o : Option ℕ). is_none o) (ap (λ (y : ValueType). y.shape) is.0 ∙ is.2.0)
+scan_kept set (T.Enumerate ty axis direction way mode bit) is = ap (λ (o : Option ℕ). is_none o) is.0.0
+scan_kept set (T.Convert' ty p operand) is = scan_kept set operand is.1
+scan_kept set (T.Binary' ty place op p left q right) is = ap (λ (o : Option ℕ). is_none o) is.0.0
+scan_kept set _ is = absurd is
+
+-- and it changes nothing
+operand_quiet : (set : ℕ) (e : TExpr) → IsOperand set e → is_quiet e ≡ true
+operand_quiet set e (inl pure) = pure_quiet set e pure
+operand_quiet set e (inr promoted) = promoted_quiet set e promoted
+
+pub scan_quiet : (set : ℕ) (e : TExpr) → IsScan set e → is_quiet e ≡ true
+unfolding IsScan is_quiet
+scan_quiet set (T.Brackets' ty p inner) is = scan_quiet set inner is.1
+scan_quiet set (T.Scan' ty p source axis combiner direction mode bit way) is = pure_quiet set source is.1
+scan_quiet set (T.Enumerate ty axis direction way mode bit) is = refl
+scan_quiet set (T.Convert' ty p operand) is = scan_quiet set operand is.1
+scan_quiet set (T.Binary' ty place op p left q right) is = by is.2 (λ h. scan_quiet set left h) (λ h. scan_quiet set right h)
+  where
+    by : (IsScan set left × (IsScan set right ⊎ IsOperand set right)) ⊎ (IsOperand set left × IsScan set right) → (IsScan set left → is_quiet left ≡ true) → (IsScan set right → is_quiet right ≡ true) → (is_quiet left && is_quiet right) ≡ true
+    by (inl (one, inl other)) f h = both (is_quiet left) (is_quiet right) (f one) (h other)
+    by (inl (one, inr other)) f h = both (is_quiet left) (is_quiet right) (f one) (operand_quiet set right other)
+    by (inr (one, other)) f h = both (is_quiet left) (is_quiet right) (operand_quiet set left one) (h other)
+scan_quiet set _ is = absurd is
+
+module _ (g : Setting) (alive : Variable → Type 0) (places : PlacesFields g) (fields : HoldsTheFields g) (set : ℕ) where
+  -- an operand has its own numbers
+  promoted_number : (e : TExpr) (st : State) (q : ℕ) → IsPromoted set e → scanned_in g alive places fields set st e q ≡ value_in (extents g set) st e q
+  unfolding IsPromoted scanned_in value_in
+  promoted_number (T.Promote' ty p operand) st q is = refl
+  promoted_number (T.Brackets' ty p inner) st q is = promoted_number inner st q is.1
+  promoted_number _ st q is = absurd is
+
+  pure_number : (e : TExpr) (st : State) (q : ℕ) → IsPure set e → scanned_in g alive places fields set st e q ≡ value_in (extents g set) st e q
+  unfolding IsPure scanned_in value_in
+  pure_number (T.Brackets' ty p inner) st q is = pure_number inner st q is.1
+  pure_number (T.Binary' ty place op p left r right) st q is =
+      ap (λ (a : ℕ). outcome op 32 (not (type_of left).elem.signed) a (scanned_in g alive places fields set st right q)) (either (λ h. pure_number left st q h) (λ h. promoted_number left st q h) (left_of set left right is.2))
+      ∙ ap (λ (b : ℕ). outcome op 32 (not (type_of left).elem.signed) (value_in (extents g set) st left q) b) (either (λ h. pure_number right st q h) (λ h. promoted_number right st q h) (right_of set left right is.2))
+  pure_number (T.Convert' ty p operand) st q is = ap (λ (w : ℕ). converted ty.elem (type_of operand).elem w) (pure_number operand st q is.2)
+  pure_number (T.Variable ty (V.File k)) st q is = refl
+  pure_number (T.Unary' ty op p operand) st q is = refl
+  pure_number (T.LogicalOr' ty p left r right) st q is = refl
+  pure_number (T.LogicalAnd' ty p left r right) st q is = refl
+  pure_number (T.Pcoord ty axis) st q is = refl
+  pure_number (T.LeftIndex' ty place p indexes (V.File k) of) st q is = refl
+  pure_number _ st q is = absurd is
+
+  pub operand_number : (e : TExpr) (st : State) (q : ℕ) → IsOperand set e → scanned_in g alive places fields set st e q ≡ value_in (extents g set) st e q
+  operand_number e st q (inl pure) = pure_number e st q pure
+  operand_number e st q (inr promoted) = promoted_number e st q promoted
