@@ -88,13 +88,13 @@ module _ (g : Setting) (has : HasRegisters g) (alive : Variable → Type 0) (n :
   -- What comes last writes the variable where it is active: with the entry for it before, the code leaves a state that
   -- has what the source stores.
   module _ (set k : ℕ) (info : VarInfo) (is : IsElement g.typed k info set 0) (d : Draft) (s : CodeState) (st : State) where
-    abbrev entered : Draft
+    abbrev pub entered : Draft
     entered = with_entry set info.elem.bits (W.File (file_number g.typed k 0)) d
 
     abbrev variable : Field
     variable = next_field set info.elem.bits d
 
-    entry_for : IsEntryFor g has alive n ready places fields k variable entered
+    pub entry_for : IsEntryFor g has alive n ready places fields k variable entered
     entry_for e m longer within = taken g set info.elem.bits (W.File (file_number g.typed k 0)) d e m within longer
 
     -- the numbers are the lowest bits of the words that are put, and beyond the positions too they are of the type

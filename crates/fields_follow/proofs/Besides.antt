@@ -36,6 +36,7 @@ use Rattle.fields_follow.proofs.Reducing.{GivesNumber, number_to}
 use Rattle.fields_follow.proofs.ScanAssigning.{scans_leave}
 use Rattle.fields_follow.proofs.Reductions.{GivesRegister, OperandsStand, fold_type, folds_give}
 use Rattle.fields_follow.proofs.Starts.{Starts}
+use Rattle.fields_follow.proofs.ScalarAssigning.{changing_leaves}
 
 module _ (g : Setting) (scope : Scope) (active : Active) (known : KnowsFields g scope active) (has : HasRegisters g) where
   module _ (alive : Variable → Type 0) (n : ℕ) (ready : (d : Draft) → IsReadyButForFields g.typed g.instance (layout g) n d) (e : TExpr) (c : HasItsCode g.typed g.instance alive n e) (d : Draft) (s : CodeState) (st : State) (begun : Begun g d) (at_place : At g s (length d.code)) (files : (k : ℕ) → alive (V.File k)) (sim : Sim g alive st s) where
@@ -79,14 +80,17 @@ module _ (g : Setting) (scope : Scope) (active : Active) (known : KnowsFields g 
     operands_stand : OperandsStand (under g active) alive there n
     operands_stand bits set o some most is wide code d0 s0 st0 at_o sim_o = whole_after (under g active) (registers_under g active has) alive n ready (places_under g active known.places) there bits set o true some most is wide code d0 s0 st0 at_o sim_o
 
-    -- an update, a fold onto a variable, or a scan that is assigned
+    -- an update, a fold onto a variable, or a scan or a scalar that is assigned
     effect_follows : IsParallelEffect e → Follows g (λ v u out f. Ran g alive d s u f) s (evaluated scope e active st) (effect_of g.typed (layout g) e d)
     effect_follows (inl is) =
         follows_so g scope active known (λ v u out f. Leaves (under g active) alive d f s u) (λ v u out f. Ran g alive d s u f) s (evaluated scope e active st) (effect_of g.typed (layout g) e d) (λ v u out f within leaves. leaves_ran f u within leaves)
         (updates_leave (under g active) (registers_under g active has) alive n ready (places_under g active known.places) there e is c d s st here (sim_open g scope active known alive st s sim))
-    effect_follows (inr (inr is)) =
+    effect_follows (inr (inr (inl is))) =
         follows_so g scope active known (λ v u out f. Leaves (under g active) alive d f s u) (λ v u out f. Ran g alive d s u f) s (evaluated scope e active st) (effect_of g.typed (layout g) e d) (λ v u out f within leaves. leaves_ran f u within leaves)
         (scans_leave (under g active) (registers_under g active has) alive n ready (places_under g active known.places) there e is c d s st here (sim_open g scope active known alive st s sim))
+    effect_follows (inr (inr (inr is))) =
+        follows_so g scope active known (λ v u out f. Leaves (under g active) alive d f s u) (λ v u out f. Ran g alive d s u f) s (evaluated scope e active st) (effect_of g.typed (layout g) e d) (λ v u out f within leaves. leaves_ran f u within leaves)
+        (changing_leaves (under g active) (registers_under g active has) alive n ready (places_under g active known.places) there e is c d s st here (sim_open g scope active known alive st s sim))
     effect_follows (inr (inl is)) =
         follows_so g scope active known (λ v u out f. LeavesScalars (under g active) alive d s st u f) (λ v u out f. Ran g alive d s u f) s (evaluated scope e active st) (effect_of g.typed (layout g) e d) (λ v u out f within leaves. onto_ran f u within leaves)
         (onto_leaves (under g active) alive n (registers_under g active has) (places_under g active known.places) there operands_stand e is c d s st begun.regs here (sim_open g scope active known alive st s sim))

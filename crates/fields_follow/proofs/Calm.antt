@@ -17,17 +17,19 @@ use Rattle.cstar_tree.specs.Typed.{type_of}
 use Rattle.code_lengths.specs.Naming.{NamesVariables, plain}
 use Rattle.lower_base.specs.Operators.{machine_of}
 use Rattle.lower_expr.specs.Operands.{is_quiet}
-use Rattle.source_meaning.specs.Expressions.{evaluated, mapped, operated}
+use Rattle.source_meaning.specs.Expressions.{evaluated, mapped, operated, located}
 use Rattle.source_meaning.specs.Narrowing.{Operand, and_then, choose, or_then}
-use Rattle.source_meaning.specs.State.{Ends, Fault, Gives, Outcome, State, then_do}
-use Rattle.source_meaning.specs.Targets.{read, variable_target}
-use Rattle.source_meaning.specs.Values.{Active, Scalar, Scope, Value, at, cast_through, convert_to, each, failing, nonzero, number, unary_of, unless}
-use Rattle.code_follows.specs.Fragment.{IsIn, May, ScalarsAmong, naming}
+use Rattle.source_meaning.specs.State.{Ends, Fault, Gives, Outcome, State, then_do, with_scalar}
+use Rattle.source_meaning.specs.Targets.{read, variable_target, OfScalar, Target, assign_to, assigned, new_value, step_op, step_value, stepped, stored}
+use Rattle.source_meaning.specs.Values.{Active, Scalar, Scope, Value, at, cast_through, convert_to, each, failing, nonzero, number, unary_of, unless, positions}
+use Rattle.code_follows.specs.Fragment.{IsIn, ScalarsAmong, naming, IsVariable}
 use Rattle.code_follows.proofs.Following.{IsScalar}
 use Rattle.code_follows.proofs.Operators.{machine_below, machine_same}
 use Rattle.code_follows.proofs.Settings.{Setting}
-use Rattle.code_follows.proofs.Words.{below_bits, through_below, within_word}
-use Rattle.fields_follow.specs.Fragment.{IsCalm}
+use Rattle.code_follows.proofs.Words.{below_bits, through_below, within_word, scalar_of}
+use Rattle.fields_follow.specs.Fragment.{IsCalm, alone}
+use Rattle.source_meaning.specs.Reductions.{divides_by_zero, folded_into, promoted, updated}
+use Rattle.cstar_tree.specs.declared.syntax.AssignOp.{AssignOp}
 
 pub calm_scalar : (e : TExpr) → IsCalm e → (type_of e).shape ≡ None
 unfolding IsCalm
@@ -46,23 +48,59 @@ calm_scalar (T.LogicalAnd' ty p left q right) h = h.0.0
 calm_scalar (T.Choice' ty p test q first r second) h = h.0.0
 calm_scalar _ h = absurd h
 
--- it is an expression of scalar programs, of the variables that it names
-pub calm_in : (may : May) (names : Variable → Type 0) (e : TExpr) → IsCalm e → ScalarsAmong names e → IsIn (naming may names) e
-unfolding IsCalm ScalarsAmong IsIn
-calm_in may names (T.Number ty value) h among = h
-calm_in may names (T.PositionsOf ty shape value) h among = h
-calm_in may names (T.RankOf ty shape value) h among = h
-calm_in may names (T.DimOf ty shape axis value) h among = h
-calm_in may names (T.Variable ty x) h among = (h, among h)
-calm_in may names (T.Brackets' ty p inner) h among = (h.0, calm_in may names inner h.1 among)
-calm_in may names (T.Convert' ty p operand) h among = (h.0, calm_in may names operand h.1 among)
-calm_in may names (T.Casts' ty elems p operand) h among = (h.0, h.1, calm_in may names operand h.2 among)
-calm_in may names (T.Unary' ty op p operand) h among = (h.0, calm_in may names operand h.1 among, h.2)
-calm_in may names (T.Binary' ty place op p left q right) h among = (h.0, calm_in may names left h.1 among.0, calm_in may names right h.2 among.1, h.3, h.4)
-calm_in may names (T.LogicalOr' ty p left q right) h among = (h.0, calm_in may names left h.1 among.0, calm_in may names right h.2 among.1)
-calm_in may names (T.LogicalAnd' ty p left q right) h among = (h.0, calm_in may names left h.1 among.0, calm_in may names right h.2 among.1)
-calm_in may names (T.Choice' ty p test q first r second) h among = (h.0, calm_in may names test h.1 among.0, calm_in may names first h.2 among.1, calm_in may names second h.3 among.2, h.4, h.5)
-calm_in may names _ h among = absurd h
+-- it is an expression of scalar programs that calls nothing
+pub calm_alone : (e : TExpr) → IsCalm e → IsIn alone e
+unfolding IsCalm IsIn
+calm_alone (T.Number ty value) h = h
+calm_alone (T.PositionsOf ty shape value) h = h
+calm_alone (T.RankOf ty shape value) h = h
+calm_alone (T.DimOf ty shape axis value) h = h
+calm_alone (T.Variable ty x) h = (h, tt)
+calm_alone (T.Brackets' ty p inner) h = (h.0, calm_alone inner h.1)
+calm_alone (T.Convert' ty p operand) h = (h.0, calm_alone operand h.1)
+calm_alone (T.Casts' ty elems p operand) h = (h.0, h.1, calm_alone operand h.2)
+calm_alone (T.Unary' ty op p operand) h = (h.0, calm_alone operand h.1, h.2)
+calm_alone (T.Binary' ty place op p left q right) h = (h.0, calm_alone left h.1, calm_alone right h.2, h.3, h.4)
+calm_alone (T.LogicalOr' ty p left q right) h = (h.0, calm_alone left h.1, calm_alone right h.2)
+calm_alone (T.LogicalAnd' ty p left q right) h = (h.0, calm_alone left h.1, calm_alone right h.2)
+calm_alone (T.Choice' ty p test q first r second) h = (h.0, calm_alone test h.1, calm_alone first h.2, calm_alone second h.3, h.4, h.5)
+calm_alone _ h = absurd h
+
+-- one that calls nothing is one of the variables that it names
+target_in : (names : Variable → Type 0) (e : TExpr) → IsVariable alone e → ScalarsAmong names e → IsVariable (naming alone names) e
+unfolding IsVariable ScalarsAmong
+target_in names (T.Variable ty x) h among = (h.0, among h.0)
+target_in names (T.Brackets' ty p inner) h among = (h.0, target_in names inner h.1 among)
+target_in names _ h among = absurd h
+
+pub alone_in : (names : Variable → Type 0) (e : TExpr) → IsIn alone e → ScalarsAmong names e → IsIn (naming alone names) e
+unfolding ScalarsAmong IsIn
+alone_in names (T.Number ty value) h among = h
+alone_in names (T.PositionsOf ty shape value) h among = h
+alone_in names (T.RankOf ty shape value) h among = h
+alone_in names (T.DimOf ty shape axis value) h among = h
+alone_in names (T.Variable ty x) h among = (h.0, among h.0)
+alone_in names (T.GetChar ty) h among = h
+alone_in names (T.Brackets' ty p inner) h among = (h.0, alone_in names inner h.1 among)
+alone_in names (T.Convert' ty p operand) h among = (h.0, alone_in names operand h.1 among)
+alone_in names (T.Casts' ty elems p operand) h among = (h.0, h.1, alone_in names operand h.2 among)
+alone_in names (T.Unary' ty op p operand) h among = (h.0, alone_in names operand h.1 among, h.2)
+alone_in names (T.Binary' ty place op p left q right) h among = (h.0, alone_in names left h.1 among.0, alone_in names right h.2 among.1, h.3, h.4)
+alone_in names (T.LogicalOr' ty p left q right) h among = (h.0, alone_in names left h.1 among.0, alone_in names right h.2 among.1)
+alone_in names (T.LogicalAnd' ty p left q right) h among = (h.0, alone_in names left h.1 among.0, alone_in names right h.2 among.1)
+alone_in names (T.Choice' ty p test q first r second) h among = (h.0, alone_in names test h.1 among.0, alone_in names first h.2 among.1, alone_in names second h.3 among.2, h.4, h.5)
+alone_in names (T.Assign' ty place op p target q value) h among = (h.0, h.1, target_in names target h.2 among.0, alone_in names value h.3 among.1, h.4)
+alone_in names (T.Step' ty op order p target) h among = (h.0, h.1, target_in names target h.2 among)
+alone_in names (T.Call' ty index p arguments) h among = absurd h.1
+alone_in names (T.Reduce' ty op p operand) h among = absurd h.1
+alone_in names _ h among = absurd h
+
+-- where its targets stand
+located_is : (target : TExpr) → IsVariable alone target → (x : Variable) × ((scope : Scope) (active : Active) (st : State) → located scope target active st ≡ Gives (OfScalar x) st)
+unfolding IsVariable located variable_target
+located_is (T.Variable ty x) h = (x, λ scope active st. ap (λ (o : Option ℕ). Gives (variable_target o x 0) st) h.0)
+located_is (T.Brackets' ty p inner) h = located_is inner h.1
+located_is _ h = absurd h
 
 both : (a b : Bool) → a ≡ true → b ≡ true → (a && b) ≡ true
 both true b e f = f
@@ -115,23 +153,56 @@ module _ (scope other : Scope) (active others : Active) where
       ∙ (λ i. elim (nonzero (number v)) as (λ _. Outcome Value) [ true ↦ one i | false ↦ two i ])
       ∙ sym (ap (λ (o : Option ℕ). choose o v h k others st) none)
 
+  new_same : (op : AssignOp) (to from : ValueType) (old v : Value) → to.shape ≡ None → from.shape ≡ None → new_value scope active op to from old v ≡ new_value other others op to from old v
+  unfolding new_value
+  new_same op to from old v scalar also =
+      (λ i. elim (scalar i) as (λ _. Value) [ Some _ ↦ each to.shape (λ p. updated op to.elem from.elem (at old p) (at v p)) | None ↦ elim (also i) as (λ _. Value) [ None ↦ each to.shape (λ p. updated op to.elem from.elem (at old p) (at v p)) | Some s ↦ Scalar (folded_into op to.elem from.elem (number old) (active s) (λ p. at v p) (positions scope s)) ] ])
+      ∙ sym (λ i. elim (scalar i) as (λ _. Value) [ Some _ ↦ each to.shape (λ p. updated op to.elem from.elem (at old p) (at v p)) | None ↦ elim (also i) as (λ _. Value) [ None ↦ each to.shape (λ p. updated op to.elem from.elem (at old p) (at v p)) | Some s ↦ Scalar (folded_into op to.elem from.elem (number old) (others s) (λ p. at v p) (positions other s)) ] ])
+
+  assign_same : (op : AssignOp) (to from : ValueType) (x : Variable) (v : Value) (st : State) → to.shape ≡ None → from.shape ≡ None → assign_to scope active op to from (OfScalar x) v st ≡ assign_to other others op to from (OfScalar x) v st
+  unfolding assign_to stored
+  assign_same op to from x v st scalar also = ap (λ (new : Value). Gives new (with_scalar x (number new) st)) (new_same op to from (read st (OfScalar x)) v scalar also)
+
+  assigned_same : (place : Place) (op : AssignOp) (to from : ValueType) (x : Variable) (v : Value) (st : State) → to.shape ≡ None → from.shape ≡ None → assigned scope active place op to from (OfScalar x) v st ≡ assigned other others place op to from (OfScalar x) v st
+  unfolding assigned failing
+  assigned_same place op to from x v st scalar also =
+      ap (λ (o : Option ℕ). unless (failing scope active o (λ p. divides_by_zero op (at v p))) DivZero place st (assign_to scope active op to from (OfScalar x) v st)) scalar
+      ∙ ap (λ (o : Outcome Value). unless (failing other others None (λ p. divides_by_zero op (at v p))) DivZero place st o) (assign_same op to from x v st scalar also)
+      ∙ sym (ap (λ (o : Option ℕ). unless (failing other others o (λ p. divides_by_zero op (at v p))) DivZero place st (assign_to other others op to from (OfScalar x) v st)) scalar)
+
+  pub alone_same : (e : TExpr) → IsIn alone e → (st : State) → evaluated scope e active st ≡ evaluated other e others st
+  unfolding IsIn evaluated then_do stepped
+  alone_same (T.Number ty value) h st = refl
+  alone_same (T.PositionsOf ty shape value) h st = refl
+  alone_same (T.RankOf ty shape value) h st = refl
+  alone_same (T.DimOf ty shape axis value) h st = refl
+  alone_same (T.Variable ty x) h st = refl
+  alone_same (T.GetChar ty) h st = refl
+  alone_same (T.Brackets' ty p inner) h st = alone_same inner h.1 st
+  alone_same (T.Convert' ty p operand) h st = ap (λ (o : Outcome Value). then_do o (λ v after. Gives (convert_to ty (type_of operand).elem v) after)) (alone_same operand h.1 st)
+  alone_same (T.Casts' ty elems p operand) h st = ap (λ (o : Outcome Value). then_do o (λ v after. Gives (mapped ty (λ w. cast_through elems.items (type_of operand).elem w) v) after)) (alone_same operand h.2 st)
+  alone_same (T.Unary' ty op p operand) h st = ap (λ (o : Outcome Value). then_do o (λ v after. Gives (mapped ty (λ w. unary_of op w) v) after)) (alone_same operand h.1 st)
+  alone_same (T.Binary' ty place op p left q right) h st = λ i. then_do (alone_same left h.1 st i) (λ v between. then_do (alone_same right h.2 between i) (λ w after. operated_same ty place op (not (type_of left).elem.signed) v w after h.0.0 i))
+  alone_same (T.LogicalOr' ty p left q right) h st = λ i. then_do (alone_same left h.1 st i) (λ v after. or_same ty.shape (type_of left).shape v (λ a u. evaluated scope right a u) (λ a u. evaluated other right a u) after (scalar_of alone left h.1) (alone_same right h.2 after) i)
+  alone_same (T.LogicalAnd' ty p left q right) h st = λ i. then_do (alone_same left h.1 st i) (λ v after. and_same ty.shape (type_of left).shape v (λ a u. evaluated scope right a u) (λ a u. evaluated other right a u) after (scalar_of alone left h.1) (alone_same right h.2 after) i)
+  alone_same (T.Choice' ty p test q first r second) h st =
+      λ i. then_do (alone_same test h.1 st i) (λ v after. choose_same (type_of test).shape v (λ a u. evaluated scope first a u) (λ a u. evaluated scope second a u) (λ a u. evaluated other first a u) (λ a u. evaluated other second a u) after (scalar_of alone test h.1) (alone_same first h.2 after) (alone_same second h.3 after) i)
+  alone_same (T.Assign' ty place op p target q value) h st =
+      let there = located_is target h.2 in
+      ap (λ (o : Outcome Target). then_do o (λ at between. then_do (evaluated scope value active between) (λ v after. assigned scope active place op ty (type_of value) at v after))) (there.1 scope active st)
+      ∙ (λ i. then_do (alone_same value h.3 st i) (λ v after. assigned_same place op ty (type_of value) there.0 v after h.0 (scalar_of alone value h.3) i))
+      ∙ sym (ap (λ (o : Outcome Target). then_do o (λ at between. then_do (evaluated other value others between) (λ v after. assigned other others place op ty (type_of value) at v after))) (there.1 other others st))
+  alone_same (T.Step' ty op order p target) h st =
+      let there = located_is target h.2 in
+      ap (λ (o : Outcome Target). then_do o (λ at after. stepped scope active op order ty at after)) (there.1 scope active st)
+      ∙ ap (λ (o : Outcome Value). then_do o (λ new after. Gives (step_value order (read st (OfScalar there.0)) new) after)) (assign_same (step_op op) ty (record { elem = promoted ty.elem; shape = ty.shape }) there.0 (each ty.shape (λ _. 1)) st h.0 h.0)
+      ∙ sym (ap (λ (o : Outcome Target). then_do o (λ at after. stepped other others op order ty at after)) (there.1 other others st))
+  alone_same (T.Call' ty index p arguments) h st = absurd h.1
+  alone_same (T.Reduce' ty op p operand) h st = absurd h.1
+  alone_same _ h st = absurd h
+
   pub calm_same : (e : TExpr) → IsCalm e → (st : State) → evaluated scope e active st ≡ evaluated other e others st
-  unfolding IsCalm evaluated
-  calm_same (T.Number ty value) h st = refl
-  calm_same (T.PositionsOf ty shape value) h st = refl
-  calm_same (T.RankOf ty shape value) h st = refl
-  calm_same (T.DimOf ty shape axis value) h st = refl
-  calm_same (T.Variable ty x) h st = refl
-  calm_same (T.Brackets' ty p inner) h st = calm_same inner h.1 st
-  calm_same (T.Convert' ty p operand) h st = ap (λ (o : Outcome Value). then_do o (λ v after. Gives (convert_to ty (type_of operand).elem v) after)) (calm_same operand h.1 st)
-  calm_same (T.Casts' ty elems p operand) h st = λ i. then_do (calm_same operand h.2 st i) (λ v after. Gives (mapped ty (λ w. cast_through elems.items (type_of operand).elem w) v) after)
-  calm_same (T.Unary' ty op p operand) h st = λ i. then_do (calm_same operand h.1 st i) (λ v after. Gives (mapped ty (λ w. unary_of op w) v) after)
-  calm_same (T.Binary' ty place op p left q right) h st = λ i. then_do (calm_same left h.1 st i) (λ v between. then_do (calm_same right h.2 between i) (λ w after. operated_same ty place op (not (type_of left).elem.signed) v w after h.0.0 i))
-  calm_same (T.LogicalOr' ty p left q right) h st = λ i. then_do (calm_same left h.1 st i) (λ v after. or_same ty.shape (type_of left).shape v (λ a u. evaluated scope right a u) (λ a u. evaluated other right a u) after (calm_scalar left h.1) (calm_same right h.2 after) i)
-  calm_same (T.LogicalAnd' ty p left q right) h st = λ i. then_do (calm_same left h.1 st i) (λ v after. and_same ty.shape (type_of left).shape v (λ a u. evaluated scope right a u) (λ a u. evaluated other right a u) after (calm_scalar left h.1) (calm_same right h.2 after) i)
-  calm_same (T.Choice' ty p test q first r second) h st =
-      λ i. then_do (calm_same test h.1 st i) (λ v after. choose_same (type_of test).shape v (λ a u. evaluated scope first a u) (λ a u. evaluated scope second a u) (λ a u. evaluated other first a u) (λ a u. evaluated other second a u) after (calm_scalar test h.1) (calm_same first h.2 after) (calm_same second h.3 after) i)
-  calm_same _ h st = absurd h
+  calm_same e h st = alone_same e (calm_alone e h) st
 
 -- It gives a number of its type, and the state as it was, or ends early.
 unfoldable pub IsCalmly : ℕ → State → Outcome Value → Type 0

@@ -281,7 +281,7 @@ module _ (g : Setting) (has : HasRegisters g) (alive : Variable → Type 0) (n :
   computed_last set offset bits (T.LogicalAnd' ty p left q right) some most is plain c = absurd plain
   computed_last set offset bits _ some most is plain c = absurd is
 
-  value_put : (f : Field) (x : Out) (after : Draft) → Extends g after (put_value (O.Field f) x after)
+  pub value_put : (f : Field) (x : Out) (after : Draft) → Extends g after (put_value (O.Field f) x after)
   unfolding Extends put_value put_in_field
   value_put f (O.Scalar r) after = (1, and_one g (I.MoveConstant f (K.Reg r)) after)
   value_put f (O.Field source) after = (1, and_one g (I.Move true f source) after)
@@ -311,7 +311,7 @@ module _ (g : Setting) (has : HasRegisters g) (alive : Variable → Type 0) (n :
           let same_all : (λ (q : ℕ). word_in g k gives.passes.t) ≡ words_of set e st = λ j q. sym (gives.same q) j in
           last is e1 (I.MoveConstant f k) within gives.passes (subst (λ (v : ℕ → ℕ). Puts g set (I.MoveConstant f k) f gives.passes.t v) same_all (puts_constant g set f k gives.passes.t gives.small))
 
-      by : HasItsWord e ⊎ IsComputed g alive n e → After g Q (put_to g.typed (layout g) (O.Field f) e d)
+      by : HasItsWord e ⊎ IsComputed g alive n set e → After g Q (put_to g.typed (layout g) (O.Field f) e d)
       by (inl h) = after_same g Q (ap code h.is)
           (made_after g Q (O.Field f) (with_instr (I.MoveConstant f (K.Imm h.word)) d) (λ within. move (K.Imm h.word) d (h.means fields.scope fields.active (extents g set) st) (constant_given g has alive n ready places fields (length d.fields) set e h d s st here sim) within))
       by (inr h) = after_same g Q (ap code h.no_word ∙ h.computed f d ∙ ap (λ (m : Made Out). then_make m (λ v after. put_value (O.Field f) v after)) (sym (h.code true bits d)))

@@ -296,7 +296,7 @@ module _ (g : Setting) (has : HasRegisters g) (alive : Variable → Type 0) (n :
   constant_at set e st (inl pure) c q word is = let none = sym (pure_word set e pure) ∙ is in cc
   constant_at set e st (inr promoted) c q word is = by (promoted_stands g alive n set e promoted c)
     where
-      by : HasItsWord e ⊎ IsComputed g alive n e → word_at (extents g set) st e q ≡ word
+      by : HasItsWord e ⊎ IsComputed g alive n set e → word_at (extents g set) st e q ≡ word
       by (inl h) = h.value (extents g set) st q ∙ some_same h.word word (sym h.is ∙ is)
       by (inr h) = let none = sym h.no_word ∙ is in cc
 

@@ -33,6 +33,7 @@ pub mod Leaving
 pub mod Lengths
 pub mod Listed
 pub mod Locals
+pub mod LocalWrites
 pub mod LocalsCleared
 pub mod Meaning
 pub mod Named
@@ -56,6 +57,7 @@ pub mod Reducing
 pub mod Reductions
 pub mod Relations
 pub mod Saving
+pub mod ScalarAssigning
 pub mod Scalars
 pub mod Scanning
 pub mod ScanAssigning

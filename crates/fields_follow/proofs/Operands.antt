@@ -214,7 +214,7 @@ module _ (g : Setting) where
         code : Option ℕ → Made Field
         code o = elim o as (λ _. Made Field) [ Some word ↦ Makes dest (with_instr (I.MoveConstant dest (K.Imm word)) d1) | None ↦ then_make (operand bits quiet e d1) (λ x after. in_a_field x dest after) ]
 
-        by : HasItsWord e ⊎ IsComputed g alive n e → Follows g (Given g v st Q) s (meant g fields e st) (spread_into (operand bits quiet e) e dest d1)
+        by : HasItsWord e ⊎ IsComputed g alive n set e → Follows g (Given g v st Q) s (meant g fields e st) (spread_into (operand bits quiet e) e dest d1)
         by (inl h) =
             given_follows g s (meant g fields e st) v st Q (spread_into (operand bits quiet e) e dest d1) (h.means fields.scope fields.active (extents g set) st)
             (after_same g Q (ap code h.is) (made_after g Q dest (with_instr (I.MoveConstant dest (K.Imm h.word)) d1) (λ within. word_spread bits set d d1 (K.Imm h.word) (λ q. word_at (extents g set) st e q) s st (constant_given (length d.fields) set e h d1 s st here sim) within)))
@@ -296,7 +296,7 @@ module _ (g : Setting) where
         given (Some right) after = (0, as_it_was after)
         given None after = tt
 
-        by : HasItsWord e ⊎ IsComputed g alive n e → Follows g (Given g (λ q. value_in (extents g set) st e q) st Q) s (meant g fields e st) (right_by (operand bits true e) op e d)
+        by : HasItsWord e ⊎ IsComputed g alive n set e → Follows g (Given g (λ q. value_in (extents g set) st e q) st Q) s (meant g fields e st) (right_by (operand bits true e) op e d)
         by (inl h) =
             given_follows g s (meant g fields e st) (λ q. value_in (extents g set) st e q) st Q (right_by (operand bits true e) op e d) (h.means fields.scope fields.active (extents g set) st)
             (after_same g Q

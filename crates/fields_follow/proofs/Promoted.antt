@@ -1,5 +1,5 @@
 -- Promoted scalars: a constant, or one that is computed in a register.
-use Rattle.std.proofs.Common.{◌≡◌, ◌∙◌, ℕ, ◌⊎◌, inl, inr, Bool, true, length, Option, Some, None, sym, ap, subst}
+use Rattle.std.proofs.Common.{◌≡◌, ◌∙◌, ℕ, ◌⊎◌, inl, inr, Bool, true, length, Option, Some, None, sym, ap, subst, ◌&&◌, ◌==◌, false, if◌then◌else◌, refl}
 use Rattle.cstar_base.specs.Numbers.{converted}
 use Rattle.cstar_tree.specs.declared.typed.TExpr.{TExpr}
 use Rattle.cstar_tree.specs.declared.typed.TExpr as T
@@ -21,18 +21,18 @@ use Rattle.paris_code.specs.declared.operands.Field.{Field}
 use Rattle.paris_code.specs.declared.operands.Konst.TheVariants as K
 use Rattle.paris_code.specs.Code.{CodeState}
 use Rattle.quiet_operands.proofs.Contexts.{ignored}
-use Rattle.source_meaning.specs.Constants.{constant_of, then_value}
+use Rattle.source_meaning.specs.Constants.{constant_of, then_value, is_constant}
 use Rattle.source_meaning.specs.Expressions.{evaluated, mapped}
 use Rattle.source_meaning.specs.Reductions.{int_type}
 use Rattle.source_meaning.specs.State as Source
 use Rattle.source_meaning.specs.State.{Gives, Outcome, State, then_do}
 use Rattle.source_meaning.specs.Values.{Active, Parallel, Scalar, Scope, Value, at}
-use Rattle.code_follows.specs.Fragment.{ScalarsAmong}
+use Rattle.code_follows.specs.Fragment.{ScalarsAmong, IsIn}
 use Rattle.code_follows.proofs.Following.{Follows, HasRegisters, Sim, follows_same, held, knowing, then_gives}
 use Rattle.code_follows.proofs.Settings.{Setting, layout}
-use Rattle.fields_follow.specs.Fragment.{IsCalm, IsConstant, IsPromoted}
+use Rattle.fields_follow.specs.Fragment.{IsCalm, IsConstant, IsPromoted, IsChanging, alone}
 use Rattle.fields_follow.proofs.Calm.{calm_same}
-use Rattle.fields_follow.proofs.Forms.{HasItsCode, HasItsWord, constant_word, promoted_not_held}
+use Rattle.fields_follow.proofs.Forms.{HasItsCode, HasItsWord, constant_word, not_held}
 use Rattle.fields_follow.proofs.Instructions.{extents}
 use Rattle.fields_follow.proofs.Meaning.{computed_in, constant_means, given_in, mapped_is, nobody, nowhere, scalar_in, value_in, word_at}
 use Rattle.fields_follow.proofs.Outcomes.{Given, meant}
@@ -41,6 +41,8 @@ use Rattle.fields_follow.proofs.Scalars.{GivesScalar, scalar_follows}
 use Rattle.fields_follow.proofs.Spreading.{GivesWord}
 use Rattle.fields_follow.proofs.Starts.{Starts}
 use Rattle.lower_base.specs.Constants.{constant_register}
+use Rattle.source_meaning.proofs.ConstantLaws.{Boxed}
+use Rattle.std.specs.Prelude.{is_none}
 
 -- what an outcome gives, whatever surrounds it
 unfoldable ignoring : (scope : Scope) (active : Active) (e : TExpr) (st : State) → IsCalm e → ignores_context e ≡ true → evaluated scope e active st ≡ Gives (given_in (evaluated nowhere e nobody st)) st
@@ -68,15 +70,17 @@ promoted_free scope active set extents (T.Brackets' ty p inner) st is free = pro
 promoted_free scope active set extents _ st is free = absurd is
 
 -- what a scalar gives at each position
-abbrev everywhere : Value → Value
+abbrev pub everywhere : Value → Value
 everywhere v = Parallel (λ q. at v q)
 
 module _ (g : Setting) (alive : Variable → Type 0) (n : ℕ) where
-  -- the scalar of one that is computed
-  pub record IsComputed (e : TExpr) : Type 0 where
+  -- the scalar of one that is computed, of which this is known
+  pub record Spreads (known : TExpr → Type 0) (set : ℕ) (e : TExpr) : Type 0 where
     pub operand : TExpr
-    pub calm : IsCalm operand
+    pub is : known operand
+    pub shape : (type_of e).shape ≡ Some set
     pub elem : (type_of e).elem ≡ (type_of operand).elem
+    pub no_constant : is_constant e ≡ false
     pub no_word : word_of e ≡ None
     pub code : (quiet : Bool) (bits : ℕ) (d : Draft) → operand_by g.typed (layout g) bits (λ after. value_of g.typed (layout g) bits e after) quiet e d ≡ operand_by g.typed (layout g) bits (λ after. value_of g.typed (layout g) bits operand after) quiet operand d
     pub computed : (f : Field) (d : Draft) → computed_to g.typed (layout g) (O.Field f) e d ≡ then_make (operand_by g.typed (layout g) f.len (λ after. value_of g.typed (layout g) f.len operand after) true operand d) (λ v after. put_value (O.Field f) v after)
@@ -85,59 +89,91 @@ module _ (g : Setting) (alive : Variable → Type 0) (n : ℕ) where
     pub has : HasCode g.typed g.instance n operand
     pub among : ScalarsAmong alive operand
 
-  pub promoted_stands : (set : ℕ) (e : TExpr) → IsPromoted set e → HasItsCode g.typed g.instance alive n e → HasItsWord e ⊎ IsComputed e
-  unfolding IsPromoted word_of register_word own_of NamesVariables IsShaped IsLowerable value_in scalar_in ScalarsAmong evaluated value_of operand_by in_place held_in computed_to moved bits_for
-  promoted_stands set (T.Promote' ty p operand) is c = by is.2.1
-    where
-      by : IsConstant operand ⊎ ((constant_of operand ≡ None) × IsCalm operand) → HasItsWord (T.Promote' ty p operand) ⊎ IsComputed (T.Promote' ty p operand)
-      by (inl constant) = inl (constant_word set ty p operand is.0 is.1 constant).0
-      by (inr (none, calm)) =
-          let code : (quiet : Bool) (bits : ℕ) (d : Draft) → operand_by g.typed (layout g) bits (λ after. value_of g.typed (layout g) bits operand after) quiet (T.Promote' ty p operand) d ≡ operand_by g.typed (layout g) bits (λ after. value_of g.typed (layout g) bits operand after) quiet operand d =
-          λ quiet bits d.
-          ap (λ (o : Option ℕ). elim o as (λ _. Made Out) [ Some r ↦ Makes (O.Scalar r) d | None ↦ elim (in_place bits quiet operand) as (λ _. Made Out) [ Some own ↦ standing g.typed (layout g) bits own d | None ↦ value_of g.typed (layout g) bits operand d ] ]) (promoted_not_held set (layout g) (T.Promote' ty p operand) is)
-          ∙ sym (ap (λ (o : Option ℕ). elim o as (λ _. Made Out) [ Some r ↦ Makes (O.Scalar r) d | None ↦ elim (in_place bits quiet operand) as (λ _. Made Out) [ Some own ↦ standing g.typed (layout g) bits own d | None ↦ value_of g.typed (layout g) bits operand d ] ]) (ap (λ (o : Option ℕ). then_value o (λ w. constant_register (layout g) w)) (ap (λ (o : Option ℕ). then_value o (λ v. Some (converted int_type (type_of operand).elem v))) none))) in
-          let no_word : register_word operand ≡ None = ap (λ (o : Option ℕ). then_value o (λ v. Some (converted int_type (type_of operand).elem v))) none in
-          inr (record {
-            operand = operand;
-            calm = calm;
-            elem = is.1;
-            no_word = no_word;
-            code = code;
-            computed = λ f d. ap (λ (m : Made Out). then_make m (λ v after. put_value (O.Field f) v after)) (code true f.len d);
-            means = λ scope active st i. then_do (evaluated scope operand active st) (λ v after. Gives (mapped_is scope active ty set (λ w. w) v is.0 i) after);
-            value = λ extents st q. ap (λ (o : Option ℕ). elim o [ Some word ↦ word | None ↦ computed_in st operand q ]) none;
-            has = record { shaped = c.code.shaped.1; lowerable = c.code.lowerable.1; names = c.code.names };
-            among = c.among;
-          })
-  promoted_stands set (T.Brackets' ty p inner) is c = by (promoted_stands set inner is.1 (record { code = record { shaped = c.code.shaped.1; lowerable = c.code.lowerable; names = c.code.names }; among = c.among }))
-    where
-      by : HasItsWord inner ⊎ IsComputed inner → HasItsWord (T.Brackets' ty p inner) ⊎ IsComputed (T.Brackets' ty p inner)
-      by (inl h) = inl (record { word = h.word; is = h.is; small = h.small; value = λ extents st q. ap (λ (y : ValueType). held y.elem (value_in extents st inner q)) is.0 ∙ h.value extents st q; means = h.means })
-      by (inr h) = inr (record {
+  abbrev pub IsComputed : ℕ → TExpr → Type 0
+  IsComputed set e = Spreads IsCalm set e
+
+  -- where no constant has the register of its word, the code is that of the value, wherever that stands
+  operand_same : (quiet : Bool) (bits : ℕ) (e inner : TExpr) (d : Draft) → held_in (layout g) e ≡ None → held_in (layout g) inner ≡ None → own_of bits e ≡ own_of bits inner → value_of g.typed (layout g) bits e d ≡ value_of g.typed (layout g) bits inner d
+      → operand_by g.typed (layout g) bits (λ after. value_of g.typed (layout g) bits e after) quiet e d ≡ operand_by g.typed (layout g) bits (λ after. value_of g.typed (layout g) bits inner after) quiet inner d
+  unfolding operand_by in_place
+  operand_same quiet bits e inner d none also own code =
+      (λ i. elim (none i) as (λ _. Made Out) [ Some r ↦ Makes (O.Scalar r) d | None ↦ elim (if quiet then own i else None) as (λ _. Made Out) [ Some x ↦ standing g.typed (layout g) bits x d | None ↦ code i ] ])
+      ∙ sym (λ i. elim (also i) as (λ _. Made Out) [ Some r ↦ Makes (O.Scalar r) d | None ↦ elim (if quiet then own_of bits inner else None) as (λ _. Made Out) [ Some x ↦ standing g.typed (layout g) bits x d | None ↦ value_of g.typed (layout g) bits inner d ] ])
+
+  pub spread_over : (known : TExpr → Type 0) (set : ℕ) (ty : ValueType) (p : Boxed) (operand : TExpr) → ty.shape ≡ Some set → ty.elem ≡ (type_of operand).elem → constant_of operand ≡ None → known operand → HasItsCode g.typed g.instance alive n (T.Promote' ty p operand) → Spreads known set (T.Promote' ty p operand)
+  unfolding word_of register_word own_of NamesVariables IsShaped IsLowerable value_in scalar_in ScalarsAmong evaluated value_of held_in computed_to moved bits_for is_constant
+  spread_over known set ty p operand shaped same none is c =
+      let no_word : register_word operand ≡ None = ap (λ (o : Option ℕ). then_value o (λ v. Some (converted int_type (type_of operand).elem v))) none in
+      let code : (quiet : Bool) (bits : ℕ) (d : Draft) → operand_by g.typed (layout g) bits (λ after. value_of g.typed (layout g) bits operand after) quiet (T.Promote' ty p operand) d ≡ operand_by g.typed (layout g) bits (λ after. value_of g.typed (layout g) bits operand after) quiet operand d =
+      λ quiet bits d. operand_same quiet bits (T.Promote' ty p operand) operand d (not_held (layout g) (T.Promote' ty p operand) refl) (ap (λ (o : Option ℕ). then_value o (λ w. constant_register (layout g) w)) no_word) refl refl in
+      record {
+        operand = operand;
+        is = is;
+        shape = shaped;
+        elem = same;
+        no_constant = refl;
+        no_word = no_word;
+        code = code;
+        computed = λ f d. ap (λ (m : Made Out). then_make m (λ v after. put_value (O.Field f) v after)) (code true f.len d);
+        means = λ scope active st i. then_do (evaluated scope operand active st) (λ v after. Gives (mapped_is scope active ty set (λ w. w) v shaped i) after);
+        value = λ extents st q. ap (λ (o : Option ℕ). elim o [ Some word ↦ word | None ↦ computed_in st operand q ]) none;
+        has = record { shaped = c.code.shaped.1; lowerable = c.code.lowerable.1; names = c.code.names };
+        among = c.among;
+      }
+
+  pub brackets_code : (ty : ValueType) (p : Boxed) (inner : TExpr) → HasItsCode g.typed g.instance alive n (T.Brackets' ty p inner) → HasItsCode g.typed g.instance alive n inner
+  unfolding NamesVariables IsShaped IsLowerable ScalarsAmong
+  brackets_code ty p inner c = record { code = record { shaped = c.code.shaped.1; lowerable = c.code.lowerable; names = c.code.names }; among = c.among }
+
+  pub spread_within : (known : TExpr → Type 0) (set : ℕ) (ty : ValueType) (p : Boxed) (inner : TExpr) → ty ≡ type_of inner → Spreads known set inner → Spreads known set (T.Brackets' ty p inner)
+  unfolding word_of own_of value_in evaluated value_of computed_to is_constant
+  spread_within known set ty p inner same h =
+      let shaped : ty.shape ≡ Some set = ap (λ (y : ValueType). y.shape) same ∙ h.shape in
+      let fresh : is_constant (T.Brackets' ty p inner) ≡ false = ap (λ (o : Option ℕ). is_none o && ty.elem.bits == (type_of inner).elem.bits && is_constant inner) shaped in
+      record {
         operand = h.operand;
-        calm = h.calm;
-        elem = ap (λ (y : ValueType). y.elem) is.0 ∙ h.elem;
+        is = h.is;
+        shape = shaped;
+        elem = ap (λ (y : ValueType). y.elem) same ∙ h.elem;
+        no_constant = fresh;
         no_word = h.no_word;
-        code = λ quiet bits d.
-            ap (λ (o : Option ℕ). elim o as (λ _. Made Out) [ Some r ↦ Makes (O.Scalar r) d | None ↦ elim (in_place bits quiet inner) as (λ _. Made Out) [ Some own ↦ standing g.typed (layout g) bits own d | None ↦ value_of g.typed (layout g) bits inner d ] ]) (promoted_not_held set (layout g) (T.Brackets' ty p inner) is)
-            ∙ sym (ap (λ (o : Option ℕ). elim o as (λ _. Made Out) [ Some r ↦ Makes (O.Scalar r) d | None ↦ elim (in_place bits quiet inner) as (λ _. Made Out) [ Some own ↦ standing g.typed (layout g) bits own d | None ↦ value_of g.typed (layout g) bits inner d ] ]) (promoted_not_held set (layout g) inner is.1))
-            ∙ h.code quiet bits d;
+        code = λ quiet bits d. operand_same quiet bits (T.Brackets' ty p inner) inner d (not_held (layout g) (T.Brackets' ty p inner) fresh) (not_held (layout g) inner h.no_constant) refl refl ∙ h.code quiet bits d;
         computed = h.computed;
         means = h.means;
         value = h.value;
         has = h.has;
         among = h.among;
-      })
+      }
+
+  pub promoted_stands : (set : ℕ) (e : TExpr) → IsPromoted set e → HasItsCode g.typed g.instance alive n e → HasItsWord e ⊎ IsComputed set e
+  unfolding IsPromoted word_of value_in evaluated
+  promoted_stands set (T.Promote' ty p operand) is c = by is.2.1
+    where
+      by : IsConstant operand ⊎ ((constant_of operand ≡ None) × IsCalm operand) → HasItsWord (T.Promote' ty p operand) ⊎ IsComputed set (T.Promote' ty p operand)
+      by (inl constant) = inl (constant_word set ty p operand is.0 is.1 constant).0
+      by (inr (none, calm)) = inr (spread_over IsCalm set ty p operand is.0 is.1 none calm c)
+  promoted_stands set (T.Brackets' ty p inner) is c = by (promoted_stands set inner is.1 (brackets_code ty p inner c))
+    where
+      by : HasItsWord inner ⊎ IsComputed set inner → HasItsWord (T.Brackets' ty p inner) ⊎ IsComputed set (T.Brackets' ty p inner)
+      by (inl h) = inl (record { word = h.word; is = h.is; small = h.small; value = λ extents st q. ap (λ (y : ValueType). held y.elem (value_in extents st inner q)) is.0 ∙ h.value extents st q; means = h.means })
+      by (inr h) = inr (spread_within IsCalm set ty p inner is.0 h)
   promoted_stands set _ is c = absurd is
+
+  -- so it is of one that may change variables
+  pub changing_stands : (set : ℕ) (e : TExpr) → IsChanging set e → HasItsCode g.typed g.instance alive n e → Spreads (λ operand. IsIn alone operand) set e
+  unfolding IsChanging
+  changing_stands set (T.Promote' ty p operand) is c = spread_over (λ operand. IsIn alone operand) set ty p operand is.0 is.1 is.2 is.3 c
+  changing_stands set (T.Brackets' ty p inner) is c = spread_within (λ operand. IsIn alone operand) set ty p inner is.0 (changing_stands set inner is.1 (brackets_code ty p inner c))
+  changing_stands set _ is c = absurd is
 
   module _ (has : HasRegisters g) (ready : (d : Draft) → IsReadyButForFields g.typed g.instance (layout g) n d) (fields : HoldsTheFields g) where
     -- the code leaves its word in a register
-    pub computed_after : (set bits bound : ℕ) (quiet : Bool) (e : TExpr) → IsComputed e → (d : Draft) (s : CodeState) (st : State) → Starts g alive s (length d.code) d.regs → Sim g alive st s
+    pub computed_after : (set bits bound : ℕ) (quiet : Bool) (e : TExpr) → IsComputed set e → (d : Draft) (s : CodeState) (st : State) → Starts g alive s (length d.code) d.regs → Sim g alive st s
         → Follows g (Given g (λ q. value_in (extents g set) st e q) st (λ out f. (r : ℕ) × ((out ≡ O.Scalar r) × GivesWord g alive bound d s st (λ q. word_at (extents g set) st e q) (K.Reg r) f))) s (meant g fields e st) (operand_by g.typed (layout g) bits (λ after. value_of g.typed (layout g) bits e after) quiet e d)
     unfolding given_in at
     computed_after set bits bound quiet e h d s st here sim =
         follows_same g Q s (h.means fields.scope fields.active st) (h.code quiet bits d)
-        (then_gives g Told Q s o everywhere made (knowing g R s o made (scalar_follows g has alive n ready fields quiet bits bound h.operand h.calm h.among h.has d s st here sim)) gives)
+        (then_gives g Told Q s o everywhere made (knowing g R s o made (scalar_follows g has alive n ready fields quiet bits bound h.operand h.is h.among h.has d s st here sim)) gives)
       where
         o : Outcome Value
         o = evaluated fields.scope h.operand fields.active st
@@ -157,7 +193,7 @@ module _ (g : Setting) (alive : Variable → Type 0) (n : ℕ) where
         gives : (x : Value) (u : State) (out : Out) (f : Draft) → Told x u out f → Q (everywhere x) u out f
         gives x u out f (given, (w, (is, (same, (r, (place, word)))))) =
             let number : (q : ℕ) → value_in (extents g set) st e q ≡ w =
-            λ q. h.value (extents g set) st q ∙ ap (λ (y : Outcome Value). at (given_in y) q) (sym (calm_same fields.scope nowhere fields.active nobody h.operand h.calm st) ∙ given) ∙ ap (λ (v : Value). at v q) is in (
+            λ q. h.value (extents g set) st q ∙ ap (λ (y : Outcome Value). at (given_in y) q) (sym (calm_same fields.scope nowhere fields.active nobody h.operand h.is st) ∙ given) ∙ ap (λ (v : Value). at v q) is in (
               ap (λ (v : Value). everywhere v) is ∙ (λ i. Parallel (λ q. sym (number q) i)),
               same,
               (r, (place, subst (λ (v : ℕ → ℕ). GivesWord g alive bound d s st v (K.Reg r) f) (λ i q. held (sym h.elem i) (sym (number q) i)) word)),

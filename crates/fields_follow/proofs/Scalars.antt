@@ -18,26 +18,19 @@ use Rattle.source_meaning.specs.Programs.{calls}
 use Rattle.source_meaning.specs.State as Source
 use Rattle.source_meaning.specs.State.{Early, Outcome, State}
 use Rattle.source_meaning.specs.Values.{Scalar, Scope, Value}
-use Rattle.code_follows.specs.Fragment.{Beside, May, ScalarsAmong}
+use Rattle.code_follows.specs.Fragment.{IsIn, ScalarsAmong}
 use Rattle.code_follows.proofs.Callees.{CallsFollow}
 use Rattle.code_follows.proofs.Expressions.{operand}
-use Rattle.code_follows.proofs.Following.{Arrives, Finishes, Follows, HasRegisters, IsKept, Keeps, Sim, follows_same, held, keeps_all, knowing}
+use Rattle.code_follows.proofs.Following.{Arrives, Finishes, Follows, HasRegisters, IsKept, Keeps, Sim, follows_same, held, keeps_all, knowing, follows_other}
 use Rattle.code_follows.proofs.Settings.{Held, Setting, Within, layout}
-use Rattle.fields_follow.specs.Fragment.{IsCalm}
-use Rattle.fields_follow.proofs.Calm.{IsCalmly, calm_gives, calm_in, calm_same}
+use Rattle.fields_follow.specs.Fragment.{IsCalm, alone}
+use Rattle.fields_follow.proofs.Calm.{IsCalmly, alone_in, alone_same, calm_alone, calm_gives}
 use Rattle.fields_follow.proofs.Instructions.{place, word_in}
 use Rattle.fields_follow.proofs.Passing.{code_longer}
 use Rattle.fields_follow.proofs.Places.{HoldsTheFields}
 use Rattle.fields_follow.proofs.Spreading.{GivesWord}
 use Rattle.fields_follow.proofs.Starts.{Starts}
 use Rattle.fields_follow.proofs.Totals.{held_below}
-
--- no parallel expression, and no call
-abbrev nothing_beside : Beside
-nothing_beside = record { effects = λ e. ⊥; folds = λ e. ⊥; conditions = λ set e. ⊥; widens = λ set. ⊥; variables = λ info. ⊥; locals = λ local. ⊥ }
-
-abbrev nothing_else : May
-nothing_else = record { calls = λ used index given. ⊥; returns = λ elem. ⊥; names = λ x. ⊥; beside = nothing_beside }
 
 module _ (g : Setting) (has : HasRegisters g) (fields : HoldsTheFields g) (m : BitMemory) where
   -- the memory is this one
@@ -52,7 +45,7 @@ module _ (g : Setting) (has : HasRegisters g) (fields : HoldsTheFields g) (m : B
 
   -- the same unit, where nothing else is done
   abbrev calm : Setting
-  calm = record g { may = nothing_else; held = this_memory; entries = 0 }
+  calm = record g { may = alone; held = this_memory; entries = 0 }
 
   abbrev around : Scope
   around = record { extents = fields.scope.extents; length_of = fields.scope.length_of; call = calls g.typed g.most }
@@ -130,20 +123,17 @@ module _ (g : Setting) (has : HasRegisters g) (fields : HoldsTheFields g) (m : B
   follows_calm R Q s (Source.Ends early u) Fails said h = tt
 
 module _ (g : Setting) (has : HasRegisters g) (alive : Variable → Type 0) (n : ℕ) (ready : (d : Draft) → IsReadyButForFields g.typed g.instance (layout g) n d) (fields : HoldsTheFields g) where
-  -- the value of a scalar stands in a register, and the state is as it was
-  abbrev pub GivesScalar : ℕ → Draft → CodeState → State → TExpr → Value → State → Out → Draft → Type 0
-  GivesScalar bound d s st e x u out f = (w : ℕ) × ((x ≡ Scalar w) × ((u ≡ st) × ((r : ℕ) × ((out ≡ O.Scalar r) × GivesWord g alive bound d s st (λ q. held (type_of e).elem w) (K.Reg r) f))))
+  -- the value of a scalar stands in a register, whatever the state is then
+  abbrev pub GivesChanged : ℕ → Draft → CodeState → TExpr → Value → State → Out → Draft → Type 0
+  GivesChanged bound d s e x u out f = (w : ℕ) × ((x ≡ Scalar w) × ((w < 2 ^ (type_of e).elem.bits) × ((r : ℕ) × ((out ≡ O.Scalar r) × GivesWord g alive bound d s u (λ q. held (type_of e).elem w) (K.Reg r) f))))
 
-  pub scalar_follows : (quiet : Bool) (bits bound : ℕ) (e : TExpr) → IsCalm e → ScalarsAmong alive e → HasCode g.typed g.instance n e → (d : Draft) (s : CodeState) (st : State) → Starts g alive s (length d.code) d.regs → Sim g alive st s
-      → Follows g (GivesScalar bound d s st e) s (evaluated fields.scope e fields.active st) (operand_by g.typed (layout g) bits (λ after. value_of g.typed (layout g) bits e after) quiet e d)
-  unfolding IsCalmly word_in
-  scalar_follows quiet bits bound e is among code d s st here sim =
-      follows_same g (GivesScalar bound d s st e) s (calm_same fields.scope (around g has fields s.memory) fields.active fields.active e is st) refl
-      (follows_calm g has fields s.memory Told (GivesScalar bound d s st e) s o made (λ x u out f within told. gives x u out f told) (knowing (calm g has fields s.memory) Arrived s o made law))
+  pub changed_follows : (quiet : Bool) (bits bound : ℕ) (e : TExpr) → IsIn alone e → ScalarsAmong alive e → HasCode g.typed g.instance n e → (d : Draft) (s : CodeState) (st : State) → Starts g alive s (length d.code) d.regs → Sim g alive st s
+      → Follows g (GivesChanged bound d s e) s (evaluated fields.scope e fields.active st) (operand_by g.typed (layout g) bits (λ after. value_of g.typed (layout g) bits e after) quiet e d)
+  unfolding word_in
+  changed_follows quiet bits bound e is among code d s st here sim =
+      follows_same g (GivesChanged bound d s e) s (alone_same fields.scope (around g has fields s.memory) fields.active fields.active e is st) refl
+      (follows_calm g has fields s.memory Arrived (GivesChanged bound d s e) s o made (λ x u out f within a. gives x u out f a) law)
     where
-      inner : Setting
-      inner = calm g has fields s.memory
-
       o : Outcome Value
       o = evaluated (around g has fields s.memory) e fields.active st
 
@@ -153,23 +143,19 @@ module _ (g : Setting) (has : HasRegisters g) (alive : Variable → Type 0) (n :
       Arrived : Value → State → Out → Draft → Type 0
       Arrived x u out f = Arrives (calm g has fields s.memory) alive (type_of e).elem quiet d s x u out f
 
-      Told : Value → State → Out → Draft → Type 0
-      Told x u out f = (o ≡ Source.Gives x u) × Arrived x u out f
-
       law : Follows (calm g has fields s.memory) Arrived s o made
       law =
-          operand (calm g has fields s.memory) (calm_registers g has fields s.memory) alive n here.files ready (around g has fields s.memory) fields.active (nothing_called g has fields s.memory) quiet bits e (calm_in nothing_else alive e is among) code d s st
+          operand (calm g has fields s.memory) (calm_registers g has fields s.memory) alive n here.files ready (around g has fields s.memory) fields.active (nothing_called g has fields s.memory) quiet bits e (alone_in alive e is among) code d s st
           (record { regs = here.free; code = here.low; fields = omega arith }) here.stands (sim_calm g has fields s.memory alive st s refl sim)
 
-      gives : (x : Value) (u : State) (out : Out) (f : Draft) → Told x u out f → GivesScalar bound d s st e x u out f
-      gives x u out f (given, a) =
-          let same : u ≡ st = (subst (λ (y : Outcome Value). IsCalmly (type_of e).elem.bits st y) given (calm_gives g alive n (around g has fields s.memory) fields.active st sim.small e is code.names among)).2 in
+      gives : (x : Value) (u : State) (out : Out) (f : Draft) → Arrived x u out f → GivesChanged bound d s e x u out f
+      gives x u out f a =
           let word : slice_index a.t.registers a.holds.register ≡ held (type_of e).elem a.holds.word = a.holds.lasts u a.t a.sim (keeps_all (calm g has fields s.memory) f a.t) (λ calm. refl) in (
             a.holds.word,
             (
               a.holds.value,
               (
-                same,
+                a.holds.small,
                 (
                   a.holds.register,
                   (
@@ -186,7 +172,7 @@ module _ (g : Setting) (has : HasRegisters g) (alive : Variable → Type 0) (n :
                           files = here.files;
                         };
                         registers = keeps_back g has fields s.memory d s a.t a.keeps;
-                        sim = subst (λ (t : State). Sim g alive t a.t) same (sim_back g has fields s.memory alive u a.t a.sim);
+                        sim = sim_back g has fields s.memory alive u a.t a.sim;
                         stays = λ used h first last p below own ends before low after high. ap (λ (memory : BitMemory). field_number memory (place g h) p) a.sim.memory.1;
                       };
                       small = subst (λ (w : ℕ). w < 2 ^ 32) (sym word) (held_below (type_of e).elem a.holds.word);
@@ -197,3 +183,27 @@ module _ (g : Setting) (has : HasRegisters g) (alive : Variable → Type 0) (n :
               ),
             ),
           )
+
+  -- where it changes nothing the state is as it was
+  abbrev pub GivesScalar : ℕ → Draft → CodeState → State → TExpr → Value → State → Out → Draft → Type 0
+  GivesScalar bound d s st e x u out f = (w : ℕ) × ((x ≡ Scalar w) × ((u ≡ st) × ((r : ℕ) × ((out ≡ O.Scalar r) × GivesWord g alive bound d s st (λ q. held (type_of e).elem w) (K.Reg r) f))))
+
+  pub scalar_follows : (quiet : Bool) (bits bound : ℕ) (e : TExpr) → IsCalm e → ScalarsAmong alive e → HasCode g.typed g.instance n e → (d : Draft) (s : CodeState) (st : State) → Starts g alive s (length d.code) d.regs → Sim g alive st s
+      → Follows g (GivesScalar bound d s st e) s (evaluated fields.scope e fields.active st) (operand_by g.typed (layout g) bits (λ after. value_of g.typed (layout g) bits e after) quiet e d)
+  unfolding IsCalmly
+  scalar_follows quiet bits bound e is among code d s st here sim =
+      follows_other g Told (GivesScalar bound d s st e) s o made (knowing g (GivesChanged bound d s e) s o made (changed_follows quiet bits bound e (calm_alone e is) among code d s st here sim)) gives
+    where
+      o : Outcome Value
+      o = evaluated fields.scope e fields.active st
+
+      made : Made Out
+      made = operand_by g.typed (layout g) bits (λ after. value_of g.typed (layout g) bits e after) quiet e d
+
+      Told : Value → State → Out → Draft → Type 0
+      Told x u out f = (o ≡ Source.Gives x u) × GivesChanged bound d s e x u out f
+
+      gives : (x : Value) (u : State) (out : Out) (f : Draft) → Told x u out f → GivesScalar bound d s st e x u out f
+      gives x u out f (given, (w, (is_w, (few, (r, (is_r, word)))))) =
+          let same : u ≡ st = (subst (λ (y : Outcome Value). IsCalmly (type_of e).elem.bits st y) given (calm_gives g alive n fields.scope fields.active st sim.small e is code.names among)).2 in
+          (w, (is_w, (same, (r, (is_r, subst (λ (t : State). GivesWord g alive bound d s t (λ q. held (type_of e).elem w) (K.Reg r) f) same word)))))

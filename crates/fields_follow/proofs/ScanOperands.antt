@@ -116,7 +116,7 @@ module _ (g : Setting) (has : HasRegisters g) (alive : Variable → Type 0) (n :
   abbrev IsRight : ℕ → Op → TExpr → Draft → CodeState → State → Right → Draft → Type 0
   IsRight bits op e d s st right f = Takes op right × GivesRight g has alive n ready places fields bits (length d.fields) d s set st (λ q. number e st q) right f
 
-  scan_right : (bits : ℕ) (op : Op) (e : TExpr) → IsScan set e → ScanValued bits e (λ d. value_of g.typed (layout g) bits e d) → (d : Draft) (s : CodeState) (st : State) → Starts g alive s (length d.code) d.regs → Sim g alive st s
+  pub scan_right : (bits : ℕ) (op : Op) (e : TExpr) → IsScan set e → ScanValued bits e (λ d. value_of g.typed (layout g) bits e d) → (d : Draft) (s : CodeState) (st : State) → Starts g alive s (length d.code) d.regs → Sim g alive st s
       → Follows g (Given g (λ q. number e st q) st (RightField g has alive n ready places fields bits d s set st (λ q. number e st q))) s (meant g fields e st) (right_by (operand bits true e) op e d)
   unfolding right_by word_taken then_make right_given from Extends
   scan_right bits op e is valued d s st here sim =

@@ -4,6 +4,7 @@
 -- fail where a divisor is 0 at an active position, or that of a scalar is, and nowhere else. They are assigned to such
 -- variables, as truth values of them are, and scans of them and of ones with operators on these, and folded into numbers
 -- and onto scalar variables, and they are the conditions of `where`. Folds and scans are of the active positions.
+-- Scalars that change variables, by assignments, steps and `getchar`, are assigned to such variables too.
 -- Blocks may have parallel variables without initialisers, which no expression names.
 -- Under `where` and `everywhere` stand the statements of scalar programs with these, also calls, `return` and jumps that
 -- lead out of them.
@@ -33,7 +34,7 @@ use Rattle.lower_expr.specs.Operands.{ignores_context}
 use Rattle.lower_expr.specs.Steps.{word_of}
 use Rattle.source_meaning.specs.Constants.{constant_of}
 use Rattle.source_meaning.specs.Values.{cast_type}
-use Rattle.code_follows.specs.Fragment.{Beside, IsOperand as OperatesOn, IsProgramBeside, IsScalarType, IsWord}
+use Rattle.code_follows.specs.Fragment.{Beside, IsOperand as OperatesOn, IsProgramBeside, IsScalarType, IsWord, IsIn, May}
 
 -- a type of 32 bits of a shape
 abbrev pub IsWide : ℕ → ValueType → Type 0
@@ -70,6 +71,15 @@ IsCalm (T.LogicalOr' ty p left q right) = IsWord ty × IsCalm left × IsCalm rig
 IsCalm (T.LogicalAnd' ty p left q right) = IsWord ty × IsCalm left × IsCalm right
 IsCalm (T.Choice' ty p test q first r second) = IsWord ty × IsCalm test × IsCalm first × IsCalm second × IsWord (type_of first) × IsWord (type_of second)
 IsCalm _ = ⊥
+
+-- scalar expressions that call nothing, with no parallel expression among them
+abbrev pub alone : May
+alone = record {
+  calls = λ used index given. ⊥;
+  returns = λ elem. ⊥;
+  names = λ x. Unit {0};
+  beside = record { effects = λ e. ⊥; folds = λ e. ⊥; conditions = λ set e. ⊥; widens = λ set. ⊥; variables = λ info. ⊥; locals = λ info. ⊥ };
+}
 
 -- a scalar: a constant, or one that is computed
 abbrev pub IsEverywhere : TExpr → Type 0
@@ -209,10 +219,24 @@ IsScanned set bits (T.Brackets' ty p inner) = (ty ≡ type_of inner) × IsScanne
 IsScanned set bits (T.Convert' ty p operand) = (ty.shape ≡ Some set) × ((ty.elem.bits == 1) ≡ false) × (bits ≤ ty.elem.bits) × IsScan set operand
 IsScanned set bits e = IsScan set e
 
--- such a value is assigned to a parallel variable of as many bits
+-- such a value is assigned to a parallel variable, or an operator on both
+abbrev pub IsScanFor : ℕ → ℕ → AssignOp → TExpr → Type 0
+IsScanFor set bits op value = elim (assign_op_of op) [ None ↦ IsScanned set bits value | Some o ↦ IsScan set value ]
+
 unfoldable pub IsScanAssigned : TExpr → Type 0
-IsScanAssigned (T.Assign' ty place op p target q value) = (ty ≡ type_of target) × (assign_op_of op ≡ None) × ((type_of value).elem.bits ≡ ty.elem.bits) × ((set : ℕ) × (IsTarget set target × IsScanned set ty.elem.bits value))
+IsScanAssigned (T.Assign' ty place op p target q value) = (ty ≡ type_of target) × HasOperation op ty.elem value × ((set : ℕ) × (IsTarget set target × IsScanFor set ty.elem.bits op value))
 IsScanAssigned _ = ⊥
+
+-- a promoted scalar that may change variables: with assignments and steps of scalar variables, and `getchar`
+unfoldable pub IsChanging : ℕ → TExpr → Type 0
+IsChanging set (T.Promote' ty p operand) = (ty.shape ≡ Some set) × (ty.elem ≡ (type_of operand).elem) × (constant_of operand ≡ None) × IsIn alone operand
+IsChanging set (T.Brackets' ty p inner) = (ty ≡ type_of inner) × IsChanging set inner
+IsChanging set _ = ⊥
+
+-- it is assigned to a parallel variable of as many bits
+unfoldable pub IsChangingAssigned : TExpr → Type 0
+IsChangingAssigned (T.Assign' ty place op p target q value) = (ty ≡ type_of target) × (assign_op_of op ≡ None) × ((type_of value).elem.bits ≡ ty.elem.bits) × ((set : ℕ) × (IsTarget set target × IsChanging set value))
+IsChangingAssigned _ = ⊥
 
 -- a value of 32 bits that is folded
 abbrev pub IsFolded : ℕ → TExpr → Type 0
@@ -246,7 +270,7 @@ IsFoldOnto _ = ⊥
 
 -- a parallel expression whose value is not used
 abbrev pub IsParallelEffect : TExpr → Type 0
-IsParallelEffect e = IsUpdate e ⊎ (IsFoldOnto e ⊎ IsScanAssigned e)
+IsParallelEffect e = IsUpdate e ⊎ (IsFoldOnto e ⊎ (IsScanAssigned e ⊎ IsChangingAssigned e))
 
 -- a parallel variable, which is no array
 abbrev pub IsParallelVariable : VarInfo → Type 0

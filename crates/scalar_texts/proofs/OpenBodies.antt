@@ -42,8 +42,10 @@ module _ (may : May) (names : Variable → Type 0) (blocks : Open) (fits : Fits 
   scalars_open (T.Brackets' ty p inner) n = scalars_open inner n
   scalars_open (T.Convert' ty p operand) n = scalars_open operand n
   scalars_open (T.Promote' ty p operand) n = scalars_open operand n
+  scalars_open (T.Casts' ty elems p operand) n = scalars_open operand n
   scalars_open (T.Unary' ty op p operand) n = scalars_open operand n
   scalars_open (T.Binary' ty place op p left q right) n = (scalars_open left n.0, scalars_open right n.1)
+  scalars_open (T.Choice' ty p test q first r second) n = (scalars_open test n.0, scalars_open first n.1, scalars_open second n.2)
   scalars_open (T.LogicalOr' ty p left q right) n = (scalars_open left n.0, scalars_open right n.1)
   scalars_open (T.LogicalAnd' ty p left q right) n = (scalars_open left n.0, scalars_open right n.1)
   scalars_open (T.Assign' ty place op p target q value) n = (scalars_open target n.0, scalars_open value n.1)
