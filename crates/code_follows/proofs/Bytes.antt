@@ -17,7 +17,7 @@ use Rattle.source_meaning.specs.State as Source
 use Rattle.source_meaning.specs.State.{Outcome, State}
 use Rattle.source_meaning.specs.Values.{Scalar, Value}
 use Rattle.code_follows.specs.Agreement.{AreBytes, mark_of}
-use Rattle.code_follows.proofs.Following.{Follows, HasRegisters, IsScalar, Sim, arrives_fresh, held, register_is, register_kept, register_set, variable_kept}
+use Rattle.code_follows.proofs.Following.{Follows, HasRegisters, IsScalar, Sim, arrives_fresh, held, register_is, register_kept, register_set, variable_kept, OpenAmong}
 use Rattle.code_follows.proofs.Growing.{extended}
 use Rattle.code_follows.proofs.Settings.{At, Begun, Reaches, Setting, Within, and_one, at_next, begins_here, ends_now, layout, one, placed_instr, regs_more}
 use Rattle.code_follows.proofs.Stores.{IsPut, below_free, sim_begun}
@@ -54,7 +54,7 @@ module _ (g : Setting) (has : HasRegisters g) (alive : Variable → Type 0) wher
     input = refl;
     returns = h.returns;
     few = h.few;
-    memory = g.held.still s.at st (record st { input = more }) s.memory (λ k e p. refl) refl h.memory;
+    memory = g.held.still (OpenAmong g alive) s.at st (record st { input = more }) s.memory ((λ k e p. refl), (λ k is_open e p. refl)) refl h.memory;
     bytes = more_bytes byte more (subst (λ (xs : List ℕ). AreBytes xs) is h.bytes);
   }
 
@@ -87,7 +87,7 @@ module _ (g : Setting) (has : HasRegisters g) (alive : Variable → Type 0) wher
             turns = sim.turns;
             output = sim.output;
             input = sim.input;
-            memory = g.held.finally s.at st s.memory sim.memory;
+            memory = g.held.finally (OpenAmong g alive) s.at st s.memory sim.memory;
           }
 
   -- the byte as a value

@@ -45,7 +45,7 @@ module _ (g : Setting) where
 
   -- the registers hold the scalar variables of the file and the constants; the rest is as in the source, and the memory
   -- has what is held at a place
-  pub record Shared (place : ℕ) (st : State) (s : CodeState) : Type 0 where
+  pub record Shared (live : ℕ → Type 0) (place : ℕ) (st : State) (s : CodeState) : Type 0 where
     pub registers : length s.registers ≡ g.image.slots
     pub files : (k : ℕ) (info : VarInfo) → slice_get g.typed.vars.items k ≡ Some info → IsScalarVariable info → slice_index s.registers k ≡ held info.elem (st.scalar (V.File k))
     pub small : (k : ℕ) (info : VarInfo) → slice_get g.typed.vars.items k ≡ Some info → IsScalarVariable info → st.scalar (V.File k) < 2 ^ info.elem.bits
@@ -54,7 +54,7 @@ module _ (g : Setting) where
     pub output : s.output ≡ st.output
     pub input : s.input ≡ input_of st
     pub bytes : AreBytes st.input
-    pub memory : g.held.holds place st s.memory
+    pub memory : g.held.holds live place st s.memory
 
   module _ {index : ℕ} (c : Callee index) where
     -- the register of its result
@@ -62,12 +62,12 @@ module _ (g : Setting) where
     given_in = c.base + length c.callee.params.items
 
     -- the code comes back to a place with what the source gives: the caller's own variables are as they were
-    pub record ComesBack (back : ℕ) (s : CodeState) (before : State) (v : Value) (st : State) : Type 0 where
+    pub record ComesBack (live : ℕ → Type 0) (back : ℕ) (s : CodeState) (before : State) (v : Value) (st : State) : Type 0 where
       pub t : CodeState
       pub go : Reaches g s t
       pub at : t.at ≡ back
       pub returns : t.returns ≡ g.returns
-      pub shared : Shared back st t
+      pub shared : Shared live back st t
       pub turned : st.turns ≤ before.turns
       pub params_kept : (k : ℕ) → st.scalar (V.Param k) ≡ before.scalar (V.Param k)
       pub locals_kept : (k : ℕ) → st.scalar (V.Local k) ≡ before.scalar (V.Local k)
@@ -75,9 +75,9 @@ module _ (g : Setting) where
       pub given : (info : VarInfo) → c.callee.result ≡ Some info → HasNumber info.elem v given_in t
 
     -- what the code does, by what the source does
-    unfoldable pub RunsBody : ℕ → CodeState → State → Outcome Value → Type 0
-    RunsBody back s before (Source.Gives v st) = ComesBack back s before v st
-    RunsBody back s before (Source.Ends early st) = Finishes g early st s
+    unfoldable pub RunsBody : (ℕ → Type 0) → ℕ → CodeState → State → Outcome Value → Type 0
+    RunsBody live back s before (Source.Gives v st) = ComesBack live back s before v st
+    RunsBody live back s before (Source.Ends early st) = Finishes g early st s
 
     -- the parameters hold the arguments
     pub record AreGiven (arguments : List Value) (s : CodeState) : Type 0 where
@@ -85,10 +85,10 @@ module _ (g : Setting) where
       pub few : (k : ℕ) (info : VarInfo) → slice_get c.callee.params.items k ≡ Some info → number (slice_index_or arguments k Nothing) < 2 ^ info.elem.bits
 
     -- the code of its body from its first instruction on, where so many turns are left at most
-    unfoldable pub Enters : ℕ → Active → Type 0
+    unfoldable pub Enters : ℕ → Active → Type 1
     Enters m active =
-        (arguments : List Value) (st : State) (s : CodeState) (back : ℕ) → s.at ≡ start_at g.image index → s.returns ≡ g.returns ++ back ∷ [] → Shared back st s → st.turns ≤ m → AreGiven arguments s → ((info : VarInfo) → c.callee.result ≡ Some info → slice_index s.registers given_in ≡ 0)
-        → RunsBody back s st (run_body g.typed (calls g.typed m) (Some c.callee) arguments active st)
+        (live : ℕ → Type 0) (arguments : List Value) (st : State) (s : CodeState) (back : ℕ) → s.at ≡ start_at g.image index → s.returns ≡ g.returns ++ back ∷ [] → Shared live back st s → st.turns ≤ m → AreGiven arguments s → ((info : VarInfo) → c.callee.result ≡ Some info → slice_index s.registers given_in ≡ 0)
+        → RunsBody live back s st (run_body g.typed (calls g.typed m) (Some c.callee) arguments active st)
 
   -- each function that may be called runs so wherever it is called, with one turn fewer left
   pub record MayCall (active : Active) (index : ℕ) : Type 1 where

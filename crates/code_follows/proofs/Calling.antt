@@ -19,14 +19,14 @@ use Rattle.source_meaning.specs.State as Source
 use Rattle.source_meaning.specs.State.{Outcome, State, spend_turn}
 use Rattle.source_meaning.specs.Values.{Active, Scope, Value}
 use Rattle.code_follows.proofs.Callees.{AreGiven, Callee, CallsFollow, ComesBack, Enters, MayCall, RunsBody, Shared}
-use Rattle.code_follows.proofs.Following.{Follows, HasNumber, HasRegisters, IsKept, IsScalar, Keeps, Sim, apart_set, at_once, finishes_later, held}
+use Rattle.code_follows.proofs.Following.{Follows, HasNumber, HasRegisters, IsKept, IsScalar, Keeps, Sim, apart_set, at_once, finishes_later, held, OpenAmong}
 use Rattle.code_follows.proofs.Growing.{Extended, extended}
 use Rattle.code_follows.proofs.Jumping.{behind_turn, sim_spent, spends, stops}
 use Rattle.code_follows.proofs.Settings.{At, Begun, CallStands, Reaches, Setting, Within, and_one, at_next, begins_here, begun_later, code_more, earlier, layout, one, onto, regs_more, stands_here}
 
 module _ (g : Setting) (has : HasRegisters g) (alive : Variable → Type 0) (files_live : (k : ℕ) → alive (V.File k)) (scope : Scope) (active : Active) (calls_follow : CallsFollow g scope active) where
   -- what the registers share with what is called, and what is held behind the place
-  shared_of : (place : ℕ) (st : State) (s : CodeState) → s.at ≤ place → Sim g alive st s → Shared g place st s
+  shared_of : (place : ℕ) (st : State) (s : CodeState) → s.at ≤ place → Sim g alive st s → Shared g (OpenAmong g alive) place st s
   unfolding register_of variable_named
   shared_of place st s behind h = record {
     registers = h.registers;
@@ -37,7 +37,7 @@ module _ (g : Setting) (has : HasRegisters g) (alive : Variable → Type 0) (fil
     output = h.output;
     input = h.input;
     bytes = h.bytes;
-    memory = g.held.onward s.at place st s.memory behind h.memory;
+    memory = g.held.onward (OpenAmong g alive) s.at place st s.memory behind h.memory;
   }
 
   module _ {index : ℕ} (m : MayCall g active index) where
@@ -93,7 +93,7 @@ module _ (g : Setting) (has : HasRegisters g) (alive : Variable → Type 0) (fil
       pub given : (info : VarInfo) → c.callee.result ≡ Some info → HasNumber info.elem v source t
 
     -- the variables of the caller are those of the file and its own, which nothing else changes
-    sim_back : (back : ℕ) (s : CodeState) (before u : State) (v : Value) (t : CodeState) → s.registers ≡ t.registers → Sim g alive before t → (b : ComesBack g c back s before v u) → Sim g alive u b.t
+    sim_back : (back : ℕ) (s : CodeState) (before u : State) (v : Value) (t : CodeState) → s.registers ≡ t.registers → Sim g alive before t → (b : ComesBack g c (OpenAmong g alive) back s before v u) → Sim g alive u b.t
     unfolding register_of variable_named result_register
     sim_back back s before u v t same sim b = record {
       registers = b.shared.registers;
@@ -104,7 +104,7 @@ module _ (g : Setting) (has : HasRegisters g) (alive : Variable → Type 0) (fil
       output = b.shared.output;
       input = b.shared.input;
       bytes = b.shared.bytes;
-      memory = subst (λ (n : ℕ). g.held.holds n u b.t.memory) (sym b.at) b.shared.memory;
+      memory = subst (λ (n : ℕ). g.held.holds (OpenAmong g alive) n u b.t.memory) (sym b.at) b.shared.memory;
       returns = b.returns;
       few = let fewer = b.turned in let few = sim.few in omega (arith, fewer, few);
     }
@@ -147,7 +147,7 @@ module _ (g : Setting) (has : HasRegisters g) (alive : Variable → Type 0) (fil
       body_follows k left most some within =
           subst (λ (o : Option Instance). Follows g (CameBack d s0) s (run_body g.typed (calls g.typed k) o arguments active begun_body) (Makes tt behind)) (sym c.is)
           (after (run_body g.typed (calls g.typed k) (Some c.callee) arguments active begun_body)
-          (m.enters k most stands arguments begun_body (enters_in left) (spent.at + 1) refl (ap (λ (list : List ℕ). list ++ (spent.at + 1) ∷ []) sim_turned.returns) shared fewer (record { words = given.words; few = given.few }) none))
+          (m.enters k most stands (OpenAmong g alive) arguments begun_body (enters_in left) (spent.at + 1) refl (ap (λ (list : List ℕ). list ++ (spent.at + 1) ∷ []) sim_turned.returns) shared fewer (record { words = given.words; few = given.few }) none))
         where
           begun_body : State
           begun_body = record st { turns = left }
@@ -158,7 +158,7 @@ module _ (g : Setting) (has : HasRegisters g) (alive : Variable → Type 0) (fil
           sim_turned : Sim g alive begun_body spent
           sim_turned = sim_spent g alive st s left some sim
 
-          shared : Shared g (spent.at + 1) begun_body (enters_in left)
+          shared : Shared g (OpenAmong g alive) (spent.at + 1) begun_body (enters_in left)
           shared = let h = shared_of (spent.at + 1) begun_body spent (omega arith) sim_turned in record { registers = h.registers; files = h.files; small = h.small; constants = h.constants; turns = h.turns; output = h.output; input = h.input; bytes = h.bytes; memory = h.memory }
 
           stands : CallStands g index
@@ -175,7 +175,7 @@ module _ (g : Setting) (has : HasRegisters g) (alive : Variable → Type 0) (fil
           goes : Reaches g s (enters_in left)
           goes = onto g s spent (enters_in left) (spends g alive a s st left (turn_within within) here sim some) (one g spent (enters_in left) (begins_here g (I.FrontCall index) turn spent within refl there) refl)
 
-          after : (o : Outcome Value) → RunsBody g c (spent.at + 1) (enters_in left) begun_body o → Follows g (CameBack d s0) s o (Makes tt behind)
+          after : (o : Outcome Value) → RunsBody g c (OpenAmong g alive) (spent.at + 1) (enters_in left) begun_body o → Follows g (CameBack d s0) s o (Makes tt behind)
           after (Source.Ends early u) ran = λ w. finishes_later g early u s (enters_in left) goes ran
           after (Source.Gives v u) ran = λ w. record {
             grown = (n + 2, extended d a behind n 2 grown (extended a turn behind 1 1 (and_one g I.FrontTurn a) (and_one g (I.FrontCall index) turn)));

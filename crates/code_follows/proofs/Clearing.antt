@@ -17,7 +17,7 @@ use Rattle.paris_code.specs.Code.{CodeState}
 use Rattle.source_meaning.specs.State.{State, is_among, zeroed}
 use Rattle.code_follows.specs.Fragment.{IsBlockLocal, IsScalarLocal}
 use Rattle.code_follows.proofs.Besides.{ClearsOne, LocalsClear}
-use Rattle.code_follows.proofs.Declaring.{first_is_named, first_or_later, is_now, none_among, nothing_zeroed, others_stand, ran_fewer, same_zeroed_at, sim_fewer, sim_same, zeroed_both, zeroed_files, zeroed_twice}
+use Rattle.code_follows.proofs.Declaring.{first_is_named, first_or_later, is_now, none_among, nothing_zeroed, others_stand, ran_fewer, same_zeroed_at, sim_fewer, sim_same, zeroed_both, zeroed_files, zeroed_twice, zeroed_others, zeroed_all, none_zeroed, other_one}
 use Rattle.code_follows.proofs.Executing.{ran_from}
 use Rattle.code_follows.proofs.Following.{IsScalar, Ran, Sim, keeps_all}
 use Rattle.code_follows.proofs.Growing.{Extended, as_it_was, extended}
@@ -62,16 +62,16 @@ module _ (g : Setting) where
       ]) (λ u after. next after)) plain
 
   -- the register of a scalar one is 0
-  keeps_one : (before : Variable → Type 0) (local : LocalVar) (locals : List LocalVar) (n : ℕ) (d : Draft) → IsScalarLocal local → before (V.Local n) → ClearsFirst before locals (n + 1) d → ClearsFirst before (local ∷ locals) n d
+  keeps_one : (before : Variable → Type 0) (local : LocalVar) (locals : List LocalVar) (n : ℕ) (d : Draft) → IsScalar g (V.Local n) local.info → before (V.Local n) → ClearsFirst before locals (n + 1) d → ClearsFirst before (local ∷ locals) n d
   unfolding all_cleared zeroed
   keeps_one before local locals n d scalar living rest = record {
     e = rest.e;
-    is = kept_so local scalar n d (λ after. all_cleared (layout g) true locals (n + 1) after) ∙ rest.is;
+    is = kept_so local scalar.1 n d (λ after. all_cleared (layout g) true locals (n + 1) after) ∙ rest.is;
     count = rest.count;
     grown = rest.grown;
     runs = λ s st zeros free at sim within.
         ran_fewer g (λ x. before x ⊎ (is_among (n + 1) (length locals) x ≡ true)) (λ x. before x ⊎ (is_among n (suc (length locals)) x ≡ true)) d s (zeroed (n + 1) (length locals) st) (zeroed n (suc (length locals)) st) rest.e
-        (λ x h. was_alive x (first_or_later before n (length locals) x h)) (zero_anyway n (suc (length locals)) (n + 1) (length locals) st zeros) (λ k e p. same_zeroed_at g n (suc (length locals)) (n + 1) (length locals) st k e p) refl refl refl refl (rest.runs s st zeros free at sim within);
+        (λ x h. was_alive x (first_or_later before n (length locals) x h)) (zero_anyway n (suc (length locals)) (n + 1) (length locals) st zeros) ((λ k e p. same_zeroed_at g n (suc (length locals)) (n + 1) (length locals) st k e p), (λ k is_open e p. zeroed_others n (length locals) st st (λ j f q. refl) k (other_one g n local.info scalar (λ x. before x ⊎ (is_among n (suc (length locals)) x ≡ true)) k is_open) e p)) refl refl refl refl (rest.runs s st zeros free at sim within);
   }
     where
       was_alive : (x : Variable) → (before x ⊎ (is_among (n + 1) (length locals) x ≡ true)) ⊎ (x ≡ V.Local n) → before x ⊎ (is_among (n + 1) (length locals) x ≡ true)
@@ -92,7 +92,7 @@ module _ (g : Setting) where
         let ran = rest.runs first.t (zeroed n 1 st) (zero_too n 1 st zeros) (begun_later g d one.e one.count one.grown free) first.at first.sim within in
         let all = ran_from g (λ x. now x ⊎ (is_among (n + 1) (length locals) x ≡ true)) d one.e one.count s first.t (zeroed (n + 1) (length locals) (zeroed n 1 st)) rest.e one.grown first.go first.keeps ran in
         ran_fewer g (λ x. now x ⊎ (is_among (n + 1) (length locals) x ≡ true)) (λ x. before x ⊎ (is_among n (suc (length locals)) x ≡ true)) d s (zeroed (n + 1) (length locals) (zeroed n 1 st)) (zeroed n (suc (length locals)) st) rest.e
-        (λ x h. is_now before n (length locals) x (first_or_later before n (length locals) x h)) (zeroed_both n (length locals) st) (λ k e p. zeroed_twice g n (suc (length locals)) (n + 1) (length locals) st k e p) refl refl refl refl all;
+        (λ x h. is_now before n (length locals) x (first_or_later before n (length locals) x h)) (zeroed_both n (length locals) st) ((λ k e p. zeroed_twice g n (suc (length locals)) (n + 1) (length locals) st k e p), (λ k is_open e p. zeroed_all n (length locals) st k e p)) refl refl refl refl all;
   }
 
   pub clears_first : LocalsClear g → (before : Variable → Type 0) → ((x : Variable) (info : VarInfo) → IsScalar g x info → before x) → (locals : List LocalVar) (n : ℕ) (d : Draft) → All (IsBlockLocal g.may.beside) locals → StandFrom (variables_of g.instance.body) n (map info_of locals) → ClearsFirst before locals n d
@@ -108,7 +108,7 @@ module _ (g : Setting) where
       go = stay g s;
       at = at;
       keeps = keeps_all g d s;
-      sim = sim_fewer g before (λ x. before x ⊎ (is_among n 0 x ≡ true)) (zeroed n 0 st) s (λ x info named h. nothing_more x h) (sim_same g before st (zeroed n 0 st) s (nothing_zeroed g n st) (λ k e p. zeroed_files g n 0 st k e p) refl refl refl refl sim);
+      sim = sim_fewer g before (λ x. before x ⊎ (is_among n 0 x ≡ true)) (zeroed n 0 st) s (λ x info named h. nothing_more x h) (sim_same g before st (zeroed n 0 st) s (nothing_zeroed g n st) ((λ k e p. zeroed_files g n 0 st k e p), (λ k is_open e p. none_zeroed g n st k e p)) refl refl refl refl sim);
     };
   }
     where
@@ -122,7 +122,7 @@ module _ (g : Setting) where
       named = first_is_named g n local.info (map info_of locals) stand
 
       either : IsBlockLocal g.may.beside local → ((more : Variable → Type 0) → ((x : Variable) (info : VarInfo) → IsScalar g x info → more x) → (e : Draft) → ClearsFirst more locals (n + 1) e) → ClearsFirst before (local ∷ locals) n d
-      either (inl scalar) rest = keeps_one before local locals n d scalar (plain (V.Local n) local.info (named, scalar)) (rest before plain d)
+      either (inl scalar) rest = keeps_one before local locals n d (named, scalar) (plain (V.Local n) local.info (named, scalar)) (rest before plain d)
       either (inr parallel) rest =
           let one = parallels true local n d parallel.0 named in
           clears_it before local locals n d one (rest (λ x. before x ⊎ (x ≡ V.Local n)) (λ x info h. inl (plain x info h)) one.e)

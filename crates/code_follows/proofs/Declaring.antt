@@ -24,9 +24,10 @@ use Rattle.code_follows.specs.Fragment.{IsBlockLocal, IsScalarLocal, OrAmong}
 use Rattle.code_follows.specs.Agreement.{AreBytes}
 use Rattle.code_follows.proofs.Besides.{ClearsOne, LocalsClear}
 use Rattle.code_follows.proofs.Executing.{ran_from}
-use Rattle.code_follows.proofs.Following.{HasRegisters, IsScalar, Keeps, Ran, Sim, held, input_of, keeps_all, variable_kept}
+use Rattle.code_follows.proofs.Following.{HasRegisters, IsScalar, Keeps, Ran, Sim, held, input_of, keeps_all, variable_kept, OpenAmong}
 use Rattle.code_follows.proofs.Growing.{Extended, as_it_was, extended}
-use Rattle.code_follows.proofs.Settings.{At, Begun, Setting, Within, and_one, at_next, begins_here, begun_later, earlier, layout, one, regs_more, stay}
+use Rattle.code_follows.proofs.Settings.{At, Begun, Setting, Within, and_one, at_next, begins_here, begun_later, earlier, layout, one, regs_more, stay, SameFields}
+use Rattle.code_follows.proofs.Standing.{some_same}
 use Rattle.code_follows.proofs.Stores.{below_free, same_is, sim_begun, same_itself}
 use Rattle.std.proofs.lemmas.Nat.{pow_pos}
 use Rattle.source_meaning.specs.Reductions.{int_type}
@@ -53,6 +54,26 @@ zeroed_more n len st (V.Local k) = ap (λ (b : Bool). if b then 0 else st.scalar
 -- the same of one that is cleared as a block of one variable
 alone : (n k : ℕ) → (nat_le n k && nat_lt k (n + 1)) ≡ (n == k)
 alone n k = grind (arith, nat_tests)
+
+-- one that is none of more, and one that is not the first
+no_more : (n k : ℕ) → (nat_le n k && nat_lt k (n + 0)) ≡ false
+no_more n k = grind (arith, nat_tests)
+
+pub zeroed_others : (n len : ℕ) (st st1 : State) → ((k e p : ℕ) → st1.parallel (V.Local k) e p ≡ st.parallel (V.Local k) e p) → (k : ℕ) → (k ≡ n → ⊥) → (e p : ℕ) → (zeroed n (suc len) st).parallel (V.Local k) e p ≡ (zeroed (n + 1) len st1).parallel (V.Local k) e p
+unfolding zeroed is_among
+zeroed_others n len st st1 same k differ e p =
+    ap (λ (b : Bool). if b then 0 else st.parallel (V.Local k) e p) (among_more n len k) ∙ either_zero (nat_le (n + 1) k && nat_lt k (n + 1 + len)) (n == k) (st.parallel (V.Local k) e p)
+    ∙ ap (λ (b : Bool). if nat_le (n + 1) k && nat_lt k (n + 1 + len) then 0 else if b then 0 else st.parallel (V.Local k) e p) other
+    ∙ ap (λ (w : ℕ). if nat_le (n + 1) k && nat_lt k (n + 1 + len) then 0 else w) (sym (same k e p))
+  where
+    other : (n == k) ≡ false
+    other = grind (arith, nat_tests, differ)
+
+pub zeroed_all : (n len : ℕ) (st : State) (k e p : ℕ) → (zeroed n (suc len) st).parallel (V.Local k) e p ≡ (zeroed (n + 1) len (zeroed n 1 st)).parallel (V.Local k) e p
+unfolding zeroed is_among
+zeroed_all n len st k e p =
+    ap (λ (b : Bool). if b then 0 else st.parallel (V.Local k) e p) (among_more n len k) ∙ either_zero (nat_le (n + 1) k && nat_lt k (n + 1 + len)) (n == k) (st.parallel (V.Local k) e p)
+    ∙ ap (λ (b : Bool). if nat_le (n + 1) k && nat_lt k (n + 1 + len) then 0 else if b then 0 else st.parallel (V.Local k) e p) (sym (alone n k))
 
 pub zeroed_both : (n len : ℕ) (st : State) (y : Variable) → (zeroed n (suc len) st).scalar y ≡ (zeroed (n + 1) len (zeroed n 1 st)).scalar y
 unfolding zeroed is_among
@@ -86,7 +107,7 @@ started_before (local ∷ locals) n m (V.Local k) less h = ((λ b e. let same = 
 
 module _ (g : Setting) where
   -- what is said of the source's state is said of one with the same scalar variables
-  pub sim_same : (alive : Variable → Type 0) (u v : State) (s : CodeState) → ((x : Variable) → v.scalar x ≡ u.scalar x) → ((k e p : ℕ) → v.parallel (V.File k) e p ≡ u.parallel (V.File k) e p) → v.winner ≡ u.winner → v.turns ≡ u.turns → v.output ≡ u.output → input_of v ≡ input_of u → Sim g alive u s → Sim g alive v s
+  pub sim_same : (alive : Variable → Type 0) (u v : State) (s : CodeState) → ((x : Variable) → v.scalar x ≡ u.scalar x) → SameFields (OpenAmong g alive) v u → v.winner ≡ u.winner → v.turns ≡ u.turns → v.output ≡ u.output → input_of v ≡ input_of u → Sim g alive u s → Sim g alive v s
   sim_same alive u v s same fields winner turns output input h = record {
     registers = h.registers;
     scalars = λ x info living scalar. h.scalars x info living scalar ∙ ap (λ (w : ℕ). held info.elem w) (sym (same x));
@@ -98,7 +119,7 @@ module _ (g : Setting) where
     returns = h.returns;
     few = subst (λ (k : ℕ). k ≤ g.most) (sym turns) h.few;
     bytes = subst (λ (i : Machine.Rest). AreBytes i.bytes) (sym input) h.bytes;
-    memory = g.held.still s.at u v s.memory fields winner h.memory;
+    memory = g.held.still (OpenAmong g alive) s.at u v s.memory fields winner h.memory;
   }
 
   -- what holds of more variables holds of fewer
@@ -114,12 +135,12 @@ module _ (g : Setting) where
     bytes = h.bytes;
     returns = h.returns;
     few = h.few;
-    memory = h.memory;
+    memory = g.held.fewer (OpenAmong g more) (OpenAmong g fewer) s.at st s.memory (λ k is_open. (among (V.Local k) is_open.1.0 is_open.1.1.1.0 is_open.0, is_open.1)) h.memory;
   }
 
-  pub ran_fewer : (more fewer : Variable → Type 0) (d : Draft) (s : CodeState) (u v : State) (e : Draft) → ((x : Variable) → fewer x → more x) → ((x : Variable) → v.scalar x ≡ u.scalar x) → ((k e p : ℕ) → v.parallel (V.File k) e p ≡ u.parallel (V.File k) e p) → v.winner ≡ u.winner → v.turns ≡ u.turns → v.output ≡ u.output → input_of v ≡ input_of u
+  pub ran_fewer : (more fewer : Variable → Type 0) (d : Draft) (s : CodeState) (u v : State) (e : Draft) → ((x : Variable) → fewer x → more x) → ((x : Variable) → v.scalar x ≡ u.scalar x) → SameFields (OpenAmong g fewer) v u → v.winner ≡ u.winner → v.turns ≡ u.turns → v.output ≡ u.output → input_of v ≡ input_of u
       → Ran g more d s u e → Ran g fewer d s v e
-  ran_fewer more fewer d s u v e among same fields winner turns output input r = record { grown = r.grown; t = r.t; go = r.go; at = r.at; keeps = r.keeps; sim = sim_fewer more fewer v r.t (λ x info named. among x) (sim_same more u v r.t same fields winner turns output input r.sim) }
+  ran_fewer more fewer d s u v e among same fields winner turns output input r = record { grown = r.grown; t = r.t; go = r.go; at = r.at; keeps = r.keeps; sim = sim_same fewer u v r.t same fields winner turns output input (sim_fewer more fewer u r.t (λ x info named. among x) r.sim) }
 
   -- the first of variables that stand from a number on, and the others
   pub first_is_named : (n : ℕ) (info : VarInfo) (rest : List VarInfo) → StandFrom (variables_of g.instance.body) n (info ∷ rest) → variable_named g.typed g.instance (V.Local n) ≡ Some info
@@ -151,10 +172,17 @@ module _ (g : Setting) where
   unfolding zeroed is_among
   nothing_zeroed n st (V.File k) = refl
   nothing_zeroed n st (V.Param k) = refl
-  nothing_zeroed n st (V.Local k) = ap (λ (b : Bool). if b then 0 else st.scalar (V.Local k)) (none n k)
-    where
-      none : (n k : ℕ) → (nat_le n k && nat_lt k (n + 0)) ≡ false
-      none n k = grind (arith, nat_tests)
+  nothing_zeroed n st (V.Local k) = ap (λ (b : Bool). if b then 0 else st.scalar (V.Local k)) (no_more n k)
+
+  pub none_zeroed : (n : ℕ) (st : State) (k e p : ℕ) → (zeroed n 0 st).parallel (V.Local k) e p ≡ st.parallel (V.Local k) e p
+  unfolding zeroed is_among
+  none_zeroed n st k e p = ap (λ (b : Bool). if b then 0 else st.parallel (V.Local k) e p) (no_more n k)
+
+  -- a parallel variable of a block is no scalar one
+  pub other_one : (n : ℕ) (info : VarInfo) → IsScalar g (V.Local n) info → (alive : Variable → Type 0) (k : ℕ) → OpenAmong g alive k → k ≡ n → ⊥
+  other_one n info scalar alive k is_open same =
+      let is : info ≡ is_open.1.0 = some_same info is_open.1.0 (sym scalar.0 ∙ ap (λ (j : ℕ). variable_named g.typed g.instance (V.Local j)) (sym same) ∙ is_open.1.1.1.0) in
+      let wrong : None ≡ Some is_open.1.1.0 = sym scalar.1 ∙ ap (λ (i : VarInfo). i.shape) is ∙ is_open.1.1.1.1 in cc
 
 -- what is alive where a block has cleared its variables
 abbrev pub Alive : (Variable → Type 0) → List LocalVar → ℕ → Variable → Type 0
@@ -249,11 +277,11 @@ module _ (g : Setting) (has : HasRegisters g) where
       by false = refl
 
   -- one that begins as a constant waits
-  waits : (before : Variable → Type 0) (local : LocalVar) (locals : List LocalVar) (n : ℕ) (d : Draft) → IsScalarLocal local → begins_constant local ≡ true → Clears (λ x. before x × (x ≡ V.Local n → ⊥)) locals (n + 1) d → Clears before (local ∷ locals) n d
+  waits : (before : Variable → Type 0) (local : LocalVar) (locals : List LocalVar) (n : ℕ) (d : Draft) → IsScalar g (V.Local n) local.info → begins_constant local ≡ true → Clears (λ x. before x × (x ≡ V.Local n → ⊥)) locals (n + 1) d → Clears before (local ∷ locals) n d
   unfolding all_cleared zeroed with_scalar Started
-  waits before local locals n d isin begins rest = record {
+  waits before local locals n d scalar begins rest = record {
     e = rest.e;
-    is = cleared_so local isin n d true begins (λ after. all_cleared (layout g) false locals (n + 1) after) ∙ rest.is;
+    is = cleared_so local scalar.1 n d true begins (λ after. all_cleared (layout g) false locals (n + 1) after) ∙ rest.is;
     count = rest.count;
     grown = rest.grown;
     runs = λ s st free at sim within.
@@ -262,7 +290,7 @@ module _ (g : Setting) (has : HasRegisters g) where
         let sim1 : Sim g others st1 s = waiting before st s sim in
         let ran = rest.runs s st1 free at sim1 within in
         ran_fewer g (λ x. Alive others locals (n + 1) x) (λ x. Alive before (local ∷ locals) n x) d s (zeroed (n + 1) (length locals) st1) (zeroed n (suc (length locals)) st) rest.e
-        (λ x h. (waiting_still x (h.1.0 begins) (first_or_later before n (length locals) x h.0), h.1.1)) (zeroed_more n (length locals) st) (λ k e p. same_zeroed g n (suc (length locals)) (n + 1) (length locals) n 0 st k e p) refl refl refl refl ran;
+        (λ x h. (waiting_still x (h.1.0 begins) (first_or_later before n (length locals) x h.0), h.1.1)) (zeroed_more n (length locals) st) ((λ k e p. same_zeroed g n (suc (length locals)) (n + 1) (length locals) n 0 st k e p), (λ k is_open e p. zeroed_others n (length locals) st st1 (λ j f q. refl) k (other_one g n local.info scalar (λ x. Alive before (local ∷ locals) n x) k is_open) e p)) refl refl refl refl ran;
   }
     where
       waiting_still : (x : Variable) → (x ≡ V.Local n → ⊥) → (before x ⊎ (is_among (n + 1) (length locals) x ≡ true)) ⊎ (x ≡ V.Local n) → (before x × (x ≡ V.Local n → ⊥)) ⊎ (is_among (n + 1) (length locals) x ≡ true)
@@ -282,7 +310,7 @@ module _ (g : Setting) (has : HasRegisters g) where
         bytes = sim.bytes;
         returns = sim.returns;
         few = sim.few;
-        memory = g.held.still s.at st (with_scalar (V.Local n) 0 st) s.memory (λ k e p. refl) refl sim.memory;
+        memory = g.held.still (OpenAmong g (λ x. before x × (x ≡ V.Local n → ⊥))) s.at st (with_scalar (V.Local n) 0 st) s.memory ((λ k e p. refl), (λ k is_open e p. refl)) refl (g.held.fewer (OpenAmong g before) (OpenAmong g (λ x. before x × (x ≡ V.Local n → ⊥))) s.at st s.memory (λ k is_open. (is_open.0.0, is_open.1)) sim.memory);
       }
         where
           not_it : (x : Variable) → (x ≡ V.Local n → ⊥) → (with_scalar (V.Local n) 0 st).scalar x ≡ st.scalar x
@@ -318,7 +346,7 @@ module _ (g : Setting) (has : HasRegisters g) where
             let ran = rest.runs s1 st1 (begun_later g d between 1 (and_one g (I.FrontConst r 0) d) free) (at_next g (I.FrontConst r 0) d s (s.at + 1) at refl) sim1 within in
             let all = ran_from g (λ x. Alive now locals (n + 1) x) d between 1 s s1 (zeroed (n + 1) (length locals) st1) rest.e (and_one g (I.FrontConst r 0) d) (one g s s1 (begins_here g (I.FrontConst r 0) d s first_within refl at) refl) kept ran in
             ran_fewer g (λ x. Alive now locals (n + 1) x) (λ x. Alive before (local ∷ locals) n x) d s (zeroed (n + 1) (length locals) st1) (zeroed n (suc (length locals)) st) rest.e
-            (λ x h. (is_now before n (length locals) x (first_or_later before n (length locals) x h.0), h.1.1)) (zeroed_more n (length locals) st) (λ k e p. same_zeroed g n (suc (length locals)) (n + 1) (length locals) n 0 st k e p) refl refl refl refl all;
+            (λ x h. (is_now before n (length locals) x (first_or_later before n (length locals) x h.0), h.1.1)) (zeroed_more n (length locals) st) ((λ k e p. same_zeroed g n (suc (length locals)) (n + 1) (length locals) n 0 st k e p), (λ k is_open e p. zeroed_others n (length locals) st st1 (λ j f q. refl) k (other_one g n local.info scalar (λ x. Alive before (local ∷ locals) n x) k is_open) e p)) refl refl refl refl all;
       }
     where
       was_alive : (y : Variable) → before y ⊎ (y ≡ V.Local n) → is_same (V.Local n) y ≡ false → before y
@@ -340,7 +368,7 @@ module _ (g : Setting) (has : HasRegisters g) where
         let ran = rest.runs first.t st1 (begun_later g d one.e one.count one.grown free) first.at first.sim within in
         let all = ran_from g (λ x. Alive now locals (n + 1) x) d one.e one.count s first.t (zeroed (n + 1) (length locals) st1) rest.e one.grown first.go first.keeps ran in
         ran_fewer g (λ x. Alive now locals (n + 1) x) (λ x. Alive before (local ∷ locals) n x) d s (zeroed (n + 1) (length locals) st1) (zeroed n (suc (length locals)) st) rest.e
-        (λ x h. (is_now before n (length locals) x (first_or_later before n (length locals) x h.0), h.1.1)) (zeroed_both n (length locals) st) (λ k e p. zeroed_twice g n (suc (length locals)) (n + 1) (length locals) st k e p) refl refl refl refl all;
+        (λ x h. (is_now before n (length locals) x (first_or_later before n (length locals) x h.0), h.1.1)) (zeroed_both n (length locals) st) ((λ k e p. zeroed_twice g n (suc (length locals)) (n + 1) (length locals) st k e p), (λ k is_open e p. zeroed_all n (length locals) st k e p)) refl refl refl refl all;
   }
 
   pub clears : LocalsClear g → (before : Variable → Type 0) (locals : List LocalVar) (n : ℕ) (d : Draft) → All (IsBlockLocal g.may.beside) locals → StandFrom (variables_of g.instance.body) n (map info_of locals) → Clears before locals n d
@@ -356,7 +384,7 @@ module _ (g : Setting) (has : HasRegisters g) where
       go = stay g s;
       at = at;
       keeps = keeps_all g d s;
-      sim = sim_fewer g before (λ x. Alive before [] n x) (zeroed n 0 st) s (λ x info named h. nothing_more x h.0) (sim_same g before st (zeroed n 0 st) s (nothing_zeroed g n st) (λ k e p. zeroed_files g n 0 st k e p) refl refl refl refl sim);
+      sim = sim_fewer g before (λ x. Alive before [] n x) (zeroed n 0 st) s (λ x info named h. nothing_more x h.0) (sim_same g before st (zeroed n 0 st) s (nothing_zeroed g n st) ((λ k e p. zeroed_files g n 0 st k e p), (λ k is_open e p. none_zeroed g n st k e p)) refl refl refl refl sim);
     };
   }
     where
@@ -367,7 +395,7 @@ module _ (g : Setting) (has : HasRegisters g) where
       either (all_first (IsBlockLocal g.may.beside) local locals isin) (λ more e. clears parallels more locals (n + 1) e (all_rest (IsBlockLocal g.may.beside) local locals isin) (others_stand g n local.info (map info_of locals) stand))
     where
       scalar_cleared : IsScalarLocal local → (b : Bool) → begins_constant local ≡ b → Clears (λ x. before x × (x ≡ V.Local n → ⊥)) locals (n + 1) d → Clears (λ x. before x ⊎ (x ≡ V.Local n)) locals (n + 1) (with_instr (I.FrontConst (register_of (layout g) (V.Local n)) 0) d) → Clears before (local ∷ locals) n d
-      scalar_cleared scalar true is waiting done = waits before local locals n d scalar is waiting
+      scalar_cleared scalar true is waiting done = waits before local locals n d (first_is_named g n local.info (map info_of locals) stand, scalar) is waiting
       scalar_cleared scalar false is waiting done = clears_one before local locals n d scalar is stand done
 
       either : IsBlockLocal g.may.beside local → ((more : Variable → Type 0) (e : Draft) → Clears more locals (n + 1) e) → Clears before (local ∷ locals) n d

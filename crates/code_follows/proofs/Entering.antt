@@ -42,7 +42,7 @@ use Rattle.code_follows.proofs.Callees.{AreGiven, Callee, CallsFollow, ComesBack
 use Rattle.code_follows.proofs.Closed.{NoJump, begins_closed, closed_row, go_closed}
 use Rattle.code_follows.proofs.Endings.{NeverOnward, body_never, never_second}
 use Rattle.code_follows.proofs.Executing.{Exits, IsGiven, Left, Returns}
-use Rattle.code_follows.proofs.Following.{Finishes, Follows, HasNumber, HasRegisters, IsScalar, Sim, held}
+use Rattle.code_follows.proofs.Following.{Finishes, Follows, HasNumber, HasRegisters, IsScalar, Sim, held, OpenAmong}
 use Rattle.code_follows.proofs.Functions.{RunsFunction, body_made, declares, ends_by, exits, falls, frame, framed, given_back, has, numbered, ready, runs_function, scope, stands_here}
 use Rattle.std.specs.Option.{is_some}
 use Rattle.std.proofs.lemmas.Nat.{pow_pos}
@@ -122,9 +122,9 @@ module _ (image : Image) (t : Typed) {beside : Beside} (p : IsProgramBeside besi
   result_given Continued u info found h closed zero_there = absurd closed
 
 -- What a function that is called in a state holds, by what its caller holds behind the call.
-pub record Opens (outer inner : Held) (back : ℕ) (st : State) : Type 0 where
-  pub enters : (at : ℕ) (u : State) (m : BitMemory) → ((k e p : ℕ) → u.parallel (V.File k) e p ≡ st.parallel (V.File k) e p) → u.winner ≡ st.winner → outer.holds back st m → inner.holds at u m
-  pub leaves : (at : ℕ) (u v : State) (m : BitMemory) → ((k e p : ℕ) → v.parallel (V.File k) e p ≡ u.parallel (V.File k) e p) → v.winner ≡ u.winner → inner.holds at u m → outer.holds back v m
+pub record Opens (outer inner : Held) (live : ℕ → Type 0) (back : ℕ) (st : State) : Type 0 where
+  pub enters : (at : ℕ) (u : State) (m : BitMemory) → ((k e p : ℕ) → u.parallel (V.File k) e p ≡ st.parallel (V.File k) e p) → u.winner ≡ st.winner → outer.holds live back st m → inner.holds (λ k. ⊥) at u m
+  pub leaves : (at : ℕ) (u v : State) (m : BitMemory) → ((k e p : ℕ) → v.parallel (V.File k) e p ≡ u.parallel (V.File k) e p) → ((k : ℕ) → live k → (e p : ℕ) → v.parallel (V.Local k) e p ≡ st.parallel (V.Local k) e p) → v.winner ≡ u.winner → inner.holds (λ k. ⊥) at u m → outer.holds live back v m
   pub ends : (u : State) (m : BitMemory) → inner.ends u m → outer.ends u m
 
 module _ (t : Typed) (image : Image) {beside : Beside} (p : IsProgramBeside beside t) (codable : IsCodable t) (compiled : IsCompiled t image) where
@@ -138,7 +138,7 @@ module _ (t : Typed) (image : Image) {beside : Beside} (p : IsProgramBeside besi
     pub follows : (g : Setting) (scope : Scope) (a : Active) → Known g scope a → (has : HasRegisters g) → BesideFollows Known g has scope a
     pub called : (held : Held) (from entries upto : ℕ) (a : Active) (me : ℕ) (i : Instance) (is_me : slice_get t.instances.items me ≡ Some i) (opens : List ℕ) (most : ℕ) → Known (running held from entries upto me i is_me opens most) (scope_of t i (calls t most)) a
         → (number : ℕ) (b : Instance) (is : slice_get t.instances.items number ≡ Some b) (back : List ℕ) (m : ℕ) → CallStands (running held from entries upto me i is_me opens most) number
-        → (place : ℕ) (st : State) → (inside : Held) × (Opens held inside place st × Known (activation t image p codable compiled inside number b is back m) (scope_of t b (calls t m)) a)
+        → (live : ℕ → Type 0) (place : ℕ) (st : State) → (inside : Held) × (Opens held inside live place st × Known (activation t image p codable compiled inside number b is back m) (scope_of t b (calls t m)) a)
     pub lasts : (g : Setting) (scope : Scope) (a : Active) → Known g scope a → (target : ℕ) → g.from ≤ target → LastsTo g g.held target
 
 module _ (t : Typed) (image : Image) {beside : Beside} (p : IsProgramBeside beside t) (codable : IsCodable t) (compiled : IsCompiled t image) (holding : Held) (from entries upto : ℕ) (me : ℕ) (a : Instance) (is_me : slice_get t.instances.items me ≡ Some a) (back_to : List ℕ) (number : ℕ) (b : Instance) (is : slice_get t.instances.items number ≡ Some b)
@@ -150,7 +150,7 @@ module _ (t : Typed) (image : Image) {beside : Beside} (p : IsProgramBeside besi
   abbrev called_one : Callee caller number
   called_one = callee_known t image p codable compiled me a is_me back_to (suc m) number b is called holding from entries upto
 
-  module _ (here : CallStands caller number) (active : Active) (arguments : List Value) (st : State) (s : CodeState) (back : ℕ) (inside : Held) (opens : Opens holding inside back st) (starts : s.at ≡ start_at image number) (stacked : s.returns ≡ back_to ++ back ∷ []) (shared : Shared caller back st s) (few : st.turns ≤ m) (given : AreGiven caller called_one arguments s)
+  module _ (here : CallStands caller number) (active : Active) (arguments : List Value) (st : State) (s : CodeState) (back : ℕ) (inside : Held) (live : ℕ → Type 0) (opens : Opens holding inside live back st) (starts : s.at ≡ start_at image number) (stacked : s.returns ≡ back_to ++ back ∷ []) (shared : Shared caller live back st s) (few : st.turns ≤ m) (given : AreGiven caller called_one arguments s)
       (zero_there : (info : VarInfo) → b.result ≡ Some info → slice_index s.registers ((layout_of t (words t image p codable compiled) number).base + length b.params.items) ≡ 0) where
     abbrev open_calls : List ℕ
     open_calls = back_to ++ back ∷ []
@@ -194,7 +194,7 @@ module _ (t : Typed) (image : Image) {beside : Beside} (p : IsProgramBeside besi
       returns = stacked;
       few = few;
       bytes = shared.bytes;
-      memory = opens.enters s.at opening_state s.memory (λ k e p. refl) refl shared.memory;
+      memory = inside.fewer (λ k. ⊥) (OpenAmong inner OfFileOrParam) s.at opening_state s.memory (λ k is_open. is_open.0) (opens.enters s.at opening_state s.memory (λ k e p. refl) refl shared.memory);
     }
       where
         value : (x : Variable) (info : VarInfo) → OfFileOrParam x → IsScalar inner x info → slice_index s.registers (register_of (layout_of t (words t image p codable compiled) number) x) ≡ held info.elem (opening_state.scalar x)
@@ -213,7 +213,7 @@ module _ (t : Typed) (image : Image) {beside : Beside} (p : IsProgramBeside besi
     ends_early : (early : Source.Early) (u : State) → Finishes inner early u s → Finishes caller early u s
     ends_early early u f = record { t = f.t; ends = record { steps = f.ends.steps; is = f.ends.is }; turns = f.turns; output = f.output; input = f.input; memory = opens.ends u f.t.memory f.memory }
 
-    goes_back : (leaving : Leaving) (u : State) → u.turns ≤ st.turns → Returns inner OfFileOrParam inner.held s u (given_back leaving) → NoJump (Source.Gives leaving u) → ComesBack caller called_one back s st (result_of b.result leaving) (left st u)
+    goes_back : (leaving : Leaving) (u : State) → u.turns ≤ st.turns → Returns inner OfFileOrParam inner.held s u (given_back leaving) → NoJump (Source.Gives leaving u) → ComesBack caller called_one live back s st (result_of b.result leaving) (left st u)
     unfolding left by_owner variable_named register_of callee_known OfFileOrParam
     goes_back leaving u less r closed = record {
       t = there;
@@ -229,7 +229,7 @@ module _ (t : Typed) (image : Image) {beside : Beside} (p : IsProgramBeside besi
         output = r.sim.output;
         input = r.sim.input;
         bytes = r.sim.bytes;
-        memory = opens.leaves r.t.at u (left st u) r.t.memory (λ k e p. refl) refl r.sim.memory;
+        memory = opens.leaves r.t.at u (left st u) r.t.memory (λ k e p. refl) (λ k is_open e p. refl) refl (inside.fewer (OpenAmong inner OfFileOrParam) (λ k. ⊥) r.t.at u r.t.memory (λ k never. absurd never) r.sim.memory);
       };
       turned = less;
       params_kept = λ k. refl;
@@ -264,12 +264,12 @@ module _ (t : Typed) (image : Image) {beside : Beside} (p : IsProgramBeside besi
     -- the body of the function follows, where its own calls do
     module _ {Known : Setting → Scope → Active → Type 1} (besides : AllBeside t image p codable compiled Known) (known : Known inner (scope t image p codable compiled inside number b is open_calls m) active)
         (calls_follow : (held : Held) (from entries upto : ℕ) (a : Active) → Known (under_held inner held from entries upto) (scope t image p codable compiled inside number b is open_calls m) a → CallsFollow (under_held inner held from entries upto) (scope t image p codable compiled inside number b is open_calls m) a) where
-      came : (o : Outcome Leaving) → (state_after o).turns ≤ st.turns → NoJump o → RunsFunction t image p codable compiled inside number b is open_calls m s o → RunsBody caller called_one back s st (then_do o (λ leaving after. Source.Gives (result_of b.result leaving) (left st after)))
+      came : (o : Outcome Leaving) → (state_after o).turns ≤ st.turns → NoJump o → RunsFunction t image p codable compiled inside number b is open_calls m s o → RunsBody caller called_one live back s st (then_do o (λ leaving after. Source.Gives (result_of b.result leaving) (left st after)))
       unfolding RunsFunction RunsBody then_do state_after left
       came (Source.Gives leaving u) less closed runs = goes_back leaving u less runs closed
       came (Source.Ends early u) less closed runs = ends_early early u runs
 
-      pub body_follows : (body : TStmt) → b.body ≡ body → IsBody inner.may body → RunsBody caller called_one back s st (run_body t (calls t m) (Some b) arguments active st)
+      pub body_follows : (body : TStmt) → b.body ≡ body → IsBody inner.may body → RunsBody caller called_one live back s st (run_body t (calls t m) (Some b) arguments active st)
       unfolding IsBody IsInStatement OfFileOrParam statement_of run_body scope_of executed entered
       body_follows (S.Block' locals q row) body_is isin =
           let f = frame t image p codable compiled inside number b is open_calls m in
@@ -290,7 +290,7 @@ module _ (t : Typed) (image : Image) {beside : Beside} (p : IsProgramBeside besi
           let never : ends_in_return b.body ≡ true → NeverOnward (executed where_it_is body 0 active opening_state) =
           λ ends. never_second (initialised where_it_is active 0 locals.items _) _ (λ u. body_never where_it_is active locals q row (sym (ap (λ (x : TStmt). ends_in_return x) body_is) ∙ ends) (0 + length locals.items) u) in
           let closed : NoJump (executed where_it_is body 0 active opening_state) = go_closed _ _ (begins_closed where_it_is active 0 locals.items _) (λ u. closed_row where_it_is row isin.1 (0 + length locals.items) active u) in
-          subst (λ (x : TStmt). RunsBody caller called_one back s st (then_do (executed where_it_is x 0 active opening_state) (λ leaving after. Source.Gives (result_of b.result leaving) (left st after)))) (sym body_is)
+          subst (λ (x : TStmt). RunsBody caller called_one live back s st (then_do (executed where_it_is x 0 active opening_state) (λ leaving after. Source.Gives (result_of b.result leaving) (left st after)))) (sym body_is)
           (came (executed where_it_is body 0 active opening_state) (never_rises active body 0 opening_state) closed
           (runs_function t image p codable compiled inside number b is open_calls m begin made.e made.n s (executed where_it_is body 0 active opening_state) (ends_by t image p codable compiled inside number b is open_calls m (executed where_it_is body 0 active opening_state) made.e made.unit never) closed
           (subst (λ (x : Made ℕ). Follows inner (Left inner OfFileOrParam out begin s) s (executed where_it_is body 0 active opening_state) x) made.is_made runs)))
@@ -335,13 +335,13 @@ module _ (t : Typed) (image : Image) {beside : Beside} (p : IsProgramBeside besi
 
   pub enters_so : (m me : ℕ) (a : Instance) (is_me : slice_get t.instances.items me ≡ Some a) (back_to : List ℕ) (number : ℕ) (b : Instance) (is : slice_get t.instances.items number ≡ Some b) → 0 < number → (called : Contains (calls_within a.body) number) → EntersThere me a is_me back_to (suc m) number b is called m
   unfolding callee_known Enters
-  enters_so zero me a is_me back_to number b is some called held from entries upto active known here arguments st s back starts stacked shared few given zero_there =
-      let inside = besides.called held from entries upto active me a is_me back_to (suc zero) known number b is (back_to ++ back ∷ []) zero here back st in
-      body_follows t image p codable compiled held from entries upto me a is_me back_to number b is some called zero here active arguments st s back inside.0 inside.1.0 starts stacked shared few given zero_there besides inside.1.1
+  enters_so zero me a is_me back_to number b is some called held from entries upto active known here live arguments st s back starts stacked shared few given zero_there =
+      let inside = besides.called held from entries upto active me a is_me back_to (suc zero) known number b is (back_to ++ back ∷ []) zero here live back st in
+      body_follows t image p codable compiled held from entries upto me a is_me back_to number b is some called zero here active arguments st s back inside.0 live inside.1.0 starts stacked shared few given zero_there besides inside.1.1
       (calls_so zero number b is (back_to ++ back ∷ []) (λ index c is_c some_c called_c m e. absurd (omega (arith, e)))) b.body refl (p.each number b is).body
-  enters_so (suc m) me a is_me back_to number b is some called held from entries upto active known here arguments st s back starts stacked shared few given zero_there =
-      let inside = besides.called held from entries upto active me a is_me back_to (suc (suc m)) known number b is (back_to ++ back ∷ []) (suc m) here back st in
-      body_follows t image p codable compiled held from entries upto me a is_me back_to number b is some called (suc m) here active arguments st s back inside.0 inside.1.0 starts stacked shared few given zero_there besides inside.1.1
+  enters_so (suc m) me a is_me back_to number b is some called held from entries upto active known here live arguments st s back starts stacked shared few given zero_there =
+      let inside = besides.called held from entries upto active me a is_me back_to (suc (suc m)) known number b is (back_to ++ back ∷ []) (suc m) here live back st in
+      body_follows t image p codable compiled held from entries upto me a is_me back_to number b is some called (suc m) here active arguments st s back inside.0 live inside.1.0 starts stacked shared few given zero_there besides inside.1.1
       (calls_so (suc m) number b is (back_to ++ back ∷ []) (λ index c is_c some_c called_c k e.
       subst (λ (n : ℕ). EntersThere number b is (back_to ++ back ∷ []) (suc m) index c is_c called_c n) (fewer m k e) (enters_so m number b is (back_to ++ back ∷ []) index c is_c some_c called_c)))
       b.body refl (p.each number b is).body

@@ -13,7 +13,7 @@ use Rattle.paris_code.specs.Spans.{JumpsTo, StandsAt}
 use Rattle.source_meaning.specs.State as Source
 use Rattle.source_meaning.specs.State.{State}
 use Rattle.source_meaning.specs.Values.{nonzero}
-use Rattle.code_follows.proofs.Following.{Finishes, Sim}
+use Rattle.code_follows.proofs.Following.{Finishes, Sim, OpenAmong}
 use Rattle.code_follows.proofs.Settings.{At, LastsTo, Reaches, Setting, Within, begins_here, ends_now, one, start}
 
 -- none of those that are saved is loaded
@@ -27,16 +27,16 @@ module _ (g : Setting) (alive : Variable → Type 0) where
   moved_to place s = record s { at = place }
 
   -- it agrees there too, if what is held of the memory is held there
-  sim_there : (st : State) (s : CodeState) (place : ℕ) → g.held.holds place st s.memory → Sim g alive st s → Sim g alive st (moved_to place s)
+  sim_there : (st : State) (s : CodeState) (place : ℕ) → g.held.holds (OpenAmong g alive) place st s.memory → Sim g alive st s → Sim g alive st (moved_to place s)
   sim_there st s place holds h = record { registers = h.registers; scalars = h.scalars; small = h.small; constants = h.constants; turns = h.turns; output = h.output; input = h.input; bytes = h.bytes; returns = h.returns; few = h.few; memory = holds }
 
   -- as it is behind the place
   pub sim_moved : (st : State) (s : CodeState) (place : ℕ) → s.at ≤ place → Sim g alive st s → Sim g alive st (moved_to place s)
-  sim_moved st s place behind h = sim_there st s place (g.held.onward s.at place st s.memory behind h.memory) h
+  sim_moved st s place behind h = sim_there st s place (g.held.onward (OpenAmong g alive) s.at place st s.memory behind h.memory) h
 
   -- and where it lasts to where a jump leads
   pub sim_landed : (st : State) (s : CodeState) (at target : ℕ) (jump : Instr) → At g s at → StandsAt g.unit at jump → JumpsTo jump target → LastsTo g g.held target → Sim g alive st s → Sim g alive st (moved_to (target + start g) s)
-  sim_landed st s at target jump here stands leads lasts h = sim_there st s (target + start g) (lasts at jump stands leads st s.memory (subst (λ (n : ℕ). g.held.holds n st s.memory) here h.memory)) h
+  sim_landed st s at target jump here stands leads lasts h = sim_there st s (target + start g) (lasts at jump stands leads (OpenAmong g alive) st s.memory (subst (λ (n : ℕ). g.held.holds (OpenAmong g alive) n st s.memory) here h.memory)) h
 
   -- a jump
   pub jumps : (target : ℕ) (e : Draft) (s : CodeState) → Within g (with_instr (I.FrontJump target) e) → At g s (length e.code) → Reaches g s (moved_to (target + start g) s)
@@ -71,7 +71,7 @@ module _ (g : Setting) (alive : Variable → Type 0) where
         turns = sim.turns;
         output = sim.output;
         input = sim.input;
-        memory = g.held.finally s.at st s.memory sim.memory;
+        memory = g.held.finally (OpenAmong g alive) s.at st s.memory sim.memory;
       }
 
   -- the state behind a turn
@@ -87,4 +87,4 @@ module _ (g : Setting) (alive : Variable → Type 0) where
       ∙ ap (λ (n : ℕ). Goes (behind_turn s n)) one_less) refl
 
   pub sim_spent : (st : State) (s : CodeState) (left : ℕ) → st.turns ≡ suc left → Sim g alive st s → Sim g alive (record st { turns = left }) (behind_turn s left)
-  sim_spent st s left some h = record { registers = h.registers; scalars = h.scalars; small = h.small; constants = h.constants; turns = refl; output = h.output; input = h.input; bytes = h.bytes; returns = h.returns; few = let m = h.few in omega (arith, m, some); memory = g.held.still (s.at + 1) st (record st { turns = left }) s.memory (λ k e p. refl) refl (g.held.onward s.at (s.at + 1) st s.memory (omega arith) h.memory) }
+  sim_spent st s left some h = record { registers = h.registers; scalars = h.scalars; small = h.small; constants = h.constants; turns = refl; output = h.output; input = h.input; bytes = h.bytes; returns = h.returns; few = let m = h.few in omega (arith, m, some); memory = g.held.still (OpenAmong g alive) (s.at + 1) st (record st { turns = left }) s.memory ((λ k e p. refl), (λ k is_open e p. refl)) refl (g.held.onward (OpenAmong g alive) s.at (s.at + 1) st s.memory (omega arith) h.memory) }

@@ -36,7 +36,7 @@ use Rattle.code_follows.proofs.CallValues.{arguments_code}
 use Rattle.code_follows.proofs.Expressions.{arguments_do}
 use Rattle.code_follows.proofs.Arguments.{AreHeld, Given, arguments_follow}
 use Rattle.code_follows.proofs.Callees.{CallsFollow}
-use Rattle.code_follows.proofs.Following.{Extends, Follows, HasRegisters, Keeps, Ran, Sim, delayed, extends_made, finishes_later, keeps_all, keeps_on, then_follows}
+use Rattle.code_follows.proofs.Following.{Extends, Follows, HasRegisters, Keeps, Ran, Sim, delayed, extends_made, finishes_later, keeps_all, keeps_on, then_follows, OpenAmong}
 use Rattle.code_follows.proofs.Growing.{Extended, as_it_was, extended}
 use Rattle.code_follows.proofs.Settings.{At, Begun, Reaches, Setting, and_one, at_next, begins_here, layout, one, onto, placed_instr, stay}
 use Rattle.code_follows.proofs.Values.{extends_in_register}
@@ -72,7 +72,7 @@ module _ (g : Setting) (has : HasRegisters g) (alive : Variable → Type 0) (n :
   -- the source and the code print the same
   sim_printed : (bytes : List ℕ) (st : State) (s : CodeState) → Sim g alive st s → Sim g alive (with_output bytes st) (with_printed bytes s)
   unfolding with_output
-  sim_printed bytes st s h = record { registers = h.registers; scalars = h.scalars; small = h.small; constants = h.constants; turns = h.turns; output = ap (λ (o : List ℕ). o ++ bytes) h.output; input = h.input; bytes = h.bytes; returns = h.returns; few = h.few; memory = g.held.still (s.at + 1) st (with_output bytes st) s.memory (λ k e p. refl) refl (g.held.onward s.at (s.at + 1) st s.memory (omega arith) h.memory) }
+  sim_printed bytes st s h = record { registers = h.registers; scalars = h.scalars; small = h.small; constants = h.constants; turns = h.turns; output = ap (λ (o : List ℕ). o ++ bytes) h.output; input = h.input; bytes = h.bytes; returns = h.returns; few = h.few; memory = g.held.still (OpenAmong g alive) (s.at + 1) st (with_output bytes st) s.memory ((λ k e p. refl), (λ k is_open e p. refl)) refl (g.held.onward (OpenAmong g alive) s.at (s.at + 1) st s.memory (omega arith) h.memory) }
 
   printed_on : (one rest : List ℕ) (st : State) → with_output (one ++ rest) st ≡ with_output rest (with_output one st)
   unfolding with_output

@@ -44,7 +44,7 @@ use Rattle.code_follows.proofs.Declaring.{among_before, sim_fewer}
 use Rattle.code_follows.proofs.Endings.{NeverOnward, body_never, never_second}
 use Rattle.code_follows.proofs.Entering.{AllBeside, EntersThere, before_all, calls_so, enters_so}
 use Rattle.code_follows.proofs.Executing.{Left}
-use Rattle.code_follows.proofs.Following.{held, Extends, Follows, Sim}
+use Rattle.code_follows.proofs.Following.{held, Extends, Follows, Sim, OpenAmong, IsScalar}
 use Rattle.code_follows.proofs.Functions.{BodyMade, EndsSo, RunsFunction, among, body_made, declares, ends_by, exits, falls, frame, framed, g, has, numbered, own, ready, runs_function, scope, stands_here}
 use Rattle.code_follows.proofs.Growing.{Extended}
 use Rattle.code_follows.proofs.Openings.{constants_run}
@@ -56,6 +56,7 @@ use Rattle.code_follows.proofs.Regions.{IsOwn, base_behind, base_inside, below, 
 use Rattle.code_follows.proofs.Settings.{At, Begun, EndsIn, Held, Reaches, Setting, Within, begun_later, earlier, ends_later, ends_now, onto, start}
 use Rattle.code_follows.proofs.Standing.{start_in}
 use Rattle.code_follows.proofs.Clearing.{clears_first}
+use Rattle.code_follows.proofs.Standing.{some_same}
 use Rattle.code_follows.proofs.Starting.{clears_declare, Now, settled_so}
 use Rattle.code_follows.proofs.Units.{constants_grow, empty_unit, main_is, starts_homes, starts_regs, with_constants, with_starts}
 use Rattle.paris_code.specs.declared.program.Unit.{Unit as CodeUnit}
@@ -65,21 +66,26 @@ pub record Comes (holding : Held) (image : Image) (s : CodeState) (run : Run) : 
   pub to : ComesTo image s run
   pub memory : holding.ends run.final to.last.memory
 
+-- no parallel variable of a block is open
+abbrev pub none_open : ℕ → Type 0
+none_open k = ⊥
+
 -- what holds of every memory
 abbrev pub nothing_held : Held
-nothing_held = record { holds = λ at st m. Unit {0}; ends = λ st m. Unit {0}; finally = λ at st m h. tt; still = λ at st u m fields winner h. tt; onward = λ at to st m behind h. tt }
+nothing_held = record { holds = λ live at st m. Unit {0}; ends = λ st m. Unit {0}; finally = λ live at st m h. tt; still = λ live at st u m fields winner h. tt; onward = λ live at to st m behind h. tt; fewer = λ more less at st m among h. tt }
 
 pub starts_at_zero : (us : List CodeUnit) → start_in us 0 0 ≡ 0
 unfolding start_in
 starts_at_zero [] = refl
 starts_at_zero (u ∷ us) = refl
 
-module _ (t : Typed) (image : Image) {beside : Beside} (p : IsProgramBeside beside t) (codable : IsCodable t) (compiled : IsCompiled t image) (holding : Held) (memory : BitMemory) (input : List ℕ) (rest : Source.Rest) (turns : ℕ) (winner : Winner) (are : AreBytes input) (begins : holding.holds 0 (start_state t input rest turns winner) memory) {Known : Setting → Scope → Active → Type 1} (besides : AllBeside t image p codable compiled Known) (known : Known (activation t image p codable compiled holding 0 p.main p.is_main [] turns) (scope_of t p.main (calls t turns)) (λ s p. true)) where
+module _ (t : Typed) (image : Image) {beside : Beside} (p : IsProgramBeside beside t) (codable : IsCodable t) (compiled : IsCompiled t image) (holding : Held) (memory : BitMemory) (input : List ℕ) (rest : Source.Rest) (turns : ℕ) (winner : Winner) (are : AreBytes input) (begins : holding.holds none_open 0 (start_state t input rest turns winner) memory) {Known : Setting → Scope → Active → Type 1} (besides : AllBeside t image p codable compiled Known) (known : Known (activation t image p codable compiled holding 0 p.main p.is_main [] turns) (scope_of t p.main (calls t turns)) (λ s p. true)) where
   abbrev main_setting : Setting
   main_setting = g t image p codable compiled holding 0 p.main p.is_main [] turns
 
+  -- all variables but the parallel ones of its blocks
   abbrev alive : Variable → Type 0
-  alive x = Unit {0}
+  alive x = (k : ℕ) → x ≡ V.Local k → (info : VarInfo) (set : ℕ) → variable_named t p.main (V.Local k) ≡ Some info → info.shape ≡ Some set → ⊥
 
   abbrev opened : CodeState
   opened = opening image memory turns (record { bytes = input; mark = mark_of rest })
@@ -189,7 +195,7 @@ module _ (t : Typed) (image : Image) {beside : Beside} (p : IsProgramBeside besi
         returns = same_returns;
         few = omega arith;
         bytes = are;
-        memory = holding.still u.at first_state in_main u.memory (λ k e p. refl) refl (subst (λ (m : BitMemory). holding.holds u.at first_state m) (sym same_memory) (holding.onward 0 u.at first_state memory (omega arith) begins));
+        memory = holding.fewer none_open (OpenAmong main_setting alive) u.at in_main u.memory (λ k is_open. is_open.0 k refl is_open.1.0 is_open.1.1.0 is_open.1.1.1.0 is_open.1.1.1.1) (holding.still none_open u.at first_state in_main u.memory ((λ k e p. refl), (λ k is_open e p. absurd is_open)) refl (subst (λ (m : BitMemory). holding.holds none_open u.at first_state m) (sym same_memory) (holding.onward none_open 0 u.at first_state memory (omega arith) begins)));
       }
 
   -- ---- the end
@@ -198,11 +204,11 @@ module _ (t : Typed) (image : Image) {beside : Beside} (p : IsProgramBeside besi
   run_from o = run_of (then_do o (λ leaving after. Source.Gives (result_of p.main.result leaving) (left first_state after)))
 
   comes : (s : CodeState) (o : Outcome Leaving) → Reaches main_setting opened s → RunsFunction t image p codable compiled holding 0 p.main p.is_main [] turns s o → Comes holding image opened (run_from o)
-  unfolding RunsFunction then_do run_of left by_owner
+  unfolding RunsFunction then_do run_of left by_owner OfFileOrParam
   comes s (Source.Gives leaving u) go r =
       let ends : EndsIn main_setting s Machine.Done r.t = ends_later main_setting s r.t r.t Machine.Done r.go (ends_now main_setting r.t r.t Machine.Done r.leaves) in
       let x = ends_later main_setting opened s r.t Machine.Done go ends in
-      record { to = record { steps = x.steps; last = r.t; ends = x.is; turns = r.sim.turns; output = r.sim.output }; memory = holding.finally r.t.at (left first_state u) r.t.memory (holding.still r.t.at u (left first_state u) r.t.memory (λ k e p. refl) refl r.sim.memory) }
+      record { to = record { steps = x.steps; last = r.t; ends = x.is; turns = r.sim.turns; output = r.sim.output }; memory = holding.finally (OpenAmong main_setting OfFileOrParam) r.t.at (left first_state u) r.t.memory (holding.still (OpenAmong main_setting OfFileOrParam) r.t.at u (left first_state u) r.t.memory ((λ k e p. refl), (λ k is_open e p. absurd is_open.0)) refl r.sim.memory) }
   comes s (Source.Ends early u) go h =
       let x = ends_later main_setting opened s h.t (end_of early) go h.ends in
       record { to = record { steps = x.steps; last = h.t; ends = x.is; turns = h.turns; output = h.output }; memory = h.memory }
@@ -219,6 +225,19 @@ module _ (t : Typed) (image : Image) {beside : Beside} (p : IsProgramBeside besi
   module _ {k : Count} (locals : List LocalVar) (row : Row_of-TStmt k) where
     abbrev begun_body : State
     begun_body = zeroed 0 (length locals) in_main
+
+  -- a scalar variable is alive, and one of the file or a parameter
+  plain_alive : (x : Variable) (info : VarInfo) → IsScalar main_setting x info → alive x
+  plain_alive x info scalar k same of set named parallel =
+      let is : info ≡ of = some_same info of (sym scalar.0 ∙ ap (λ (y : Variable). variable_named t p.main y) same ∙ named) in
+      let wrong : None ≡ Some set = sym scalar.1 ∙ ap (λ (i : VarInfo). i.shape) is ∙ parallel in cc
+
+  was_alive : (many : ℕ) (x : Variable) → OrAmong OfFileOrParam 0 many x → alive x ⊎ (is_among 0 many x ≡ true)
+  unfolding OfFileOrParam
+  was_alive many (V.File k) h = inl (λ j same of set named parallel. cc)
+  was_alive many (V.Param k) h = inl (λ j same of set named parallel. cc)
+  was_alive many (V.Local k) (inl h) = absurd h
+  was_alive many (V.Local k) (inr h) = inr h
 
   -- the variables of its blocks are 0
   locals_zero : (k : ℕ) → in_main.scalar (V.Local k) ≡ 0
@@ -248,7 +267,7 @@ module _ (t : Typed) (image : Image) {beside : Beside} (p : IsProgramBeside besi
       let initial = block_initials main_setting has_it wide one numbers is_ready here active calls_in_main (never_rises active) [] 0 locals q row c in
       let settled = settled_so main_setting has_it wide one is_ready here active calls_in_main OfFileOrParam locals.items 0 (λ x living. inl living) (λ x own. inr own) before_all h.0.1 in
       let stand = first_part (map info_of locals.items) (row_variables row) (block_stands main_setting has_it wide one numbers is_ready here active calls_in_main (never_rises active) [] 0 locals q row c) in
-      let first = clears_first main_setting (besides.follows main_setting here active known has_it).locals alive (λ x info scalar. tt) locals.items 0 begun_there h.0.0 stand in
+      let first = clears_first main_setting (besides.follows main_setting here active known has_it).locals alive (λ x info scalar. plain_alive x info scalar) locals.items 0 begun_there h.0.0 stand in
       let declared = clears_declare main_setting true locals.items 0 begun_there first.e first.is stand numbers (declares t image p codable compiled holding 0 p.main p.is_main [] turns begun_there homes) in
       let code : Made ℕ = begun_code main_setting has_it wide one numbers is_ready here active calls_in_main (never_rises active) [] locals.items row out 0 first.e in
       let code_is : body_of t (own t image p codable compiled holding 0 p.main p.is_main [] turns) f p.main.body begun_there ≡ code =
@@ -267,7 +286,7 @@ module _ (t : Typed) (image : Image) {beside : Beside} (p : IsProgramBeside besi
       let free : Begun main_setting begun_there = record { regs = omega (arith, regs); code = omega arith; fields = omega arith } in
       let ran = first.runs opens.there in_main (λ k. locals_zero k) free opens.at opens.sim cleared_in in
       let now : Variable → Type 0 = λ x. Now main_setting has_it wide one is_ready here active calls_in_main locals.items 0 x in
-      let sim : Sim main_setting now (begun_body locals.items row) ran.t = sim_fewer main_setting (λ x. alive x ⊎ (is_among 0 (length locals.items) x ≡ true)) now (begun_body locals.items row) ran.t (λ x info named h. inl tt) ran.sim in
+      let sim : Sim main_setting now (begun_body locals.items row) ran.t = sim_fewer main_setting (λ x. alive x ⊎ (is_among 0 (length locals.items) x ≡ true)) now (begun_body locals.items row) ran.t (λ x info named h. was_alive (length locals.items) x h.0) ran.sim in
       let closed : NoJump whole = go_closed _ _ (begins_closed here active 0 locals.items _) (λ u. closed_row here row h.1 (0 + length locals.items) active u) in
       subst (λ (b : TStmt). Comes holding image opened (run_from (executed here b 0 active in_main))) (sym is)
       (comes ran.t whole (onto main_setting opened opens.there ran.t opens.go ran.go)
@@ -280,7 +299,7 @@ module _ (t : Typed) (image : Image) {beside : Beside} (p : IsProgramBeside besi
 
 -- the code comes to the end of the source's meaning
 pub program_follows : (t : Typed) (image : Image) {beside : Beside} (p : IsProgramBeside beside t) (codable : IsCodable t) (compiled : IsCompiled t image) (holding : Held)
-    {Known : Setting → Scope → Active → Type 1} (memory : BitMemory) (input : List ℕ) (rest : Source.Rest) (turns : ℕ) (winner : Winner) → AreBytes input → holding.holds 0 (start_state t input rest turns winner) memory → AllBeside t image p codable compiled Known → Known (activation t image p codable compiled holding 0 p.main p.is_main [] turns) (scope_of t p.main (calls t turns)) (λ s p. true)
+    {Known : Setting → Scope → Active → Type 1} (memory : BitMemory) (input : List ℕ) (rest : Source.Rest) (turns : ℕ) (winner : Winner) → AreBytes input → holding.holds none_open 0 (start_state t input rest turns winner) memory → AllBeside t image p codable compiled Known → Known (activation t image p codable compiled holding 0 p.main p.is_main [] turns) (scope_of t p.main (calls t turns)) (λ s p. true)
     → Comes holding image (opening image memory turns (record { bytes = input; mark = mark_of rest })) (meaning t input rest turns winner)
 unfolding meaning run_body
 program_follows t image p codable compiled holding memory input rest turns winner are begins besides known =
@@ -289,7 +308,7 @@ program_follows t image p codable compiled holding memory input rest turns winne
 
 -- a unit of a program that has nothing beside scalars, where nothing is held
 record NothingBeside (g : Setting) : Type 1 where
-  pub always : (at : ℕ) (st : State) (m : BitMemory) → g.held.holds at st m
+  pub always : (live : ℕ → Type 0) (at : ℕ) (st : State) (m : BitMemory) → g.held.holds live at st m
   pub ends : (st : State) (m : BitMemory) → g.held.ends st m
   pub effects : (e : TExpr) → g.may.beside.effects e → ⊥
   pub folds : (e : TExpr) → g.may.beside.folds e → ⊥
@@ -306,10 +325,10 @@ means_source t image p codable compiled memory input rest turns winner are =
         wheres = λ alive files n ready shape test q first second h. absurd (known.conditions shape test h);
         widenings = λ alive files n ready shape q body h. absurd (known.widens shape h);
       };
-      called = λ held from entries upto a me i is_me opens most known number b is back m here place st.
-          (nothing_held, (record { enters = λ at u n files winner h. tt; leaves = λ at u v n files winner h. known.always place v n; ends = λ u n h. known.ends u n }, nothing number b is back m));
-      lasts = λ g scope a known target low place jump stands leads st n h. known.always (target + start g) st n;
+      called = λ held from entries upto a me i is_me opens most known number b is back m here live place st.
+          (nothing_held, (record { enters = λ at u n files winner h. tt; leaves = λ at u v n files own winner h. known.always live place v n; ends = λ u n h. known.ends u n }, nothing number b is back m));
+      lasts = λ g scope a known target low place jump stands leads live st n h. known.always live (target + start g) st n;
     }) (nothing 0 p.main p.is_main [] turns)).to
   where
     nothing : (number : ℕ) (i : Instance) (is : slice_get t.instances.items number ≡ Some i) (opens : List ℕ) (most : ℕ) → NothingBeside (activation t image p codable compiled nothing_held number i is opens most)
-    nothing number i is opens most = record { always = λ at st m. tt; ends = λ st m. tt; effects = λ e h. h; folds = λ e h. h; conditions = λ shape e h. h; widens = λ shape h. h; locals = λ info h. h }
+    nothing number i is opens most = record { always = λ live at st m. tt; ends = λ st m. tt; effects = λ e h. h; folds = λ e h. h; conditions = λ shape e h. h; widens = λ shape h. h; locals = λ info h. h }

@@ -27,15 +27,21 @@ use Rattle.code_follows.specs.Fragment.{May}
 use Rattle.code_follows.proofs.Growing.{Extended, and_instr, as_it_was}
 use Rattle.code_follows.proofs.Standing.{StandsOver, stands, stands_over, start_in}
 
--- What a memory holds of the source's state where the code stands at a place of the image, and what of it still where the
--- run ends. It speaks of the file's parallel variables and of the winner alone. What is held at a place is held behind it
+-- the parallel variables of the file have the same numbers, and so have those of blocks that are open
+abbrev pub SameFields : (ℕ → Type 0) → State → State → Type 0
+SameFields live u st = ((k e p : ℕ) → u.parallel (V.File k) e p ≡ st.parallel (V.File k) e p) × ((k : ℕ) → live k → (e p : ℕ) → u.parallel (V.Local k) e p ≡ st.parallel (V.Local k) e p)
+
+-- What a memory holds of the source's state where the code stands at a place of the image and these parallel variables of
+-- blocks are open, and what of it still where the run ends. It speaks of them, of the file's parallel variables and of the
+-- winner alone. What is held at a place is held behind it
 -- too, as an entry that is in use behind it is in use there; a jump may lead back.
 pub record Held : Type 1 where
-  pub holds : ℕ → State → BitMemory → Type 0
+  pub holds : (ℕ → Type 0) → ℕ → State → BitMemory → Type 0
   pub ends : State → BitMemory → Type 0
-  pub finally : (at : ℕ) (st : State) (m : BitMemory) → holds at st m → ends st m
-  pub still : (at : ℕ) (st u : State) (m : BitMemory) → ((k e p : ℕ) → u.parallel (V.File k) e p ≡ st.parallel (V.File k) e p) → u.winner ≡ st.winner → holds at st m → holds at u m
-  pub onward : (at to : ℕ) (st : State) (m : BitMemory) → at ≤ to → holds at st m → holds to st m
+  pub finally : (live : ℕ → Type 0) (at : ℕ) (st : State) (m : BitMemory) → holds live at st m → ends st m
+  pub still : (live : ℕ → Type 0) (at : ℕ) (st u : State) (m : BitMemory) → SameFields live u st → u.winner ≡ st.winner → holds live at st m → holds live at u m
+  pub onward : (live : ℕ → Type 0) (at to : ℕ) (st : State) (m : BitMemory) → at ≤ to → holds live at st m → holds live to st m
+  pub fewer : (more less : ℕ → Type 0) (at : ℕ) (st : State) (m : BitMemory) → ((k : ℕ) → less k → more k) → holds more at st m → holds less at st m
 
 -- A field stands below the own entries of a unit, above the file's fields and below the flags: so do those of the units
 -- whose calls are open.
@@ -92,8 +98,8 @@ module _ (g : Setting) where
   start = start_in g.after.units.items g.number 0
 
   -- wherever this is held at a jump to a place of the unit, it is held at that place
-  abbrev pub LastsTo : Held → ℕ → Type 0
-  LastsTo held target = (place : ℕ) (jump : Instr) → StandsAt g.unit place jump → JumpsTo jump target → (st : State) (m : BitMemory) → held.holds (start + place) st m → held.holds (target + start) st m
+  abbrev pub LastsTo : Held → ℕ → Type 1
+  LastsTo held target = (place : ℕ) (jump : Instr) → StandsAt g.unit place jump → JumpsTo jump target → (live : ℕ → Type 0) (st : State) (m : BitMemory) → held.holds live (start + place) st m → held.holds live (target + start) st m
 
   -- the draft is an early state of the unit
   pub record Within (e : Draft) : Type 0 where

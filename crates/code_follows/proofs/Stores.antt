@@ -1,5 +1,5 @@
 -- Values that go to a scalar variable: the last instruction writes its register.
-use Rattle.std.proofs.Common.{◌≡◌, ◌∙◌, ℕ, ◌+◌, ◌<◌, ◌≤◌, ◌^◌, Bool, true, false, length, slice_index, slice_set, Some, refl, sym, ap, subst, if◌then◌else◌, arith}
+use Rattle.std.proofs.Common.{◌≡◌, ◌∙◌, ℕ, ◌+◌, ◌<◌, ◌≤◌, ◌^◌, Bool, true, false, length, slice_index, slice_set, Some, None, refl, sym, ap, subst, if◌then◌else◌, arith}
 use Rattle.std.proofs.lemmas.Bool.{eqb-true, eq-eqb}
 use Rattle.std.proofs.lemmas.List.{get_or-set_other, get_or-set_same}
 use Rattle.std.proofs.Math.ListN.{length-set}
@@ -15,7 +15,7 @@ use Rattle.lower_base.specs.Layouts.{register_of}
 use Rattle.paris_code.specs.Code.{CodeState, with_register}
 use Rattle.source_meaning.specs.State.{State, is_same, with_scalar}
 use Rattle.source_meaning.specs.Values.{Scalar, Value}
-use Rattle.code_follows.proofs.Following.{HasRegisters, IsScalar, Keeps, Sim, held, variable_kept, keeps_on}
+use Rattle.code_follows.proofs.Following.{HasRegisters, IsScalar, Keeps, Sim, held, variable_kept, keeps_on, OpenAmong}
 use Rattle.code_follows.proofs.Growing.{Extended, as_it_was, extended}
 use Rattle.code_follows.proofs.Settings.{At, Begun, Reaches, Setting, layout, ahead, onto}
 use Rattle.code_follows.proofs.Values.{Dest, written_at}
@@ -71,11 +71,17 @@ module _ (g : Setting) (has : HasRegisters g) (x : Variable) (info : VarInfo) (s
     bytes = h.bytes;
     returns = h.returns;
     few = h.few;
-    memory = g.held.still place st (with_scalar x w st) s.memory (λ k e p. refl) refl (g.held.onward s.at place st s.memory behind h.memory);
+    memory = g.held.still (OpenAmong g later) place st (with_scalar x w st) s.memory ((λ k e p. refl), (λ k is_open e p. refl)) refl (g.held.fewer (OpenAmong g alive) (OpenAmong g later) place st s.memory (λ k is_open. (was_open k is_open.0 is_open.1.0 is_open.1.1.0 is_open.1.1.1.0 is_open.1.1.1.1 (is_same x (V.Local k)) refl, is_open.1)) (g.held.onward (OpenAmong g alive) s.at place st s.memory behind h.memory));
   }
     where
       infos : (y : Variable) (other : VarInfo) → variable_named g.typed g.instance y ≡ Some other → x ≡ y → info ≡ other
       infos y other known e = some_same info other (sym scalar.0 ∙ ap (λ (z : Variable). variable_named g.typed g.instance z) e ∙ known)
+
+      -- a parallel one is another
+      was_open : (k : ℕ) → later (V.Local k) → (other : VarInfo) (set : ℕ) → variable_named g.typed g.instance (V.Local k) ≡ Some other → other.shape ≡ Some set → (b : Bool) → is_same x (V.Local k) ≡ b → alive (V.Local k)
+      was_open k living other set known parallel false is = before (V.Local k) living is
+      was_open k living other set known parallel true is =
+          let none : None ≡ Some set = sym scalar.1 ∙ ap (λ (i : VarInfo). i.shape) (infos (V.Local k) other known (same_is x (V.Local k) is)) ∙ parallel in cc
 
       by_name : (y : Variable) (other : VarInfo) → later y → IsScalar g y other → (b : Bool) → is_same x y ≡ b → slice_index (slice_set s.registers own (held info.elem w)) (register_of (layout g) y) ≡ held other.elem (if is_same x y then w else st.scalar y)
       by_name y other living known true is =

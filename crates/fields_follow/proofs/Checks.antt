@@ -10,7 +10,7 @@ use Rattle.paris_code.specs.Code.{CodeState, Goes, step}
 use Rattle.source_meaning.specs.State as Source
 use Rattle.source_meaning.specs.State.{State}
 use Rattle.code_follows.proofs.Besides.{sim_saying}
-use Rattle.code_follows.proofs.Following.{Finishes, finishes_later}
+use Rattle.code_follows.proofs.Following.{Finishes, finishes_later, OpenAmong}
 use Rattle.code_follows.proofs.Growing.{extended}
 use Rattle.code_follows.proofs.Settings.{Setting, and_one, at_next, code_more, ends_now, one, onto}
 use Rattle.fields_follow.proofs.Passing.{Passes}
@@ -24,7 +24,7 @@ module _ (g : Setting) (alive : Variable → Type 0) (i : Instr) (bound : ℕ) (
     go = onto g s p.t (Machine.onward p.t) p.go (one g p.t (Machine.onward p.t) goes refl);
     at = starts_next g alive i e p.t (Machine.onward p.t) (at_next g i e p.t (p.t.at + 1) p.at.stands refl) p.at;
     registers = p.registers;
-    sim = sim_saying g alive st p.t (p.t.at + 1) p.t.memory (g.held.onward p.t.at (p.t.at + 1) st p.t.memory (omega arith) p.sim.memory) p.sim;
+    sim = sim_saying g alive st p.t (p.t.at + 1) p.t.memory (g.held.onward (OpenAmong g alive) p.t.at (p.t.at + 1) st p.t.memory (omega arith) p.sim.memory) p.sim;
     stays = λ u h first last q below own ends before low after high. p.stays u h first last q below own ends before low after (let l = code_more g i e in omega (arith, high, l));
   }
 
@@ -36,5 +36,5 @@ module _ (g : Setting) (alive : Variable → Type 0) (i : Instr) (bound : ℕ) (
         turns = p.sim.turns;
         output = p.sim.output;
         input = p.sim.input;
-        memory = g.held.finally p.t.at st p.t.memory p.sim.memory;
+        memory = g.held.finally (OpenAmong g alive) p.t.at st p.t.memory p.sim.memory;
       })

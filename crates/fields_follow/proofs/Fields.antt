@@ -29,15 +29,16 @@ HoldsNumbers t image st m = (k element set p : ℕ) (info : VarInfo) → IsEleme
 -- part of the program
 abbrev pub fields_held : Typed → Image → Active → Held
 fields_held t image active = record {
-  holds = λ at. HoldsFields t image active;
+  holds = λ live at. HoldsFields t image active;
   ends = HoldsNumbers t image;
-  finally = λ at st m h. h.numbers;
-  still = λ at st u m same winner h. record {
-    numbers = λ k e set p info is below. h.numbers k e set p info is below ∙ sym (same k e p);
-    small = λ k e set p info is. subst (λ (n : ℕ). n < 2 ^ info.elem.bits) (sym (same k e p)) (h.small k e set p info is);
+  finally = λ live at st m h. h.numbers;
+  still = λ live at st u m same winner h. record {
+    numbers = λ k e set p info is below. h.numbers k e set p info is below ∙ sym (same.0 k e p);
+    small = λ k e set p info is. subst (λ (n : ℕ). n < 2 ^ info.elem.bits) (sym (same.0 k e p)) (h.small k e set p info is);
     flags = h.flags;
     winner = h.winner ∙ sym winner;
     bits = h.bits;
   };
-  onward = λ at to st m behind h. h;
+  onward = λ live at to st m behind h. h;
+  fewer = λ more less at st m among h. h;
 }

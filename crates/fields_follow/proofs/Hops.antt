@@ -26,7 +26,7 @@ use Rattle.phase_meaning.proofs.Alike.{shifted_below}
 use Rattle.phase_meaning.proofs.Widths.{cut_cut}
 use Rattle.source_meaning.specs.State.{State}
 use Rattle.vp_sets.specs.Positions.{are_positive, shifted}
-use Rattle.code_follows.proofs.Following.{Sim}
+use Rattle.code_follows.proofs.Following.{Sim, OpenAmong}
 use Rattle.code_follows.proofs.Growing.{Extended, extended}
 use Rattle.code_follows.proofs.Settings.{Setting, Within, and_one, at_next, begins_here, code_more, earlier, one_writes, placed_instr}
 use Rattle.fields_follow.proofs.Bits.{active_apart, bits_written, field_apart, field_written}
@@ -171,7 +171,7 @@ module _ (g : Setting) where
         ends = places.ends (length e.code) i d (a ∷ []) there (hop_plain axis k d a) tt refl
 
         was : HoldsFields g.typed g.image fields.active st s.memory
-        was = fields.opens s.at st s.memory sim.memory
+        was = fields.opens (OpenAmong g alive) s.at st s.memory sim.memory
 
     -- a fresh field of the set
     abbrev IsFresh : ℕ → ℕ → ℕ → Field → Type 0

@@ -14,7 +14,7 @@ use Rattle.paris_code.specs.Spans.{IsNamedAt, StandsAt}
 use Rattle.source_meaning.specs.State.{Early, State}
 use Rattle.source_meaning.specs.Values.{Active, Scope}
 use Rattle.code_follows.proofs.Besides.{sim_saying, under_held}
-use Rattle.code_follows.proofs.Following.{Finishes, IsKept, Sim}
+use Rattle.code_follows.proofs.Following.{Finishes, IsKept, Sim, OpenAmong}
 use Rattle.code_follows.proofs.Settings.{Held, SameBelow, Setting, Within}
 use Rattle.fields_follow.specs.Fragment.{IsCondition, IsParallelVariable, IsFold, IsParallelEffect}
 use Rattle.fields_follow.proofs.Fields.{HoldsFields, HoldsNumbers, fields_held}
@@ -61,11 +61,12 @@ module _ (g : Setting) where
   -- where these positions are active, the memory holds the numbers of the file's variables, and this is kept of it
   abbrev pub held_under : Active → (kept : BitMemory → Type 0) → Held
   held_under a kept = record {
-    holds = λ at st m. HoldsFields g.typed g.image a st m × kept m;
+    holds = λ live at st m. HoldsFields g.typed g.image a st m × kept m;
     ends = HoldsNumbers g.typed g.image;
-    finally = λ at st m h. h.0.numbers;
-    still = λ at st u m same winner h. ((fields_held g.typed g.image a).still at st u m same winner h.0, h.1);
-    onward = λ at to st m behind h. h;
+    finally = λ live at st m h. h.0.numbers;
+    still = λ live at st u m same winner h. ((fields_held g.typed g.image a).still live at st u m same winner h.0, h.1);
+    onward = λ live at to st m behind h. h;
+    fewer = λ more less at st m among h. h;
   }
 
 -- What is known of a unit of such a program, where these positions are active: what is kept of the memory beside the
@@ -79,20 +80,20 @@ pub record KnowsFields (g : Setting) (scope : Scope) (a : Active) : Type 1 where
   pub locals : (info : VarInfo) → g.may.beside.locals info → IsParallelVariable info
   pub kept : BitMemory → Type 0
   pub lasts : Lasts g g.from g.entries g.upto kept
-  pub opens : (at : ℕ) (st : State) (m : BitMemory) → g.held.holds at st m → HoldsFields g.typed g.image a st m × kept m
-  pub closes : (at : ℕ) (st : State) (m : BitMemory) → HoldsFields g.typed g.image a st m → kept m → g.held.holds at st m
+  pub opens : (live : ℕ → Type 0) (at : ℕ) (st : State) (m : BitMemory) → g.held.holds live at st m → HoldsFields g.typed g.image a st m × kept m
+  pub closes : (live : ℕ → Type 0) (at : ℕ) (st : State) (m : BitMemory) → HoldsFields g.typed g.image a st m → kept m → g.held.holds live at st m
   pub ends : (st : State) (m : BitMemory) → HoldsNumbers g.typed g.image st m → g.held.ends st m
 
 module _ (g : Setting) (scope : Scope) (a : Active) (k : KnowsFields g scope a) where
   -- the state agrees with the source where the memory has these fields, and keeps what is kept
   pub sim_open : (alive : Variable → Type 0) (st : State) (s : CodeState) → Sim g alive st s → Sim (under g a) alive st s
-  sim_open alive st s h = sim_saying g alive st s s.at s.memory (k.opens s.at st s.memory h.memory).0 h
+  sim_open alive st s h = sim_saying g alive st s s.at s.memory (k.opens (OpenAmong g alive) s.at st s.memory h.memory).0 h
 
   pub kept_open : (alive : Variable → Type 0) (st : State) (s : CodeState) → Sim g alive st s → k.kept s.memory
-  kept_open alive st s h = (k.opens s.at st s.memory h.memory).1
+  kept_open alive st s h = (k.opens (OpenAmong g alive) s.at st s.memory h.memory).1
 
   pub sim_close : (alive : Variable → Type 0) (st : State) (s : CodeState) → Sim (under g a) alive st s → k.kept s.memory → Sim g alive st s
-  sim_close alive st s h kept = sim_saying g alive st s s.at s.memory (k.closes s.at st s.memory h.memory kept) h
+  sim_close alive st s h kept = sim_saying g alive st s s.at s.memory (k.closes (OpenAmong g alive) s.at st s.memory h.memory kept) h
 
   -- ---- a part under one context more
 
@@ -110,8 +111,8 @@ module _ (g : Setting) (scope : Scope) (a : Active) (k : KnowsFields g scope a) 
       locals = k.locals;
       kept = kept;
       lasts = record { code = lasts.code; calls = lasts.calls };
-      opens = λ at st m h. h;
-      closes = λ at st m holds has. (holds, has);
+      opens = λ live at st m h. h;
+      closes = λ live at st m holds has. (holds, has);
       ends = λ st m h. h;
     }
 

@@ -25,7 +25,7 @@ use Rattle.paris_code.specs.Writes.{Write, written}
 use Rattle.source_meaning.specs.State.{State, is_among, zeroed}
 use Rattle.source_meaning.specs.Values.{Active, Scope}
 use Rattle.code_follows.proofs.Besides.{LocalsClear}
-use Rattle.code_follows.proofs.Following.{IsScalar, Ran, Sim, held}
+use Rattle.code_follows.proofs.Following.{IsScalar, Ran, Sim, held, OpenAmong}
 use Rattle.code_follows.proofs.Growing.{Extended, extended}
 use Rattle.code_follows.proofs.Settings.{At, Begun, SameBelow, Setting, StandsBelow, Within, and_one, at_next, begins_here, code_more, layout, one_writes, placed_instr}
 use Rattle.code_follows.proofs.Standing.{some_same}
@@ -65,7 +65,7 @@ module _ (g : Setting) (n : ℕ) (info : VarInfo) (set : ℕ) (named : variable_
       by (inr differ) = ap (λ (b : Bool). if b then 0 else st.scalar (V.Local k)) (other differ)
 
   -- the state behind it agrees where the memory holds what is to be held
-  sim_cleared : (before : Variable → Type 0) (st : State) (s : CodeState) (at : ℕ) (m : BitMemory) → g.held.holds at (zeroed n 1 st) m → Sim g before st s → Sim g (λ x. before x ⊎ (x ≡ V.Local n)) (zeroed n 1 st) (record s { at = at; memory = m })
+  sim_cleared : (before : Variable → Type 0) (st : State) (s : CodeState) (at : ℕ) (m : BitMemory) → g.held.holds (OpenAmong g (λ x. before x ⊎ (x ≡ V.Local n))) at (zeroed n 1 st) m → Sim g before st s → Sim g (λ x. before x ⊎ (x ≡ V.Local n)) (zeroed n 1 st) (record s { at = at; memory = m })
   unfolding zeroed
   sim_cleared before st s at m holds h = record {
     registers = h.registers;
@@ -166,13 +166,13 @@ module _ (g : Setting) (scope : Scope) (active : Active) (known : KnowsFields g 
     clears_it : Ran g (λ x. before x ⊎ (x ≡ V.Local n)) d s (zeroed n 1 st) behind
     unfolding step_of
     clears_it =
-        let opened = known.opens s.at st s.memory sim.memory in
+        let opened = known.opens (OpenAmong g before) s.at st s.memory sim.memory in
         record {
           grown = (0 + (0 + 1), grown);
           t = wrote g write s;
           go = one_writes g s (wrote g write s) (begins_here g clear taken_for s within refl here ∙ goes) below;
           at = at_next g clear taken_for s (s.at + 1) here refl;
-          sim = sim_cleared g n info set named parallel before st s (s.at + 1) (written write s.memory) (known.closes (s.at + 1) (zeroed n 1 st) (written write s.memory) (holds opened.0) (known.lasts.code s.memory (written write s.memory) stays below opened.1)) sim;
+          sim = sim_cleared g n info set named parallel before st s (s.at + 1) (written write s.memory) (known.closes (OpenAmong g (λ x. before x ⊎ (x ≡ V.Local n))) (s.at + 1) (zeroed n 1 st) (written write s.memory) (holds opened.0) (known.lasts.code s.memory (written write s.memory) stays below opened.1)) sim;
           keeps = λ r kept. refl;
         }
 

@@ -12,7 +12,7 @@ use Rattle.paris_code.specs.Shapes.{bits_at}
 use Rattle.paris_code.specs.Spans.{IsNamedAt, StandsAt, entry_of, fields_of}
 use Rattle.source_meaning.specs.State.{State}
 use Rattle.phase_meaning.proofs.Widths.{cut_cut}
-use Rattle.code_follows.proofs.Following.{Extends, Keeps, Sim, held, keeps_all, keeps_less, keeps_on}
+use Rattle.code_follows.proofs.Following.{Extends, Keeps, Sim, held, keeps_all, keeps_less, keeps_on, OpenAmong}
 use Rattle.code_follows.proofs.Growing.{Extended, as_it_was, extended}
 use Rattle.code_follows.proofs.Settings.{At, Reaches, Setting, Within, and_one, code_more, earlier, onto, start, stay}
 use Rattle.fields_follow.specs.Fields.{IsElement}
@@ -187,17 +187,17 @@ module _ (g : Setting) where
     module _ (places : PlacesFields g) (fields : HoldsTheFields g) where
       -- which positions are active
       pub flags_of : (st : State) (t : CodeState) (set p : ℕ) → Sim g alive st t → set < length (shapes g) → p < processors (shapes g) set → is_active (shapes g) t.memory set p ≡ fields.active set p
-      flags_of st t set p sim exists below = (fields.opens t.at st t.memory sim.memory).flags set p exists below
+      flags_of st t set p sim exists below = (fields.opens (OpenAmong g alive) t.at st t.memory sim.memory).flags set p exists below
 
       -- the number of a variable is one of its type
       pub small_there : (set k : ℕ) (info : VarInfo) (st : State) (t : CodeState) → IsElement g.typed k info set 0 → Sim g alive st t → (p : ℕ) → st.parallel (V.File k) 0 p < 2 ^ info.elem.bits
-      small_there set k info st t is sim p = (fields.opens t.at st t.memory sim.memory).small k 0 set p info is
+      small_there set k info st t is sim p = (fields.opens (OpenAmong g alive) t.at st t.memory sim.memory).small k 0 set p info is
 
       -- first bits of a field have the lowest bits of its number
       pub first_there : (set : ℕ) (f : Field) (long : ℕ) (st : State) (t : CodeState) → Sim g alive st t → f.set ≡ set → set < length (shapes g) → f.len ≤ long → (place g f).offset + long ≤ bits_at (shapes g) f.set → (p : ℕ) → p < processors (shapes g) set
           → number_in g f t p ≡ number_in g (record f { len = long }) t p % 2 ^ f.len
       first_there set f long st t sim of_set exists fits ends p below =
-          first_number (shapes g) t.memory (place g (record f { len = long })) p f.len (fields.opens t.at st t.memory sim.memory).bits (subst (λ (n : ℕ). n < length (shapes g)) (sym of_set) exists) (subst (λ (n : ℕ). p < processors (shapes g) n) (sym of_set) below) ends fits
+          first_number (shapes g) t.memory (place g (record f { len = long })) p f.len (fields.opens (OpenAmong g alive) t.at st t.memory sim.memory).bits (subst (λ (n : ℕ). n < length (shapes g)) (sym of_set) exists) (subst (λ (n : ℕ). p < processors (shapes g) n) (sym of_set) below) ends fits
 
       -- first bits of a variable's field have the lowest bits of its words, where the field has its numbers
       pub first_words : (x : Variable) (info : VarInfo) (set : ℕ) (f : Field) (st : State) (t : CodeState) → Carries g alive x info set (record f { len = info.elem.bits }) → f.len ≤ info.elem.bits → Sim g alive st t → (p : ℕ) → p < processors (shapes g) set

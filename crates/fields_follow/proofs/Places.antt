@@ -73,12 +73,12 @@ module _ (g : Setting) where
 
   -- what the memory holds of the source's state is the numbers of the fields, where these positions are active; and the
   -- extents of the shapes are those of the image
-  pub record HoldsTheFields : Type 0 where
+  pub record HoldsTheFields : Type 1 where
     pub scope : Scope
     pub same_extents : SameExtents g scope
     pub active : Active
-    pub opens : (at : ℕ) (st : State) (m : BitMemory) → g.held.holds at st m → HoldsFields g.typed g.image active st m
-    pub closes : (at : ℕ) (st : State) (m : BitMemory) → HoldsFields g.typed g.image active st m → g.held.holds at st m
+    pub opens : (live : ℕ → Type 0) (at : ℕ) (st : State) (m : BitMemory) → g.held.holds live at st m → HoldsFields g.typed g.image active st m
+    pub closes : (live : ℕ → Type 0) (at : ℕ) (st : State) (m : BitMemory) → HoldsFields g.typed g.image active st m → g.held.holds live at st m
 
   -- the instruction that the draft gets next stands in the unit
   pub stands_here : (i : Instr) (d : Draft) → Within g (with_instr i d) → step_of i ≡ Plain i → StandsAt g.unit (length d.code) i

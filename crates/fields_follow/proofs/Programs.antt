@@ -22,7 +22,7 @@ use Rattle.code_follows.specs.Agreement.{AreBytes, mark_of}
 use Rattle.code_follows.specs.Fragment.{IsFileVariable}
 use Rattle.code_follows.proofs.Activations.{activation}
 use Rattle.code_follows.proofs.Entering.{AllBeside, running}
-use Rattle.code_follows.proofs.Programs.{Comes, program_follows}
+use Rattle.code_follows.proofs.Programs.{Comes, program_follows, none_open}
 use Rattle.code_follows.proofs.Settings.{CallStands, Held, Setting, called_below, start}
 use Rattle.fields_follow.specs.Fragment.{IsParallelProgram, fields_beside}
 use Rattle.fields_follow.specs.Laws.{ComesToAll, HasTheNumbers, IsNew, ParallelCodeMeansSource}
@@ -67,8 +67,8 @@ module _ (t : Typed) (image : Image) (p : IsParallelProgram t) (codable : IsCoda
     locals = λ info h. h;
     kept = λ m. Unit {0};
     lasts = record { code = λ m other stays same h. tt; calls = λ index at stands low high m other same h. tt };
-    opens = λ at st m h. (h, tt);
-    closes = λ at st m h kept. h;
+    opens = λ live at st m h. (h, tt);
+    closes = λ live at st m h kept. h;
     ends = λ st m h. h;
   }
 
@@ -93,27 +93,27 @@ module _ (t : Typed) (image : Image) (p : IsParallelProgram t) (codable : IsCoda
       calls = λ index at stands low high memory other same has.
           caller.lasts.calls number here.at here.stands here.low here.high memory other (λ f q there. same f q (called_below (g (held_called held from entries upto a me i is_me opens most caller) number b is back m) index (record { at = at; stands = stands; low = low; high = high }) f there)) has;
     };
-    opens = λ at st memory h. h;
-    closes = λ at st memory h kept. (h, kept);
+    opens = λ live at st memory h. h;
+    closes = λ live at st memory h kept. (h, kept);
     ends = λ st memory h. h;
   }
 
   all_beside : AllBeside t image p codable compiled KnowsFields
   all_beside = record {
     follows = besides;
-    called = λ held from entries upto a me i is_me opens most caller number b is back m here place st.
+    called = λ held from entries upto a me i is_me opens most caller number b is back m here live place st.
         let inside : Held = held_called held from entries upto a me i is_me opens most caller in (
           inside,
           (
             record {
-              enters = λ at u memory files winner h. inside.still at st u memory files winner (caller.opens place st memory h);
-              leaves = λ at u v memory files winner h. let has = inside.still at u v memory files winner h in caller.closes place v memory has.0 has.1;
+              enters = λ at u memory files winner h. inside.still none_open at st u memory (files, (λ k never e p. absurd never)) winner (caller.opens live place st memory h);
+              leaves = λ at u v memory files own winner h. let has = inside.still none_open at u v memory (files, (λ k never e p. absurd never)) winner h in caller.closes live place v memory has.0 has.1;
               ends = caller.ends;
             },
             known_called held from entries upto a me i is_me opens most caller number b is back m here,
           ),
         );
-    lasts = λ unit scope a known target low place jump stands leads st memory h. let has = known.opens (start unit + place) st memory h in known.closes (target + start unit) st memory has.0 has.1;
+    lasts = λ unit scope a known target low place jump stands leads live st memory h. let has = known.opens live (start unit + place) st memory h in known.closes live (target + start unit) st memory has.0 has.1;
   }
 
   -- a parallel variable of the file begins with 0

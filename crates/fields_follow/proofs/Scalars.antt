@@ -36,11 +36,12 @@ module _ (g : Setting) (has : HasRegisters g) (fields : HoldsTheFields g) (m : B
   -- the memory is this one
   abbrev this_memory : Held
   this_memory = record {
-    holds = λ at st memory. g.held.holds at st memory × (memory ≡ m);
+    holds = λ live at st memory. g.held.holds live at st memory × (memory ≡ m);
     ends = g.held.ends;
-    finally = λ at st memory h. g.held.finally at st memory h.0;
-    still = λ at st u memory same winner h. (g.held.still at st u memory same winner h.0, h.1);
-    onward = λ at to st memory behind h. (g.held.onward at to st memory behind h.0, h.1);
+    finally = λ live at st memory h. g.held.finally live at st memory h.0;
+    still = λ live at st u memory same winner h. (g.held.still live at st u memory same winner h.0, h.1);
+    onward = λ live at to st memory behind h. (g.held.onward live at to st memory behind h.0, h.1);
+    fewer = λ more less at st memory among h. (g.held.fewer more less at st memory among h.0, h.1);
   }
 
   -- the same unit, where nothing else is done
@@ -71,7 +72,7 @@ module _ (g : Setting) (has : HasRegisters g) (fields : HoldsTheFields g) (m : B
     effect = λ index given none. absurd none;
     returns = λ elem none. absurd none;
     beside = λ registers. record { effects = λ alive files n ready e none. absurd none; folds = λ alive files n ready e none. absurd none };
-    lasts = λ target behind place jump stands jumps st memory h. (fields.closes _ st memory (fields.opens _ st memory h.0), h.1);
+    lasts = λ target behind place jump stands jumps live st memory h. (fields.closes live _ st memory (fields.opens live _ st memory h.0), h.1);
   }
 
   within_calm : (e : Draft) → Within g e → Within calm e

@@ -44,7 +44,7 @@ use Rattle.source_meaning.proofs.ConstantLaws.{Boxed}
 use Rattle.communication_laws.specs.Scans.{HasBits, bit_counts}
 use Rattle.communication_laws.proofs.Orders.{fold_few}
 use Rattle.communication_laws.proofs.Scans.{scans}
-use Rattle.code_follows.proofs.Following.{Sim}
+use Rattle.code_follows.proofs.Following.{Sim, OpenAmong}
 use Rattle.code_follows.proofs.Settings.{Setting}
 use Rattle.fields_follow.specs.Fields.{IsElement}
 use Rattle.fields_follow.proofs.Folds.{identity_below}
@@ -126,7 +126,7 @@ module _ (g : Setting) (alive : Variable → Type 0) (places : PlacesFields g) (
       number : d.set ≡ f.set → (field_number s.memory (place g f) p == 1) ≡ (st.parallel (V.File k) 0 p == 1)
       number same =
           ap (λ (h : Field). field_number s.memory h p == 1) (places.file k 0 info f (subst (λ (n : ℕ). IsElement g.typed k info n 0) (sym of_set) is) (sym long) file)
-          ∙ ap (λ (n : ℕ). n == 1) ((fields.opens s.at st s.memory sim.memory).numbers k 0 s_of p info is (subst (λ (n : ℕ). p < processors (shapes g) n) (sym on_d ∙ same ∙ of_set) below))
+          ∙ ap (λ (n : ℕ). n == 1) ((fields.opens (OpenAmong g alive) s.at st s.memory sim.memory).numbers k 0 s_of p info is (subst (λ (n : ℕ). p < processors (shapes g) n) (sym on_d ∙ same ∙ of_set) below))
 
       d_exists : d.set < length (shapes g)
       d_exists = subst (λ (n : ℕ). n < length (shapes g)) (sym on_d) exists

@@ -22,6 +22,7 @@ use Rattle.paris_code.specs.Shapes.{bits_at}
 use Rattle.paris_code.specs.Writes.{Write, written}
 use Rattle.source_meaning.specs.State.{State}
 use Rattle.source_meaning.specs.Values.{nonzero}
+use Rattle.code_follows.proofs.Following.{OpenAmong}
 use Rattle.code_follows.proofs.Besides.{sim_saying}
 use Rattle.code_follows.proofs.Growing.{extended}
 use Rattle.code_follows.proofs.Settings.{Setting, Within, and_one, at_next, begins_here, code_more, one_writes, onto, placed_instr}
@@ -134,7 +135,7 @@ module _ (g : Setting) where
         go = onto g s p.t (wrote g flag p.t) p.go (one_writes g p.t (wrote g flag p.t) (begins_here g i e p.t within puts.plain p.at.stands ∙ puts.goes) (λ f q there. still f q there.ends));
         at = starts_next g alive i e p.t (wrote g flag p.t) (at_next g i e p.t (p.t.at + 1) p.at.stands refl) p.at;
         registers = p.registers;
-        sim = sim_saying g alive st p.t (p.t.at + 1) (written flag p.t.memory) (fields.closes (p.t.at + 1) st (written flag p.t.memory) (record {
+        sim = sim_saying g alive st p.t (p.t.at + 1) (written flag p.t.memory) (fields.closes (OpenAmong g alive) (p.t.at + 1) st (written flag p.t.memory) (record {
           numbers = λ k element q x info is below. still (of_file g k element) x (places.files_end k element q info is) ∙ was.numbers k element q x info is below;
           small = was.small;
           flags = λ q x there below. context_under_test (shapes g) set writes puts.takes p.t.memory x q ∙ was.flags q x there below;
@@ -151,7 +152,7 @@ module _ (g : Setting) where
     }
       where
         was : HoldsFields g.typed g.image fields.active st p.t.memory
-        was = fields.opens p.t.at st p.t.memory p.sim.memory
+        was = fields.opens (OpenAmong g alive) p.t.at st p.t.memory p.sim.memory
 
         writes : ℕ → Bool
         writes = λ q. is_active (shapes g) p.t.memory set q

@@ -19,7 +19,7 @@ use Rattle.paris_code.specs.Spans.{IsNamedAt, fields_of}
 use Rattle.source_meaning.specs.State.{State}
 use Rattle.source_meaning.specs.Values.{nonzero}
 use Rattle.code_follows.proofs.Besides.{sim_saying}
-use Rattle.code_follows.proofs.Following.{Sim}
+use Rattle.code_follows.proofs.Following.{Sim, OpenAmong}
 use Rattle.code_follows.proofs.Growing.{extended}
 use Rattle.code_follows.proofs.Settings.{Setting, Within, and_one, code_more, onto, placed_instr, start}
 use Rattle.fields_follow.specs.Fields.{IsElement}
@@ -57,10 +57,10 @@ joined_bits false false false len = refl
 module _ (g : Setting) (alive : Variable → Type 0) (places : PlacesFields g) (fields : HoldsTheFields g) where
   -- what the state is for the fields alone
   fields_sim : (st : State) (s : CodeState) → Sim g alive st s → Sim (under g fields.active) alive st s
-  fields_sim st s h = sim_saying g alive st s s.at s.memory (fields.opens s.at st s.memory h.memory) h
+  fields_sim st s h = sim_saying g alive st s s.at s.memory (fields.opens (OpenAmong g alive) s.at st s.memory h.memory) h
 
   whole_sim : (st : State) (s : CodeState) → Sim (under g fields.active) alive st s → Sim g alive st s
-  whole_sim st s h = sim_saying g alive st s s.at s.memory (fields.closes s.at st s.memory h.memory) h
+  whole_sim st s h = sim_saying g alive st s s.at s.memory (fields.closes (OpenAmong g alive) s.at st s.memory h.memory) h
 
   -- Code of conditions gives a field that is zero where these numbers are, if an instruction behind it names the field.
   pub record GivesTold (d : Draft) (s : CodeState) (set : ℕ) (st : State) (v : ℕ → ℕ) (f : Field) (e : Draft) : Type 0 where

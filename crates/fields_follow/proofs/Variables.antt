@@ -9,7 +9,7 @@ use Rattle.paris_code.specs.Memory.{field_number, processors}
 use Rattle.paris_code.specs.Shapes.{bits_at}
 use Rattle.paris_code.specs.Spans.{IsNamedAt}
 use Rattle.source_meaning.specs.State.{State}
-use Rattle.code_follows.proofs.Following.{Sim}
+use Rattle.code_follows.proofs.Following.{Sim, OpenAmong}
 use Rattle.code_follows.proofs.Settings.{Setting, start}
 use Rattle.fields_follow.specs.Fields.{IsElement}
 use Rattle.fields_follow.proofs.Instructions.{number_in, place, shapes}
@@ -32,7 +32,7 @@ module _ (g : Setting) (alive : Variable → Type 0) where
       → number_in g f t p ≡ st.parallel (V.File k) 0 p
   file_numbers places fields set k info f is file of_set len st t sim p below =
       ap (λ (x : Field). field_number t.memory x p) (places.file k 0 info f (subst (λ (n : ℕ). IsElement g.typed k info n 0) (sym of_set) is) (sym len) file)
-      ∙ (fields.opens t.at st t.memory sim.memory).numbers k 0 set p info is below
+      ∙ (fields.opens (OpenAmong g alive) t.at st t.memory sim.memory).numbers k 0 set p info is below
 
   -- so it carries the variable
   pub file_carries : PlacesFields g → HoldsTheFields g → (set k : ℕ) (info : VarInfo) (f : Field) → IsElement g.typed k info set 0 → IsFileField g k 0 f → f.set ≡ set → f.len ≡ info.elem.bits → Carries (V.File k) info set f
@@ -41,7 +41,7 @@ module _ (g : Setting) (alive : Variable → Type 0) where
     exists = places.exists k 0 set info is;
     len = len;
     ends = subst (λ (x : Field). x.offset + x.len ≤ bits_at (shapes g) x.set) (sym at_file) (places.files_end k 0 set info is);
-    small = λ st t sim p. (fields.opens t.at st t.memory sim.memory).small k 0 set p info is;
+    small = λ st t sim p. (fields.opens (OpenAmong g alive) t.at st t.memory sim.memory).small k 0 set p info is;
     numbers = λ st t sim later named behind p below. file_numbers places fields set k info f is file of_set len st t sim p below;
   }
     where

@@ -15,7 +15,7 @@ use Rattle.paris_code.specs.Spans.{IsNamedAt, StandsAt, fields_of}
 use Rattle.paris_code.specs.Writes.{Write, written}
 use Rattle.source_meaning.specs.State.{State, is_same, with_positions}
 use Rattle.code_follows.specs.Agreement.{AreBytes, mark_of}
-use Rattle.code_follows.proofs.Following.{Sim, held}
+use Rattle.code_follows.proofs.Following.{Sim, held, OpenAmong}
 use Rattle.code_follows.proofs.Growing.{Extended}
 use Rattle.code_follows.proofs.Standing.{some_same}
 use Rattle.code_follows.proofs.Settings.{At, Reaches, Setting, StandsBelow, Within, and_one, at_next, begins_here, one_writes}
@@ -73,7 +73,7 @@ module _ (g : Setting) (places : PlacesFields g) (fields : HoldsTheFields g) (al
     returns = h.returns;
     few = subst (λ (n : ℕ). n ≤ g.most) (sym turns) h.few;
     bytes = subst (λ (b : List ℕ). AreBytes b) (sym input) h.bytes;
-    memory = fields.closes at u (written w s.memory) opened;
+    memory = fields.closes (OpenAmong g alive) at u (written w s.memory) opened;
   }
 
   -- Behind an instruction that stands next: the destination has the numbers, and if its answer is used, what stands in
@@ -103,7 +103,7 @@ module _ (g : Setting) (places : PlacesFields g) (fields : HoldsTheFields g) (al
 
   module _ (set : ℕ) (d : Field) (s : CodeState) (st : State) (v : ℕ → ℕ) (sim : Sim g alive st s) (of_set : d.set ≡ set) (exists : d.set < length (shapes g)) (ends : (place g d).offset + d.len ≤ bits_at (shapes g) d.set) (takes : Takes g set d s v) where
     was : Opened st s.memory
-    was = fields.opens s.at st s.memory sim.memory
+    was = fields.opens (OpenAmong g alive) s.at st s.memory sim.memory
 
     set_exists : set < length (shapes g)
     set_exists = subst (λ (q : ℕ). q < length (shapes g)) of_set exists
@@ -262,11 +262,11 @@ module _ (g : Setting) (places : PlacesFields g) (fields : HoldsTheFields g) (al
     at = at_next g i e s (s.at + 1) here refl;
     registers = refl;
     sim = with_memory st st s (s.at + 1) takes.write refl refl refl refl refl (record {
-      numbers = λ k element q p info is below. still (of_file g k element) p (places.own_file k element q info d is own) ∙ (fields.opens s.at st s.memory sim.memory).numbers k element q p info is below;
-      small = (fields.opens s.at st s.memory sim.memory).small;
+      numbers = λ k element q p info is below. still (of_file g k element) p (places.own_file k element q info d is own) ∙ (fields.opens (OpenAmong g alive) s.at st s.memory sim.memory).numbers k element q p info is below;
+      small = (fields.opens (OpenAmong g alive) s.at st s.memory sim.memory).small;
       flags = active;
       winner = winner_still set d s st v sim of_set next.ends.0 next.ends.1 takes;
-      bits = bits_written (shapes g) takes.write s.memory (fields.opens s.at st s.memory sim.memory).bits;
+      bits = bits_written (shapes g) takes.write s.memory (fields.opens (OpenAmong g alive) s.at st s.memory sim.memory).bits;
     }) sim;
     has = record {
       of_set = of_set;
