@@ -42,7 +42,7 @@ use Rattle.fields_follow.proofs.Clearing.{joined_more}
 use Rattle.fields_follow.proofs.ConditionCode.{Bit, Truth, bit_not_value, joined_value, operand_at, put_in, relation_value, word_not_value}
 use Rattle.fields_follow.proofs.Conditions.{HaveTheirCode, and_codes, conditions_join, or_codes}
 use Rattle.fields_follow.proofs.Expressions.{Answers, answers_alike, binary_after, convert_after, convert_ended, convert_means, coordinate_after, get_after, named, unary_after, unary_ended}
-use Rattle.fields_follow.proofs.Forms.{HasItsCode, pure_kept}
+use Rattle.fields_follow.proofs.Forms.{HasItsCode, IsRead, pure_kept}
 use Rattle.fields_follow.proofs.Instructions.{alike_same, extents, shapes}
 use Rattle.fields_follow.proofs.Lengths.{operation_most, relates_plainly}
 use Rattle.fields_follow.proofs.Meaning.{unary_means, value_in, word_at}
@@ -241,9 +241,9 @@ module _ (g : Setting) (has : HasRegisters g) (alive : Variable → Type 0) (n :
   convert_done set ty p inner is shaped pure (inr bool) c done = by_value set (T.Convert' ty p inner) is refl c (λ bits some most. bool_valued bits set ty p inner shaped bool.0 (pure, bool.1) (convert_part g alive n places fields ty p inner c) done)
 
   done : (set : ℕ) (e : TExpr) → IsPure set e → HasItsCode g.typed g.instance alive n e → IsDone g has alive n ready places fields set e
-  unfolding IsPure IsNarrowed has_truth value_of value_in kind_of
+  unfolding IsPure IsNarrowed IsRead has_truth value_of value_in kind_of
   done set (T.Variable ty (V.File k)) is c = record {
-    value = λ bits some most. variable_after g has alive n ready places fields bits set k ty most is (named g has alive n ready places fields ty k c);
+    value = λ bits some most. variable_after g has alive n ready places fields bits set (V.File k) ty most tt is (named g has alive n ready places fields ty k c);
     tests = λ known. truth_tested g has alive n ready places fields set (T.Variable ty (V.File k)) refl (variable_tested g has alive n ready places fields set k ty is (named g has alive n ready places fields ty k c));
   }
   done set (T.Brackets' ty p inner) is c =

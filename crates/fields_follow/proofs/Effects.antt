@@ -122,7 +122,7 @@ module _ (g : Setting) (has : HasRegisters g) (alive : Variable → Type 0) (n :
       let named : IsNamedAt g.unit source.offset (length d2.code) = names_second g i f source [] (length d2.code) (stands_here g i d2 within refl) refl in
       let behind : s.at ≤ start g + length d2.code = (let at = here.stands in omega (arith, at)) in
       let numbers = variable_has g has alive n ready places fields set (V.File k) info source s st (file_carries g alive places fields set k info source is file refl refl) (length d2.code) named behind sim in
-      last (ap (λ (x : Value). Source.Gives x st) (read_is fields.scope fields.active ty set k st shaped)) d2 i within (passes_from g alive (length d.fields) d d2 d2 s st (Unit {0}) (and_entry set info.elem.bits owner d) (passes_all g alive (length d.fields) d2 s st (Unit {0}) here sim))
+      last (ap (λ (x : Value). Source.Gives x st) (read_is fields.scope fields.active ty set (V.File k) st shaped)) d2 i within (passes_from g alive (length d.fields) d d2 d2 s st (Unit {0}) (and_entry set info.elem.bits owner d) (passes_all g alive (length d.fields) d2 s st (Unit {0}) here sim))
       (puts_extended g info.elem set f source s (λ q. held info.elem (st.parallel (V.File k) 0 q)) most (λ q below on. numbers.1 q below) numbers.0)))
 
   -- what is put for one expression is put for another with the same words

@@ -139,21 +139,37 @@ pure_word set (T.Pcoord ty axis) is = refl
 pure_word set (T.LeftIndex' ty place p indexes (V.File k) of) is = refl
 pure_word set _ is = absurd is
 
--- the variable of the file in whose field so many bits of the value stand, which never fails
-pub record StandsInFile (t : Typed) (bits set : ℕ) (e : TExpr) : Type 0 where
-  pub k : ℕ
+-- a variable that expressions read: one of the file
+unfoldable pub IsRead : Variable → Type 0
+IsRead (V.File k) = Unit {0}
+IsRead _ = ⊥
+
+-- the variable in whose field so many bits of the value stand, which never fails
+pub record StandsInVariable (t : Typed) (i : Instance) (bits set : ℕ) (e : TExpr) : Type 0 where
+  pub x : Variable
   pub info : VarInfo
-  pub own : own_of bits e ≡ Some (record { shape = Some set; variable = V.File k })
-  pub is : IsElement t k info set 0
+  pub own : own_of bits e ≡ Some (record { shape = Some set; variable = x })
+  pub read : IsRead x
+  pub known : variable_named t i x ≡ Some info
+  pub parallel : info.shape ≡ Some set
+  pub one : info.array ≡ None
   pub fits : bits ≤ info.elem.bits
-  pub value : (extents : List ℕ) (st : State) (q : ℕ) → word_at extents st e q % 2 ^ bits ≡ word_of_type info.elem (st.parallel (V.File k) 0 q) % 2 ^ bits
+  pub value : (extents : List ℕ) (st : State) (q : ℕ) → word_at extents st e q % 2 ^ bits ≡ word_of_type info.elem (st.parallel x 0 q) % 2 ^ bits
   pub flag : bits_of (kind_of e) ≡ 1 → info.elem.bits ≡ 1
   pub means : (scope : Scope) (active : Active) (extents : List ℕ) (st : State) → evaluated scope e active st ≡ Gives (Parallel (λ q. value_in extents st e q)) st
 
--- a parallel variable of the file, by its name
-pub element_is : (t : Typed) (i : Instance) (n k set : ℕ) (ty : ValueType) → ty.shape ≡ Some set → (v : HasVariable t i n (V.File k) (plain ty)) → IsElement t k (variable_info v.word (plain ty) v.start) set 0
+-- a parallel variable of the file, which is no array, is an element
+pub whole_element : (t : Typed) (i : Instance) (k set : ℕ) (info : VarInfo) → variable_named t i (V.File k) ≡ Some info → info.shape ≡ Some set → info.array ≡ None → IsElement t k info set 0
 unfolding variable_named entries_of
-element_is t i n k set ty shaped v = record { known = v.named; parallel = shaped; within = subst (λ (o : Option ℕ). 0 < (elim o [ None ↦ 0 | Some s ↦ 1 ])) (sym shaped) (omega arith) }
+whole_element t i k set info known shaped one = record {
+  known = known;
+  parallel = shaped;
+  within = subst (λ (o : Option ℕ). 0 < (elim o [ None ↦ 0 | Some s ↦ elim info.array [ None ↦ 1 | Some n ↦ n ] ])) (sym shaped) (subst (λ (o : Option ℕ). 0 < (elim o [ None ↦ 1 | Some n ↦ n ])) (sym one) (omega arith));
+}
+
+-- so it is of one by its name
+pub element_is : (t : Typed) (i : Instance) (n k set : ℕ) (ty : ValueType) → ty.shape ≡ Some set → (v : HasVariable t i n (V.File k) (plain ty)) → IsElement t k (variable_info v.word (plain ty) v.start) set 0
+element_is t i n k set ty shaped v = whole_element t i k set (variable_info v.word (plain ty) v.start) v.named shaped refl
 
 either_some : (a b : Bool) (own : Own) → b ≡ true → (if a || b then Some own else None) ≡ Some own
 either_some true b own e = refl
@@ -178,29 +194,32 @@ flag_converted elem (Some kind) no_truth one = by (has_all elem kind) refl
     by true all = sym (ap (λ (b : Bool). bits_of (if b then Some kind else narrow elem)) all) ∙ one
     by false less = let wrong = flag_elem elem (sym (ap (λ (b : Bool). bits_of (if b then Some kind else narrow elem)) less) ∙ one) in absurd (grind (arith, nat_tests, wrong, no_truth))
 
-pub pure_own : (t : Typed) (i : Instance) (n bits set : ℕ) (e : TExpr) → IsPure set e → NamesVariables t i n e → StandsInFile t bits set e ⊎ (own_of bits e ≡ None)
-unfolding IsPure own_of NamesVariables value_in is_unchanged evaluated then_do convert_to each at kind_of
+pub pure_own : (t : Typed) (i : Instance) (n bits set : ℕ) (e : TExpr) → IsPure set e → NamesVariables t i n e → StandsInVariable t i bits set e ⊎ (own_of bits e ≡ None)
+unfolding IsPure own_of NamesVariables value_in is_unchanged evaluated then_do convert_to each at kind_of IsRead
 pure_own t i n bits set (T.Variable ty (V.File k)) is v = by (nat_le bits ty.elem.bits) refl
   where
     own : Own
     own = record { shape = ty.shape; variable = V.File k }
 
-    by : (b : Bool) → nat_le bits ty.elem.bits ≡ b → StandsInFile t bits set (T.Variable ty (V.File k)) ⊎ ((if is_none ty.shape || nat_le bits ty.elem.bits then Some own else None) ≡ None)
+    by : (b : Bool) → nat_le bits ty.elem.bits ≡ b → StandsInVariable t i bits set (T.Variable ty (V.File k)) ⊎ ((if is_none ty.shape || nat_le bits ty.elem.bits then Some own else None) ≡ None)
     by true enough = inl (record {
-      k = k;
+      x = V.File k;
       info = variable_info v.word (plain ty) v.start;
       own = either_some (is_none ty.shape) (nat_le bits ty.elem.bits) own enough ∙ ap (λ (o : Option ℕ). Some (record { shape = o; variable = V.File k })) is;
-      is = element_is t i n k set ty is v;
+      read = tt;
+      known = v.named;
+      parallel = is;
+      one = refl;
       fits = grind (arith, nat_tests, enough);
       value = λ extents st q. refl;
       flag = λ one. flag_elem ty.elem one;
-      means = λ scope active extents st. ap (λ (v : Value). Gives v st) (read_is scope active ty set k st is);
+      means = λ scope active extents st. ap (λ (v : Value). Gives v st) (read_is scope active ty set (V.File k) st is);
     })
     by false less = inr (ap (λ (b : Bool). if b || nat_le bits ty.elem.bits then Some own else None) (shaped ty.shape set is) ∙ ap (λ (b : Bool). if b then Some own else None) less)
 pure_own t i n bits set (T.Brackets' ty p inner) is v = by (pure_own t i n bits set inner is.1 v)
   where
-    by : StandsInFile t bits set inner ⊎ (own_of bits inner ≡ None) → StandsInFile t bits set (T.Brackets' ty p inner) ⊎ (own_of bits inner ≡ None)
-    by (inl h) = inl (record { k = h.k; info = h.info; own = h.own; is = h.is; fits = h.fits; value = λ extents st q. ap (λ (y : ValueType). word_of_type y.elem (value_in extents st inner q) % 2 ^ bits) is.0 ∙ h.value extents st q; flag = h.flag; means = h.means })
+    by : StandsInVariable t i bits set inner ⊎ (own_of bits inner ≡ None) → StandsInVariable t i bits set (T.Brackets' ty p inner) ⊎ (own_of bits inner ≡ None)
+    by (inl h) = inl (record { x = h.x; info = h.info; own = h.own; read = h.read; known = h.known; parallel = h.parallel; one = h.one; fits = h.fits; value = λ extents st q. ap (λ (y : ValueType). word_of_type y.elem (value_in extents st inner q) % 2 ^ bits) is.0 ∙ h.value extents st q; flag = h.flag; means = h.means })
     by (inr h) = inr h
 pure_own t i n bits set (T.Unary' ty op p operand) is v = inr refl
 pure_own t i n bits set (T.LogicalOr' ty p left q right) is v = inr refl
@@ -213,14 +232,17 @@ pure_own t i n bits set (T.Convert' ty p operand) is v = by (is_unchanged bits t
         let both : (nat_le bits ty.elem.bits && not (ty.elem.bits == 1)) ≡ true = ap (λ (b : Bool). if b then ty.elem.bits == 32 else nat_le bits ty.elem.bits && not (ty.elem.bits == 1)) (sym (pure_kept set operand is.2)) ∙ e in
         (grind (arith, nat_tests, both), grind (arith, nat_tests, both))
 
-    by : (b : Bool) → is_unchanged bits ty.elem (is_kept operand) ≡ b → StandsInFile t bits set operand ⊎ (own_of bits operand ≡ None) → StandsInFile t bits set (T.Convert' ty p operand) ⊎ ((if is_unchanged bits ty.elem (is_kept operand) then own_of bits operand else None) ≡ None)
+    by : (b : Bool) → is_unchanged bits ty.elem (is_kept operand) ≡ b → StandsInVariable t i bits set operand ⊎ (own_of bits operand ≡ None) → StandsInVariable t i bits set (T.Convert' ty p operand) ⊎ ((if is_unchanged bits ty.elem (is_kept operand) then own_of bits operand else None) ≡ None)
     by true e (inl h) =
         let so = unchanged e in
         inl (record {
-          k = h.k;
+          x = h.x;
           info = h.info;
           own = ap (λ (c : Bool). if c then own_of bits operand else None) e ∙ h.own;
-          is = h.is;
+          read = h.read;
+          known = h.known;
+          parallel = h.parallel;
+          one = h.one;
           fits = h.fits;
           value = λ extents st q. converted_first ty.elem (type_of operand).elem (value_in extents st operand q) bits so.1 so.0 ∙ h.value extents st q;
           flag = λ one. h.flag (flag_converted ty.elem (kind_of operand) so.1 one);

@@ -11,7 +11,7 @@ use Rattle.cstar_tree.specs.declared.typed.TExpr.{TExpr, items-the_row-TExpr}
 use Rattle.cstar_tree.specs.declared.typed.TExpr as T
 use Rattle.cstar_tree.specs.declared.typed.UnaryOp.{UnaryOp}
 use Rattle.cstar_tree.specs.declared.typed.ValueType.{ValueType}
-use Rattle.cstar_tree.specs.declared.typed.Variable.TheVariants as V
+use Rattle.cstar_tree.specs.declared.typed.Variable.{Variable}
 use Rattle.cstar_tree.specs.Typed.{type_of}
 use Rattle.source_meaning.specs.Constants as Const
 use Rattle.source_meaning.specs.Constants.{constant_of, is_constant}
@@ -150,9 +150,9 @@ module _ (scope : Scope) (active : Active) where
   unfolding mapped each
   mapped_is ty set f v shaped = ap (λ (y : ValueType). mapped y f v) (as_shaped ty set shaped)
 
-  pub read_is : (ty : ValueType) (set k : ℕ) (st : State) → ty.shape ≡ Some set → read st (variable_target ty.shape (V.File k) 0) ≡ Parallel (λ p. st.parallel (V.File k) 0 p)
+  pub read_is : (ty : ValueType) (set : ℕ) (x : Variable) (st : State) → ty.shape ≡ Some set → read st (variable_target ty.shape x 0) ≡ Parallel (λ p. st.parallel x 0 p)
   unfolding read variable_target
-  read_is ty set k st shaped = ap (λ (o : Option ℕ). read st (variable_target o (V.File k) 0)) shaped
+  read_is ty set x st shaped = ap (λ (o : Option ℕ). read st (variable_target o x 0)) shaped
 
   pub constant_means : (e : TExpr) (word : ℕ) (st : State) → constant_of e ≡ Some word → evaluated scope e active st ≡ Gives (Scalar word) st
   unfolding constant_of

@@ -108,7 +108,7 @@ module _ (g : Setting) (has : HasRegisters g) (alive : Variable → Type 0) (n :
   unfolding truth_of then_make an_entry step_of passes_from evaluated
   variable_tested set k ty shaped v d s st here sim =
       given_follows g s (meant g fields (T.Variable ty (V.File k)) st) (λ q. st.parallel (V.File k) 0 q) st (λ _ f. LeavesTests g alive fields d s set st number f) (truth_of g.typed (layout g) (T.Variable ty (V.File k)) d)
-      (ap (λ (x : Value). Source.Gives x st) (read_is fields.scope fields.active ty set k st shaped))
+      (ap (λ (x : Value). Source.Gives x st) (read_is fields.scope fields.active ty set (V.File k) st shaped))
       (after_same g (λ _ f. LeavesTests g alive fields d s set st number f) (ap (λ (m : Made Field). then_make m (λ source after. Makes tt (with_instr (I.NeZero source) after))) (field_is g k 0 set info d is))
       (made_after g (λ _ f. LeavesTests g alive fields d s set st number f) tt (with_instr (I.NeZero source) d1) (λ within.
       let carries : Carries g alive (V.File k) info set source = file_carries g alive places fields set k info source is (taken g set info.elem.bits (W.File (file_number g.typed k 0)) d (with_instr (I.NeZero source) d1) 1 within (and_one g (I.NeZero source) d1)) refl refl in

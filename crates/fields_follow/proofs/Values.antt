@@ -1,5 +1,5 @@
 -- The code of a pure parallel expression leaves its numbers in a field, where the source gives them.
-use Rattle.std.proofs.Common.{◌≡◌, ℕ, ◌+◌, Bool, true, false, [], ◌∷◌, ◌++◌, length, Option, Some, None, refl, sym, ap, subst, arith, ◌⊎◌, inl, inr, if◌then◌else◌, length-append, ◌<◌, ◌≤◌, ◌∙◌, slice_get}
+use Rattle.std.proofs.Common.{◌≡◌, ℕ, ◌+◌, Bool, true, false, [], ◌∷◌, ◌++◌, length, Option, Some, None, refl, sym, ap, subst, arith, ◌⊎◌, inl, inr, if◌then◌else◌, length-append, ◌<◌, ◌≤◌, ◌∙◌, slice_get, List}
 use Rattle.cstar_tree.specs.declared.typed.TExpr.{TExpr}
 use Rattle.cstar_tree.specs.declared.typed.TExpr as T
 use Rattle.cstar_tree.specs.declared.typed.ValueType.{ValueType}
@@ -8,12 +8,13 @@ use Rattle.cstar_tree.specs.declared.typed.Variable.{Variable}
 use Rattle.cstar_tree.specs.declared.typed.Variable.TheVariants as V
 use Rattle.cstar_tree.specs.StatementTypes.{variable_info}
 use Rattle.cstar_tree.specs.Typed.{type_of}
-use Rattle.code_lengths.specs.Naming.{HasVariable, NamesVariables, plain}
+use Rattle.code_lengths.specs.Naming.{HasVariable, NamesVariables, plain, variable_named}
 use Rattle.code_lengths.specs.Ready.{IsReadyButForFields}
 use Rattle.code_lengths.proofs.Drafting.{append_nothing}
 use Rattle.lower_base.specs.declared.emit.Out.{Out}
 use Rattle.lower_base.specs.declared.emit.Out.TheVariants as O
-use Rattle.lower_base.specs.Drafts.{Draft, Fails, Made, Makes, an_entry, first_bits, fresh_for, in_field, shortened, step as step_of, then_make, with_instr}
+use Rattle.lower_base.specs.Drafts.{Draft, Fails, Made, Makes, Step, an_entry, first_bits, fresh_for, in_field, shortened, step as step_of, then_make, with_instr}
+use Rattle.lower_base.specs.Layouts.{field_of}
 use Rattle.lower_expr.specs.declared.operands.Own.{Own}
 use Rattle.lower_base.specs.Kinds.{bits_of, kind_of}
 use Rattle.lower_expr.specs.Kinds.{has_number}
@@ -38,12 +39,12 @@ use Rattle.code_follows.proofs.Settings.{Setting, Within, and_one, layout, start
 use Rattle.fields_follow.specs.Fragment.{IsPure}
 use Rattle.fields_follow.specs.Fields.{IsElement, file_number}
 use Rattle.fields_follow.proofs.FileFields.{Apart}
-use Rattle.fields_follow.proofs.Forms.{StandsInFile, element_is, field_is, pure_not_held, pure_own}
+use Rattle.fields_follow.proofs.Forms.{IsRead, StandsInVariable, field_is, pure_not_held, pure_own, whole_element}
 use Rattle.fields_follow.proofs.Instructions.{HasNumbers, extents, place, puts_extended, shapes}
 use Rattle.fields_follow.proofs.Lengths.{held_has}
 use Rattle.fields_follow.proofs.Meaning.{as_shaped, read_is, value_in, word_at}
 use Rattle.fields_follow.proofs.Outcomes.{Given, given_follows, meant}
-use Rattle.fields_follow.proofs.Passing.{After, Behind, GivesField, after_same, gives_first, gives_from, gives_set, in_variable_has, made_after, names_second, passes_all, passes_from, puts_own}
+use Rattle.fields_follow.proofs.Passing.{After, Behind, GivesField, after_same, fields_longer, gives_first, gives_from, gives_set, in_variable_has, made_after, names_second, passes_all, passes_from, puts_own}
 use Rattle.fields_follow.proofs.Places.{HoldsTheFields, IsFileField, IsOwnField, PlacesFields, entry_is, of_file, stands_here}
 use Rattle.fields_follow.proofs.Totals.{held_below}
 use Rattle.fields_follow.proofs.Starts.{Starts}
@@ -100,50 +101,100 @@ module _ (g : Setting) where
         (d : Draft) (s : CodeState) (st : State) → Starts g alive s (length d.code) d.regs → Sim g alive st s
         → Follows g (Given g (λ q. value_in (extents g set) st e q) st (Gives (IsFlag e) bits (length d.fields) d s set st (λ q. word_at (extents g set) st e q))) s (meant g fields e st) (code d)
 
-    -- a variable where it stands
-    pub standing_after : (bits set : ℕ) (e : TExpr) → (h : StandsInFile g.typed bits set e) → Valued bits set e (λ d. standing g.typed (layout g) bits (record { shape = Some set; variable = V.File h.k }) d)
-    unfolding standing first_bits then_make an_entry
-    standing_after bits set e h d s st here sim =
-        given_follows g s (meant g fields e st) (λ q. value_in (extents g set) st e q) st Q (standing g.typed (layout g) bits (record { shape = Some set; variable = V.File h.k }) d) (h.means fields.scope fields.active (extents g set) st)
-        (after_same g Q (ap (λ (m : Made Field). then_make m (λ f after. Makes (O.Field (first_bits bits f)) after)) (field_is g h.k 0 set h.info d h.is))
-        (made_after g Q (O.Field (next_field set bits d)) d1 (λ within. (
-          next_field set bits d,
-          (
-            refl,
-            (
-              record {
-                passes = passes_from g alive (length d.fields) d d1 d1 s st (Behind g (next_field set bits d) d1) (and_entry set h.info.elem.bits owner d) (passes_all g alive (length d.fields) d1 s st (Behind g (next_field set bits d) d1) here sim);
-                stands = inr (record {
-                  x = V.File h.k;
-                  info = h.info;
-                  carries = file_carries g alive places fields set h.k h.info (next_field set h.info.elem.bits d) h.is (taken set h.info.elem.bits owner d d1 0 within (as_it_was d1)) refl refl;
-                  len = refl;
-                  fits = h.fits;
-                  same = λ q below. (h.value (extents g set) st q, held_below (type_of e).elem (value_in (extents g set) st e q));
-                });
-              },
-              λ flag. standing_apart (taken set h.info.elem.bits owner d d1 0 within (as_it_was d1)) (h.flag flag),
-            ),
-          ),
-        ))))
+    -- The code finds the field of a variable, maybe with an entry more: it carries the variable, and one of a variable of one
+    -- bit is apart from wider ones.
+    pub record Finds (set : ℕ) (x : Variable) (info : VarInfo) (d : Draft) : Type 0 where
+      pub e : Draft
+      pub f : Field
+      pub is : field_of g.typed (layout g) x 0 d ≡ Makes f e
+      pub grown : Extended d 0 e
+      pub code : e.code ≡ d.code
+      pub regs : e.regs ≡ d.regs
+      pub carries : (after : Draft) (m : ℕ) → Extended e m after → Within g after → Carries g alive x info set f
+      pub apart : (after : Draft) (m : ℕ) → Extended e m after → Within g after → info.elem.bits ≡ 1 → IsApart set f
+
+    -- or there is no code
+    abbrev pub FindsOrFails : ℕ → Variable → VarInfo → Draft → Type 0
+    FindsOrFails set x info d = (field_of g.typed (layout g) x 0 d ≡ Fails) ⊎ Finds set x info d
+
+    -- that of a variable of the file is a new entry
+    pub file_finds : (set k : ℕ) (info : VarInfo) (d : Draft) → IsElement g.typed k info set 0 → Finds set (V.File k) info d
+    unfolding an_entry
+    file_finds set k info d is = record {
+      e = d1;
+      f = f;
+      is = field_is g k 0 set info d is;
+      grown = and_entry set info.elem.bits owner d;
+      code = refl;
+      regs = refl;
+      carries = λ after m more within. file_carries g alive places fields set k info f is (entry after m more within) refl refl;
+      apart = λ after m more within one j of of_is wider.
+          subst (λ (x : Field). Apart x (of_file g j 0)) (sym (places.file k 0 info f is refl (entry after m more within))) (places.files_apart k 0 set j 0 set info of is of_is (λ same zero.
+          let same_info : info ≡ of = ap (λ (o : Option VarInfo). elim o as (λ _. VarInfo) [ None ↦ info | Some y ↦ y ]) (sym is.known ∙ ap (λ (m : ℕ). slice_get g.typed.vars.items m) same ∙ of_is.known) in
+          let same_bits : info.elem.bits ≡ of.elem.bits = ap (λ (y : VarInfo). y.elem.bits) same_info in
+          omega (arith, same_bits, one, wider)));
+    }
       where
         owner : Owner
-        owner = W.File (file_number g.typed h.k 0)
+        owner = W.File (file_number g.typed k 0)
 
         d1 : Draft
-        d1 = with_entry set h.info.elem.bits owner d
+        d1 = with_entry set info.elem.bits owner d
 
+        f : Field
+        f = next_field set info.elem.bits d
+
+        entry : (after : Draft) (m : ℕ) → Extended d1 m after → Within g after → IsFileField g k 0 f
+        entry after m more within = taken set info.elem.bits owner d after m within more
+
+    -- so those are that expressions read
+    pub finds_read : (set : ℕ) (x : Variable) (info : VarInfo) (d : Draft) → IsRead x → variable_named g.typed g.instance x ≡ Some info → info.shape ≡ Some set → info.array ≡ None → FindsOrFails set x info d
+    unfolding IsRead
+    finds_read set (V.File k) info d read known shaped one = inr (file_finds set k info d (whole_element g.typed g.instance k set info known shaped one))
+    finds_read set _ info d read known shaped one = absurd read
+
+    -- code that goes on from the entry starts where it did
+    starts_found : (set : ℕ) (x : Variable) (info : VarInfo) (d : Draft) (s : CodeState) → (found : Finds set x info d) → Starts g alive s (length d.code) d.regs → Starts g alive s (length found.e.code) found.e.regs
+    starts_found set x info d s found here = subst (λ (c : List Step). Starts g alive s (length c) found.e.regs) (sym found.code) (subst (λ (r : ℕ). Starts g alive s (length d.code) r) (sym found.regs) here)
+
+    -- a variable where it stands
+    pub standing_after : (bits set : ℕ) (e : TExpr) → (h : StandsInVariable g.typed g.instance bits set e) → Valued bits set e (λ d. standing g.typed (layout g) bits (record { shape = Some set; variable = h.x }) d)
+    unfolding standing first_bits then_make After
+    standing_after bits set e h d s st here sim =
+        given_follows g s (meant g fields e st) (λ q. value_in (extents g set) st e q) st Q (standing g.typed (layout g) bits (record { shape = Some set; variable = h.x }) d) (h.means fields.scope fields.active (extents g set) st)
+        (by (finds_read set h.x h.info d h.read h.known h.parallel h.one))
+      where
         Q : Out → Draft → Type 0
         Q = Gives (IsFlag e) bits (length d.fields) d s set st (λ q. word_at (extents g set) st e q)
 
-        -- a variable of one bit is none of more
-        standing_apart : IsFileField g h.k 0 (next_field set h.info.elem.bits d) → h.info.elem.bits ≡ 1 → IsApart set (next_field set bits d)
-        standing_apart file one k info is more =
-            shorter_apart (place g (next_field set bits d)) h.info.elem.bits (of_file g k 0) h.fits
-            (subst (λ (x : Field). Apart x (of_file g k 0)) (sym (places.file h.k 0 h.info (next_field set h.info.elem.bits d) h.is refl file)) (places.files_apart h.k 0 set k 0 set h.info info h.is is (λ same zero.
-            let same_info : h.info ≡ info = ap (λ (o : Option VarInfo). elim o as (λ _. VarInfo) [ None ↦ h.info | Some y ↦ y ]) (sym h.is.known ∙ ap (λ (m : ℕ). slice_get g.typed.vars.items m) same ∙ is.known) in
-            let same_bits : h.info.elem.bits ≡ info.elem.bits = ap (λ (y : VarInfo). y.elem.bits) same_info in
-            omega (arith, same_bits, one, more))))
+        code : Made Field → Made Out
+        code m = then_make m (λ f after. Makes (O.Field (first_bits bits f)) after)
+
+        by : FindsOrFails set h.x h.info d → After g Q (standing g.typed (layout g) bits (record { shape = Some set; variable = h.x }) d)
+        by (inl fails) = after_same g Q (ap code fails) tt
+        by (inr found) =
+            after_same g Q (ap code found.is)
+            (made_after g Q (O.Field (record found.f { len = bits })) found.e (λ within.
+            let carries : Carries g alive h.x h.info set found.f = found.carries found.e 0 (as_it_was found.e) within in (
+              record found.f { len = bits },
+              (
+                refl,
+                (
+                  record {
+                    passes = passes_from g alive (length d.fields) d found.e found.e s st (Behind g (record found.f { len = bits }) found.e) found.grown (passes_all g alive (length d.fields) found.e s st (Behind g (record found.f { len = bits }) found.e) (starts_found set h.x h.info d s found here) sim);
+                    stands = inr (record {
+                      x = h.x;
+                      info = h.info;
+                      carries = subst (λ (n : ℕ). Carries g alive h.x h.info set (record found.f { len = n })) carries.len carries;
+                      len = refl;
+                      fits = h.fits;
+                      same = λ q below. (h.value (extents g set) st q, held_below (type_of e).elem (value_in (extents g set) st e q));
+                    });
+                  },
+                  λ flag j of is wider. shorter_apart (place g (record found.f { len = bits })) found.f.len (of_file g j 0) (subst (λ (m : ℕ). bits ≤ m) (sym carries.len) h.fits) (found.apart found.e 0 (as_it_was found.e) within (h.flag flag) j of is wider),
+                ),
+              ),
+            )))
 
     -- what needs no field of its own is used where it stands, if all is quiet
     pub operand_after : (bits set : ℕ) (e : TExpr) (quiet : Bool) → IsPure set e → NamesVariables g.typed g.instance n e → Valued bits set e (λ d. code_of bits e d) → Valued bits set e (λ d. operand_of bits quiet e d)
@@ -156,7 +207,7 @@ module _ (g : Setting) where
         R : Value → State → Out → Draft → Type 0
         R = Given g (λ q. value_in (extents g set) st e q) st (Gives (IsFlag e) bits (length d.fields) d s set st (λ q. word_at (extents g set) st e q))
 
-        by : (quiet : Bool) → StandsInFile g.typed bits set e ⊎ (own_of bits e ≡ None) → Follows g R s (meant g fields e st) (elim (if quiet then own_of bits e else None) as (λ _. Made Out) [ Some own ↦ standing g.typed (layout g) bits own d | None ↦ code_of bits e d ])
+        by : (quiet : Bool) → StandsInVariable g.typed g.instance bits set e ⊎ (own_of bits e ≡ None) → Follows g R s (meant g fields e st) (elim (if quiet then own_of bits e else None) as (λ _. Made Out) [ Some own ↦ standing g.typed (layout g) bits own d | None ↦ code_of bits e d ])
         by true (inl h) = follows_same g R s refl (ap (λ (o : Option Own). elim o as (λ _. Made Out) [ Some own ↦ standing g.typed (layout g) bits own d | None ↦ code_of bits e d ]) h.own) (standing_after bits set e h d s st here sim)
         by true (inr none) = follows_same g R s refl (ap (λ (o : Option Own). elim o as (λ _. Made Out) [ Some own ↦ standing g.typed (layout g) bits own d | None ↦ code_of bits e d ]) none) (whole d s st here sim)
         by false any = whole d s st here sim
@@ -178,44 +229,46 @@ module _ (g : Setting) where
     )
 
     -- a copy of a variable's field, cut or extended
-    field_copied : (bits set k : ℕ) (info : VarInfo) → bits ≤ 32 → IsElement g.typed k info set 0 → (d : Draft) (s : CodeState) (st : State) → Starts g alive s (length d.code) d.regs → Sim g alive st s
-        → (flag : Type 0) → After g (Gives flag bits (length d.fields) d s set st (λ q. held info.elem (st.parallel (V.File k) 0 q))) (field_loaded g.typed (layout g) info.elem.signed (V.File k) 0 (next_field set bits d) (with_entry set bits W.Own d))
-    unfolding field_loaded then_make an_entry step_of
-    field_copied bits set k info most is d s st here sim flag =
+    field_copied : (bits set : ℕ) (x : Variable) (info : VarInfo) → bits ≤ 32 → (d : Draft) → FindsOrFails set x info (with_entry set bits W.Own d) → (s : CodeState) (st : State) → Starts g alive s (length d.code) d.regs → Sim g alive st s
+        → (flag : Type 0) → After g (Gives flag bits (length d.fields) d s set st (λ q. held info.elem (st.parallel x 0 q))) (field_loaded g.typed (layout g) info.elem.signed x 0 (next_field set bits d) (with_entry set bits W.Own d))
+    unfolding field_loaded then_make step_of After
+    field_copied bits set x info most d (inl fails) s st here sim flag =
+        after_same g (Gives flag bits (length d.fields) d s set st (λ q. held info.elem (st.parallel x 0 q))) (ap (λ (m : Made Field). then_make m (λ f after. Makes (O.Field (next_field set bits d)) (with_instr (I.Move info.elem.signed (next_field set bits d) f) after))) fails) tt
+    field_copied bits set x info most d (inr found) s st here sim flag =
         let dest : Field = next_field set bits d in
         let d1 : Draft = with_entry set bits W.Own d in
-        let owner : Owner = W.File (file_number g.typed k 0) in
-        let d2 : Draft = with_entry set info.elem.bits owner d1 in
-        let source : Field = next_field set info.elem.bits d1 in
+        let d2 : Draft = found.e in
+        let source : Field = found.f in
         let i : Instr = I.Move info.elem.signed dest source in
-        let v : ℕ → ℕ = λ q. held info.elem (st.parallel (V.File k) 0 q) in
-        after_same g (Gives flag bits (length d.fields) d s set st v) (ap (λ (m : Made Field). then_make m (λ f after. Makes (O.Field dest) (with_instr (I.Move info.elem.signed dest f) after))) (field_is g k 0 set info d1 is))
+        let v : ℕ → ℕ = λ q. held info.elem (st.parallel x 0 q) in
+        let starts : Starts g alive s (length d2.code) d2.regs = starts_found set x info d1 s found here in
+        after_same g (Gives flag bits (length d.fields) d s set st v) (ap (λ (m : Made Field). then_make m (λ f after. Makes (O.Field dest) (with_instr (I.Move info.elem.signed dest f) after))) found.is)
         (made_after g (Gives flag bits (length d.fields) d s set st v) (O.Field dest) (with_instr i d2) (λ within.
-        let own : IsOwnField g dest = taken set bits W.Own d (with_instr i d2) 1 within (and_instr i d1 d2 0 (and_entry set info.elem.bits owner d1)) in
-        let file : IsFileField g k 0 source = taken set info.elem.bits owner d1 (with_instr i d2) 1 within (and_one g i d2) in
+        let own : IsOwnField g dest = taken set bits W.Own d (with_instr i d2) 1 within (and_instr i d1 d2 0 found.grown) in
+        let carries : Carries g alive x info set source = found.carries (with_instr i d2) 1 (and_one g i d2) within in
         let named : IsNamedAt g.unit source.offset (length d2.code) = names_second g i dest source [] (length d2.code) (stands_here g i d2 within refl) refl in
-        let behind : s.at ≤ start g + length d2.code = (let at = here.stands in omega (arith, at)) in
-        let numbers = variable_has set (V.File k) info source s st (file_carries g alive places fields set k info source is file refl refl) (length d2.code) named behind sim in
-        let h = puts_own g alive places fields bits (length d.fields) set i dest d2 s st v (omega arith) (let one = one_more set bits W.Own d in let two = one_more set info.elem.bits owner d1 in omega (arith, one, two)) own refl refl within here sim
+        let behind : s.at ≤ start g + length d2.code = (let at = starts.stands in omega (arith, at)) in
+        let numbers = variable_has set x info source s st carries (length d2.code) named behind sim in
+        let h = puts_own g alive places fields bits (length d.fields) set i dest d2 s st v (omega arith) (let one = one_more set bits W.Own d in let two = fields_longer d1 d2 0 found.grown in omega (arith, one, two)) own refl refl within starts sim
         (puts_extended g info.elem set dest source s v most (λ q below on. numbers.1 q below) numbers.0) in (
           dest,
           (
             refl,
             (
               gives_from g alive bits (length d.fields) d d1 (with_instr i d2) s set st v dest (and_entry set bits W.Own d)
-                  (gives_from g alive bits (length d.fields) d1 d2 (with_instr i d2) s set st v dest (and_entry set info.elem.bits owner d1) h),
+                  (gives_from g alive bits (length d.fields) d1 d2 (with_instr i d2) s set st v dest found.grown h),
               λ flag j other other_is more. places.own_file j 0 set other dest other_is own,
             ),
           ),
         )))
 
-    pub variable_after : (bits set k : ℕ) (ty : ValueType) → bits ≤ 32 → ty.shape ≡ Some set → HasVariable g.typed g.instance n (V.File k) (plain ty) → Valued bits set (T.Variable ty (V.File k)) (λ d. code_of bits (T.Variable ty (V.File k)) d)
+    pub variable_after : (bits set : ℕ) (x : Variable) (ty : ValueType) → bits ≤ 32 → IsRead x → ty.shape ≡ Some set → HasVariable g.typed g.instance n x (plain ty) → Valued bits set (T.Variable ty x) (λ d. code_of bits (T.Variable ty x) d)
     unfolding value_of read_by read_to fresh_for an_entry then_make variable_spot loaded in_field value_in evaluated
-    variable_after bits set k ty most shaped v d s st here sim =
-        given_follows g s (meant g fields (T.Variable ty (V.File k)) st) (λ q. st.parallel (V.File k) 0 q) st (Gives (IsFlag (T.Variable ty (V.File k))) bits (length d.fields) d s set st (λ q. held ty.elem (st.parallel (V.File k) 0 q))) (code_of bits (T.Variable ty (V.File k)) d)
-        (ap (λ (x : Value). Source.Gives x st) (read_is fields.scope fields.active ty set k st shaped))
-        (after_same g (Gives (IsFlag (T.Variable ty (V.File k))) bits (length d.fields) d s set st (λ q. held ty.elem (st.parallel (V.File k) 0 q))) (ap (λ (y : ValueType). code_of bits (T.Variable y (V.File k)) d) (as_shaped ty set shaped))
-        (field_copied bits set k (variable_info v.word (plain ty) v.start) most (element_is g.typed g.instance n k set ty shaped v) d s st here sim (IsFlag (T.Variable ty (V.File k)))))
+    variable_after bits set x ty most read shaped v d s st here sim =
+        given_follows g s (meant g fields (T.Variable ty x) st) (λ q. st.parallel x 0 q) st (Gives (IsFlag (T.Variable ty x)) bits (length d.fields) d s set st (λ q. held ty.elem (st.parallel x 0 q))) (code_of bits (T.Variable ty x) d)
+        (ap (λ (y : Value). Source.Gives y st) (read_is fields.scope fields.active ty set x st shaped))
+        (after_same g (Gives (IsFlag (T.Variable ty x)) bits (length d.fields) d s set st (λ q. held ty.elem (st.parallel x 0 q))) (ap (λ (y : ValueType). code_of bits (T.Variable y x) d) (as_shaped ty set shaped))
+        (field_copied bits set x (variable_info v.word (plain ty) v.start) most d (finds_read set x (variable_info v.word (plain ty) v.start) (with_entry set bits W.Own d) read v.named shaped refl) s st here sim (IsFlag (T.Variable ty x))))
 
     -- the first bits of a field that has more
     pub first_given : (bits fewer bound : ℕ) (d : Draft) (s : CodeState) (set : ℕ) (st : State) (v : ℕ → ℕ) (flag P E : Type 0) (made : Made Out) → fewer ≤ bits → After g (λ out e. (P × Gives flag bits bound d s set st v out e) ⊎ E) made → After g (λ out e. (P × Gives flag fewer bound d s set st v out e) ⊎ E) (lowest fewer made)
