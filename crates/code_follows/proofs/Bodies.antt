@@ -1,5 +1,5 @@
 -- Blocks and statements in a row, and what jumps out of a loop.
-use Rattle.std.proofs.Common.{◌≡◌, ℕ, ◌+◌, ◌≤◌, false, List, ◌++◌, map, Vec, Global, length, sym, subst, arith, refl, Option, None, Some}
+use Rattle.std.proofs.Common.{◌≡◌, ℕ, ◌+◌, ◌≤◌, false, List, ◌++◌, map, Vec, Global, length, sym, subst, arith, refl, Some}
 use mathlib.Core.Former.{Count}
 use Rattle.std.proofs.lemmas.List.{length-map}
 use Rattle.std.specs.List.{All}
@@ -34,7 +34,7 @@ use Rattle.code_follows.proofs.Declaring.{clears, sim_fewer, Alive}
 use Rattle.code_follows.specs.Fragment.{IsBlockLocal, IsEffect, OrAmong, naming}
 use Rattle.code_follows.proofs.Assigning.{effect_follows}
 use Rattle.code_follows.proofs.Besides.{LocalsClear}
-use Rattle.code_follows.proofs.Executing.{Exits, IsGiven, Jumped, Left, LeftSo, RanOn, follows_from, go_on}
+use Rattle.code_follows.proofs.Executing.{Exits, Jumped, Left, LeftSo, RanOn, follows_from, go_on}
 use Rattle.code_follows.proofs.Callees.{CallsFollow}
 use Rattle.code_follows.proofs.Following.{Extends, Follows, follows_other, HasRegisters, Ran, Sim, delayed, extends_made, keeps_all, nothing_said}
 use Rattle.code_follows.proofs.Growing.{Extended, as_it_was, extended}
@@ -57,16 +57,16 @@ module _ (g : Setting) (has : HasRegisters g) (alive : Variable → Type 0) (fil
   effect_statement f n d s0 (Source.Ends early u) Fails h = tt
 
   -- contexts are loaded, and a jump out of a loop leads to where this is held
-  jumps_out : (held : Held) (newest place : ℕ) (d : Draft) (s0 : CodeState) (st : State) → Restores g held contexts newest → LastsTo g held place → Begun g d → At g s0 (length d.code) → Sim g alive st s0 → Within g (with_instr (I.FrontJump place) (restored contexts newest d)) → Jumped g alive held d s0 st place
+  jumps_out : (held : Held) (lives : Variable → Type 0) → ((x : Variable) → lives x → alive x) → (newest place : ℕ) (d : Draft) (s0 : CodeState) (st : State) → Restores g held contexts newest → LastsTo g held place → Begun g d → At g s0 (length d.code) → Sim g alive st s0 → Within g (with_instr (I.FrontJump place) (restored contexts newest d)) → Jumped g lives held d s0 st place
   unfolding step_of
-  jumps_out held newest place d s0 st restores lasts free at sim within =
+  jumps_out held lives among newest place d s0 st restores lasts free at sim within =
       let loaded : Draft = restored contexts newest d in
       let r = restores.loads alive d s0 st free at sim (earlier g loaded (with_instr (I.FrontJump place) loaded) 1 (and_one g (I.FrontJump place) loaded) within) in
       record {
         t = moved_to g alive (place + start g) r.t;
         go = onto g s0 r.t (moved_to g alive (place + start g) r.t) r.go (jumps g alive place loaded r.t within r.at);
         at = omega arith;
-        sim = sim_landed (holding g held) alive st r.t (length loaded.code) place (I.FrontJump place) r.at (stands_here g (I.FrontJump place) loaded within refl) refl lasts r.sim;
+        sim = sim_landed (holding g held) lives st r.t (length loaded.code) place (I.FrontJump place) r.at (stands_here g (I.FrontJump place) loaded within refl) refl lasts (sim_fewer (holding g held) alive lives st r.t (λ x info named h. among x h) r.sim);
         keeps = r.keeps;
       }
 
@@ -108,13 +108,13 @@ module _ (g : Setting) (has : HasRegisters g) (alive : Variable → Type 0) (fil
   expression_follows e h f n d s0 st free at sim c =
       effect_statement f n d s0 _ _ (effect_follows g has alive n files (ready n) scope active calls_follow e h (expression_code g numbers n e c) d s0 st free at sim)
 
-  pub breaks : (f : Exits) (n : ℕ) (d : Draft) (s0 : CodeState) (st : State) → StandsHere g f contexts → Begun g d → At g s0 (length d.code) → Sim g alive st s0 → Follows g (Left g alive f d s0) s0 (Source.Gives Broke st) (Makes n (with_instr (I.FrontJump f.frame.after) (restored contexts f.frame.saved.in_loop d)))
+  pub breaks : (f : Exits) (n : ℕ) (d : Draft) (s0 : CodeState) (st : State) → StandsHere g alive f contexts → Begun g d → At g s0 (length d.code) → Sim g alive st s0 → Follows g (Left g alive f d s0) s0 (Source.Gives Broke st) (Makes n (with_instr (I.FrontJump f.frame.after) (restored contexts f.frame.saved.in_loop d)))
   unfolding Follows LeftSo
-  breaks f n d s0 st stands free at sim = λ within. jumps_out f.loop f.frame.saved.in_loop f.frame.after d s0 st stands.loop stands.after free at sim within
+  breaks f n d s0 st stands free at sim = λ within. jumps_out f.loop f.lives stands.lives f.frame.saved.in_loop f.frame.after d s0 st stands.loop stands.after free at sim within
 
-  pub continues : (f : Exits) (n : ℕ) (d : Draft) (s0 : CodeState) (st : State) → StandsHere g f contexts → Begun g d → At g s0 (length d.code) → Sim g alive st s0 → Follows g (Left g alive f d s0) s0 (Source.Gives Continued st) (Makes n (with_instr (I.FrontJump f.frame.next) (restored contexts f.frame.saved.in_loop d)))
+  pub continues : (f : Exits) (n : ℕ) (d : Draft) (s0 : CodeState) (st : State) → StandsHere g alive f contexts → Begun g d → At g s0 (length d.code) → Sim g alive st s0 → Follows g (Left g alive f d s0) s0 (Source.Gives Continued st) (Makes n (with_instr (I.FrontJump f.frame.next) (restored contexts f.frame.saved.in_loop d)))
   unfolding Follows LeftSo
-  continues f n d s0 st stands free at sim = λ within. jumps_out f.loop f.frame.saved.in_loop f.frame.next d s0 st stands.loop stands.next free at sim within
+  continues f n d s0 st stands free at sim = λ within. jumps_out f.loop f.lives stands.lives f.frame.saved.in_loop f.frame.next d s0 st stands.loop stands.next free at sim within
 
   pub block_stands : (n : ℕ) (locals : Vec LocalVar Global) (p : Vec (Unit {0}) Global) (row : _) → HasStatementCode g.typed g.instance n (S.Block' locals p row) → StandFrom (variables_of g.instance.body) n (map info_of locals.items ++ row_variables row)
   block_stands n locals p row c = subst (λ (own : List VarInfo). StandFrom (variables_of g.instance.body) n own) (of_block locals p row) c.stands
@@ -201,23 +201,12 @@ module _ (g : Setting) (has : HasRegisters g) (alive : Variable → Type 0) (fil
 
 -- what is said of more variables is said of fewer where a statement is left
 module _ (g : Setting) (wide alive : Variable → Type 0) (among : (x : Variable) → alive x → wide x) where
-  held_fewer : (held : Held) (st : State) (s : CodeState) → Sim (holding g held) wide st s → Sim (holding g held) alive st s
-  held_fewer held st s sim = sim_fewer (holding g held) wide alive st s (λ x info named h. among x h) sim
-
-  jumped_fewer : (held : Held) (d : Draft) (s : CodeState) (st : State) (place : ℕ) → Jumped g wide held d s st place → Jumped g alive held d s st place
-  jumped_fewer held d s st place j = record { t = j.t; go = j.go; at = j.at; sim = held_fewer held st j.t j.sim; keeps = j.keeps }
-
-  given_fewer : (s t : CodeState) (v : Option Value) → IsGiven g wide s t v → IsGiven g alive s t v
-  unfolding IsGiven
-  given_fewer s t None h = h
-  given_fewer s t (Some v) h = h
-
   left_fewer : (f : Exits) (d : Draft) (s : CodeState) (leaving : Leaving) (st : State) (m : ℕ) (e : Draft) → Left g wide f d s leaving st m e → Left g alive f d s leaving st m e
   unfolding LeftSo
-  left_fewer f d s Onward st m e r = record { grown = r.grown; t = r.t; go = r.go; at = r.at; sim = held_fewer g.held st r.t r.sim; keeps = r.keeps }
-  left_fewer f d s Broke st m e r = jumped_fewer f.loop d s st f.frame.after r
-  left_fewer f d s Continued st m e r = jumped_fewer f.loop d s st f.frame.next r
-  left_fewer f d s (Returned v) st m e r = record { t = r.t; go = r.go; sim = held_fewer f.all st r.t r.sim; leaves = r.leaves; spares = r.spares; given = given_fewer s r.t v r.given }
+  left_fewer f d s Onward st m e r = record { grown = r.grown; t = r.t; go = r.go; at = r.at; sim = sim_fewer g wide alive st r.t (λ x info named h. among x h) r.sim; keeps = r.keeps }
+  left_fewer f d s Broke st m e r = r
+  left_fewer f d s Continued st m e r = r
+  left_fewer f d s (Returned v) st m e r = r
 
   pub follows_fewer : (f : Exits) (d : Draft) (s : CodeState) (o : Outcome Leaving) (made : Made ℕ) → Follows g (Left g wide f d s) s o made → Follows g (Left g alive f d s) s o made
   follows_fewer f d s o made h = follows_other g (Left g wide f d s) (Left g alive f d s) s o made h (λ leaving st m e r. left_fewer f d s leaving st m e r)

@@ -33,7 +33,7 @@ module _ (g : Setting) (has : HasRegisters g) (alive : Variable → Type 0) (fil
   -- the code of a statement follows it
   abbrev pub Agrees : ℕ → TStmt → Type 1
   Agrees n s =
-      (f : Exits) (d : Draft) (s0 : CodeState) (st : State) → StandsIn g f.frame → StandsHere g f contexts → HasDeclared g.typed g.instance (layout g) n d → Begun g d → At g s0 (length d.code) → Sim g alive st s0 → HasStatementCode g.typed g.instance n s
+      (f : Exits) (d : Draft) (s0 : CodeState) (st : State) → StandsIn g f.frame → StandsHere g alive f contexts → HasDeclared g.typed g.instance (layout g) n d → Begun g d → At g s0 (length d.code) → Sim g alive st s0 → HasStatementCode g.typed g.instance n s
       → Follows g (Left g alive f d s0) s0 (executed scope s n active st) (statement_of g.typed (layout g) s f.frame contexts n d)
 
   -- code that is left at its end jumps over more code
@@ -65,7 +65,7 @@ module _ (g : Setting) (has : HasRegisters g) (alive : Variable → Type 0) (fil
       by (Source.Ends early st) h1 = λ w. h1 (within_e w)
 
   module _ (n : ℕ) (test : TExpr) (p : Boxed) (first : TStmt) (second : Held-TStmt-If-2) (isin : (IsIn (naming g.may alive)) test) (first_agrees : Agrees n first) where
-    module _ (f : Exits) (d : Draft) (s0 : CodeState) (st : State) (framed : StandsIn g f.frame) (among : StandsHere g f contexts) (known : HasDeclared g.typed g.instance (layout g) n d) (free : Begun g d) (at : At g s0 (length d.code)) (sim : Sim g alive st s0)
+    module _ (f : Exits) (d : Draft) (s0 : CodeState) (st : State) (framed : StandsIn g f.frame) (among : StandsHere g alive f contexts) (known : HasDeclared g.typed g.instance (layout g) n d) (free : Begun g d) (at : At g s0 (length d.code)) (sim : Sim g alive st s0)
         (c : HasStatementCode g.typed g.instance n (S.If' test p first second)) where
       abbrev long : ℕ
       long = statement_length_of g.typed (layout g) (has_result f.frame) f.frame.saved first
@@ -149,7 +149,7 @@ module _ (g : Setting) (has : HasRegisters g) (alive : Variable → Type 0) (fil
           }
 
   module _ (n : ℕ) (test : TExpr) (p : Boxed) (first : TStmt) (q : Boxed) (second : TStmt) (isin : (IsIn (naming g.may alive)) test) (first_agrees : Agrees n first) (second_agrees : Agrees (behind n first) second) where
-    module _ (f : Exits) (d : Draft) (s0 : CodeState) (st : State) (framed : StandsIn g f.frame) (among : StandsHere g f contexts) (known : HasDeclared g.typed g.instance (layout g) n d) (free : Begun g d) (at : At g s0 (length d.code)) (sim : Sim g alive st s0)
+    module _ (f : Exits) (d : Draft) (s0 : CodeState) (st : State) (framed : StandsIn g f.frame) (among : StandsHere g alive f contexts) (known : HasDeclared g.typed g.instance (layout g) n d) (free : Begun g d) (at : At g s0 (length d.code)) (sim : Sim g alive st s0)
         (c : HasStatementCode g.typed g.instance n (S.If' test p first (Some' q second))) where
       abbrev condition : TestMade g alive has files n (ready n) scope active calls_follow test d n
       condition = tests n test p first (Some' q second) isin first_agrees f d s0 st framed among known free at sim c

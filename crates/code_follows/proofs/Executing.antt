@@ -53,15 +53,17 @@ kept_not : (may : May) (e : TExpr) → IsIn may e → is_kept e ≡ false → �
 kept_not may e isin h = let k : is_kept e ≡ true = kept may e isin in cc
 
 -- Where a statement stands: in a frame, and what is held of the memory where a jump out of its loop leads, and where its
--- function is left.
+-- function is left, with the variables that are alive there.
 pub record Exits : Type 1 where
   pub frame : Frame
   pub loop : Held
   pub all : Held
+  pub lives : Variable → Type 0
+  pub outer : Variable → Type 0
 
--- in the body of a loop around which this is held
-abbrev pub in_body : Frame → Held → Exits → Exits
-in_body frame held f = record { frame = frame; loop = held; all = f.all }
+-- in the body of a loop around which this is held and these are alive
+abbrev pub in_body : Frame → Held → (Variable → Type 0) → Exits → Exits
+in_body frame held lives f = record { frame = frame; loop = held; all = f.all; lives = lives; outer = f.outer }
 
 module _ (g : Setting) (alive : Variable → Type 0) where
   -- the code led to a place of the unit, where this is held of the memory
@@ -105,6 +107,10 @@ module _ (g : Setting) (alive : Variable → Type 0) where
     given = given_from s t r.t v (keeps (result_register (layout g)) (result_kept g d)) r.given;
   }
 
+  pub jumped_from : (held : Held) (d e : Draft) (n : ℕ) (s t : CodeState) (st : State) (place : ℕ) → Extended d n e → Reaches g s t → Keeps g d s t → Jumped held e t st place → Jumped held d s st place
+  jumped_from held d e n s t st place x go keeps r = record { t = r.t; go = onto g s t r.t go r.go; at = r.at; sim = r.sim; keeps = keeps_on g d e n s t r.t x keeps r.keeps }
+
+module _ (g : Setting) (alive : Variable → Type 0) where
   -- the code arrives behind a draft, and the source goes on
   abbrev pub RanOn : {A : Type 0} → Draft → CodeState → Leaving → State → A → Draft → Type 0
   RanOn d s leaving u y e = (leaving ≡ Onward) × Ran g alive d s u e
@@ -112,9 +118,9 @@ module _ (g : Setting) (alive : Variable → Type 0) where
   -- how a statement is left: at its end, of which this is said, or where its jump leads
   unfoldable pub LeftSo : (State → Draft → Type 0) → Exits → Draft → CodeState → Leaving → State → ℕ → Draft → Type 0
   LeftSo R f d s Onward st m e = R st e
-  LeftSo R f d s Broke st m e = Jumped f.loop d s st f.frame.after
-  LeftSo R f d s Continued st m e = Jumped f.loop d s st f.frame.next
-  LeftSo R f d s (Returned v) st m e = Returns f.all s st v
+  LeftSo R f d s Broke st m e = Jumped g f.lives f.loop d s st f.frame.after
+  LeftSo R f d s Continued st m e = Jumped g f.lives f.loop d s st f.frame.next
+  LeftSo R f d s (Returned v) st m e = Returns g f.outer f.all s st v
 
   -- at its end the code arrives
   abbrev pub Left : Exits → Draft → CodeState → Leaving → State → ℕ → Draft → Type 0
@@ -142,15 +148,12 @@ module _ (g : Setting) (alive : Variable → Type 0) where
     keeps = keeps_on g d e n s t r.t x keeps r.keeps;
   }
 
-  pub jumped_from : (held : Held) (d e : Draft) (n : ℕ) (s t : CodeState) (st : State) (place : ℕ) → Extended d n e → Reaches g s t → Keeps g d s t → Jumped held e t st place → Jumped held d s st place
-  jumped_from held d e n s t st place x go keeps r = record { t = r.t; go = onto g s t r.t go r.go; at = r.at; sim = r.sim; keeps = keeps_on g d e n s t r.t x keeps r.keeps }
-
   left_from : (f : Exits) (d e : Draft) (n : ℕ) (s t : CodeState) (leaving : Leaving) (st : State) (m : ℕ) (h : Draft) → Extended d n e → Reaches g s t → Keeps g d s t → Left f e t leaving st m h → Left f d s leaving st m h
   unfolding LeftSo
   left_from f d e n s t Onward st m h x go keeps r = ran_from d e n s t st h x go keeps r
-  left_from f d e n s t Broke st m h x go keeps r = jumped_from f.loop d e n s t st f.frame.after x go keeps r
-  left_from f d e n s t Continued st m h x go keeps r = jumped_from f.loop d e n s t st f.frame.next x go keeps r
-  left_from f d e n s t (Returned v) st m h x go keeps r = returns_from f.all d s t st v go keeps r
+  left_from f d e n s t Broke st m h x go keeps r = jumped_from g f.lives f.loop d e n s t st f.frame.after x go keeps r
+  left_from f d e n s t Continued st m h x go keeps r = jumped_from g f.lives f.loop d e n s t st f.frame.next x go keeps r
+  left_from f d e n s t (Returned v) st m h x go keeps r = returns_from g f.outer f.all d s t st v go keeps r
 
   pub follows_from : (f : Exits) (d e : Draft) (n : ℕ) (s t : CodeState) (o : Outcome Leaving) (made : Made ℕ) → Extended d n e → Reaches g s t → Keeps g d s t → Follows g (Left f e t) t o made → Follows g (Left f d s) s o made
   unfolding Follows

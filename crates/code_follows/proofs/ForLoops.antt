@@ -135,7 +135,7 @@ module _ (g : Setting) (has : HasRegisters g) (alive : Variable → Type 0) (fil
       body_code = record { shaped = c.shaped.3; lowerable = c.lowerable.3; names = c.names.3; stands = subst (λ (own : List VarInfo). StandFrom (variables_of g.instance.body) n own) (of_for first test step p body) c.stands };
     }
 
-    module _ (f : Exits) (d : Draft) (framed : StandsIn g f.frame) (among : StandsHere g f contexts) (known : HasDeclared g.typed g.instance (layout g) n d) (c : ForCode) where
+    module _ (f : Exits) (d : Draft) (framed : StandsIn g f.frame) (among : StandsHere g alive f contexts) (known : HasDeclared g.typed g.instance (layout g) n d) (c : ForCode) where
       made_first : PartMade n first d
       made_first = part_made n n first d (omega arith) c.first_code known
 
@@ -171,9 +171,9 @@ module _ (g : Setting) (has : HasRegisters g) (alive : Variable → Type 0) (fil
       unfolding in_loop at_loop
       inner_among = record { loop = omega arith; all = among.among.all }
 
-      inner_here : Begun g made_first.e → StandsHere g (in_body inner g.held f) contexts
+      inner_here : Begun g made_first.e → StandsHere g alive (in_body inner g.held alive f) contexts
       unfolding in_loop at_loop here
-      inner_here free = record { among = inner_among; loop = restores_none g contexts 0 refl; all = among.all; after = calls_follow.lasts after (let low = free.code in omega (arith, low)); next = calls_follow.lasts next (let low = free.code in omega (arith, low)) }
+      inner_here free = record { among = inner_among; loop = restores_none g contexts 0 refl; all = among.all; lives = λ x h. h; outer = among.outer; after = calls_follow.lasts after (let low = free.code in omega (arith, low)); next = calls_follow.lasts next (let low = free.code in omega (arith, low)) }
 
       begin_known : HasDeclared g.typed g.instance (layout g) n before_body
       begin_known = declared_on g I.FrontTurn n enters (declared_on g (I.FrontJump place) n made_first.e made_first.declared)
@@ -247,7 +247,7 @@ module _ (g : Setting) (has : HasRegisters g) (alive : Variable → Type 0) (fil
           delayed g (Left g alive f made_first.e t) behind_loop t go_round (Makes (behind n body) behind_loop) (0, as_it_was behind_loop) (λ within.
           loop_runs g alive scope active (passes_or_absent scope active test) body n (behind n body) (tests_fall n test) inner f made_first.e enters made_body.e made_step.e behind_loop turn (λ v. done scope active step v) within so.3 so.0 so.2 long (part_length_of g.typed (layout g) step) (condition_length_of g.typed (layout g) test + 1) made_body.extended made_step.extended made_back.extended (omega (arith, regs1, regs2))
           (falls body n)
-          (λ s v here_s sim_s. subst (λ (m : Made ℕ). Follows g (Left g alive (in_body inner g.held f) before_body s) s (executed scope body n active v) m) made_body.is (agrees (in_body inner g.held f) before_body s v inner_frame (inner_here free) begin_known begun_body here_s sim_s c.body_code))
+          (λ s v here_s sim_s. subst (λ (m : Made ℕ). Follows g (Left g alive (in_body inner g.held alive f) before_body s) s (executed scope body n active v) m) made_body.is (agrees (in_body inner g.held alive f) before_body s v inner_frame (inner_here free) begin_known begun_body here_s sim_s c.body_code))
           (part_falls n step)
           (λ s v here_s sim_s. subst (λ (m : Made (Unit {0})). Follows g (RanOn g alive made_body.e s) s (done scope active step v) m) made_step.is (part_follows n step steps c.step_code made_body.e s v begun_step here_s sim_s))
           (λ s v here_s sim_s. made_back.leads begun_back (let low = free.code in let turn_is = so.3 in let a = code_more g (I.FrontJump place) made_first.e in omega (arith, low, turn_is, a)) within s v here_s sim_s)
@@ -300,7 +300,7 @@ module _ (g : Setting) (has : HasRegisters g) (alive : Variable → Type 0) (fil
 
   -- `do`
   module _ (n : ℕ) (test : TExpr) (p : Boxed) (body : TStmt) (isin : (IsIn (naming g.may alive)) test) (agrees : Agrees g has alive files numbers ready scope active calls_follow contexts n body) where
-    module _ (f : Exits) (d : Draft) (framed : StandsIn g f.frame) (among : StandsHere g f contexts) (known : HasDeclared g.typed g.instance (layout g) n d) (c : HasStatementCode g.typed g.instance n (S.Do' p body test)) where
+    module _ (f : Exits) (d : Draft) (framed : StandsIn g f.frame) (among : StandsHere g alive f contexts) (known : HasDeclared g.typed g.instance (layout g) n d) (c : HasStatementCode g.typed g.instance n (S.Do' p body test)) where
       abbrev do_long : ℕ
       do_long = statement_length_of g.typed (layout g) (has_result f.frame) (at_loop f.frame.saved) body
 
@@ -327,9 +327,9 @@ module _ (g : Setting) (has : HasRegisters g) (alive : Variable → Type 0) (fil
       unfolding in_loop at_loop
       do_among = record { loop = omega arith; all = among.among.all }
 
-      do_here : Begun g d → StandsHere g (in_body do_inner g.held f) contexts
+      do_here : Begun g d → StandsHere g alive (in_body do_inner g.held alive f) contexts
       unfolding in_loop at_loop here
-      do_here free = record { among = do_among; loop = restores_none g contexts 0 refl; all = among.all; after = calls_follow.lasts do_after (let low = free.code in omega (arith, low)); next = calls_follow.lasts do_next (let low = free.code in omega (arith, low)) }
+      do_here free = record { among = do_among; loop = restores_none g contexts 0 refl; all = among.all; lives = λ x h. h; outer = among.outer; after = calls_follow.lasts do_after (let low = free.code in omega (arith, low)); next = calls_follow.lasts do_next (let low = free.code in omega (arith, low)) }
 
       do_known : HasDeclared g.typed g.instance (layout g) n do_before
       do_known = declared_on g I.FrontTurn n d known
@@ -376,7 +376,7 @@ module _ (g : Setting) (has : HasRegisters g) (alive : Variable → Type 0) (fil
           delayed g (Left g alive f d t) behind_do t go_round (Makes (behind n body) behind_do) (0, as_it_was behind_do) (λ within.
           do_runs g alive scope active (passes scope active test) body n (behind n body) (test_falls n test) do_inner f d d made_do.e made_do.e behind_do do_turn (λ v. Source.Gives Onward v) within so.2 so.0 so.1 do_long 0 (used_length_of g.typed (layout g) 32 true test + 1) made_do.extended (as_it_was made_do.e) made_while.extended (omega (arith, regs1))
           (falls body n)
-          (λ s v here_s sim_s. subst (λ (m : Made ℕ). Follows g (Left g alive (in_body do_inner g.held f) do_before s) s (executed scope body n active v) m) made_do.is (agrees (in_body do_inner g.held f) do_before s v do_frame (do_here free) do_known begun_body here_s sim_s (do_body g numbers n p body test c)))
+          (λ s v here_s sim_s. subst (λ (m : Made ℕ). Follows g (Left g alive (in_body do_inner g.held alive f) do_before s) s (executed scope body n active v) m) made_do.is (agrees (in_body do_inner g.held alive f) do_before s v do_frame (do_here free) do_known begun_body here_s sim_s (do_body g numbers n p body test c)))
           (λ v. omega arith)
           (λ s v here_s sim_s within_s. (refl, record { grown = (0, as_it_was made_do.e); t = s; go = stay g s; at = here_s; sim = sim_s; keeps = keeps_all g made_do.e s }))
           (λ s v here_s sim_s. made_while.leads (begun_later g do_before made_do.e do_long made_do.extended begun_body) (let low = free.code in let turn_is = so.2 in omega (arith, low, turn_is)) within s v here_s sim_s)

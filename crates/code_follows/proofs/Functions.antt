@@ -78,7 +78,7 @@ module _ (t : Typed) (image : Image) {beside : Beside} (p : IsProgramBeside besi
 
   -- no jump leads out of it
   abbrev pub exits : Exits
-  exits = record { frame = frame; loop = g.held; all = g.held }
+  exits = record { frame = frame; loop = g.held; all = g.held; lives = OfFileOrParam; outer = OfFileOrParam }
 
   pub framed : StandsIn g frame
   unfolding body_frame
@@ -88,9 +88,9 @@ module _ (t : Typed) (image : Image) {beside : Beside} (p : IsProgramBeside besi
   unfolding body_frame
   among = record { loop = omega arith; all = refl }
 
-  pub stands_here : LastsTo g g.held 0 → StandsHere g exits []
+  pub stands_here : LastsTo g g.held 0 → StandsHere g OfFileOrParam exits []
   unfolding body_frame
-  stands_here lasts = record { among = among; loop = restores_none g [] 0 refl; all = restores_none g [] 0 refl; after = lasts; next = lasts }
+  stands_here lasts = record { among = among; loop = restores_none g [] 0 refl; all = restores_none g [] 0 refl; after = lasts; next = lasts; lives = λ x h. h; outer = λ x h. h }
 
   pub falls : (active : Active) (s : TStmt) (n : ℕ) (st : State) → (state_after (executed scope s n active st)).turns ≤ st.turns
   unfolding scope_of

@@ -38,7 +38,7 @@ use Rattle.code_follows.proofs.Restoring.{restores_inside}
 use Rattle.code_follows.proofs.Returning.{return_follows}
 use Rattle.code_follows.proofs.Settings.{At, Begun, Setting, layout, Held}
 use Rattle.code_follows.proofs.Starting.{settled_so}
-use Rattle.code_follows.proofs.Statements.{StandsHere, StandsIn, deeper, everywhere_body, in_context_too, returned_code, statement_made, where_first, where_second, with_body}
+use Rattle.code_follows.proofs.Statements.{StandsHere, stands_wider, StandsIn, deeper, everywhere_body, in_context_too, returned_code, statement_made, where_first, where_second, with_body}
 use Rattle.code_follows.proofs.Besides.{LocalsClear, registers_under, under_held}
 use Rattle.code_follows.proofs.Bodies.{RowCode, block_code, block_follows, block_initials, block_stands, breaks, continues, expression_follows, follows_fewer, row_first, row_onward, row_rest, stays_here}
 
@@ -71,7 +71,7 @@ module _ {Known : Setting → Scope → Active → Type 1} {scope : Scope} (g : 
   -- statements in a row
   abbrev pub RowAgrees : {k : Count} → ℕ → Row_of-TStmt k → Type 1
   RowAgrees n row =
-      (f : Exits) (d : Draft) (s0 : CodeState) (st : State) → StandsIn g f.frame → StandsHere g f contexts → HasDeclared g.typed g.instance (layout g) n d → Begun g d → At g s0 (length d.code) → Sim g alive st s0 → RowCode g r.has alive files r.numbers r.ready scope active (calls_here g active r) (r.falls active) contexts n row
+      (f : Exits) (d : Draft) (s0 : CodeState) (st : State) → StandsIn g f.frame → StandsHere g alive f contexts → HasDeclared g.typed g.instance (layout g) n d → Begun g d → At g s0 (length d.code) → Sim g alive st s0 → RowCode g r.has alive files r.numbers r.ready scope active (calls_here g active r) (r.falls active) contexts n row
       → Follows g (Left g alive f d s0) s0 (all_executed scope row n active st) (statements_of g.typed (layout g) row f.frame contexts n d)
 
   end_agrees : (n : ℕ) → RowAgrees n end_of-TStmt
@@ -123,7 +123,7 @@ module _ {Known : Setting → Scope → Active → Type 1} {scope : Scope} (g : 
       (first_part (map info_of locals.items) (row_variables statements) (block_stands g r.has wide wide_files r.numbers r.ready scope active (calls_here g active r) (r.falls active) contexts n locals p statements c))
       (settled_so g r.has wide wide_files r.ready scope active (calls_here g active r) alive locals.items n (λ x living. inl living) (λ x own. inr own) before initials)
       (block_initials g r.has wide wide_files r.numbers r.ready scope active (calls_here g active r) (r.falls active) contexts n locals p statements c) code framed stands.among known free at sim (λ x living. living)
-      (λ e t u none_e free_e at_e sim_e. follows f e t u framed stands none_e free_e at_e sim_e code))
+      (λ e t u none_e free_e at_e sim_e. follows f e t u framed (stands_wider g alive wide (λ x living. inl living) f contexts stands) none_e free_e at_e sim_e code))
 
 module _ {Known : Setting → Scope → Active → Type 1} (scope : Scope) (besides : (g : Setting) (a : Active) → Known g scope a → (has : HasRegisters g) → BesideFollows Known g has scope a) where
   -- under one context more, where this is known
@@ -152,7 +152,7 @@ module _ {Known : Setting → Scope → Active → Type 1} (scope : Scope) (besi
 
   -- a statement under one context more
   part_follows : (g : Setting) (active : Active) (r : Around Known g scope active) (contexts : List Field) (alive : Variable → Type 0) (files : (k : ℕ) → alive (V.File k)) (n : ℕ) (s : TStmt)
-      → (f : Exits) → StandsIn g f.frame → StandsHere g f contexts → HasStatementCode g.typed g.instance n s → FollowsWherever g active r alive files n s → StatementPart Known g scope alive s n f contexts
+      → (f : Exits) → StandsIn g f.frame → StandsHere g alive f contexts → HasStatementCode g.typed g.instance n s → FollowsWherever g active r alive files n s → StatementPart Known g scope alive s n f contexts
   unfolding in_context one_more
   part_follows g active r contexts alive files n s f framed stands c follows saved =
       let inner : List Field = contexts ++ saved ∷ [] in
@@ -166,6 +166,8 @@ module _ {Known : Setting → Scope → Active → Type 1} (scope : Scope) (besi
               loop = restores_inside g saved held from entries upto inside f.loop contexts f.frame.saved.in_loop stands.loop;
               after = stands.after;
               next = stands.next;
+              lives = stands.lives;
+              outer = stands.outer;
               all = restores_inside g saved held from entries upto inside f.all contexts f.frame.saved.in_all stands.all;
             }) declared_so free at sim c;
       }

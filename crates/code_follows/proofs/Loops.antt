@@ -21,7 +21,7 @@ use Rattle.code_follows.proofs.Settings.{At, Reaches, Setting, Within, code_more
 -- a loop: the turn stands behind one draft, the body behind it, then the step, the test, and the jump back
 module _ (g : Setting) (alive : Variable → Type 0) (scope : Scope) (active : Active) (tests : State → Outcome Bool) (body : TStmt) (n number : ℕ) (test_falls : (st : State) → (state_after (tests st)).turns ≤ st.turns) (inner : Frame) (f : Exits) (d before_turn behind_body stepped behind_loop : Draft) (turn : ℕ) (step : State → Outcome Leaving) where
   abbrev turning : Exits
-  turning = in_body inner g.held f
+  turning = in_body inner g.held alive f
 
   abbrev before_body : Draft
   before_body = with_instr I.FrontTurn before_turn
@@ -29,7 +29,7 @@ module _ (g : Setting) (alive : Variable → Type 0) (scope : Scope) (active : A
   -- the loop is left behind it, or the run is over
   unfoldable pub LoopEnds : CodeState → Outcome Leaving → Type 0
   LoopEnds s (Source.Gives Onward st) = Jumped g alive g.held d s st (length behind_loop.code)
-  LoopEnds s (Source.Gives (Returned v) st) = Returns g alive f.all s st v
+  LoopEnds s (Source.Gives (Returned v) st) = Returns g f.outer f.all s st v
   LoopEnds s (Source.Gives Broke st) = ⊥
   LoopEnds s (Source.Gives Continued st) = ⊥
   LoopEnds s (Source.Ends early st) = Finishes g early st s
@@ -37,7 +37,7 @@ module _ (g : Setting) (alive : Variable → Type 0) (scope : Scope) (active : A
   pub ends_from : (s t : CodeState) (o : Outcome Leaving) → Reaches g s t → Keeps g d s t → LoopEnds t o → LoopEnds s o
   unfolding LoopEnds
   ends_from s t (Source.Gives Onward st) go keeps j = record { t = j.t; go = onto g s t j.t go j.go; at = j.at; sim = j.sim; keeps = λ q kept. j.keeps q kept ∙ keeps q kept }
-  ends_from s t (Source.Gives (Returned v) st) go keeps h = returns_from g alive f.all d s t st v go keeps h
+  ends_from s t (Source.Gives (Returned v) st) go keeps h = returns_from g f.outer f.all d s t st v go keeps h
   ends_from s t (Source.Gives Broke st) go keeps h = absurd h
   ends_from s t (Source.Gives Continued st) go keeps h = absurd h
   ends_from s t (Source.Ends early st) go keeps h = finishes_later g early st s t go h

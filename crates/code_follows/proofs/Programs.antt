@@ -57,6 +57,7 @@ use Rattle.code_follows.proofs.Settings.{At, Begun, EndsIn, Held, Reaches, Setti
 use Rattle.code_follows.proofs.Standing.{start_in}
 use Rattle.code_follows.proofs.Clearing.{clears_first}
 use Rattle.code_follows.proofs.Standing.{some_same}
+use Rattle.code_follows.proofs.Statements.{stands_wider}
 use Rattle.code_follows.proofs.Starting.{clears_declare, Now, settled_so}
 use Rattle.code_follows.proofs.Units.{constants_grow, empty_unit, main_is, starts_homes, starts_regs, with_constants, with_starts}
 use Rattle.paris_code.specs.declared.program.Unit.{Unit as CodeUnit}
@@ -294,7 +295,7 @@ module _ (t : Typed) (image : Image) {beside : Beside} (p : IsProgramBeside besi
       (subst (λ (m : Made ℕ). Follows main_setting (Left main_setting OfFileOrParam out first.e ran.t) ran.t whole m) made.is_made
       (follows_fewer main_setting wide OfFileOrParam (λ x living. inl living) out first.e ran.t whole code
       (begun_follows main_setting has_it wide one numbers is_ready here active calls_in_main (never_rises active) [] locals.items row out 0 first.e ran.t (begun_body locals.items row) h.0.0 stand settled initial own_row framed_so among_so declared (begun_later main_setting begun_there first.e first.count first.grown free) ran.at sim
-      (λ e there u none free at sim_there. row_follows here (λ g. besides.follows g here) main_setting active around [] wide one (0 + length locals.items) (among_before OfFileOrParam 0 (length locals.items) before_all) row h.0.2 out e there u framed_so (stands_here t image p codable compiled holding 0 p.main p.is_main [] turns (calls_in_main.lasts 0 (omega arith))) none free at sim_there own_row))))))
+      (λ e there u none free at sim_there. row_follows here (λ g. besides.follows g here) main_setting active around [] wide one (0 + length locals.items) (among_before OfFileOrParam 0 (length locals.items) before_all) row h.0.2 out e there u framed_so (stands_wider main_setting OfFileOrParam wide (λ x living. inl living) out [] (stands_here t image p codable compiled holding 0 p.main p.is_main [] turns (calls_in_main.lasts 0 (omega arith)))) none free at sim_there own_row))))))
   runs _ is h = absurd h
 
 -- the code comes to the end of the source's meaning

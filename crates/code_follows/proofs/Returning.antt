@@ -32,13 +32,14 @@ use Rattle.source_meaning.specs.Statements.{Returned, executed, returned}
 use Rattle.source_meaning.specs.Values.{Active, Scalar, Scope, Value}
 use Rattle.code_follows.specs.Fragment.{IsIn, Takes, naming}
 use Rattle.code_follows.proofs.ConstantRegisters.{behind_variables}
+use Rattle.code_follows.proofs.Declaring.{sim_fewer}
 use Rattle.code_follows.proofs.Executing.{Exits, IsGiven, Jumped, Leaves, Left, LeftSo, Returns}
 use Rattle.code_follows.proofs.Expressions.{operand}
 use Rattle.code_follows.proofs.Callees.{CallsFollow}
 use Rattle.code_follows.proofs.Following.{Extends, Follows, HasRegisters, Keeps, Ran, Sim, apart_set, delayed, finished, held, keeps_all, result_kept, spared_kept}
 use Rattle.code_follows.proofs.Growing.{Extended, extended}
 use Rattle.code_follows.proofs.Restoring.{restored_more}
-use Rattle.code_follows.proofs.Settings.{At, Begun, Reaches, Setting, Within, and_one, at_next, begins_here, begun_later, earlier, layout, one, onto}
+use Rattle.code_follows.proofs.Settings.{At, Begun, Reaches, Setting, Within, and_one, at_next, begins_here, begun_later, earlier, layout, one, onto, holding}
 use Rattle.code_follows.proofs.Statements.{StandsHere, StandsIn}
 use Rattle.code_follows.proofs.Values.{Value_of}
 use Rattle.code_follows.proofs.Numbers.{takes_below, takes_held}
@@ -69,7 +70,7 @@ left_at_end g alive d e s u within ran = record {
   given = ran.keeps (result_register (layout g)) (result_kept g d);
 }
 
-module _ (g : Setting) (has : HasRegisters g) (alive : Variable → Type 0) (files : (k : ℕ) → alive (V.File k)) (ready : (n : ℕ) (d : Draft) → IsReadyButForFields g.typed g.instance (layout g) n d) (scope : Scope) (active : Active) (calls_follow : CallsFollow g scope active) (f : Exits) (contexts : List Field) (stands : StandsHere g f contexts) where
+module _ (g : Setting) (has : HasRegisters g) (alive : Variable → Type 0) (files : (k : ℕ) → alive (V.File k)) (ready : (n : ℕ) (d : Draft) → IsReadyButForFields g.typed g.instance (layout g) n d) (scope : Scope) (active : Active) (calls_follow : CallsFollow g scope active) (f : Exits) (contexts : List Field) (stands : StandsHere g alive f contexts) where
   -- the saved contexts are loaded behind a draft
   abbrev leaving : Draft → Draft
   leaving after = restored contexts f.frame.saved.in_all after
@@ -116,7 +117,7 @@ module _ (g : Setting) (has : HasRegisters g) (alive : Variable → Type 0) (fil
       record {
         t = j.t;
         go = onto g s0 t j.t go j.go;
-        sim = j.sim;
+        sim = sim_fewer (holding g f.all) alive f.outer u j.t (λ x info named h. stands.outer x h) j.sim;
         leaves = ends;
         spares = λ k spared. j.keeps k (spared_kept g e k spared) ∙ keeps k (spared_kept g d k spared);
         given = λ info found. absurd (let no : Some info ≡ None = sym found ∙ no_result refl in cc);
@@ -133,7 +134,7 @@ module _ (g : Setting) (has : HasRegisters g) (alive : Variable → Type 0) (fil
       record {
         t = j.t;
         go = onto g s0 t j.t go (onto g t t1 j.t (one g t t1 (begins_here g i e t before refl at) refl) j.go);
-        sim = j.sim;
+        sim = sim_fewer (holding g f.all) alive f.outer u j.t (λ x info named h. stands.outer x h) j.sim;
         leaves = ends;
         spares = λ k spared. j.keeps k (spared_kept g moves k spared) ∙ get_or-set_other t.registers q k (slice_index t.registers r) 0 (λ e. has.spared_result (subst (λ (m : ℕ). g.spared m) e spared)) ∙ keeps k (spared_kept g d k spared);
         given = λ info found. (
@@ -184,7 +185,7 @@ module _ (g : Setting) (has : HasRegisters g) (alive : Variable → Type 0) (fil
   return_follows None h n d s0 st framed free at sim c =
       subst (λ (e : Draft). Follows g (Left g alive f d s0) s0 (Source.Gives (Returned None) st) (Makes n e)) (sym (ends_so framed.main d)) (λ within.
       let (j, ends) = leads_out d s0 st free at sim within in
-      record { t = j.t; go = j.go; sim = j.sim; leaves = ends; spares = λ r spared. j.keeps r (spared_kept g d r spared); given = j.keeps (result_register (layout g)) (result_kept g d) })
+      record { t = j.t; go = j.go; sim = sim_fewer (holding g f.all) alive f.outer st j.t (λ x info named h. stands.outer x h) j.sim; leaves = ends; spares = λ r spared. j.keeps r (spared_kept g d r spared); given = j.keeps (result_register (layout g)) (result_kept g d) })
   return_follows (Some e) h n d s0 st framed free at sim c =
       subst (λ (m : Made ℕ). Follows g (Left g alive f d s0) s0 (then_do (evaluated scope e active st) (λ v after. Source.Gives (Returned (Some (returned active (type_of e).shape v))) after)) m)
       (λ i. then_make (then_make (next_of g.typed (layout g) (type_of e).elem.bits true e d) (λ v after. stored_result (layout g) f.frame.outcome v after)) (λ u after. Makes n (sym (ends_so framed.main after) i)))

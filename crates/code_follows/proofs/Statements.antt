@@ -5,6 +5,7 @@ use Rattle.cstar_tree.specs.declared.typed.TExpr.{TExpr}
 use Rattle.cstar_tree.specs.declared.typed.TStmt.{TStmt, Row_of-TStmt, end_of-TStmt, more_of-TStmt, Held-TStmt-If-2, None', Some'}
 use Rattle.cstar_tree.specs.declared.typed.TStmt as S
 use Rattle.cstar_tree.specs.declared.typed.VarInfo.{VarInfo}
+use Rattle.cstar_tree.specs.declared.typed.Variable.{Variable}
 use Rattle.cstar_tree.specs.Variables.{variables_of}
 use Rattle.code_lengths.specs.Agreement.{StandsAmong}
 use Rattle.code_lengths.specs.Growth.{Leads}
@@ -44,13 +45,19 @@ unfolding in_context
 in_context_too g f h = record { outcome = h.outcome; main = h.main; scalar = h.scalar }
 
 -- a statement among these saved contexts: where those of its loop are loaded, and where all are, this is held, and the
--- first lasts to where jumps out of the loop and to its next round lead
-pub record StandsHere (g : Setting) (f : Exits) (contexts : List Field) : Type 1 where
+-- first lasts to where jumps out of the loop and to its next round lead; what is alive there is so here
+pub record StandsHere (g : Setting) (alive : Variable → Type 0) (f : Exits) (contexts : List Field) : Type 1 where
   pub among : StandsAmong f.frame contexts
   pub loop : Restores g f.loop contexts f.frame.saved.in_loop
   pub after : LastsTo g f.loop f.frame.after
   pub next : LastsTo g f.loop f.frame.next
   pub all : Restores g f.all contexts f.frame.saved.in_all
+  pub lives : (x : Variable) → f.lives x → alive x
+  pub outer : (x : Variable) → f.outer x → alive x
+
+-- so it does where more is alive
+pub stands_wider : (g : Setting) (alive wide : Variable → Type 0) → ((x : Variable) → alive x → wide x) → (f : Exits) (contexts : List Field) → StandsHere g alive f contexts → StandsHere g wide f contexts
+stands_wider g alive wide among f contexts stands = record { among = stands.among; loop = stands.loop; after = stands.after; next = stands.next; all = stands.all; lives = λ x h. among x (stands.lives x h); outer = λ x h. among x (stands.outer x h) }
 
 -- under one context more
 pub deeper : (f : Frame) (contexts : List Field) (saved : Field) → StandsAmong f contexts → StandsAmong (in_context f) (contexts ++ saved ∷ [])

@@ -243,7 +243,7 @@ module _ (g : Setting) (has : HasRegisters g) (alive : Variable → Type 0) (n :
   unary_at set ty op p inner st s sim is c q = sym (pure_at g alive n places fields set (T.Unary' ty op p inner) st s sim is is.0 c q)
 
   -- an operator other than `!` is done as it is
-  done_as_it_is : (bits : ℕ) (op : UnaryOp) (operand : TExpr) → negates op ≡ false → done_as bits op operand ≡ op
+  pub done_as_it_is : (bits : ℕ) (op : UnaryOp) (operand : TExpr) → negates op ≡ false → done_as bits op operand ≡ op
   unfolding done_as
   done_as_it_is bits op operand plain = ap (λ (b : Bool). if b && (bits == 1 && (not (is_kept operand) && bits_of (kind_of operand) == 1)) then U.Complement else op) plain
 

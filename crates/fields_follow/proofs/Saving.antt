@@ -75,17 +75,17 @@ module _ (g : Setting) (scope : Scope) (active : Active) (known : KnowsFields g 
       keeps_outer : (t : CodeState) → Keeps there begin x.t t → Keeps g d s t
       keeps_outer t keeps = keeps_on g d begin x.grown.0 s x.t t x.grown.1 x.keeps (λ r kept_so. keeps r (kept_inner g scope active known a kept (length begin.code) (length begin.fields) (length e.code) begin r kept_so))
 
-      jumped_outer : (held : Held) (v : State) (place : ℕ) → Jumped there alive held begin x.t v place → Jumped g alive held d s v place
-      jumped_outer held v place j = record { t = j.t; go = onto g s x.t j.t x.go (record { by = j.go.by; below = j.go.below }); at = j.at; sim = sim_saying g alive v j.t j.t.at j.t.memory j.sim.memory j.sim; keeps = keeps_outer j.t j.keeps }
+      jumped_outer : (held : Held) (lives : Variable → Type 0) (v : State) (place : ℕ) → Jumped there lives held begin x.t v place → Jumped g lives held d s v place
+      jumped_outer held lives v place j = record { t = j.t; go = onto g s x.t j.t x.go (record { by = j.go.by; below = j.go.below }); at = j.at; sim = sim_saying g lives v j.t j.t.at j.t.memory j.sim.memory j.sim; keeps = keeps_outer j.t j.keeps }
 
-      given_outer : (t : CodeState) (given : Option Value) → IsGiven there alive x.t t given → IsGiven g alive x.t t given
+      given_outer : (lives : Variable → Type 0) (t : CodeState) (given : Option Value) → IsGiven there lives x.t t given → IsGiven g lives x.t t given
       unfolding IsGiven
-      given_outer t None h = h
-      given_outer t (Some v) h = h
+      given_outer lives t None h = h
+      given_outer lives t (Some v) h = h
 
-      returns_outer : (held : Held) (v : State) (given : Option Value) → Returns there alive held x.t v given → Returns g alive held s v given
-      returns_outer held v given r =
-          returns_from g alive held d s x.t v given x.go x.keeps (record { t = r.t; go = record { by = r.go.by; below = r.go.below }; sim = sim_saying g alive v r.t r.t.at r.t.memory r.sim.memory r.sim; leaves = r.leaves; spares = r.spares; given = given_outer r.t given r.given })
+      returns_outer : (held : Held) (lives : Variable → Type 0) (v : State) (given : Option Value) → Returns there lives held x.t v given → Returns g lives held s v given
+      returns_outer held lives v given r =
+          returns_from g lives held d s x.t v given x.go x.keeps (record { t = r.t; go = record { by = r.go.by; below = r.go.below }; sim = sim_saying g lives v r.t r.t.at r.t.memory r.sim.memory r.sim; leaves = r.leaves; spares = r.spares; given = given_outer lives r.t given r.given })
 
       -- so it follows, where what is kept lasts as long as its code
       pub part_leads : (f : Exits) (b n m : ℕ) (run : Active → State → Outcome Leaving) (code : Draft → Made ℕ) → Part KnowsFields g scope alive saved (in_one_more f) b m run code → code begin ≡ Makes m e → HasDeclared g.typed g.instance (layout g) b begin → Begun g d → Extended begin n e
@@ -115,9 +115,9 @@ module _ (g : Setting) (scope : Scope) (active : Active) (known : KnowsFields g 
                 has = ran.sim.memory.1;
                 keeps = keeps_outer ran.t ran.keeps;
               }
-          by (Gives Broke v) h = λ w. jumped_outer f.loop v f.frame.after (h (inwards w))
-          by (Gives Continued v) h = λ w. jumped_outer f.loop v f.frame.next (h (inwards w))
-          by (Gives (Returned given) v) h = λ w. returns_outer f.all v given (h (inwards w))
+          by (Gives Broke v) h = λ w. jumped_outer f.loop f.lives v f.frame.after (h (inwards w))
+          by (Gives Continued v) h = λ w. jumped_outer f.loop f.lives v f.frame.next (h (inwards w))
+          by (Gives (Returned given) v) h = λ w. returns_outer f.all f.outer v given (h (inwards w))
           by (Ends early v) h = λ w. finishes_later g early v s x.t x.go (finishes_outer g scope active known a kept (length begin.code) (length begin.fields) (length e.code) early v x.t (h (inwards w)))
 
   -- a part whose code is made, and behind it the context is loaded

@@ -14,6 +14,7 @@ use Rattle.lower_expr.specs.Operands.{is_quiet, own_of}
 use Rattle.lower_expr.specs.Steps.{is_kept, word_of}
 use Rattle.source_meaning.specs.Constants.{is_constant}
 use Rattle.source_meaning.specs.State.{State}
+use Rattle.source_meaning.specs.Values.{unary_of}
 use Rattle.code_follows.proofs.Settings.{Setting}
 use Rattle.fields_follow.specs.Fragment.{IsOperand, IsPromoted, IsPure, IsScan, IsScanned}
 use Rattle.fields_follow.proofs.Instructions.{extents}
@@ -29,6 +30,7 @@ scan_shape set (T.Brackets' ty p inner) is = let h = scan_shape set inner is.1 i
 scan_shape set (T.Scan' ty p source axis combiner direction mode bit way) is = (ap (λ (y : ValueType). y.shape) is.0 ∙ is.2.0, ap (λ (y : ValueType). y.elem.bits) is.0 ∙ is.2.1)
 scan_shape set (T.Enumerate ty axis direction way mode bit) is = is.0
 scan_shape set (T.Convert' ty p operand) is = is.0
+scan_shape set (T.Unary' ty op p operand) is = is.0
 scan_shape set (T.Binary' ty place op p left q right) is = is.0
 scan_shape set _ is = absurd is
 
@@ -39,6 +41,7 @@ scan_constant set (T.Brackets' ty p inner) is = ap (λ (o : Option ℕ). is_none
 scan_constant set (T.Scan' ty p source axis combiner direction mode bit way) is = refl
 scan_constant set (T.Enumerate ty axis direction way mode bit) is = refl
 scan_constant set (T.Convert' ty p operand) is = ap (λ (o : Option ℕ). is_none o && is_constant operand) is.0.0
+scan_constant set (T.Unary' ty op p operand) is = ap (λ (o : Option ℕ). is_none o && ty.elem.bits == 32 && is_constant operand) is.0.0
 scan_constant set (T.Binary' ty place op p left q right) is = ap (λ (o : Option ℕ). is_none o && ty.elem.bits == 32 && is_constant left && is_constant right) is.0.0
 scan_constant set _ is = absurd is
 
@@ -53,6 +56,7 @@ scan_own bits set (T.Convert' ty p operand) is = by (is_unchanged bits ty.elem (
     by : (b : Bool) → own_of bits operand ≡ None → (if b then own_of bits operand else None) ≡ None
     by true none = none
     by false none = refl
+scan_own bits set (T.Unary' ty op p operand) is = refl
 scan_own bits set (T.Binary' ty place op p left q right) is = refl
 scan_own bits set _ is = absurd is
 
@@ -62,6 +66,7 @@ scanned_word set bits (T.Brackets' ty p inner) is = scanned_word set bits inner 
 scanned_word set bits (T.Convert' ty p operand) is = refl
 scanned_word set bits (T.Scan' ty p source axis combiner direction mode bit way) is = refl
 scanned_word set bits (T.Enumerate ty axis direction way mode bit) is = refl
+scanned_word set bits (T.Unary' ty op p operand) is = refl
 scanned_word set bits (T.Binary' ty place op p left q right) is = refl
 scanned_word set bits _ is = absurd is
 
@@ -71,6 +76,7 @@ scan_word set (T.Brackets' ty p inner) is = scan_word set inner is.1
 scan_word set (T.Scan' ty p source axis combiner direction mode bit way) is = refl
 scan_word set (T.Enumerate ty axis direction way mode bit) is = refl
 scan_word set (T.Convert' ty p operand) is = refl
+scan_word set (T.Unary' ty op p operand) is = refl
 scan_word set (T.Binary' ty place op p left q right) is = refl
 scan_word set _ is = absurd is
 
@@ -81,6 +87,7 @@ scan_kept set (T.Brackets' ty p inner) is = scan_kept set inner is.1
 scan_kept set (T.Scan' ty p source axis combiner direction mode bit way) is = ap (λ (o : Option ℕ). is_none o) (ap (λ (y : ValueType). y.shape) is.0 ∙ is.2.0)
 scan_kept set (T.Enumerate ty axis direction way mode bit) is = ap (λ (o : Option ℕ). is_none o) is.0.0
 scan_kept set (T.Convert' ty p operand) is = scan_kept set operand is.1
+scan_kept set (T.Unary' ty op p operand) is = ap (λ (o : Option ℕ). is_none o) is.0.0
 scan_kept set (T.Binary' ty place op p left q right) is = ap (λ (o : Option ℕ). is_none o) is.0.0
 scan_kept set _ is = absurd is
 
@@ -92,9 +99,10 @@ operand_quiet set e (inr promoted) = promoted_quiet set e promoted
 pub scan_quiet : (set : ℕ) (e : TExpr) → IsScan set e → is_quiet e ≡ true
 unfolding IsScan is_quiet
 scan_quiet set (T.Brackets' ty p inner) is = scan_quiet set inner is.1
-scan_quiet set (T.Scan' ty p source axis combiner direction mode bit way) is = pure_quiet set source is.1
+scan_quiet set (T.Scan' ty p source axis combiner direction mode bit way) is = either (λ h. scan_quiet set source h) (λ h. pure_quiet set source h) is.1
 scan_quiet set (T.Enumerate ty axis direction way mode bit) is = refl
 scan_quiet set (T.Convert' ty p operand) is = scan_quiet set operand is.1
+scan_quiet set (T.Unary' ty op p operand) is = scan_quiet set operand is.2
 scan_quiet set (T.Binary' ty place op p left q right) is = by is.2 (λ h. scan_quiet set left h) (λ h. scan_quiet set right h)
   where
     by : (IsScan set left × (IsScan set right ⊎ IsOperand set right)) ⊎ (IsOperand set left × IsScan set right) → (IsScan set left → is_quiet left ≡ true) → (IsScan set right → is_quiet right ≡ true) → (is_quiet left && is_quiet right) ≡ true
@@ -119,7 +127,7 @@ module _ (g : Setting) (alive : Variable → Type 0) (places : PlacesFields g) (
       ∙ ap (λ (b : ℕ). outcome op 32 (not (type_of left).elem.signed) (value_in (extents g set) st left q) b) (either (λ h. pure_number right st q h) (λ h. promoted_number right st q h) (right_of set left right is.2))
   pure_number (T.Convert' ty p operand) st q is = ap (λ (w : ℕ). converted ty.elem (type_of operand).elem w) (pure_number operand st q is.2)
   pure_number (T.Variable ty (V.File k)) st q is = refl
-  pure_number (T.Unary' ty op p operand) st q is = refl
+  pure_number (T.Unary' ty op p operand) st q is = ap (λ (w : ℕ). unary_of op w) (pure_number operand st q is.2)
   pure_number (T.LogicalOr' ty p left r right) st q is = refl
   pure_number (T.LogicalAnd' ty p left r right) st q is = refl
   pure_number (T.Pcoord ty axis) st q is = refl

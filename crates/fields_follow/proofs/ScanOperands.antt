@@ -81,7 +81,7 @@ module _ (g : Setting) (has : HasRegisters g) (alive : Variable → Type 0) (n :
       by false = refl
 
   -- one that has no scan in it has its own numbers
-  own_numbers : (e : TExpr) (st : State) → IsOperand set e → ◌≡◌ {A = ℕ → ℕ} (λ q. value_in (extents g set) st e q) (λ q. number e st q)
+  pub own_numbers : (e : TExpr) (st : State) → IsOperand set e → ◌≡◌ {A = ℕ → ℕ} (λ q. value_in (extents g set) st e q) (λ q. number e st q)
   own_numbers e st is = λ j q. sym (operand_number g alive places fields set e st q is) j
 
   own_words : (e : TExpr) (st : State) (s : CodeState) → Sim g alive st s → IsOperand set e → IsWide set (type_of e) → HasItsCode g.typed g.instance alive n e → ◌≡◌ {A = ℕ → ℕ} (λ q. word_at (extents g set) st e q) (λ q. number e st q)

@@ -39,7 +39,7 @@ use Rattle.source_meaning.specs.Scans.{Scan, bit_at}
 use Rattle.source_meaning.specs.Scans as Language
 use Rattle.source_meaning.specs.State as Source
 use Rattle.source_meaning.specs.State.{Outcome, State, then_do}
-use Rattle.source_meaning.specs.Values.{Parallel, Value, at, each}
+use Rattle.source_meaning.specs.Values.{Parallel, Value, at, each, unary_of}
 use Rattle.source_meaning.proofs.ConstantLaws.{Boxed}
 use Rattle.communication_laws.specs.Scans.{HasBits, bit_counts}
 use Rattle.communication_laws.proofs.Orders.{fold_few}
@@ -139,9 +139,10 @@ module _ (g : Setting) (alive : Variable → Type 0) (places : PlacesFields g) (
   -- the numbers of a value with scans in it, and of its operands
   unfoldable pub scanned_in : State → TExpr → ℕ → ℕ
   scanned_in st (T.Brackets' ty p inner) q = scanned_in st inner q
+  scanned_in st (T.Unary' ty op p operand) q = unary_of op (scanned_in st operand q)
   scanned_in st (T.Binary' ty place op p left r right) q = outcome op 32 (not (type_of left).elem.signed) (scanned_in st left q) (scanned_in st right q)
   scanned_in st (T.Convert' ty p operand) q = converted ty.elem (type_of operand).elem (scanned_in st operand q)
-  scanned_in st (T.Scan' ty p source axis combiner direction mode bit inclusion) q = scan_numbers g fields set axis combiner (not ty.elem.signed) direction mode bit inclusion st (λ x. value_in (extents g set) st source x) q
+  scanned_in st (T.Scan' ty p source axis combiner direction mode bit inclusion) q = scan_numbers g fields set axis combiner (not ty.elem.signed) direction mode bit inclusion st (λ x. scanned_in st source x) q
   scanned_in st (T.Enumerate ty axis direction inclusion mode bit) q = scan_numbers g fields set axis C.Add (not ty.elem.signed) direction mode bit inclusion st (λ x. 1) q
   scanned_in st e q = value_in (extents g set) st e q
 
@@ -150,11 +151,11 @@ module _ (g : Setting) (alive : Variable → Type 0) (places : PlacesFields g) (
   ScanGives e st = meant g fields e st ≡ Source.Gives (Parallel (λ q. scanned_in st e q)) st
 
   pub scan_gives : (ty : ValueType) (p : Boxed) (source : TExpr) (axis : ℕ) (combiner : Combiner) (direction : Direction) (mode : SegmentMode) (bit : Option Variable) (inclusion : Inclusion) (st : State) → ty.shape ≡ Some set
-      → meant g fields source st ≡ Source.Gives (Parallel (λ q. value_in (extents g set) st source q)) st → ScanGives (T.Scan' ty p source axis combiner direction mode bit inclusion) st
+      → ScanGives source st → ScanGives (T.Scan' ty p source axis combiner direction mode bit inclusion) st
   unfolding evaluated scan_of then_do at scanned_in
   scan_gives ty p source axis combiner direction mode bit inclusion st shaped given =
       ap (λ (o : Outcome Value). then_do o (λ v after. Source.Gives (scan_of fields.scope fields.active ty axis combiner direction mode bit inclusion v after) after)) given
-      ∙ ap (λ (y : ValueType). Source.Gives (scan_of fields.scope fields.active y axis combiner direction mode bit inclusion (Parallel (λ q. value_in (extents g set) st source q)) st) st) (as_shaped ty set shaped)
+      ∙ ap (λ (y : ValueType). Source.Gives (scan_of fields.scope fields.active y axis combiner direction mode bit inclusion (Parallel (λ q. scanned_in st source q)) st) st) (as_shaped ty set shaped)
 
   pub ones_give : (ty : ValueType) (axis : ℕ) (direction : Direction) (inclusion : Inclusion) (mode : SegmentMode) (bit : Option Variable) (st : State) → ty.shape ≡ Some set → ScanGives (T.Enumerate ty axis direction inclusion mode bit) st
   unfolding evaluated scan_of at each scanned_in

@@ -44,23 +44,19 @@ use Rattle.source_meaning.specs.State.{State}
 use Rattle.source_meaning.proofs.ConstantLaws.{Boxed}
 use Rattle.communication_laws.specs.Scans.{bit_counts}
 use Rattle.code_follows.specs.Fragment.{ScalarsAmong}
-use Rattle.code_follows.proofs.Following.{Extends, HasRegisters, Sim}
+use Rattle.code_follows.proofs.Following.{Extends, Follows, HasRegisters, Sim}
 use Rattle.code_follows.proofs.Growing.{Extended, as_it_was, extended}
 use Rattle.code_follows.proofs.Operators.{wide_signed}
 use Rattle.code_follows.proofs.Settings.{At, Setting, Within, and_one, earlier, layout}
-use Rattle.code_follows.proofs.Words.{below_word}
 use Rattle.fields_follow.specs.Fields.{IsElement, file_number}
-use Rattle.fields_follow.specs.Fragment.{IsPure, IsSegments, IsWide}
-use Rattle.fields_follow.proofs.Computing.{whole_after}
+use Rattle.fields_follow.specs.Fragment.{IsSegments, IsWide}
 use Rattle.fields_follow.proofs.Forms.{HasItsCode, element_is, field_is}
 use Rattle.fields_follow.proofs.Instructions.{HasNumbers, Puts, extents, place, puts_constant, shapes, word_in}
-use Rattle.fields_follow.proofs.Meaning.{value_in}
 use Rattle.fields_follow.proofs.Neighbours.{fit_positive}
-use Rattle.fields_follow.proofs.Outcomes.{Ended, meant, then_known}
+use Rattle.fields_follow.proofs.Outcomes.{Ended, Given, meant, then_known}
 use Rattle.fields_follow.proofs.Passing.{After, Behind, GivesField, Passes, after_same, flags_of, gives_from, gives_numbers, made_after, names_second, passes_less, puts_own}
 use Rattle.fields_follow.proofs.Places.{HoldsTheFields, IsFileField, IsOwnField, PlacesFields, stands_here}
 use Rattle.fields_follow.proofs.Scanning.{ScanGives, file_segments, ones_give, puts_scan, scan_ended, scan_gives, scan_instr, scan_numbers, scanned_in}
-use Rattle.fields_follow.proofs.Sizes.{value_small}
 use Rattle.fields_follow.proofs.Starts.{Starts, starts_later}
 use Rattle.fields_follow.proofs.Values.{and_entry, next_field, one_more, taken, with_entry}
 
@@ -164,6 +160,12 @@ module _ (g : Setting) (has : HasRegisters g) (alive : Variable → Type 0) (n :
       → (ScanGives g alive places fields set e st → (e2 : Draft) (i : Instr) → Within g (with_instr i e2) → (p : Passes g alive bound d e2 s st (Unit {0})) → Puts g set i f p.t (λ q. scanned_in g alive places fields set st e q) → Q (O.Field f) (with_instr i e2))
       → (Ended g s (meant g fields e st) → (x : Out) (after : Draft) → Q x after) → After g Q (made d)
 
+  -- what is scanned is given in a field, and its numbers are words
+  pub record SourceGiven (e : TExpr) : Type 0 where
+    pub follows : (d : Draft) (s : CodeState) (st : State) → Starts g alive s (length d.code) d.regs → Sim g alive st s
+        → Follows g (Given g (λ q. scanned_in g alive places fields set st e q) st (λ out x. (h : Field) × ((out ≡ O.Field h) × GivesField g alive 32 (length d.fields) d s set st (λ q. scanned_in g alive places fields set st e q) h x))) s (meant g fields e st) (next_of g.typed (layout g) 32 true e d)
+    pub few : (s : CodeState) (st : State) → Sim g alive st s → (q : ℕ) → scanned_in g alive places fields set st e q < 2 ^ 32
+
   -- a scan of a value
   module _ (ty : ValueType) (p : Boxed) (source : TExpr) (axis : ℕ) (combiner : Combiner) (direction : Direction) (mode : SegmentMode) (bit : Option Variable) (way : Inclusion) where
     abbrev whole : TExpr
@@ -173,7 +175,7 @@ module _ (g : Setting) (has : HasRegisters g) (alive : Variable → Type 0) (n :
     unfolding IsShaped IsLowerable NamesVariables ScalarsAmong
     source_part c = (record { code = record { shaped = c.code.shaped; lowerable = c.code.lowerable.2; names = c.code.names.1 }; among = c.among }, c.code.names.0)
 
-    module _ (same : ty ≡ type_of source) (pure : IsPure set source) (wide : IsWide set (type_of source)) (apart : combiner ≡ C.Last → ⊥) (is_bit : IsSegments bit) (c : HasItsCode g.typed g.instance alive n whole) (f : Field) (on : f.set ≡ set) where
+    module _ (same : ty ≡ type_of source) (given : SourceGiven source) (wide : IsWide set (type_of source)) (apart : combiner ≡ C.Last → ⊥) (is_bit : IsSegments bit) (c : HasItsCode g.typed g.instance alive n whole) (f : Field) (on : f.set ≡ set) where
       abbrev unsigned : Bool
       unsigned = not ty.elem.signed
 
@@ -203,20 +205,17 @@ module _ (g : Setting) (has : HasRegisters g) (alive : Variable → Type 0) (n :
       unfolding message_to scanned_in passes_less scanned_behind
       scan_message bound d s st less here sim Q last ended =
           then_known g s (meant g fields source st) v st (λ out x. (h : Field) × ((out ≡ O.Field h) × GivesField g alive 32 (length d.fields) d s set st v h x)) Q (next_of g.typed (layout g) 32 true source d) (λ out e. next out e)
-          (whole_after g has alive n ready places fields 32 set source true (omega arith) (omega arith) pure wide part d s st here sim) (λ out e. next_grows out e)
-          (λ given out e (a, (is, gives)). after_same g Q (ap (λ (o : Out). next o e) is ∙ next_is a e) (made_after g Q (O.Field f) (with_instr (last_instr a e) (bits_behind e).after) (λ within.
+          (given.follows d s st here sim) (λ out e. next_grows out e)
+          (λ meant_so out e (a, (is, gives)). after_same g Q (ap (λ (o : Out). next o e) is ∙ next_is a e) (made_after g Q (O.Field f) (with_instr (last_instr a e) (bits_behind e).after) (λ within.
           let (passes, puts) = scanned_behind g alive n places fields set axis combiner unsigned direction mode bit way apart f a (length d.fields) d e s st v on few gives (bits_behind e) within in
-          last (scan_gives g alive places fields set ty p source axis combiner direction mode bit way st (ap (λ (y : ValueType). y.shape) same ∙ wide.0) given) (bits_behind e).after (last_instr a e) within (passes_less g alive bound (length d.fields) d (bits_behind e).after s st (Unit {0}) less passes) puts)))
+          last (scan_gives g alive places fields set ty p source axis combiner direction mode bit way st (ap (λ (y : ValueType). y.shape) same ∙ wide.0) meant_so) (bits_behind e).after (last_instr a e) within (passes_less g alive bound (length d.fields) d (bits_behind e).after s st (Unit {0}) less passes) puts)))
           (λ early. ended (scan_ended g alive places fields set ty p source axis combiner direction mode bit way s st early))
         where
           v : ℕ → ℕ
-          v = λ q. value_in (extents g set) st source q
-
-          part : HasItsCode g.typed g.instance alive n source
-          part = (source_part c).0
+          v = λ q. scanned_in g alive places fields set st source q
 
           few : (q : ℕ) → v q < 2 ^ 32
-          few q = below_word (type_of source).elem.bits _ wide.1 (value_small g alive n places fields set source st s sim pure part q)
+          few = given.few s st sim
 
   -- a scan of ones, which are put in an entry first
   module _ (ty : ValueType) (axis : ℕ) (direction : Direction) (way : Inclusion) (mode : SegmentMode) (bit : Option Variable) (wide : IsWide set ty) (is_bit : IsSegments bit) (c : HasItsCode g.typed g.instance alive n (T.Enumerate ty axis direction way mode bit)) (f : Field) (on : f.set ≡ set) where

@@ -202,13 +202,14 @@ IsSegments None = Unit {0}
 IsSegments (Some (V.File k)) = Unit {0}
 IsSegments (Some x) = ⊥
 
--- A value of 32 bits with scans in it: a scan of a pure value, by a combiner other than the last one, or of ones, maybe
--- converted, and operators on such values and operands.
+-- A value of 32 bits with scans in it: a scan of such a value or of a pure one, by a combiner other than the last one, or
+-- of ones, maybe converted, and operators on such values and operands.
 unfoldable pub IsScan : ℕ → TExpr → Type 0
 IsScan set (T.Brackets' ty p inner) = (ty ≡ type_of inner) × IsScan set inner
-IsScan set (T.Scan' ty p source axis combiner direction mode bit within) = (ty ≡ type_of source) × IsPure set source × IsWide set (type_of source) × (combiner ≡ C.Last → ⊥) × IsSegments bit
+IsScan set (T.Scan' ty p source axis combiner direction mode bit within) = (ty ≡ type_of source) × (IsScan set source ⊎ IsPure set source) × IsWide set (type_of source) × (combiner ≡ C.Last → ⊥) × IsSegments bit
 IsScan set (T.Enumerate ty axis direction within mode bit) = IsWide set ty × IsSegments bit
 IsScan set (T.Convert' ty p operand) = IsWide set ty × IsScan set operand
+IsScan set (T.Unary' ty op p operand) = IsWide set ty × (negates op ≡ false) × IsScan set operand
 IsScan set (T.Binary' ty place op p left q right) =
     IsWide set ty × IsOperation op right × ((IsScan set left × (IsScan set right ⊎ IsOperand set right)) ⊎ (IsOperand set left × IsScan set right)) × IsWide set (type_of left) × IsWide set (type_of right)
 IsScan set _ = ⊥
