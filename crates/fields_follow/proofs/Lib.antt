@@ -33,6 +33,7 @@ pub mod Leaving
 pub mod Lengths
 pub mod Listed
 pub mod Locals
+pub mod LocalFields
 pub mod LocalWrites
 pub mod LocalsCleared
 pub mod Meaning
