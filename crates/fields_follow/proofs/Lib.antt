@@ -59,6 +59,7 @@ pub mod Reductions
 pub mod Relations
 pub mod Saving
 pub mod ScalarAssigning
+pub mod ScalarOperating
 pub mod Scalars
 pub mod Scanning
 pub mod ScanAssigning

@@ -57,7 +57,7 @@ use Rattle.fields_follow.proofs.Updates.{IsFileTarget, assigned_is, divides_neve
 use Rattle.fields_follow.proofs.Values.{next_field, with_entry}
 
 -- what is done with what is given, and what with that
-then_both : {A B C : Type 0} (o : Outcome A) (f : A → B) (k : B → State → Outcome C) → then_do (then_do o (λ x after. Gives (f x) after)) k ≡ then_do o (λ x after. k (f x) after)
+pub then_both : {A B C : Type 0} (o : Outcome A) (f : A → B) (k : B → State → Outcome C) → then_do (then_do o (λ x after. Gives (f x) after)) k ≡ then_do o (λ x after. k (f x) after)
 unfolding then_do
 then_both (Source.Gives x u) f k = refl
 then_both (Source.Ends early u) f k = refl
@@ -67,7 +67,7 @@ module _ (g : Setting) (has : HasRegisters g) (alive : Variable → Type 0) (n :
   unfolding Follows
   made_follows Q s x u y e h = h
 
-  assigns : (ty : ValueType) (place : Place) (op : AssignOp) (p q : Boxed) (target value : TExpr) (set : ℕ) → ty ≡ type_of target → assign_op_of op ≡ None → (type_of value).elem.bits ≡ ty.elem.bits → IsTarget set target → IsChanging set value → NamesVariables g.typed g.instance n target
+  pub assigns : (ty : ValueType) (place : Place) (op : AssignOp) (p q : Boxed) (target value : TExpr) (set : ℕ) → ty ≡ type_of target → assign_op_of op ≡ None → (type_of value).elem.bits ≡ ty.elem.bits → IsTarget set target → IsChanging set value → NamesVariables g.typed g.instance n target
       → HasItsCode g.typed g.instance alive n value → (d : Draft) (s : CodeState) (st : State) → Starts g alive s (length d.code) d.regs → Sim g alive st s → UpdateLeaves g alive fields (T.Assign' ty place op p target q value) d s st
   unfolding effect_of assignment_effect variable_operated put_to word_for evaluated then_do put_value put_in_field at
   assigns ty place op p q target value set same none long is_target is names c d s st here sim =
@@ -144,10 +144,3 @@ module _ (g : Setting) (has : HasRegisters g) (alive : Variable → Type 0) (n :
 
           less : w < 2 ^ bits
           less = subst (λ (m : ℕ). w < 2 ^ m) of_value few
-
-  -- such an assignment leaves what it leaves in the source
-  pub changing_leaves : (e : TExpr) → IsChangingAssigned e → HasItsCode g.typed g.instance alive n e → (d : Draft) (s : CodeState) (st : State) → Starts g alive s (length d.code) d.regs → Sim g alive st s → UpdateLeaves g alive fields e d s st
-  unfolding IsChangingAssigned NamesVariables IsShaped IsLowerable ScalarsAmong
-  changing_leaves (T.Assign' ty place op p target q value) is c =
-      assigns ty place op p q target value is.3.0 is.0 is.1 is.2 is.3.1.0 is.3.1.1 c.code.names.0 (record { code = record { shaped = c.code.shaped.3; lowerable = c.code.lowerable.3; names = c.code.names.1 }; among = c.among.1 })
-  changing_leaves _ is c = absurd is

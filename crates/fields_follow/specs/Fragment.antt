@@ -234,9 +234,9 @@ IsChanging set (T.Promote' ty p operand) = (ty.shape ≡ Some set) × (ty.elem �
 IsChanging set (T.Brackets' ty p inner) = (ty ≡ type_of inner) × IsChanging set inner
 IsChanging set _ = ⊥
 
--- it is assigned to a parallel variable of as many bits
+-- it is assigned to a parallel variable of as many bits, or with an operator that does not divide
 unfoldable pub IsChangingAssigned : TExpr → Type 0
-IsChangingAssigned (T.Assign' ty place op p target q value) = (ty ≡ type_of target) × (assign_op_of op ≡ None) × ((type_of value).elem.bits ≡ ty.elem.bits) × ((set : ℕ) × (IsTarget set target × IsChanging set value))
+IsChangingAssigned (T.Assign' ty place op p target q value) = (ty ≡ type_of target) × HasOperation op ty.elem value × ((o : Op) → assign_op_of op ≡ Some o → divides o ≡ false) × ((set : ℕ) × (IsTarget set target × IsChanging set value))
 IsChangingAssigned _ = ⊥
 
 -- a value of 32 bits that is folded
