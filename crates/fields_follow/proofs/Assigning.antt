@@ -58,10 +58,10 @@ use Rattle.code_follows.proofs.Following.{HasRegisters, Sim, held, keeps_less}
 use Rattle.code_follows.proofs.Growing.{Extended, extended}
 use Rattle.code_follows.proofs.Settings.{Setting, Within, and_one, layout, onto, start}
 use Rattle.code_follows.proofs.Words.{below_word}
-use Rattle.fields_follow.specs.Fragment.{HasOperation, IsOperand, IsOperandOrTruth, IsOperation, IsTarget, IsUpdate, IsWide}
+use Rattle.fields_follow.specs.Fragment.{HasOperation, IsOperand, IsOperation, IsPromoted, IsPure, IsTarget, IsUpdate, IsWide}
 use Rattle.fields_follow.specs.Fields.{IsElement, file_number}
 use Rattle.fields_follow.proofs.Deciding.{truth_last}
-use Rattle.fields_follow.proofs.TruthValues.{truth_bit}
+use Rattle.fields_follow.proofs.TruthValues.{IsPlain, IsTruth, truth_bit, truth_or_plain}
 use Rattle.fields_follow.proofs.Dividing.{zero_at, zero_there}
 use Rattle.fields_follow.proofs.Forms.{HasItsCode, field_is, operand_shape}
 use Rattle.fields_follow.proofs.Lengths.{held_first, modular_keeps}
@@ -178,7 +178,7 @@ module _ (g : Setting) (has : HasRegisters g) (alive : Variable → Type 0) (n :
       by None h = refl
       by (Some x) h = ap (λ (b : Bool). if b then Some mine else None) (within x (h.2, h.3))
 
-  assigns : (ty : ValueType) (place : Place) (op : AssignOp) (p q : Boxed) (target value : TExpr) (set : ℕ) → ty ≡ type_of target → IsTarget set target → HasOperation op ty.elem value → IsOperandOrTruth set ty.elem.bits op value → NamesVariables g.typed g.instance n target → HasItsCode g.typed g.instance alive n value
+  assigns : (ty : ValueType) (place : Place) (op : AssignOp) (p q : Boxed) (target value : TExpr) (set : ℕ) → ty ≡ type_of target → IsTarget set target → HasOperation op ty.elem value → IsOperand set value → NamesVariables g.typed g.instance n target → HasItsCode g.typed g.instance alive n value
       → (d : Draft) (s : CodeState) (st : State) → Starts g alive s (length d.code) d.regs → Sim g alive st s
       → UpdateLeaves g alive fields (T.Assign' ty place op p target q value) d s st
   unfolding effect_of assignment_effect variable_operated
@@ -187,7 +187,7 @@ module _ (g : Setting) (has : HasRegisters g) (alive : Variable → Type 0) (n :
       (after_same g Q
       (ap (λ (o : Option Own). elim o as (λ _. Made Out) [ Some own ↦ then_make (whole_of g.typed (layout g) target own d) (λ dest after. variable_assigned g.typed (layout g) op place target value dest after) | None ↦ value_of g.typed (layout g) ty.elem.bits (T.Assign' ty place op p target q value) d ]) (own_is set h.k op target value h.own (subst (λ (y : ValueType). HasOperation op y.elem value) same operates))
       ∙ variable_is set h.k h.info h.is d s st target (λ dest after. variable_assigned g.typed (layout g) op place target value dest after) h.elem)
-      (by (assign_op_of op) refl (subst (λ (y : Elem). HasOperation op y value) is_elem operates) (subst (λ (y : Elem). IsOperandOrTruth set y.bits op value) is_elem is_value)))
+      (by (assign_op_of op) refl (subst (λ (y : Elem). HasOperation op y value) is_elem operates) is_value))
     where
       h : IsFileTarget g.typed set target
       h = file_target g.typed g.instance n set target is_target names
@@ -286,19 +286,29 @@ module _ (g : Setting) (has : HasRegisters g) (alive : Variable → Type 0) (n :
             subst (λ (m : ℕ). m < 2 ^ bits) (sym stored) few,
           )
 
-      by : (o : Option Op) → assign_op_of op ≡ o → (elim o as (λ _. Type 0) [ None ↦ (type_of value).elem.bits ≡ bits | Some o ↦ IsOperation o value × ((type_of value).elem.bits ≡ 32) × ((bits == 1) ≡ false) × (operation_bits bits o value ≡ bits) ]) → IsOperandOrTruth set bits op value
-          → After g Q (code (assign_op_of op))
-      by None is known (inl is_operand) =
+      plain_put : assign_op_of op ≡ None → (type_of value).elem.bits ≡ bits → IsOperand set value → (IsPure set value × IsPlain bits value) ⊎ IsPromoted set value → After g Q (code (assign_op_of op))
+      plain_put is known is_operand any =
           after_same g Q (ap code is)
-          (put_last g has alive n ready places fields set (length d.fields) bits value most is_operand c d1 s st here sim Q
+          (put_last g has alive n ready places fields set (length d.fields) bits value (kind_bits h.info.elem.bits h.info.elem.signed h.info.elem.kind).0 most any c d1 s st here sim Q
           (λ given e2 i within passes puts. inl (plain_given is given, leaves_value set h.k h.info h.is d s st (λ x. word_at (extents g set) st value x) w (λ x below small. (plain_stored is known is_operand x).0, λ x. (plain_stored is known is_operand x).1) e2 i within passes puts)) (λ early out e. inr (value_ended early)))
-      by None is known (inr truth) =
-          let few : (x : ℕ) → number x < 2 ^ bits = λ x. subst (λ (m : ℕ). m < 2 ^ bits) (sym (truth_bit (extents g set) st set bits value x truth.1)) (bit_below (nonzero (number x))) in
+
+      truth_put : assign_op_of op ≡ None → IsTruth set bits value → After g Q (code (assign_op_of op))
+      truth_put is truth =
+          let few : (x : ℕ) → number x < 2 ^ bits = λ x. subst (λ (m : ℕ). m < 2 ^ bits) (sym (truth_bit (extents g set) st set bits value x truth)) (bit_below (nonzero (number x))) in
           let stored : (x : ℕ) → w x ≡ number x = λ x. plainly op ty.elem (type_of value).elem (old x) (number x) is in
           after_same g Q (ap code is)
-          (truth_last g has alive n ready places fields set h.k (length d.fields) bits h.info h.is (kind_bits h.info.elem.bits h.info.elem.signed h.info.elem.kind).0 refl d1 s st here sim (entry_for set h.k h.info h.is d s st) Q value truth.1 c
+          (truth_last g has alive n ready places fields set h.k (length d.fields) bits h.info h.is (kind_bits h.info.elem.bits h.info.elem.signed h.info.elem.kind).0 refl d1 s st here sim (entry_for set h.k h.info h.is d s st) Q value truth c
           (λ given e2 f2 used within passes wanted last. inl (plain_given is given, leaves set h.k h.info h.is d s st number w (λ x below small. stored x ∙ sym (mod-eq_of_lt (few x)), λ x. subst (λ (m : ℕ). m < 2 ^ bits) (sym (stored x)) (few x)) e2 f2 used within passes wanted last)) (λ early out e. inr (value_ended early)))
-      by (Some x) is known (inl is_operand) =
+
+      pure_put : assign_op_of op ≡ None → (type_of value).elem.bits ≡ bits → IsPure set value → IsTruth set bits value ⊎ IsPlain bits value → After g Q (code (assign_op_of op))
+      pure_put is known pure (inl truth) = truth_put is truth
+      pure_put is known pure (inr plain) = plain_put is known (inl pure) (inl (pure, plain))
+
+      by : (o : Option Op) → assign_op_of op ≡ o → (elim o as (λ _. Type 0) [ None ↦ (type_of value).elem.bits ≡ bits | Some o ↦ IsOperation o value × ((type_of value).elem.bits ≡ 32) × ((bits == 1) ≡ false) × (operation_bits bits o value ≡ bits) ]) → IsOperand set value
+          → After g Q (code (assign_op_of op))
+      by None is known (inl pure) = pure_put is known pure (truth_or_plain set bits value pure)
+      by None is known (inr promoted) = plain_put is known (inr promoted) (inr promoted)
+      by (Some x) is known is_operand =
           let signed : Bool = assigned_signed x (type_of target).elem (type_of value).elem in
           let wide : IsWide set (type_of value) = (operand_shape set value is_operand, known.1) in
           let given_by : ℕ → ℕ = λ y. outcome x 32 (not (assigned_signed x h.info.elem (type_of value).elem)) (held h.info.elem (old y)) (number y) in
@@ -319,7 +329,6 @@ module _ (g : Setting) (has : HasRegisters g) (alive : Variable → Type 0) (n :
             ) e2 i within passes puts,
           )) (λ early out e. inr (value_ended early))
           (λ given there divided y none ends out e. inr (record { early = Source.Fault DivZero place (Some y); state = st; is = divided_so x (is, (known, is_operand)) given there divided ∙ ap by_zero none; finishes = ends })))
-      by (Some x) is known (inr truth) = absurd (let none = truth.0 in cc)
 
   -- one more, or one less
   abbrev stepping : StepOp → Op

@@ -22,7 +22,7 @@ use Rattle.fields_follow.specs.Fragment.{IsFold, IsParallelEffect}
 use Rattle.fields_follow.proofs.Assigning.{updates_leave}
 use Rattle.fields_follow.proofs.Contexts.{where_follows}
 use Rattle.fields_follow.proofs.Widening.{widening_follows}
-use Rattle.fields_follow.proofs.Expressions.{whole_after}
+use Rattle.fields_follow.proofs.Computing.{whole_after}
 use Rattle.fields_follow.proofs.FoldingOnto.{onto_leaves}
 use Rattle.fields_follow.proofs.Onto.{LeavesScalars, scalars_stay}
 use Rattle.fields_follow.proofs.Forms.{HasItsCode}
@@ -78,7 +78,7 @@ module _ (g : Setting) (scope : Scope) (active : Active) (known : KnowsFields g 
 
     -- the code of a pure parallel expression leaves its numbers in a field
     operands_stand : OperandsStand (under g active) alive there n
-    operands_stand bits set o most is wide code d0 s0 st0 at_o sim_o = whole_after (under g active) (registers_under g active has) alive n ready (places_under g active known.places) there bits set o true most is wide code d0 s0 st0 at_o sim_o
+    operands_stand bits set o some most is wide code d0 s0 st0 at_o sim_o = whole_after (under g active) (registers_under g active has) alive n ready (places_under g active known.places) there bits set o true some most is wide code d0 s0 st0 at_o sim_o
 
     -- an update, a fold onto a variable, or a scan or a scalar that is assigned
     effect_follows : IsParallelEffect e → Follows g (λ v u out f. Ran g alive d s u f) s (evaluated scope e active st) (effect_of g.typed (layout g) e d)

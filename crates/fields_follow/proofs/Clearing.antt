@@ -1,4 +1,5 @@
--- A variable that is cleared, and whose lowest bit then is written by an operation on two bits, takes a truth value.
+-- A variable or an own entry that is cleared, and whose lowest bit then is written by an operation on two bits, takes a
+-- truth value.
 use Rattle.std.proofs.Common.{◌≡◌, ◌∙◌, ℕ, zero, suc, ◌+◌, ◌-◌, ◌%◌, ◌^◌, ◌<◌, ◌≤◌, ◌==◌, ◌&&◌, inl, inr, Bool, true, false, [], ◌∷◌, length, refl, sym, ap, subst, arith, if◌then◌else◌}
 use Rattle.std.proofs.lemmas.Bool.Decides.{nat_tests}
 use Rattle.std.proofs.lemmas.Nat.Bits.{bit_at-zero, bit_at_lowest}
@@ -26,7 +27,7 @@ use Rattle.paris_code.specs.Writes.{Write, covers, written}
 use Rattle.source_meaning.specs.State.{State}
 use Rattle.source_meaning.specs.Values.{nonzero}
 use Rattle.code_follows.proofs.Growing.{Extended, and_instr, extended}
-use Rattle.code_follows.proofs.Settings.{At, Reaches, Setting, StandsBelow, Within, and_one, at_next, begins_here, code_more, earlier, one_writes, onto, placed_instr}
+use Rattle.code_follows.proofs.Settings.{At, Reaches, Setting, StandsBelow, Within, and_one, at_next, begins_here, code_more, earlier, one_writes, onto, placed_instr, start}
 use Rattle.constant_trees.proofs.Words.{from_bool_below}
 use Rattle.fields_follow.specs.Fields.{IsElement}
 use Rattle.fields_follow.proofs.Bits.{active_apart, field_apart}
@@ -34,11 +35,15 @@ use Rattle.fields_follow.proofs.FileFields.{Apart, apart_back}
 use Rattle.fields_follow.proofs.Flags.{written_to}
 use Rattle.fields_follow.proofs.Instructions.{number_in, place, shapes, wrote}
 use Rattle.fields_follow.proofs.Leaving.{PassesTests}
-use Rattle.fields_follow.proofs.Passing.{Behind, code_longer, flags_of, names_second, names_third}
+use Rattle.fields_follow.proofs.Passing.{Behind, GivesField, code_longer, fields_longer, flags_of, names_second, names_third}
+use Rattle.fields_follow.proofs.Values.{and_entry, next_field, one_more, taken, with_entry}
+use Rattle.paris_code.specs.declared.program.Owner.TheVariants as W
+use Rattle.code_follows.proofs.Following.{Sim, keeps_less}
+use Rattle.fields_follow.proofs.Starts.{starts_later}
 use Rattle.fields_follow.proofs.PassingTests.{tests_on}
-use Rattle.fields_follow.proofs.Places.{HoldsTheFields, IsFileField, PlacesFields, of_file, stands_here}
+use Rattle.fields_follow.proofs.Places.{HoldsTheFields, IsFileField, IsOwnField, PlacesFields, names_first, of_file, stands_here}
 use Rattle.fields_follow.proofs.Truths.{GivesTruth, either_or_both, joined_bits, truth_still}
-use Rattle.fields_follow.proofs.Writing.{TakesBehind, entry_and_below, entry_ends, entry_place}
+use Rattle.fields_follow.proofs.Writing.{TakesBehind, elsewhere, entry_and_below, entry_ends, entry_place, own_has, own_sim}
 
 -- ---- two writes are one
 
@@ -95,7 +100,7 @@ joined_behind is_or set offset bits a b e = with_instr (join is_or set offset bi
 pub joined_more : (g : Setting) (is_or : Bool) (set offset bits : ℕ) (a b : Field) (e : Draft) → Extended e 2 (joined_behind is_or set offset bits a b e)
 joined_more g is_or set offset bits a b e = and_instr (join is_or set offset bits a b) e (cleared_behind set offset bits e) 1 (and_one g (clear set offset bits) e)
 
-module _ (g : Setting) (places : PlacesFields g) (fields : HoldsTheFields g) (alive : Variable → Type 0) (set k offset : ℕ) (info : VarInfo) (is : IsElement g.typed k info set 0) (bits : ℕ) (some : 0 < bits) (word : info.elem.bits ≡ bits) (is_or : Bool) (a b : Field) (e : Draft) (s : CodeState) where
+module _ (g : Setting) (set offset bits : ℕ) (some : 0 < bits) (is_or : Bool) (a b : Field) (e : Draft) (s : CodeState) where
   abbrev dest : Field
   dest = field_at set offset bits
 
@@ -122,19 +127,20 @@ module _ (g : Setting) (places : PlacesFields g) (fields : HoldsTheFields g) (al
   unfolding begun applied after
   join_goes = refl
 
-  -- two bits of fields apart from it are joined in a variable of the file
-  joined_takes : (v w : ℕ → ℕ) → IsFileField g k 0 dest → Apart (place g a) (of_file g k 0) → Apart (place g b) (of_file g k 0) → Within g (joined_behind is_or set offset bits a b e) → At g s (length e.code)
+  -- two bits that stay where it is cleared are joined in it
+  joined_takes : (v w : ℕ → ℕ) → (dest.set < length (shapes g)) × ((place g dest).offset + dest.len ≤ bits_at (shapes g) dest.set) → ((f : Field) → StandsBelow g.image g.placed g.number f → Apart (place g dest) f) → ((q : ℕ) → q < processors (shapes g) set → number_in g a s1 q ≡ number_in g a s q)
+      → ((q : ℕ) → q < processors (shapes g) set → number_in g b s1 q ≡ number_in g b s q) → Within g (joined_behind is_or set offset bits a b e) → At g s (length e.code)
       → ((q : ℕ) → q < processors (shapes g) set → on q ≡ true → number_in g a s q ≡ from_bool (nonzero (v q))) → ((q : ℕ) → q < processors (shapes g) set → on q ≡ true → number_in g b s q ≡ from_bool (nonzero (w q)))
       → TakesBehind g set dest e (joined_behind is_or set offset bits a b e) s (λ q. from_bool (either_or_both is_or (nonzero (v q)) (nonzero (w q))))
   unfolding step_of
-  joined_takes v w file own_a own_b within here one_bit other_bit = record {
+  joined_takes v w ends apart still_a still_b within here one_bit other_bit = record {
     takes = record {
       write = both;
       run = refl;
       writes = λ p. refl;
       value = λ p below active.
-          ap (λ (n : ℕ). outcome (operator_of (operation_of is_or)).0 1 (operator_of (operation_of is_or)).1 n (number_in g b s1 p) % 2 % 2 ^ bits) (still a p own_a ∙ one_bit p below active)
-          ∙ ap (λ (n : ℕ). outcome (operator_of (operation_of is_or)).0 1 (operator_of (operation_of is_or)).1 (from_bool (nonzero (v p))) n % 2 % 2 ^ bits) (still b p own_b ∙ other_bit p below active)
+          ap (λ (n : ℕ). outcome (operator_of (operation_of is_or)).0 1 (operator_of (operation_of is_or)).1 n (number_in g b s1 p) % 2 % 2 ^ bits) (still_a p below ∙ one_bit p below active)
+          ∙ ap (λ (n : ℕ). outcome (operator_of (operation_of is_or)).0 1 (operator_of (operation_of is_or)).1 (from_bool (nonzero (v p))) n % 2 % 2 ^ bits) (still_b p below ∙ other_bit p below active)
           ∙ ap (λ (n : ℕ). n % 2 ^ bits) (joined_bits is_or (nonzero (v p)) (nonzero (w p)) 1) ∙ few (either_or_both is_or (nonzero (v p)) (nonzero (w p)));
       small = λ p below active. from_bool_below (either_or_both is_or (nonzero (v p)) (nonzero (w p)));
     };
@@ -149,12 +155,6 @@ module _ (g : Setting) (places : PlacesFields g) (fields : HoldsTheFields g) (al
       both : Write
       both = written_to (place g dest) on (λ q. number q % 2)
 
-      ends : (dest.set < length (shapes g)) × ((place g dest).offset + dest.len ≤ bits_at (shapes g) dest.set)
-      ends = entry_ends g places fields alive set k 0 info dest is word file refl
-
-      apart : (f : Field) → StandsBelow g.image g.placed g.number f → Apart (place g dest) f
-      apart f there = entry_and_below g places fields alive set k 0 info dest is word file refl f there
-
       lowest_apart : (f : Field) → Apart (place g dest) f → Apart (place g (lowest_bit dest)) f
       lowest_apart f (inl differ) = inl differ
       lowest_apart f (inr (inl low)) = inr (inl (omega (arith, low)))
@@ -165,10 +165,6 @@ module _ (g : Setting) (places : PlacesFields g) (fields : HoldsTheFields g) (al
 
       at_join : At g s1 (length (cleared_behind set offset bits e).code)
       at_join = at_next g (clear set offset bits) e s (s.at + 1) here refl
-
-      still : (h : Field) (q : ℕ) → Apart (place g h) (of_file g k 0) → number_in g h s1 q ≡ number_in g h s q
-      still h q own =
-          field_apart clears s.memory (place g h) q (subst (λ (f : Field). Apart f (place g h)) (sym (entry_place g places fields alive set k 0 info dest is word file refl)) (apart_back (place g h) (of_file g k 0) own))
 
       few : (x : Bool) → from_bool (nonzero (from_bool x)) % 2 ^ bits ≡ from_bool x % 2 ^ bits
       few true = refl
@@ -184,7 +180,8 @@ module _ (g : Setting) (places : PlacesFields g) (fields : HoldsTheFields g) (al
   unfolding step_of tests_on
   truths_taken one two several file within = (
     passes,
-    joined_takes g places fields alive set k offset info is bits some word is_or a b e2 two.passes.t v w (file (passes.grown.0 + 2) (extended d e2 behind passes.grown.0 2 passes.grown.1 (joined_more g is_or set offset bits a b e2))) (one.apart k info is more) (two.apart k info is more) within two.passes.at.stands
+    joined_takes g set offset bits some is_or a b e2 two.passes.t v w (entry_ends g places fields alive set k 0 info (field_at set offset bits) is word is_file refl) (entry_and_below g places fields alive set k 0 info (field_at set offset bits) is word is_file refl) (λ q below. cleared_still a q (one.apart k info is more))
+        (λ q below. cleared_still b q (two.apart k info is more)) within two.passes.at.stands
         (λ q below on. still q below ∙ one.are early q below (active q below ∙ on)) (λ q below on. two.are behind_b q below (active q below ∙ on)),
   )
     where
@@ -212,6 +209,14 @@ module _ (g : Setting) (places : PlacesFields g) (fields : HoldsTheFields g) (al
       passes : PassesTests g alive d e2 s st (Unit {0})
       passes = tests_on g alive d e1 e2 s st (Behind g a e1) (Behind g b e2) (Unit {0}) one.passes two.passes (λ u. early) (λ u. behind_b)
 
+      is_file : IsFileField g k 0 (field_at set offset bits)
+      is_file = file (passes.grown.0 + 2) (extended d e2 behind passes.grown.0 2 passes.grown.1 (joined_more g is_or set offset bits a b e2))
+
+      cleared_still : (h : Field) (q : ℕ) → Apart (place g h) (of_file g k 0) → number_in g h (s1 g set offset bits some is_or a b e2 two.passes.t) q ≡ number_in g h two.passes.t q
+      cleared_still h q own =
+          field_apart (clears g set offset bits some is_or a b e2 two.passes.t) two.passes.t.memory (place g h) q
+          (subst (λ (f : Field). Apart f (place g h)) (sym (entry_place g places fields alive set k 0 info (field_at set offset bits) is word is_file refl)) (apart_back (place g h) (of_file g k 0) own))
+
       more : 1 < info.elem.bits
       more = omega (arith, several, word)
 
@@ -220,3 +225,142 @@ module _ (g : Setting) (places : PlacesFields g) (fields : HoldsTheFields g) (al
 
       active : (q : ℕ) → q < processors (shapes g) set → fields.active set q ≡ is_active (shapes g) two.passes.t.memory set q
       active q below = sym (flags_of g alive places fields st two.passes.t set q two.passes.sim two.exists below)
+
+-- an own entry that was taken before them
+module _ (g : Setting) (places : PlacesFields g) (fields : HoldsTheFields g) (alive : Variable → Type 0) (set bits : ℕ) (some : 0 < bits) (is_or : Bool) (a b : Field) (d e1 e2 : Draft) (s : CodeState) (st : State) (v w : ℕ → ℕ) where
+  abbrev own_behind : Draft
+  own_behind = joined_behind is_or set (length d.fields) bits a b e2
+
+  abbrev taken_first : Draft
+  taken_first = with_entry set bits W.Own d
+
+  pub own_joined : (one : GivesTruth g alive places fields taken_first s set st v a e1) → GivesTruth g alive places fields e1 one.passes.t set st w b e2 → Within g own_behind
+      → GivesField g alive bits (length d.fields) d s set st (λ q. from_bool (either_or_both is_or (nonzero (v q)) (nonzero (w q)))) (next_field set bits d) own_behind
+  unfolding step_of tests_on
+  own_joined one two within = record {
+    passes = record {
+      grown = (0 + (passes.grown.0 + 2), extended d taken_first own_behind 0 (passes.grown.0 + 2) (and_entry set bits W.Own d) whole);
+      t = record two.passes.t { at = takes.place; memory = written takes.takes.write two.passes.t.memory };
+      go = onto g s two.passes.t (record two.passes.t { at = takes.place; memory = written takes.takes.write two.passes.t.memory }) passes.go takes.go;
+      at = starts_later g alive two.passes.t (record two.passes.t { at = takes.place; memory = written takes.takes.write two.passes.t.memory }) (length e2.code) e2.regs (length own_behind.code) own_behind.regs (omega (arith, long, behind_long)) (joined_more g is_or set (length d.fields) bits a b e2).regs takes.at two.passes.at;
+      registers = keeps_less g d taken_first s two.passes.t (and_entry set bits W.Own d).regs passes.registers;
+      sim = own_sim g places fields alive set dest two.passes.t st joins_to two.passes.sim refl ends.0 ends.1 takes.takes takes.place own;
+      stays = λ again h first last q below is_own ends_below before low after high.
+          elsewhere g places fields alive set dest two.passes.t st joins_to two.passes.sim refl ends.0 ends.1 takes.takes (place g h) q
+          (apart_back (place g h) (place g dest) (places.owns_apart h dest first (length e2.code) last again.0 (λ same. omega (arith, same, below)) is_own own ends.0 before after (omega (arith, low, longer)) (omega (arith, high, long, behind_long)) named_dest again.1.0 (let after_it = again.1.1 in omega (arith, after_it, long, behind_long))))
+          ∙ passes.stays tt h first last q (omega (arith, below, first_longer)) is_own ends_below before (omega (arith, low, first_long)) after (omega (arith, high, long, behind_long));
+    };
+    stands = inl (record {
+      long = bits;
+      own = own;
+      fits = omega arith;
+      ends = ends.1;
+      newer = omega arith;
+      older = (let more = fields_longer taken_first own_behind (passes.grown.0 + 2) whole in omega (arith, first_longer, more));
+      somewhere = length e2.code;
+      named = named_dest;
+      before = omega (arith, long, behind_long);
+      has = own_has g places fields alive set dest two.passes.t st joins_to two.passes.sim refl ends.0 ends.1 takes.takes takes.place;
+    });
+  }
+    where
+      dest : Field
+      dest = next_field set bits d
+
+      joins_to : ℕ → ℕ
+      joins_to = λ q. from_bool (either_or_both is_or (nonzero (v q)) (nonzero (w q)))
+
+      cleared_one : Draft
+      cleared_one = cleared_behind set (length d.fields) bits e2
+
+      joins : Instr
+      joins = join is_or set (length d.fields) bits a b
+
+      long : length cleared_one.code ≡ length e2.code + 1
+      long = code_more g (clear set (length d.fields) bits) e2
+
+      behind_long : length own_behind.code ≡ length cleared_one.code + 1
+      behind_long = code_more g joins cleared_one
+
+      first_longer : length taken_first.fields ≡ length d.fields + 1
+      first_longer = one_more set bits W.Own d
+
+      first_long : length d.code ≤ length taken_first.code
+      first_long = code_longer d taken_first 0 (and_entry set bits W.Own d)
+
+      there : StandsAt g.unit (length cleared_one.code) joins
+      there = stands_here g joins cleared_one within refl
+
+      within_cleared : Within g cleared_one
+      within_cleared = earlier g cleared_one own_behind 1 (and_one g joins cleared_one) within
+
+      clears_there : StandsAt g.unit (length e2.code) (clear set (length d.fields) bits)
+      clears_there = stands_here g (clear set (length d.fields) bits) e2 within_cleared refl
+
+      named_dest : IsNamedAt g.unit dest.offset (length e2.code)
+      named_dest = names_first g (clear set (length d.fields) bits) dest [] (length e2.code) clears_there refl
+
+      named_a : IsNamedAt g.unit a.offset (length cleared_one.code)
+      named_a = names_second g joins _ a (b ∷ []) (length cleared_one.code) there refl
+
+      named_b : IsNamedAt g.unit b.offset (length cleared_one.code)
+      named_b = names_third g joins _ a b [] (length cleared_one.code) there refl
+
+      behind_b : Behind g b e2
+      behind_b = (length cleared_one.code, (named_b, omega (arith, long)))
+
+      early : Behind g a e1
+      early = (length cleared_one.code, (named_a, (let more = code_longer e1 e2 two.passes.grown.0 two.passes.grown.1 in omega (arith, more, long))))
+
+      passes : PassesTests g alive taken_first e2 s st (Unit {0})
+      passes = tests_on g alive taken_first e1 e2 s st (Behind g a e1) (Behind g b e2) (Unit {0}) one.passes two.passes (λ u. early) (λ u. behind_b)
+
+      longer : length d.code ≤ length e2.code
+      longer = let more = code_longer taken_first e2 passes.grown.0 passes.grown.1 in omega (arith, first_long, more)
+
+      whole : Extended taken_first (passes.grown.0 + 2) own_behind
+      whole = extended taken_first e2 own_behind passes.grown.0 2 passes.grown.1 (joined_more g is_or set (length d.fields) bits a b e2)
+
+      own : IsOwnField g dest
+      own = taken g set bits W.Own d own_behind (passes.grown.0 + 2) within whole
+
+      ends : (dest.set < length (shapes g)) × ((place g dest).offset + dest.len ≤ bits_at (shapes g) dest.set)
+      ends = places.ends (length e2.code) (clear set (length d.fields) bits) dest [] clears_there refl tt refl
+
+      between : CodeState
+      between = s1 g set (length d.fields) bits some is_or a b e2 two.passes.t
+
+      still : (h : Field) (q : ℕ) → Apart (place g dest) (place g h) → number_in g h between q ≡ number_in g h two.passes.t q
+      still h q apart = field_apart (clears g set (length d.fields) bits some is_or a b e2 two.passes.t) two.passes.t.memory (place g h) q apart
+
+      sim_between : Sim g alive st between
+      sim_between = own_sim g places fields alive set dest two.passes.t st (λ q. 0) two.passes.sim refl ends.0 ends.1 (record { write = clears g set (length d.fields) bits some is_or a b e2 two.passes.t; run = refl; writes = λ p. refl; value = λ p below active. refl; small = λ p below active. omega arith }) (two.passes.t.at + 1) own
+
+      at_between : between.at ≤ start g + length cleared_one.code
+      at_between = let there = two.passes.at.stands in omega (arith, there, long)
+
+      -- own entries that are named by now and where the bits are joined are not cleared
+      others_stay : (h : Field) (first q : ℕ) → (h.offset ≡ dest.offset → ⊥) → IsOwnField g h → IsNamedAt g.unit h.offset first → first < length e2.code → IsNamedAt g.unit h.offset (length cleared_one.code) → number_in g h between q ≡ number_in g h two.passes.t q
+      others_stay h first q other is_own before early_on after =
+          still h q (apart_back (place g h) (place g dest) (places.owns_apart h dest first (length e2.code) (length cleared_one.code) (length cleared_one.code) other is_own own ends.0 before after (omega (arith, early_on)) (omega (arith, long)) named_dest (names_first g joins _ (a ∷ b ∷ []) (length cleared_one.code) there refl) (omega (arith, long))))
+
+      still_a : (q : ℕ) → q < processors (shapes g) set → number_in g a between q ≡ number_in g a two.passes.t q
+      still_a q below =
+          one.lasts between (length cleared_one.code) sim_between
+          (λ h first p new inside is_own ends_below before early_on after.
+          others_stay h first p (λ same. omega (arith, same, new, first_longer)) is_own before (let more = code_longer e1 e2 two.passes.grown.0 two.passes.grown.1 in omega (arith, early_on, more)) after
+          ∙ two.passes.stays behind_b h first (length cleared_one.code) p inside is_own ends_below before early_on after (omega (arith, long))) named_a (let more = code_longer e1 e2 two.passes.grown.0 two.passes.grown.1 in omega (arith, more, long)) at_between q below
+          ∙ sym (truth_still g alive places fields taken_first e1 e2 s set st v a (Behind g b e2) (length cleared_one.code) one two.passes behind_b named_a (omega (arith, long)) q below)
+
+      still_b : (q : ℕ) → q < processors (shapes g) set → number_in g b between q ≡ number_in g b two.passes.t q
+      still_b q below =
+          two.lasts between (length cleared_one.code) sim_between
+          (λ h first p new inside is_own ends_below before early_on after. others_stay h first p (λ same. (let more = fields_longer taken_first e1 one.passes.grown.0 one.passes.grown.1 in omega (arith, same, new, first_longer, more))) is_own before early_on after) named_b (omega (arith, long)) at_between q below
+
+      active : (q : ℕ) → q < processors (shapes g) set → fields.active set q ≡ is_active (shapes g) two.passes.t.memory set q
+      active q below = sym (flags_of g alive places fields st two.passes.t set q two.passes.sim two.exists below)
+
+      takes : TakesBehind g set dest e2 own_behind two.passes.t joins_to
+      takes =
+          joined_takes g set (length d.fields) bits some is_or a b e2 two.passes.t v w ends (λ f there. places.own_and_below dest f own there) still_a still_b within two.passes.at.stands
+          (λ q below on. truth_still g alive places fields taken_first e1 e2 s set st v a (Behind g b e2) (length cleared_one.code) one two.passes behind_b named_a (omega (arith, long)) q below ∙ one.are early q below (active q below ∙ on)) (λ q below on. two.are behind_b q below (active q below ∙ on))

@@ -1,5 +1,5 @@
 -- The code by which a condition leaves the test flags, or a bit in a field.
-use Rattle.std.proofs.Common.{eqb-true, ◌≡◌, ◌∙◌, ℕ, ◌+◌, ◌<◌, ◌==◌, ◌&&◌, Bool, true, false, not, [], ◌∷◌, length, Option, Some, refl, sym, ap, arith, if◌then◌else◌}
+use Rattle.std.proofs.Common.{eqb-true, ◌≡◌, ◌∙◌, ℕ, ◌==◌, ◌&&◌, Bool, true, false, not, [], ◌∷◌, length, Option, Some, refl, sym, ap, arith, if◌then◌else◌}
 use Rattle.std.specs.Int.{from_bool}
 use Rattle.std.specs.Prelude.{unwrap_or}
 use Rattle.cstar_base.specs.declared.operators.Op.{Op}
@@ -19,7 +19,7 @@ use Rattle.lower_base.specs.Layouts.{Layout}
 use Rattle.lower_base.specs.Operators.{machine_of, negates, relates}
 use Rattle.lower_expr.specs.declared.steps.Right.{Right}
 use Rattle.lower_expr.specs.declared.steps.Right.TheVariants as R
-use Rattle.lower_expr.specs.Joined.{cleared, flag_by, joined, joins, operation_of}
+use Rattle.lower_expr.specs.Joined.{flag_by, joined, joins, operation_of}
 use Rattle.lower_expr.specs.Kinds.{done_as, operand_bits, operation_bits, reads_signed, relation_kind, result_bits, unary_bits}
 use Rattle.lower_expr.specs.Operands.{is_plus, is_quiet, operand_by}
 use Rattle.lower_expr.specs.Steps.{fields_operated, field_negated, is_kept, negated, on_fields, on_word, put_test, right_operated, with_field_check}
@@ -31,34 +31,24 @@ use Rattle.paris_code.specs.declared.program.Owner.TheVariants as W
 use Rattle.paris_code.specs.Code.{CodeState}
 use Rattle.paris_code.specs.Spans.{fields_of}
 use Rattle.source_meaning.specs.State.{Outcome, State}
-use Rattle.source_meaning.specs.Values.{Value, nonzero}
+use Rattle.source_meaning.specs.Values.{Value}
 use Rattle.source_meaning.proofs.ConstantLaws.{Boxed}
 use Rattle.code_follows.proofs.Following.{Extends, Follows, extends_then}
 use Rattle.code_follows.proofs.Growing.{as_it_was, extended}
-use Rattle.code_follows.proofs.Settings.{Setting, Within, and_one, layout}
-use Rattle.fields_follow.proofs.Leaving.{PassesTests}
+use Rattle.code_follows.proofs.Settings.{Setting, and_one, layout}
 use Rattle.fields_follow.proofs.Outcomes.{Given, given_through}
-use Rattle.fields_follow.proofs.Passing.{After, Behind, after_same, fields_longer, made_after, then_after}
-use Rattle.fields_follow.proofs.PassingTests.{tests_and_entry, tests_behind_entry, tests_on}
-use Rattle.fields_follow.proofs.Places.{HoldsTheFields, IsOwnField, PlacesFields, names_first, stands_here}
+use Rattle.fields_follow.proofs.Passing.{Behind, after_same, fields_longer, made_after, then_after}
+use Rattle.fields_follow.proofs.PassingTests.{tests_and_entry}
+use Rattle.fields_follow.proofs.Places.{HoldsTheFields, PlacesFields, names_first, stands_here}
 use Rattle.fields_follow.proofs.Values.{and_entry, next_field, one_more, taken, with_entry}
 use Rattle.fields_follow.proofs.TestFlags.{LeavesTests, PutsTest, Tells, compares, puts_nonzero, puts_zero, tested_behind}
-use Rattle.fields_follow.proofs.Truths.{GivesTold, GivesTruth, either_or_both, truth_joined, truth_stored, truth_turned}
+use Rattle.fields_follow.proofs.Truths.{GivesTold, GivesTruth, truth_stored}
 
 -- ---- what the code is
 
--- behind code of conditions the test flags are stored in an entry that was taken before it
-abbrev pub stored_in : ℕ → Draft → Unit {0} → Draft → Made Out
-stored_in set d _ e = Makes (O.Field (next_field set 1 d)) (with_instr (I.StoreTest (next_field set 1 d)) e)
-
--- or in one that is taken behind it
+-- behind code of conditions the test flags are stored in an entry that is taken behind it
 abbrev pub stored_behind : ℕ → Unit {0} → Draft → Made Field
 stored_behind set _ e = then_make (a_flag set e) (λ f after. Makes f (with_instr (I.StoreTest f) after))
-
-one_bit : (set : ℕ) (d : Draft) (made : Made (Unit {0})) → lowest 1 (then_make made (stored_in set d)) ≡ then_make made (stored_in set d)
-unfolding lowest then_make shortened first_bits
-one_bit set d (Makes x e) = refl
-one_bit set d Fails = refl
 
 -- behind its test the test flags go to a field
 abbrev pub put_in : Field → Unit {0} → Draft → Made Out
@@ -100,14 +90,28 @@ zero_put l f (Makes (O.Scalar r) e) = refl
 zero_put l f (Makes O.Nothing e) = refl
 zero_put l f Fails = refl
 
--- in a field of one bit the test flags are stored
-relation_stored : (set : ℕ) (op : Op) (place : Place) (first : Code) (left : TExpr) (second : Code) (right : TExpr) (d : Draft) → relates op ≡ true → divides op ≡ false
-    → parallel_binary_by set 1 op place first left second right d ≡ then_make (relation_by set op first left second right (with_entry set 1 W.Own d)) (stored_in set d)
-unfolding parallel_binary_by spare_for result_bits operand_bits an_entry then_make put_test
-relation_stored set op place first left second right d related no_check =
-    ap (λ (c : Bool). then_make (a_field set (if c then 1 else operation_bits 1 op right) d) (λ dest begun. then_make (if c then a_field dest.set (if c then bits_of (relation_kind left right) else operation_bits 1 op right) begun else Makes dest begun) (λ spare between. lowest 1 (fields_by op (reads_signed op left right) place dest spare first left second right between)))) related
-    ∙ ap (λ (m : Made Out). lowest 1 m) (relation_put set op place (next_field set 1 d) first left second right (with_entry set 1 W.Own d) related no_check)
-    ∙ one_bit set d (relation_by set op first left second right (with_entry set 1 W.Own d))
+-- which has as many bits as are wanted
+whole_bits : (set bits : ℕ) (d : Draft) (made : Made (Unit {0})) → lowest bits (then_make made (put_in (next_field set bits d))) ≡ then_make made (put_in (next_field set bits d))
+unfolding lowest then_make shortened first_bits put_test an_entry
+whole_bits set bits d (Makes x e) = by (bits == 1)
+  where
+    f : Field
+    f = next_field set bits d
+
+    by : (b : Bool) → lowest bits (if b then Makes (O.Field f) (with_instr (I.StoreTest f) e) else then_make (a_flag set e) (λ kept after. Makes (O.Field f) (with_instr (I.Move false f kept) (with_instr (I.StoreTest kept) after))))
+        ≡ (if b then Makes (O.Field f) (with_instr (I.StoreTest f) e) else then_make (a_flag set e) (λ kept after. Makes (O.Field f) (with_instr (I.Move false f kept) (with_instr (I.StoreTest kept) after))))
+    by true = refl
+    by false = refl
+whole_bits set bits d Fails = refl
+
+-- a relation in a field that is taken first
+relation_in : (set bits : ℕ) (op : Op) (place : Place) (first : Code) (left : TExpr) (second : Code) (right : TExpr) (d : Draft) → relates op ≡ true → divides op ≡ false
+    → parallel_binary_by set bits op place first left second right d ≡ then_make (relation_by set op first left second right (with_entry set bits W.Own d)) (put_in (next_field set bits d))
+unfolding parallel_binary_by spare_for result_bits operand_bits an_entry then_make
+relation_in set bits op place first left second right d related no_check =
+    ap (λ (c : Bool). then_make (a_field set (if c then bits else operation_bits bits op right) d) (λ dest begun. then_make (if c then a_field dest.set (if c then bits_of (relation_kind left right) else operation_bits bits op right) begun else Makes dest begun) (λ spare between. lowest bits (fields_by op (reads_signed op left right) place dest spare first left second right between)))) related
+    ∙ ap (λ (m : Made Out). lowest bits m) (relation_put set op place (next_field set bits d) first left second right (with_entry set bits W.Own d) related no_check)
+    ∙ whole_bits set bits d (relation_by set op first left second right (with_entry set bits W.Own d))
 
 module _ (g : Setting) where
   -- so many bits of the value, and the operand of the next instruction
@@ -117,14 +121,14 @@ module _ (g : Setting) where
   abbrev pub operand_at : ℕ → TExpr → Code
   operand_at bits e d = next_of g.typed (layout g) bits true e d
 
-  pub relation_value : (set : ℕ) (ty : ValueType) (place : Place) (op : Op) (p q : Boxed) (left right : TExpr) (d : Draft) → ty.shape ≡ Some set → relates op ≡ true → divides op ≡ false
-      → value 1 (T.Binary' ty place op p left q right) d ≡ then_make (truth_of g.typed (layout g) (T.Binary' ty place op p left q right) (with_entry set 1 W.Own d)) (stored_in set d)
+  pub relation_value : (set bits : ℕ) (ty : ValueType) (place : Place) (op : Op) (p q : Boxed) (left right : TExpr) (d : Draft) → ty.shape ≡ Some set → relates op ≡ true → divides op ≡ false
+      → value bits (T.Binary' ty place op p left q right) d ≡ then_make (truth_of g.typed (layout g) (T.Binary' ty place op p left q right) (with_entry set bits W.Own d)) (put_in (next_field set bits d))
   unfolding value_of binary_by truth_of operand_bits
-  relation_value set ty place op p q left right d shaped related no_check =
-      ap (λ (c : Bool). binary_by ty.shape 1 op place (operand_by g.typed (layout g) (if c then bits_of (relation_kind left right) else operation_bits 1 op right) (value_of g.typed (layout g) (if c then bits_of (relation_kind left right) else operation_bits 1 op right) left) (is_quiet right) left) left (operand_by g.typed (layout g) (if c then bits_of (relation_kind left right) else operation_bits 1 op right) (value_of g.typed (layout g) (if c then bits_of (relation_kind left right) else operation_bits 1 op right) right) true right) right d) related
-      ∙ ap (λ (o : Option ℕ). binary_by o 1 op place first left second right d) shaped
-      ∙ relation_stored set op place first left second right d related no_check
-      ∙ sym (ap (λ (o : Option ℕ). then_make (relation_by (unwrap_or o 0) op first left second right (with_entry set 1 W.Own d)) (stored_in set d)) shaped)
+  relation_value set bits ty place op p q left right d shaped related no_check =
+      ap (λ (c : Bool). binary_by ty.shape bits op place (operand_by g.typed (layout g) (if c then bits_of (relation_kind left right) else operation_bits bits op right) (value_of g.typed (layout g) (if c then bits_of (relation_kind left right) else operation_bits bits op right) left) (is_quiet right) left) left (operand_by g.typed (layout g) (if c then bits_of (relation_kind left right) else operation_bits bits op right) (value_of g.typed (layout g) (if c then bits_of (relation_kind left right) else operation_bits bits op right) right) true right) right d) related
+      ∙ ap (λ (o : Option ℕ). binary_by o bits op place first left second right d) shaped
+      ∙ relation_in set bits op place first left second right d related no_check
+      ∙ sym (ap (λ (o : Option ℕ). then_make (relation_by (unwrap_or o 0) op first left second right (with_entry set bits W.Own d)) (put_in (next_field set bits d))) shaped)
     where
       first : Code
       first = operand_by g.typed (layout g) (bits_of (relation_kind left right)) (value_of g.typed (layout g) (bits_of (relation_kind left right)) left) (is_quiet right) left
@@ -132,17 +136,17 @@ module _ (g : Setting) where
       second : Code
       second = operand_by g.typed (layout g) (bits_of (relation_kind left right)) (value_of g.typed (layout g) (bits_of (relation_kind left right)) right) true right
 
-  -- `!` of a word is its test, stored
-  pub word_not_value : (set : ℕ) (ty : ValueType) (p : Boxed) (operand : TExpr) (d : Draft) → ty.shape ≡ Some set → is_kept operand ≡ false → (bits_of (kind_of operand) == 1) ≡ false
-      → value 1 (T.Unary' ty U.Not p operand) d ≡ then_make (zero_tested (operand_at (bits_of (kind_of operand)) operand) (with_entry set 1 W.Own d)) (stored_in set d)
-  unfolding value_of unary_by unary_bits done_as negates is_plus fresh_for an_entry then_make zero_tested put_test
-  word_not_value set ty p operand d shaped fresh no_bit =
-      ap (λ (c : Bool). done (not c && bits_of (kind_of operand) == 1)) fresh ∙ ap done no_bit
-      ∙ ap (λ (o : Option ℕ). then_make (fresh_for o 1 d) (λ dest between. then_make (operand_at (bits_of (kind_of operand)) operand between) (λ v after. negated (layout g) U.Not dest v after))) shaped
-      ∙ zero_put (layout g) (next_field set 1 d) (operand_at (bits_of (kind_of operand)) operand (with_entry set 1 W.Own d))
+  -- `!` of a word is its test
+  pub word_not_value : (set bits : ℕ) (ty : ValueType) (p : Boxed) (operand : TExpr) (d : Draft) → ty.shape ≡ Some set → is_kept operand ≡ false → (bits == 1 && bits_of (kind_of operand) == 1) ≡ false
+      → value bits (T.Unary' ty U.Not p operand) d ≡ then_make (zero_tested (operand_at (bits_of (kind_of operand)) operand) (with_entry set bits W.Own d)) (put_in (next_field set bits d))
+  unfolding value_of unary_by unary_bits done_as negates is_plus fresh_for an_entry then_make zero_tested
+  word_not_value set bits ty p operand d shaped fresh no_bit =
+      ap (λ (c : Bool). done (bits == 1 && (not c && bits_of (kind_of operand) == 1))) fresh ∙ ap done no_bit
+      ∙ ap (λ (o : Option ℕ). then_make (fresh_for o bits d) (λ dest between. then_make (operand_at (bits_of (kind_of operand)) operand between) (λ v after. negated (layout g) U.Not dest v after))) shaped
+      ∙ zero_put (layout g) (next_field set bits d) (operand_at (bits_of (kind_of operand)) operand (with_entry set bits W.Own d))
     where
       done : Bool → Made Out
-      done c = unary_by (layout g) ty 1 (if c then U.Complement else U.Not) (value 1 operand) (operand_at (bits_of (kind_of operand)) operand) d
+      done c = unary_by (layout g) ty bits (if c then U.Complement else U.Not) (value bits operand) (operand_at (bits_of (kind_of operand)) operand) d
 
   -- that of a bit is its complement
   abbrev pub turned_in : ℕ → Draft → Out → Draft → Made Out
@@ -161,11 +165,11 @@ module _ (g : Setting) where
   abbrev pub joined_in : Bool → ℕ → Draft → Field → Field → Draft → Made Out
   joined_in is_or set d f h e = Makes (O.Field (next_field set 1 d)) (with_instr (I.Operate (operation_of is_or) (next_field set 1 d) f h) e)
 
-  pub joined_value : (is_or : Bool) (set : ℕ) (shape : Option ℕ) (left right : Condition) (d : Draft) → shape ≡ Some set → joins left.operand right.operand ≡ true
-      → logical_by is_or shape 1 left right d ≡ then_make (flag_of set left (with_entry set 1 W.Own d)) (λ f between. then_make (flag_of set right between) (λ h after. joined_in is_or set d f h after))
-  unfolding logical_by an_entry then_make parallel_logical_by joined_by joined cleared first_bits
-  joined_value is_or set shape left right d shaped join =
-      ap (λ (o : Option ℕ). logical_by is_or o 1 left right d) shaped ∙ ap (λ (c : Bool). if c then joined_by is_or (next_field set 1 d) left right (with_entry set 1 W.Own d) else narrowing_by is_or (next_field set 1 d) left right (with_entry set 1 W.Own d)) join
+  pub joined_value : (is_or : Bool) (set bits : ℕ) (shape : Option ℕ) (left right : Condition) (d : Draft) → shape ≡ Some set → joins left.operand right.operand ≡ true
+      → logical_by is_or shape bits left right d ≡ then_make (flag_of set left (with_entry set bits W.Own d)) (λ f between. then_make (flag_of set right between) (λ h after. joined is_or (next_field set bits d) f h after))
+  unfolding logical_by an_entry then_make parallel_logical_by joined_by
+  joined_value is_or set bits shape left right d shaped join =
+      ap (λ (o : Option ℕ). logical_by is_or o bits left right d) shaped ∙ ap (λ (c : Bool). if c then joined_by is_or (next_field set bits d) left right (with_entry set bits W.Own d) else narrowing_by is_or (next_field set bits d) left right (with_entry set bits W.Own d)) join
 
   -- both kinds of operands have code
   taken_extends : (x : Out) (e : Draft) → Extends g e (in_field x (λ f. Makes f e))
@@ -227,29 +231,6 @@ module _ (g : Setting) (alive : Variable → Type 0) (places : PlacesFields g) (
   unfolding zero_tested step_of
   zero_after o m set v code d s st told = tests_after o m (λ a. I.EqZero a) set v (λ q. from_bool (v q == 0)) (code d) d s st (λ a. refl) (λ a. refl) (λ a t tells. puts_zero g set a t v tells) told
 
-  -- the entry that was taken first is the unit's, behind code and one instruction more
-  first_entry : (set : ℕ) (d e : Draft) (s : CodeState) (st : State) (used : Type 0) (i : Instr) → PassesTests g alive (with_entry set 1 W.Own d) e s st used → Within g (with_instr i e) → IsOwnField g (next_field set 1 d)
-  first_entry set d e s st used i p within = taken g set 1 W.Own d (with_instr i e) (p.grown.0 + 1) within (extended (with_entry set 1 W.Own d) e (with_instr i e) p.grown.0 1 p.grown.1 (and_one g i e))
-
-  first_older : (set : ℕ) (d e : Draft) (s : CodeState) (st : State) (used : Type 0) → PassesTests g alive (with_entry set 1 W.Own d) e s st used → length d.fields < length e.fields
-  first_older set d e s st used p = let first = one_more set 1 W.Own d in let longer = fields_longer (with_entry set 1 W.Own d) e p.grown.0 p.grown.1 in omega (arith, first, longer)
-
-  -- the test flags are stored
-  pub stored_after : (o : Outcome Value) (m : ℕ → ℕ) (set : ℕ) (v : ℕ → ℕ) (d : Draft) (s : CodeState) (st : State) (made : Made (Unit {0})) → Follows g (Given g m st (λ _ f. Tests (with_entry set 1 W.Own d) s set st v f)) s o made → Follows g (Given g m st (Bit d s set st v)) s o (then_make made (stored_in set d))
-  unfolding Extends tests_behind_entry
-  stored_after o m set v d s st made tests =
-      given_through g s o m st (λ _ f. Tests (with_entry set 1 W.Own d) s set st v f) (Bit d s set st v) made (stored_in set d) (λ x e. (1, and_one g (I.StoreTest (next_field set 1 d)) e)) (λ part h.
-      then_after g (λ _ f. Tests (with_entry set 1 W.Own d) s set st v f) (Bit d s set st v) part (stored_in set d) h (λ x e. (1, and_one g (I.StoreTest (next_field set 1 d)) e)) (λ x e left.
-      made_after g (Bit d s set st v) (O.Field (next_field set 1 d)) (with_instr (I.StoreTest (next_field set 1 d)) e) (λ within.
-      let p : PassesTests g alive (with_entry set 1 W.Own d) e s st (Unit {0}) = left.leaves in (
-        next_field set 1 d,
-        (
-          refl,
-          truth_stored g alive places fields set d e (next_field set 1 d) s st v (tests_behind_entry g alive set 1 d e s st (Unit {0}) left.leaves) left.flags (omega arith) (first_older set d e s st (Unit {0}) p)
-              (first_entry set d e s st (Unit {0}) (I.StoreTest (next_field set 1 d)) p within) refl refl within,
-        ),
-      )))) tests
-
   pub flag_after : (o : Outcome Value) (m : ℕ → ℕ) (set : ℕ) (v : ℕ → ℕ) (d : Draft) (s : CodeState) (st : State) (made : Made (Unit {0})) → Follows g (Given g m st (λ _ f. Tests d s set st v f)) s o made → Follows g (Given g m st (Truth d s set st v)) s o (then_make made (stored_behind set))
   unfolding Extends tests_and_entry then_make an_entry
   flag_after o m set v d s st made tests =
@@ -269,44 +250,3 @@ module _ (g : Setting) (alive : Variable → Type 0) (places : PlacesFields g) (
       given_through g s o m st (Bit d s set st v) (Truth d s set st v) made as_bit (taken_extends g) (λ part h.
       then_after g (Bit d s set st v) (Truth d s set st v) part as_bit h (taken_extends g)
       (λ x e (a, (is, one)). after_same g (Truth d s set st v) (ap (λ (o : Out). as_bit o e) is) (made_after g (Truth d s set st v) a e (λ within. one)))) bit
-
-  -- a bit's complement
-  pub turned_after : (o : Outcome Value) (m : ℕ → ℕ) (set : ℕ) (v : ℕ → ℕ) (d : Draft) (s : CodeState) (st : State) (made : Made Out) → Follows g (Given g m st (Bit (with_entry set 1 W.Own d) s set st v)) s o made
-      → Follows g (Given g m st (Bit d s set st (λ q. from_bool (v q == 0)))) s o (then_make made (turned_in g set d))
-  unfolding Extends in_field
-  turned_after o m set v d s st made bit =
-      given_through g s o m st (Bit (with_entry set 1 W.Own d) s set st v) (Bit d s set st (λ q. from_bool (v q == 0))) made (turned_in g set d) next_extends (λ part h.
-      then_after g (Bit (with_entry set 1 W.Own d) s set st v) (Bit d s set st (λ q. from_bool (v q == 0))) part (turned_in g set d) h next_extends (λ x e (a, (is, one)).
-      after_same g (Bit d s set st (λ q. from_bool (v q == 0))) (ap (λ (o : Out). turned_in g set d o e) is)
-      (made_after g (Bit d s set st (λ q. from_bool (v q == 0))) (O.Field (next_field set 1 d)) (with_instr (I.Lognot (next_field set 1 d) a) e) (λ within. (
-        next_field set 1 d,
-        (
-          refl,
-          truth_turned g alive places fields set d e a (next_field set 1 d) s st v one (omega arith) (first_older set d e s st (Behind g a e) one.passes) (first_entry set d e s st (Behind g a e) (I.Lognot (next_field set 1 d) a) one.passes within) refl refl within,
-        ),
-      ))))) bit
-    where
-      next_extends : (x : Out) (e : Draft) → Extends g e (turned_in g set d x e)
-      next_extends (O.Field f) e = (1, and_one g (I.Lognot (next_field set 1 d) f) e)
-      next_extends (O.Scalar r) e = tt
-      next_extends O.Nothing e = tt
-
-  -- two bits, joined
-  pub joined_made : (is_or : Bool) (set : ℕ) (v w : ℕ → ℕ) (d : Draft) (s : CodeState) (st : State) (f h : Field) (e1 e2 : Draft) → (left : Truth (with_entry set 1 W.Own d) s set st v f e1) → Truth e1 left.passes.t set st w h e2
-      → After g (Bit d s set st (λ q. from_bool (either_or_both is_or (nonzero (v q)) (nonzero (w q))))) (joined_in g is_or set d f h e2)
-  unfolding tests_on
-  joined_made is_or set v w d s st f h e1 e2 left right =
-      made_after g (Bit d s set st (λ q. from_bool (either_or_both is_or (nonzero (v q)) (nonzero (w q))))) (O.Field (next_field set 1 d)) (with_instr joins_by e2) (λ within.
-      let p : PassesTests g alive d1 e2 s st (Behind g f e1 × Behind g h e2) = tests_on g alive d1 e1 e2 s st (Behind g f e1) (Behind g h e2) (Behind g f e1 × Behind g h e2) left.passes right.passes (λ b. b.0) (λ b. b.1) in (
-        next_field set 1 d,
-        (
-          refl,
-          truth_joined g alive places fields is_or set d e1 e2 f h (next_field set 1 d) s st v w left right (omega arith) (first_older set d e2 s st (Behind g f e1 × Behind g h e2) p) (first_entry set d e2 s st (Behind g f e1 × Behind g h e2) joins_by p within) refl refl within,
-        ),
-      ))
-    where
-      d1 : Draft
-      d1 = with_entry set 1 W.Own d
-
-      joins_by : Instr
-      joins_by = I.Operate (operation_of is_or) (next_field set 1 d) f h

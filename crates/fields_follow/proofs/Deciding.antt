@@ -1,16 +1,14 @@
 -- A truth value that is assigned: the test flags are stored in a field of one bit, which the last instruction moves to
 -- the variable; or the variable is cleared, and its lowest bit written by an operation on two such fields. In a variable
 -- of one bit the flags are stored at once, and it is not cleared; and `!` of a value of one bit is its complement there.
-use Rattle.std.proofs.Common.{◌≡◌, ◌∙◌, ℕ, ℤ, ◌+◌, ◌-◌, ◌<◌, ◌≤◌, ◌%◌, ◌^◌, ◌==◌, ◌||◌, ◌&&◌, ◌⊎◌, Bool, true, false, not, [], ◌∷◌, length, Option, Some, None, refl, sym, ap, subst, arith, inl, inr, if◌then◌else◌}
+use Rattle.std.proofs.Common.{◌≡◌, ◌∙◌, ℕ, ◌+◌, ◌<◌, ◌≤◌, ◌%◌, ◌^◌, ◌==◌, ◌||◌, ◌&&◌, ◌⊎◌, Bool, true, false, not, [], ◌∷◌, length, Option, Some, None, refl, sym, ap, subst, arith, inl, inr, if◌then◌else◌}
 use Rattle.std.specs.Int.{from_bool}
 use Rattle.std.specs.Prelude.{nat_le, unwrap_or}
 use Rattle.std.proofs.lemmas.Bool.{eqb-true}
 use Rattle.std.proofs.lemmas.Bool.Decides.{nat_tests}
 use Rattle.cstar_base.specs.declared.operators.Op.{Op}
 use Rattle.cstar_base.specs.declared.operators.Place.{Place}
-use Rattle.cstar_base.specs.Numbers.{number_of, residue}
-use Rattle.cstar_base.specs.Operators.{divides, outcome}
-use Rattle.cstar_base.proofs.NumberLaws.{number_unsigned, residue_of_pos}
+use Rattle.cstar_base.specs.Operators.{divides}
 use Rattle.cstar_tree.specs.declared.typed.TExpr.{TExpr}
 use Rattle.cstar_tree.specs.declared.typed.TExpr as T
 use Rattle.cstar_tree.specs.declared.typed.UnaryOp.{UnaryOp}
@@ -21,24 +19,21 @@ use Rattle.cstar_tree.specs.declared.typed.Variable.{Variable}
 use Rattle.code_lengths.specs.Ready.{IsReadyButForFields}
 use Rattle.lower_base.specs.declared.emit.Out.{Out}
 use Rattle.lower_base.specs.declared.emit.Out.TheVariants as O
-use Rattle.lower_base.specs.Drafts.{Draft, Fails, Made, Makes, a_field, a_flag, an_entry, first_bits, in_field, step as step_of, then_make, with_instr}
+use Rattle.lower_base.specs.Drafts.{Draft, Made, Makes, a_field, first_bits, in_field, step as step_of, then_make, with_instr}
 use Rattle.lower_base.specs.Kinds.{bits_of, kind_of}
 use Rattle.lower_base.specs.Operators.{negates, relates}
 use Rattle.lower_expr.specs.Effects.{binary_to, bits_for, cast_to, computed_to, converted_to, field_binary_to, fits_field, goes_unchanged, keeps_bits, logical_to, moved, put_to}
 use Rattle.lower_expr.specs.Joined.{cleared, joined, joins, operation_of}
 use Rattle.lower_expr.specs.Kinds.{done_as, operand_bits, operation_bits, reads_signed, relation_kind, unary_bits}
 use Rattle.lower_expr.specs.Operands.{ignores_context, is_plus, is_quiet, operand_by}
-use Rattle.lower_expr.specs.Steps.{field_negated, has_truth, is_kept, negated, put_test, word_for, word_put}
+use Rattle.lower_expr.specs.Steps.{field_negated, has_truth, is_kept, negated, word_for, word_put}
 use Rattle.lower_expr.specs.Values.{Code, condition_of, extended as extended_of, field_binary_of, fields_by, flag_of, joined_by, joined_of, next_of, relation_by, tested, tested_by, truth_of, truth_put, value_of, zero_tested}
 use Rattle.paris_code.specs.declared.instr.Instr.{Instr}
 use Rattle.paris_code.specs.declared.instr.Instr.TheVariants as I
 use Rattle.paris_code.specs.declared.operands.Konst.TheVariants as K
 use Rattle.paris_code.specs.declared.operands.Field.{Field}
-use Rattle.paris_code.specs.Code.{CodeState, applied, begun}
-use Rattle.paris_code.specs.Elementwise.{elementwise}
-use Rattle.paris_code.specs.Meaning.{after}
-use Rattle.paris_code.specs.Memory.{is_active, is_tested, processors, whole_number}
-use Rattle.paris_code.specs.Operators.{operator_of}
+use Rattle.paris_code.specs.Code.{CodeState}
+use Rattle.paris_code.specs.Memory.{is_active, processors}
 use Rattle.paris_code.specs.Spans.{IsNamedAt, StandsAt}
 use Rattle.phase_meaning.proofs.Widths.{cut_cut}
 use Rattle.source_meaning.specs.Expressions.{evaluated}
@@ -49,33 +44,34 @@ use Rattle.source_meaning.proofs.ConstantLaws.{Boxed}
 use Rattle.code_follows.proofs.Following.{Extends, HasRegisters, Sim}
 use Rattle.code_follows.proofs.Growing.{Extended, extended}
 use Rattle.code_follows.proofs.Settings.{Setting, Within, and_one, layout}
-use Rattle.constant_trees.proofs.Words.{from_bool_below}
 use Rattle.fields_follow.specs.Fields.{IsElement}
 use Rattle.cstar_tree.specs.Typed.{type_of}
-use Rattle.fields_follow.specs.Fragment.{HasItsKind, IsCondition, IsTruth}
+use Rattle.fields_follow.specs.Fragment.{IsCondition, IsNarrowed, IsPure}
+use Rattle.fields_follow.proofs.Starts.{Starts}
 use Rattle.fields_follow.proofs.Clearing.{field_at, joined_behind, joined_more, truths_taken}
-use Rattle.fields_follow.proofs.Conditions.{HaveTheirCode, and_codes, condition_kept, conditions_join, or_codes}
-use Rattle.fields_follow.proofs.Sizes.{brackets_part, convert_part, unary_part}
+use Rattle.fields_follow.proofs.Conditions.{HaveTheirCode, and_codes, conditions_join, or_codes}
+use Rattle.fields_follow.proofs.Sizes.{brackets_part, convert_part, unary_part, value_small}
 use Rattle.fields_follow.proofs.Places.{HoldsTheFields, IsFileField, PlacesFields, stands_here}
-use Rattle.fields_follow.proofs.Testing.{and_ended, and_given, both_flagged, condition_bit, condition_small, condition_tested, or_ended, or_given}
+use Rattle.fields_follow.proofs.Computing.{both_flagged, condition_bit, condition_tested}
+use Rattle.fields_follow.proofs.Testing.{and_ended, and_given, or_ended, or_given}
 use Rattle.fields_follow.proofs.Expressions.{convert_ended, convert_means, unary_ended}
 use Rattle.fields_follow.proofs.Lengths.{relates_plainly}
 use Rattle.fields_follow.proofs.Outcomes.{Ended, meant, then_known}
-use Rattle.fields_follow.proofs.TruthValues.{condition_or_truth, bool_nonzero, truth_bit, truth_converted, truth_flag, truth_word}
+use Rattle.fields_follow.proofs.TruthValues.{IsPlain, IsTruth, bool_nonzero, truth_bit, truth_converted, truth_or_plain, truth_word}
 use Rattle.fields_follow.proofs.Effects.{computed_last}
 use Rattle.fields_follow.proofs.NarrowKinds.{zero_told}
 use Rattle.std.proofs.lemmas.Nat.{mod_below}
-use Rattle.fields_follow.proofs.Truths.{either_or_both, joined_bits, truth_still}
+use Rattle.fields_follow.proofs.Truths.{either_or_both, truth_still}
 use Rattle.fields_follow.proofs.ConditionCode.{Bit, Truth, flag_after, put_in, relation_put, stored_behind, zero_put}
-use Rattle.fields_follow.proofs.Forms.{HasItsCode}
+use Rattle.fields_follow.proofs.Forms.{HasItsCode, pure_kept}
 use Rattle.fields_follow.proofs.Instructions.{AreAlike, Puts, extents, number_in, place, puts_alike, shapes}
 use Rattle.fields_follow.proofs.Meaning.{unary_means, value_in, word_at}
 use Rattle.fields_follow.proofs.Leaving.{PassesTests}
 use Rattle.fields_follow.proofs.Passing.{After, Behind, after_same, code_longer, flags_of, made_after, names_second, names_third}
 use Rattle.fields_follow.proofs.PassingTests.{tests_on, tests_passed}
 use Rattle.fields_follow.proofs.Writing.{TakesBehind, entry_and_below, instr_takes}
-use Rattle.fields_follow.proofs.TestFlags.{LeavesTests}
-use Rattle.fields_follow.proofs.Starts.{Starts}
+use Rattle.fields_follow.proofs.TestFlags.{LeavesTests, truth_is}
+use Rattle.fields_follow.proofs.TruthPuts.{at_once, bit_moved, flag_stored, puts_bit, puts_flags, puts_joined, puts_turned, through_bit}
 
 -- ---- what its code is
 
@@ -86,27 +82,6 @@ joined_last is_or set offset bits a b e = Makes (O.Field (field_at set offset bi
 -- in one of a field of one bit alone
 abbrev bit_joined : Bool → ℕ → ℕ → Field → Field → Draft → Made Out
 bit_joined is_or set offset a b e = Makes (O.Field (field_at set offset 1)) (with_instr (I.Operate (operation_of is_or) (field_at set offset 1) a b) e)
-
--- to one of a word by way of a bit
-abbrev bit_moved : Field → Field → Draft → Made Out
-bit_moved f kept e = Makes (O.Field f) (with_instr (I.Move false f kept) e)
-
-through_bit : (set offset bits : ℕ) (made : Made (Unit {0})) → (bits == 1) ≡ false → then_make made (put_in (field_at set offset bits)) ≡ then_make (then_make made (stored_behind set)) (bit_moved (field_at set offset bits))
-unfolding then_make put_test an_entry
-through_bit set offset bits (Makes x e) several = ap (λ (b : Bool). if b then Makes (O.Field f) (with_instr (I.StoreTest f) e) else then_make (a_flag set e) (λ kept after. Makes (O.Field f) (with_instr (I.Move false f kept) (with_instr (I.StoreTest kept) after)))) several
-  where
-    f : Field
-    f = field_at set offset bits
-through_bit set offset bits Fails several = refl
-
--- one bit takes the flags itself
-abbrev flag_stored : Field → Unit {0} → Draft → Made Out
-flag_stored f _ e = Makes (O.Field f) (with_instr (I.StoreTest f) e)
-
-at_once : (set offset : ℕ) (made : Made (Unit {0})) → then_make made (put_in (field_at set offset 1)) ≡ then_make made (flag_stored (field_at set offset 1))
-unfolding then_make put_test
-at_once set offset (Makes x e) = refl
-at_once set offset Fails = refl
 
 -- one bit takes the complement of another
 abbrev bit_turned : ℕ → ℕ → Out → Draft → Made Out
@@ -175,89 +150,6 @@ module _ (g : Setting) where
 
   -- ---- what it means, and what its code leaves
 
-  -- a bit that is moved to a field
-  puts_bit : (set : ℕ) (f kept : Field) (s : CodeState) (v : ℕ → ℕ) → kept.len ≡ 1 → ((q : ℕ) → q < processors (shapes g) set → is_active (shapes g) s.memory set q ≡ true → number_in g kept s q ≡ from_bool (nonzero (v q))) → ((q : ℕ) → v q ≡ from_bool (nonzero (v q)))
-      → Puts g set (I.Move false f kept) f s v
-  unfolding begun applied after step_of whole_number
-  puts_bit set f kept s v bit are truth = record {
-    plain = refl;
-    simple = tt;
-    others = _;
-    names = refl;
-    write = elementwise (shapes g) (I.Move false (place g f) (place g kept)) [] s.memory;
-    run = refl;
-    writes = λ p. refl;
-    value = λ p below on.
-        ap (λ (n : ℕ). residue f.len (number_of n false (number_in g kept s p)) % 2 ^ f.len) bit
-        ∙ ap (λ (z : ℤ). residue f.len z % 2 ^ f.len) (number_unsigned 1 (number_in g kept s p)) ∙ ap (λ (w : ℕ). w % 2 ^ f.len) (residue_of_pos f.len (number_in g kept s p))
-        ∙ cut_cut (number_in g kept s p) f.len f.len (omega arith) ∙ ap (λ (w : ℕ). w % 2 ^ f.len) (are p below on ∙ sym (truth p));
-    small = λ p below on. subst (λ (w : ℕ). w < 2 ^ 32) (sym (truth p)) (from_bool_below (nonzero (v p)));
-    goes = refl;
-  }
-
-  -- the test flags in a field of one bit
-  puts_flags : (set offset : ℕ) (s : CodeState) (v : ℕ → ℕ) → ((q : ℕ) → q < processors (shapes g) set → is_active (shapes g) s.memory set q ≡ true → is_tested (shapes g) s.memory set q ≡ nonzero (v q)) → ((q : ℕ) → v q ≡ from_bool (nonzero (v q)))
-      → Puts g set (I.StoreTest (field_at set offset 1)) (field_at set offset 1) s v
-  unfolding begun applied after step_of
-  puts_flags set offset s v tests truth = record {
-    plain = refl;
-    simple = tt;
-    others = _;
-    names = refl;
-    write = elementwise (shapes g) (I.StoreTest (place g (field_at set offset 1))) [] s.memory;
-    run = refl;
-    writes = λ p. refl;
-    value = λ p below on. ap (λ (b : Bool). from_bool b % 2 ^ 1) (tests p below on) ∙ ap (λ (w : ℕ). w % 2 ^ 1) (sym (truth p));
-    small = λ p below on. subst (λ (w : ℕ). w < 2 ^ 32) (sym (truth p)) (from_bool_below (nonzero (v p)));
-    goes = refl;
-  }
-
-  -- the complement of a bit
-  puts_turned : (set offset : ℕ) (a : Field) (s : CodeState) (v : ℕ → ℕ) → ((q : ℕ) → q < processors (shapes g) set → is_active (shapes g) s.memory set q ≡ true → number_in g a s q ≡ from_bool (nonzero (v q)))
-      → Puts g set (I.Lognot (field_at set offset 1) a) (field_at set offset 1) s (λ q. from_bool (v q == 0))
-  unfolding begun applied after step_of
-  puts_turned set offset a s v are = record {
-    plain = refl;
-    simple = tt;
-    others = _;
-    names = refl;
-    write = elementwise (shapes g) (I.Lognot (place g (field_at set offset 1)) (place g a)) [] s.memory;
-    run = refl;
-    writes = λ p. refl;
-    value = λ p below on. ap (λ (m : ℕ). (2 ^ 1 - 1 - m) % 2 ^ 1) (are p below on) ∙ turned (v p == 0);
-    small = λ p below on. from_bool_below (v p == 0);
-    goes = refl;
-  }
-    where
-      turned : (x : Bool) → (2 ^ 1 - 1 - from_bool (not x)) % 2 ^ 1 ≡ from_bool x % 2 ^ 1
-      turned true = refl
-      turned false = refl
-
-  -- two bits joined in one
-  puts_joined : (is_or : Bool) (set offset : ℕ) (a b : Field) (s : CodeState) (v w : ℕ → ℕ) → ((q : ℕ) → q < processors (shapes g) set → is_active (shapes g) s.memory set q ≡ true → number_in g a s q ≡ from_bool (nonzero (v q)))
-      → ((q : ℕ) → q < processors (shapes g) set → is_active (shapes g) s.memory set q ≡ true → number_in g b s q ≡ from_bool (nonzero (w q)))
-      → Puts g set (I.Operate (operation_of is_or) (field_at set offset 1) a b) (field_at set offset 1) s (λ q. from_bool (either_or_both is_or (nonzero (v q)) (nonzero (w q))))
-  unfolding begun applied after step_of
-  puts_joined is_or set offset a b s v w one other = record {
-    plain = refl;
-    simple = tt;
-    others = _;
-    names = refl;
-    write = elementwise (shapes g) (I.Operate (operation_of is_or) (place g (field_at set offset 1)) (place g a) (place g b)) [] s.memory;
-    run = refl;
-    writes = λ p. refl;
-    value = λ p below on.
-        ap (λ (n : ℕ). outcome (operator_of (operation_of is_or)).0 1 (operator_of (operation_of is_or)).1 n (number_in g b s p) % 2 ^ 1) (one p below on)
-        ∙ ap (λ (n : ℕ). outcome (operator_of (operation_of is_or)).0 1 (operator_of (operation_of is_or)).1 (from_bool (nonzero (v p))) n % 2 ^ 1) (other p below on)
-        ∙ joined_bits is_or (nonzero (v p)) (nonzero (w p)) 1 ∙ bit_of (either_or_both is_or (nonzero (v p)) (nonzero (w p)));
-    small = λ p below on. from_bool_below (either_or_both is_or (nonzero (v p)) (nonzero (w p)));
-    goes = refl;
-  }
-    where
-      bit_of : (x : Bool) → from_bool (nonzero (from_bool x)) ≡ from_bool x % 2 ^ 1
-      bit_of true = refl
-      bit_of false = refl
-
   module _ (has : HasRegisters g) (alive : Variable → Type 0) (n : ℕ) (ready : (d : Draft) → IsReadyButForFields g.typed g.instance (layout g) n d) (places : PlacesFields g) (fields : HoldsTheFields g) where
     -- What is said where a truth value goes to a variable of the file, behind code of conditions, is said of its code.
     module _ (set k offset bits : ℕ) (info : VarInfo) (is_element : IsElement g.typed k info set 0) (some : 0 < bits) (word : info.elem.bits ≡ bits) (d : Draft) (s : CodeState) (st : State) (here : Starts g alive s (length d.code) d.regs) (sim : Sim g alive st s)
@@ -305,7 +197,7 @@ module _ (g : Setting) where
               (λ given x e2 left. made_after g Q (O.Field (field_at set offset 1)) (with_instr (I.StoreTest (field_at set offset 1)) e2) (λ within.
               let is_one : bits ≡ 1 = sym same ∙ one in
               let puts : Puts g set (I.StoreTest (field_at set offset 1)) (field_at set offset 1) left.leaves.t (words_of e) =
-              puts_flags set offset left.leaves.t (words_of e)
+              puts_flags g set offset left.leaves.t (words_of e)
               (λ q below on. left.flags q below (sym (flags_of g alive places fields st left.leaves.t set q left.leaves.sim (subst (λ (m : ℕ). m < length (shapes g)) refl (places.exists k 0 set info is_element)) below) ∙ on) ∙ same_truth q below) truth in
               subst (λ (m : ℕ). Q (O.Field (field_at set offset m)) (with_instr (I.StoreTest (field_at set offset 1)) e2)) is_one
               (last (gives given) e2 (with_instr (I.StoreTest (field_at set offset 1)) e2) (Unit {0}) within left.leaves tt (takes_behind 1 (sym is_one) (I.StoreTest (field_at set offset 1)) e2 (words_of e) (Unit {0}) left.leaves within puts)))) (λ early. ended (ends early)))
@@ -320,7 +212,7 @@ module _ (g : Setting) where
               let behind : Behind g kept e2 = (length e2.code, (names_second g (I.Move false f kept) f kept [] (length e2.code) (stands_here g (I.Move false f kept) e2 within refl) refl, omega arith)) in
               last (gives given) e2 (with_instr (I.Move false f kept) e2) (Behind g kept e2) within bit.passes behind
               (takes_behind bits refl (I.Move false f kept) e2 (words_of e) (Behind g kept e2) bit.passes within
-              (puts_bit set f kept bit.passes.t (words_of e) bit.len (λ q below on. bit.are behind q below (sym (flags_of g alive places fields st bit.passes.t set q bit.passes.sim bit.exists below) ∙ on) ∙ ap from_bool (same_truth q below)) truth)))) (λ early. ended (ends early)))
+              (puts_bit g set f kept bit.passes.t (words_of e) bit.len (λ q below on. bit.are behind q below (sym (flags_of g alive places fields st bit.passes.t set q bit.passes.sim bit.exists below) ∙ on) ∙ ap from_bool (same_truth q below)) truth)))) (λ early. ended (ends early)))
 
       by_test : (e : TExpr) → IsCondition set e → has_truth e ≡ true → HasItsCode g.typed g.instance alive n e → ((q : ℕ) → words_of e q ≡ from_bool (nonzero (words_of e q)))
           → computed_to g.typed (layout g) (O.Field f) e d ≡ then_make (truth_of g.typed (layout g) e d) (put_in f) → Last e → Ends e → After g Q (computed_to g.typed (layout g) (O.Field f) e d)
@@ -341,7 +233,7 @@ module _ (g : Setting) where
           let behind : Behind g a e2 = (length e2.code, (names_second g i _ a [] (length e2.code) (stands_here g i e2 within refl) refl, omega arith)) in
           let puts : Puts g set i (field_at set offset 1) bit.passes.t (words_of e) =
           subst (λ (v : ℕ → ℕ). Puts g set i (field_at set offset 1) bit.passes.t v) value
-          (puts_turned set offset a bit.passes.t (words_of operand) (λ q below on. bit.are behind q below (sym (flags_of g alive places fields st bit.passes.t set q bit.passes.sim bit.exists below) ∙ on))) in
+          (puts_turned g set offset a bit.passes.t (words_of operand) (λ q below on. bit.are behind q below (sym (flags_of g alive places fields st bit.passes.t set q bit.passes.sim bit.exists below) ∙ on))) in
           subst (λ (m : ℕ). Q (O.Field (field_at set offset m)) (with_instr i e2)) is_one
           (last (gives given) e2 (with_instr i e2) (Behind g a e2) within bit.passes behind (takes_behind 1 (sym is_one) i e2 (words_of e) (Behind g a e2) bit.passes within puts))))) (λ early. ended (ends early)))
         where
@@ -357,7 +249,7 @@ module _ (g : Setting) where
       by_operation is_or e left right is also same codes value gives ends last ended = by (bits == 1) refl
         where
           join : joins left right ≡ true
-          join = conditions_join set left right is also same
+          join = conditions_join set left right is.0 also.0 same
 
           bit_put : (len : ℕ) → len ≡ bits → len ≡ 1 → After g Q (logical_to g.typed (layout g) (O.Field (field_at set offset len)) e is_or left right d)
           bit_put len len_is one =
@@ -376,7 +268,7 @@ module _ (g : Setting) where
               let on : (q : ℕ) → q < processors (shapes g) set → is_active (shapes g) right_bit.passes.t.memory set q ≡ true → fields.active set q ≡ true = λ q below active. sym (flags_of g alive places fields st right_bit.passes.t set q right_bit.passes.sim right_bit.exists below) ∙ active in
               let puts : Puts g set i (field_at set offset 1) right_bit.passes.t (words_of e) =
               subst (λ (v : ℕ → ℕ). Puts g set i (field_at set offset 1) right_bit.passes.t v) value
-              (puts_joined is_or set offset a b right_bit.passes.t (words_of left) (words_of right) (λ q below active. still q below ∙ left_bit.are early q below (on q below active)) (λ q below active. right_bit.are behind_b q below (on q below active))) in
+              (puts_joined g is_or set offset a b right_bit.passes.t (words_of left) (words_of right) (λ q below active. still q below ∙ left_bit.are early q below (on q below active)) (λ q below active. right_bit.are behind_b q below (on q below active))) in
               subst (λ (m : ℕ). Q (O.Field (field_at set offset m)) (with_instr i e2)) is_one
               (last (gives given exists) e2 (with_instr i e2) (Unit {0}) within passes tt (takes_behind 1 (sym is_one) i e2 (words_of e) (Unit {0}) passes within puts)))) (λ early. ended (ends early)))
 
@@ -389,14 +281,13 @@ module _ (g : Setting) where
               last (gives given exists) e2 (joined_behind is_or set offset bits a b e2) (Unit {0}) within passes tt (subst (λ (v : ℕ → ℕ). TakesBehind g set f e2 (joined_behind is_or set offset bits a b e2) passes.t v) value takes))) (λ early. ended (ends early)))
 
       truth_computed : (e : TExpr) → IsTruth set bits e → HasItsCode g.typed g.instance alive n e → Last e → Ends e → After g Q (computed_to g.typed (layout g) (O.Field f) e d)
-      unfolding IsTruth IsCondition computed_to value_in has_truth goes_unchanged keeps_bits negates unary_of evaluated converted_to cast_to truth_put tests_passed
+      unfolding IsTruth IsPure IsNarrowed is_plus computed_to value_in has_truth goes_unchanged keeps_bits negates unary_of evaluated converted_to cast_to truth_put tests_passed
       truth_computed (T.Brackets' ty p inner) is c last ended = truth_computed inner is.1 (brackets_part g alive n places fields ty p inner c) last ended
       truth_computed (T.Convert' ty p inner) is c last ended = by is.1 (λ part code final early. truth_computed inner part code final early)
         where
-          kept : (a : Bool) → a ≡ true → (b c : Bool) → c ≡ true → (a && (b || c)) ≡ true
-          kept true e true c h = refl
-          kept true e false true h = refl
-          kept true e false false h = cc
+          kept : (a : Bool) → a ≡ true → (b c : Bool) → b ≡ false → (a && (not b || c)) ≡ true
+          kept true e false c h = refl
+          kept true e true c h = cc
           kept false e b c h = cc
 
           whole : TExpr
@@ -417,11 +308,11 @@ module _ (g : Setting) where
           OfInner : Type 1
           OfInner = IsTruth set bits inner → HasItsCode g.typed g.instance alive n inner → Last inner → Ends inner → After g Q (computed_to g.typed (layout g) (O.Field f) inner d)
 
-          of_truth : (bits ≤ ty.elem.bits) × IsTruth set bits inner → OfInner → After g Q (computed_to g.typed (layout g) (O.Field f) whole d)
-          of_truth part of_inner =
-              after_same g Q (ap (λ (b : Bool). if b then computed_to g.typed (layout g) (O.Field f) inner d else converted_to g.typed (layout g) (O.Field f) (T.Convert' ty p inner) ty.elem inner d) (kept (nat_le bits ty.elem.bits) (let long = part.0 in grind (arith, nat_tests, long)) (not (ty.elem.bits == 1)) (bits_of (kind_of inner) == 1) (truth_flag set bits inner part.1)))
-              (of_inner part.1 (convert_part g alive n places fields ty p inner c)
-              (λ given e2 f2 used within passes wanted takes. last (convert_means g has alive n ready places fields set ty p inner st is.0 given) e2 f2 used within passes wanted (subst (λ (v : ℕ → ℕ). TakesBehind g set f e2 f2 passes.t v) (λ j q. sym (truth_converted (extents g set) st set bits ty.elem inner q part.1) j) takes)) (λ early. ended (convert_ended g has alive n ready places fields ty p inner s st early)))
+          of_truth : unchanged ≡ true → IsTruth set bits inner → OfInner → After g Q (computed_to g.typed (layout g) (O.Field f) whole d)
+          of_truth stays truth of_inner =
+              after_same g Q (ap (λ (b : Bool). if b then computed_to g.typed (layout g) (O.Field f) inner d else converted_to g.typed (layout g) (O.Field f) (T.Convert' ty p inner) ty.elem inner d) stays)
+              (of_inner truth (convert_part g alive n places fields ty p inner c)
+              (λ given e2 f2 used within passes wanted takes. last (convert_means g has alive n ready places fields set ty p inner st is.0 given) e2 f2 used within passes wanted (subst (λ (v : ℕ → ℕ). TakesBehind g set f e2 f2 passes.t v) (λ j q. sym (truth_converted (extents g set) st set bits ty.elem inner q truth) j) takes)) (λ early. ended (convert_ended g has alive n ready places fields ty p inner s st early)))
 
           part_code : HasItsCode g.typed g.instance alive n inner
           part_code = convert_part g alive n places fields ty p inner c
@@ -430,18 +321,18 @@ module _ (g : Setting) where
           by_bool : (ty.elem.bits ≡ 1) × IsCondition set inner → unchanged ≡ false → After g Q (computed_to g.typed (layout g) (O.Field f) whole d)
           by_bool bool_of changed =
               by_tests whole inner bool_of.1 part_code (λ q. truth_bit (extents g set) st set bits whole q is)
-              (λ q below. bool_nonzero ty.elem (type_of inner).elem (words_of inner q) bool_of.0 (condition_small g has alive n ready places fields set inner st s sim bool_of.1 part_code q))
+              (λ q below. bool_nonzero ty.elem (type_of inner).elem (words_of inner q) bool_of.0 (value_small g alive n places fields set inner st s sim bool_of.1.0 part_code q))
               (λ given. convert_means g has alive n ready places fields set ty p inner st is.0 given) (λ early. convert_ended g has alive n ready places fields ty p inner s st early)
               (ap goes changed
-              ∙ ap (λ (b : Bool). if b then moved g.typed (layout g) (O.Field f) whole d else if ty.elem.bits == 1 then truth_put f (tested g.typed (layout g) inner) d else extended_of ty.elem.signed f (next_of g.typed (layout g) ty.elem.bits true inner) d) (condition_kept set inner bool_of.1)
+              ∙ ap (λ (b : Bool). if b then moved g.typed (layout g) (O.Field f) whole d else if ty.elem.bits == 1 then truth_put f (tested g.typed (layout g) inner) d else extended_of ty.elem.signed f (next_of g.typed (layout g) ty.elem.bits true inner) d) (pure_kept set inner bool_of.1.0)
               ∙ ap (λ (m : ℕ). if m == 1 then truth_put f (tested g.typed (layout g) inner) d else extended_of ty.elem.signed f (next_of g.typed (layout g) ty.elem.bits true inner) d) bool_of.0)
               last ended
 
           -- of one bit, as that is computed
-          by_bit : (ty.elem.bits ≡ 1) × IsCondition set inner → HasItsKind set inner → unchanged ≡ true → bits ≡ 1 → bits_of (kind_of inner) ≡ 1 → After g Q (computed_to g.typed (layout g) (O.Field f) whole d)
-          by_bit bool_of kinded stays one flag =
+          by_bit : (ty.elem.bits ≡ 1) × IsCondition set inner → IsPlain bits inner → unchanged ≡ true → bits ≡ 1 → bits_of (kind_of inner) ≡ 1 → After g Q (computed_to g.typed (layout g) (O.Field f) whole d)
+          by_bit bool_of plain stays one flag =
               after_same g Q (ap goes stays)
-              (computed_last g has alive n ready places fields set offset bits inner (omega (arith, one)) kinded.0 part_code d s st here sim Q
+              (computed_last g has alive n ready places fields set offset bits inner some (omega (arith, one)) bool_of.1.0 plain part_code d s st here sim Q
               (λ given e2 i within passes puts. last (convert_means g has alive n ready places fields set ty p inner st is.0 given) e2 (with_instr i e2) (Unit {0}) within (tests_passed g alive (length d.fields) d e2 s st (Unit {0}) (omega arith) passes) tt
               (takes_behind bits refl i e2 (words_of whole) (Unit {0}) (tests_passed g alive (length d.fields) d e2 s st (Unit {0}) (omega arith) passes) within (puts_alike g set i f passes.t (λ q. word_at (extents g set) st inner q) (words_of whole) alike puts)))
               (λ early. ended (convert_ended g has alive n ready places fields ty p inner s st early)))
@@ -449,21 +340,21 @@ module _ (g : Setting) where
               alike : AreAlike g bits set (λ q. word_at (extents g set) st inner q) (words_of whole)
               alike q below few =
                   let m : ℕ = word_at (extents g set) st inner q % 2 ^ 1 in
-                  let tells : (m == 0) ≡ (words_of inner q == 0) = ap (λ (k : ℕ). word_at (extents g set) st inner q % 2 ^ k == 0) (sym flag) ∙ zero_told g alive n places fields set inner st s sim kinded part_code q in
+                  let tells : (m == 0) ≡ (words_of inner q == 0) = ap (λ (k : ℕ). word_at (extents g set) st inner q % 2 ^ k == 0) (sym flag) ∙ zero_told g alive n places fields set inner st s sim bool_of.1 part_code q in
                   let is_m : words_of whole q ≡ m =
-                  truth_bit (extents g set) st set bits whole q is ∙ ap from_bool (sym (bool_nonzero ty.elem (type_of inner).elem (words_of inner q) bool_of.0 (condition_small g has alive n ready places fields set inner st s sim bool_of.1 part_code q)))
+                  truth_bit (extents g set) st set bits whole q is ∙ ap from_bool (sym (bool_nonzero ty.elem (type_of inner).elem (words_of inner q) bool_of.0 (value_small g alive n places fields set inner st s sim bool_of.1.0 part_code q)))
                   ∙ ap (λ (b : Bool). from_bool (not b)) (sym tells) ∙ sym (is_bit m (mod_below (word_at (extents g set) st inner q) (2 ^ 1) (omega arith)) (m == 0) refl) in (
                     ap (λ (k : ℕ). k % 2 ^ bits) is_m ∙ ap (λ (k : ℕ). m % 2 ^ k) one ∙ cut_cut (word_at (extents g set) st inner q) 1 1 (omega arith) ∙ ap (λ (k : ℕ). word_at (extents g set) st inner q % 2 ^ k) (sym one),
                     (let low = mod_below (word_at (extents g set) st inner q) (2 ^ 1) (omega arith) in omega (arith, is_m, low)),
                   )
 
-          by : ((bits ≤ ty.elem.bits) × IsTruth set bits inner) ⊎ ((ty.elem.bits ≡ 1) × IsCondition set inner) → OfInner → After g Q (computed_to g.typed (layout g) (O.Field f) whole d)
-          by (inl part) of_inner = of_truth part of_inner
+          by : ((bits ≤ ty.elem.bits) × ((ty.elem.bits == 1) ≡ false) × IsTruth set bits inner) ⊎ ((ty.elem.bits ≡ 1) × IsCondition set inner) → OfInner → After g Q (computed_to g.typed (layout g) (O.Field f) whole d)
+          by (inl part) of_inner = of_truth (kept (nat_le bits ty.elem.bits) (let long = part.0 in grind (arith, nat_tests, long)) (ty.elem.bits == 1) (bits_of (kind_of inner) == 1) part.1) part.2 of_inner
           by (inr bool_of) of_inner = chosen unchanged refl
             where
               chosen : (b : Bool) → unchanged ≡ b → After g Q (computed_to g.typed (layout g) (O.Field f) whole d)
               chosen false changed = by_bool bool_of changed
-              chosen true stays = kind_of_it (condition_or_truth set bits inner bool_of.1)
+              chosen true stays = kind_of_it (truth_or_plain set bits inner bool_of.1.0)
                 where
                   so : (nat_le bits ty.elem.bits ≡ true) × ((bits_of (kind_of inner) == 1) ≡ true)
                   so = both_so (nat_le bits ty.elem.bits) (ty.elem.bits == 1) (bits_of (kind_of inner) == 1) (ap (λ (m : ℕ). m == 1) bool_of.0) stays
@@ -471,33 +362,50 @@ module _ (g : Setting) where
                   less : bits ≤ ty.elem.bits
                   less = let long = so.0 in grind (arith, nat_tests, long)
 
-                  kind_of_it : HasItsKind set inner ⊎ IsTruth set bits inner → After g Q (computed_to g.typed (layout g) (O.Field f) whole d)
-                  kind_of_it (inl kinded) = by_bit bool_of kinded stays (let wide = bool_of.0 in omega (arith, less, some, wide)) (eqb-true (bits_of (kind_of inner)) 1 so.1)
-                  kind_of_it (inr truth) = of_truth (less, truth) of_inner
-      truth_computed (T.Unary' ty op p operand) is c last ended = by (bits == 1) (bits_of (kind_of operand) == 1) refl refl
+                  kind_of_it : IsTruth set bits inner ⊎ IsPlain bits inner → After g Q (computed_to g.typed (layout g) (O.Field f) whole d)
+                  kind_of_it (inr plain) = by_bit bool_of plain stays (let wide = bool_of.0 in omega (arith, less, some, wide)) (eqb-true (bits_of (kind_of inner)) 1 so.1)
+                  kind_of_it (inl truth) = of_truth stays truth of_inner
+      truth_computed (T.Unary' ty op p operand) is c last ended = chosen op is.1 c last ended (λ part code final early. truth_computed operand part code final early)
         where
-          whole : TExpr
-          whole = T.Unary' ty op p operand
+          part_of : (o : UnaryOp) → HasItsCode g.typed g.instance alive n (T.Unary' ty o p operand) → HasItsCode g.typed g.instance alive n operand
+          part_of o code = unary_part g alive n places fields ty o p operand code
 
-          tests : (bits == 1 && bits_of (kind_of operand) == 1) ≡ false → After g Q (computed_to g.typed (layout g) (O.Field f) whole d)
-          tests no_bit = by_test whole (is.0, inl (is.1, is.2)) is.1 c (λ q. truth_bit (extents g set) st set bits whole q is) (not_code set offset bits ty p op operand d is.1 no_bit (condition_kept set operand is.2)) last ended
+          -- `!`
+          negates_it : IsCondition set operand → HasItsCode g.typed g.instance alive n (T.Unary' ty U.Not p operand) → Last (T.Unary' ty U.Not p operand) → Ends (T.Unary' ty U.Not p operand) → After g Q (computed_to g.typed (layout g) (O.Field f) (T.Unary' ty U.Not p operand) d)
+          negates_it condition code last ended = by (bits == 1) (bits_of (kind_of operand) == 1) refl refl
+            where
+              whole : TExpr
+              whole = T.Unary' ty U.Not p operand
 
-          value : (o : UnaryOp) → negates o ≡ true → ◌≡◌ {A = ℕ → ℕ} (λ q. from_bool (words_of operand q == 0)) (λ q. unary_of o (words_of operand q))
-          value U.Not e = refl
-          value U.Plus e = cc
-          value U.Minus e = cc
-          value U.Complement e = cc
+              tests : (bits == 1 && bits_of (kind_of operand) == 1) ≡ false → After g Q (computed_to g.typed (layout g) (O.Field f) whole d)
+              tests no_bit =
+                  by_test whole ((is.0, inr (refl, condition.1), condition.0), inr refl) refl code (λ q. truth_is _) (not_code set offset bits ty p U.Not operand d refl no_bit (pure_kept set operand condition.0)) last ended
 
-          by : (a b : Bool) → (bits == 1) ≡ a → (bits_of (kind_of operand) == 1) ≡ b → After g Q (computed_to g.typed (layout g) (O.Field f) whole d)
-          by true true one bit =
-              by_complement whole operand is.2 bit (unary_part g alive n places fields ty op p operand c) (value op is.1) (bit_not_code set offset ty p op operand d is.1 bit (condition_kept set operand is.2)) (eqb-true bits 1 one)
-              (λ given. unary_means fields.scope fields.active set ty op p operand (words_of operand) st is.0.0 given) (λ early. unary_ended g has alive n ready places fields ty op p operand s st early) last ended
-          by true false one bit = tests (ap (λ (b : Bool). bits == 1 && b) bit ∙ ap (λ (b : Bool). b && false) one)
-          by false b one bit = tests (ap (λ (a : Bool). a && bits_of (kind_of operand) == 1) one)
-      truth_computed (T.LogicalOr' ty p left q right) is c last ended = by_operation true (T.LogicalOr' ty p left q right) left right is.1 is.2 is.3 (or_codes g.typed g.instance alive n set ty p q left right is.2 c) refl (λ given exists. or_given g has alive n ready places fields set ty p q left right st is.1 is.2 is.3 given exists) (λ early. or_ended g has alive n ready places fields ty p q left right s st early) last ended
-      truth_computed (T.LogicalAnd' ty p left q right) is c last ended = by_operation false (T.LogicalAnd' ty p left q right) left right is.1 is.2 is.3 (and_codes g.typed g.instance alive n set ty p q left right is.2 c) refl (λ given exists. and_given g has alive n ready places fields set ty p q left right st is.1 is.2 is.3 given exists) (λ early. and_ended g has alive n ready places fields ty p q left right s st early) last ended
+              by : (a b : Bool) → (bits == 1) ≡ a → (bits_of (kind_of operand) == 1) ≡ b → After g Q (computed_to g.typed (layout g) (O.Field f) whole d)
+              by true true one bit =
+                  by_complement whole operand condition bit (part_of U.Not code) refl (bit_not_code set offset ty p U.Not operand d refl bit (pure_kept set operand condition.0)) (eqb-true bits 1 one)
+                  (λ given. unary_means fields.scope fields.active set ty U.Not p operand (words_of operand) st is.0.0 given) (λ early. unary_ended g has alive n ready places fields ty U.Not p operand s st early) last ended
+              by true false one bit = tests (ap (λ (b : Bool). bits == 1 && b) bit ∙ ap (λ (b : Bool). b && false) one)
+              by false b one bit = tests (ap (λ (a : Bool). a && bits_of (kind_of operand) == 1) one)
+
+          OfOperand : Type 1
+          OfOperand = IsTruth set bits operand → HasItsCode g.typed g.instance alive n operand → Last operand → Ends operand → After g Q (computed_to g.typed (layout g) (O.Field f) operand d)
+
+          chosen : (o : UnaryOp) → ((is_plus o ≡ true) × IsTruth set bits operand) ⊎ ((negates o ≡ true) × IsCondition set operand) → HasItsCode g.typed g.instance alive n (T.Unary' ty o p operand) → Last (T.Unary' ty o p operand) → Ends (T.Unary' ty o p operand) → OfOperand
+              → After g Q (computed_to g.typed (layout g) (O.Field f) (T.Unary' ty o p operand) d)
+          chosen U.Plus (inl h) code last ended of_operand =
+              of_operand h.1 (part_of U.Plus code) (λ given. last (unary_means fields.scope fields.active set ty U.Plus p operand (words_of operand) st is.0.0 given)) (λ early. ended (unary_ended g has alive n ready places fields ty U.Plus p operand s st early))
+          chosen U.Minus (inl h) code last ended of_operand = let wrong = h.0 in cc
+          chosen U.Complement (inl h) code last ended of_operand = let wrong = h.0 in cc
+          chosen U.Not (inl h) code last ended of_operand = let wrong = h.0 in cc
+          chosen U.Not (inr h) code last ended of_operand = negates_it h.1 code last ended
+          chosen U.Plus (inr h) code last ended of_operand = let wrong = h.0 in cc
+          chosen U.Minus (inr h) code last ended of_operand = let wrong = h.0 in cc
+          chosen U.Complement (inr h) code last ended of_operand = let wrong = h.0 in cc
+      truth_computed (T.LogicalOr' ty p left q right) is c last ended = by_operation true (T.LogicalOr' ty p left q right) left right is.1 is.2 is.3 (or_codes g.typed g.instance alive n set ty p q left right is.2.0 c) refl (λ given exists. or_given g has alive n ready places fields set ty p q left right st is.1.0 is.2.0 is.3 given exists) (λ early. or_ended g has alive n ready places fields ty p q left right s st early) last ended
+      truth_computed (T.LogicalAnd' ty p left q right) is c last ended = by_operation false (T.LogicalAnd' ty p left q right) left right is.1 is.2 is.3 (and_codes g.typed g.instance alive n set ty p q left right is.2.0 c) refl (λ given exists. and_given g has alive n ready places fields set ty p q left right st is.1.0 is.2.0 is.3 given exists) (λ early. and_ended g has alive n ready places fields ty p q left right s st early) last ended
       truth_computed (T.Binary' ty place op p left q right) is c last ended =
-          by_test (T.Binary' ty place op p left q right) is.1 is.0 c (λ x. truth_bit (extents g set) st set bits (T.Binary' ty place op p left q right) x is) (relation_code set offset bits ty place op p q left right d is.1.0.0 is.0 (relates_plainly op is.0)) last ended
+          by_test (T.Binary' ty place op p left q right) (is.1, inr (inl is.0)) is.0 c (λ x. truth_bit (extents g set) st set bits (T.Binary' ty place op p left q right) x is) (relation_code set offset bits ty place op p q left right d is.1.0.0 is.0 (relates_plainly op is.0)) last ended
       truth_computed _ is c last ended = absurd is
 
       pub truth_last : (e : TExpr) → IsTruth set bits e → HasItsCode g.typed g.instance alive n e → Last e → Ends e → After g Q (put_to g.typed (layout g) (O.Field f) e d)

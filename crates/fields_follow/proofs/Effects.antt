@@ -45,7 +45,7 @@ use Rattle.code_follows.proofs.Following.{Extends, Finishes, HasRegisters, Sim, 
 use Rattle.code_follows.proofs.Growing.{Extended}
 use Rattle.code_follows.proofs.Words.{held_wide}
 use Rattle.code_follows.proofs.Settings.{Setting, Within, and_one, layout, start}
-use Rattle.fields_follow.specs.Fragment.{AreWrapping, IsOperand, IsOperation, IsPure, IsWide}
+use Rattle.fields_follow.specs.Fragment.{AreWrapping, HasKnownKind, IsOperand, IsOperation, IsPromoted, IsPure, IsRelation, IsWide}
 use Rattle.fields_follow.proofs.Extents.{get_names}
 use Rattle.fields_follow.specs.Fields.{IsElement, file_number}
 use Rattle.fields_follow.proofs.Forms.{HasItsCode, HasItsWord, element_is, field_is, pure_kept, pure_word}
@@ -64,7 +64,9 @@ use Rattle.fields_follow.proofs.Promoted.{IsComputed, computed_after, promoted_s
 use Rattle.fields_follow.proofs.Sizes.{binary_parts, brackets_part, convert_part, unary_part}
 use Rattle.fields_follow.proofs.Totals.{held_below}
 use Rattle.fields_follow.proofs.Values.{and_entry, next_field, one_more, operand_of, taken, variable_has, with_entry}
-use Rattle.fields_follow.proofs.Expressions.{IsMeant, binary_at, convert_alike, convert_ended, convert_means, coordinate_means, operand_at, unary_ended, extended_after, from_operand, negated_after, operand_grows, operands_keep, plus_alike, pure_after, signed_as, unary_at, wide_operands}
+use Rattle.fields_follow.proofs.Expressions.{IsMeant, binary_at, convert_alike, convert_ended, convert_means, coordinate_means, operand_at, unary_ended, extended_after, from_operand, negated_after, operand_grows, operands_keep, plus_alike, signed_as, unary_at, wide_operands}
+use Rattle.fields_follow.proofs.Computing.{pure_after}
+use Rattle.fields_follow.proofs.TruthValues.{IsPlain}
 use Rattle.lower_expr.specs.Joined.{is_flag}
 use Rattle.cstar_base.proofs.NumberLaws.{kind_bits}
 use Rattle.std.proofs.lemmas.Bool.{eqb-true}
@@ -130,25 +132,25 @@ module _ (g : Setting) (has : HasRegisters g) (alive : Variable → Type 0) (n :
       whole d s st here sim Q (λ is e2 i within passes puts. last (gives st is) e2 i within passes (puts_alike g set i (field_at set offset bits) passes.t (words_of set e st) (words_of set other st) (alike st passes.t passes.sim) puts)) (λ early. ended (ends s st early))
 
   -- a unary operator
-  negated_last : (set offset bits : ℕ) (ty : ValueType) (op : UnaryOp) (p : Boxed) (inner : TExpr) → bits ≤ 32 → IsPure set (T.Unary' ty op p inner) → HasItsCode g.typed g.instance alive n (T.Unary' ty op p inner) → PutsWords set offset bits inner → PutsWords set offset bits (T.Unary' ty op p inner)
+  negated_last : (set offset bits : ℕ) (ty : ValueType) (op : UnaryOp) (p : Boxed) (inner : TExpr) → 0 < bits → bits ≤ 32 → negates op ≡ false → IsWide set (type_of inner) → IsPure set (T.Unary' ty op p inner) → HasItsCode g.typed g.instance alive n (T.Unary' ty op p inner) → (is_plus op ≡ true → PutsWords set offset bits inner) → PutsWords set offset bits (T.Unary' ty op p inner)
   unfolding computed_to is_plus negates unary_bits bits_for done_as IsPure value_in
-  negated_last set offset bits ty U.Plus p inner most is c whole d s st here sim Q last ended =
+  negated_last set offset bits ty U.Plus p inner some most plain wide is c whole d s st here sim Q last ended =
       puts_like set offset bits (λ d. computed_to g.typed (layout g) (O.Field (field_at set offset bits)) inner d) inner (T.Unary' ty U.Plus p inner)
-      (λ st given. unary_means fields.scope fields.active set ty U.Plus p inner (λ q. value_in (extents g set) st inner q) st is.0.0 given) (λ s st early. unary_ended g has alive n ready places fields ty U.Plus p inner s st early) (λ st s sim. plus_alike g has alive n ready places fields bits set ty p inner st s sim is c) whole d s st here sim Q last ended
-  negated_last set offset bits ty U.Minus p inner most is c whole d s st here sim Q last ended =
-      negated_after g has alive n ready places fields bits set ty U.Minus p (field_at set offset bits) inner (length d.fields) d s st is.0.0 most (refl, refl) refl is.2 is.3 (unary_part g alive n places fields ty U.Minus p inner c) (pure_after g has alive n ready places fields bits set inner most is.2 (unary_part g alive n places fields ty U.Minus p inner c)) (omega arith) here sim Q
+      (λ st given. unary_means fields.scope fields.active set ty U.Plus p inner (λ q. value_in (extents g set) st inner q) st is.0.0 given) (λ s st early. unary_ended g has alive n ready places fields ty U.Plus p inner s st early) (λ st s sim. plus_alike g has alive n ready places fields bits set ty p inner st s sim wide is c) (whole refl) d s st here sim Q last ended
+  negated_last set offset bits ty U.Minus p inner some most plain wide is c whole d s st here sim Q last ended =
+      negated_after g has alive n ready places fields bits set ty U.Minus p (field_at set offset bits) inner (length d.fields) d s st is.0.0 most (refl, refl) refl is.2 wide (unary_part g alive n places fields ty U.Minus p inner c) (pure_after g has alive n ready places fields bits set inner some most is.2 (unary_part g alive n places fields ty U.Minus p inner c)) (omega arith) here sim Q
       (λ given e1 i within passes puts. last given e1 i within passes (puts_same g set i (field_at set offset bits) passes.t _ (words_of set (T.Unary' ty U.Minus p inner) st) (λ q below. unary_at g has alive n ready places fields set ty U.Minus p inner st passes.t passes.sim is c q) puts)) ended
-  negated_last set offset bits ty U.Complement p inner most is c whole d s st here sim Q last ended =
-      negated_after g has alive n ready places fields bits set ty U.Complement p (field_at set offset bits) inner (length d.fields) d s st is.0.0 most (refl, refl) refl is.2 is.3 (unary_part g alive n places fields ty U.Complement p inner c) (pure_after g has alive n ready places fields bits set inner most is.2 (unary_part g alive n places fields ty U.Complement p inner c)) (omega arith) here sim Q
+  negated_last set offset bits ty U.Complement p inner some most plain wide is c whole d s st here sim Q last ended =
+      negated_after g has alive n ready places fields bits set ty U.Complement p (field_at set offset bits) inner (length d.fields) d s st is.0.0 most (refl, refl) refl is.2 wide (unary_part g alive n places fields ty U.Complement p inner c) (pure_after g has alive n ready places fields bits set inner some most is.2 (unary_part g alive n places fields ty U.Complement p inner c)) (omega arith) here sim Q
       (λ given e1 i within passes puts. last given e1 i within passes (puts_same g set i (field_at set offset bits) passes.t _ (words_of set (T.Unary' ty U.Complement p inner) st) (λ q below. unary_at g has alive n ready places fields set ty U.Complement p inner st passes.t passes.sim is c q) puts)) ended
-  negated_last set offset bits ty U.Not p inner most is c whole d s st here sim Q last ended = let wrong = is.1 in cc
+  negated_last set offset bits ty U.Not p inner some most plain wide is c whole d s st here sim Q last ended = cc
 
   -- a value of as many bits that is moved
-  moved_last : (set offset bits : ℕ) (e : TExpr) → bits ≤ 32 → IsPure set e → HasItsCode g.typed g.instance alive n e → PutsLast set (field_at set offset bits) e (λ d. moved g.typed (layout g) (O.Field (field_at set offset bits)) e d)
+  moved_last : (set offset bits : ℕ) (e : TExpr) → 0 < bits → bits ≤ 32 → IsPure set e → HasItsCode g.typed g.instance alive n e → PutsLast set (field_at set offset bits) e (λ d. moved g.typed (layout g) (O.Field (field_at set offset bits)) e d)
   unfolding moved bits_for put_value put_in_field Extends step_of
-  moved_last set offset bits e most pure c d s st here sim Q last ended =
+  moved_last set offset bits e some most pure c d s st here sim Q last ended =
       from_operand g has alive n ready places fields bits set e f (λ a. I.Move true f a) (λ v after. put_value (O.Field f) v after) (length d.fields) d s st (words_of set e st) (λ a. refl) (λ a. refl) grows (λ a after. refl)
-      (λ a t numbers sim_there. puts_move g bits set true f a t (words_of set e st) refl numbers) pure c (pure_after g has alive n ready places fields bits set e most pure c) (omega arith) here sim Q last ended
+      (λ a t numbers sim_there. puts_move g bits set true f a t (words_of set e st) refl numbers) pure c (pure_after g has alive n ready places fields bits set e some most pure c) (omega arith) here sim Q last ended
     where
       f : Field
       f = field_at set offset bits
@@ -159,9 +161,9 @@ module _ (g : Setting) (has : HasRegisters g) (alive : Variable → Type 0) (n :
       grows O.Nothing after = tt
 
   -- a binary operator
-  operated_last : (set offset bits : ℕ) (ty : ValueType) (place : Place) (op : Op) (p q : Boxed) (left right : TExpr) → bits ≤ 32 → IsPure set (T.Binary' ty place op p left q right) → HasItsCode g.typed g.instance alive n (T.Binary' ty place op p left q right) → PutsWords set offset bits (T.Binary' ty place op p left q right)
+  operated_last : (set offset bits : ℕ) (ty : ValueType) (place : Place) (op : Op) (p q : Boxed) (left right : TExpr) → 0 < bits → bits ≤ 32 → IsOperation op right → IsPure set (T.Binary' ty place op p left q right) → HasItsCode g.typed g.instance alive n (T.Binary' ty place op p left q right) → PutsWords set offset bits (T.Binary' ty place op p left q right)
   unfolding computed_to binary_to field_binary_to field_binary_of then_make an_entry passes_from IsPure fits_field
-  operated_last set offset bits ty place op p q left right most is c d s st here sim Q last ended = by (operation_bits bits op right == bits) refl
+  operated_last set offset bits ty place op p q left right some most known is c d s st here sim Q last ended = by (operation_bits bits op right == bits) refl
     where
       f : Field
       f = field_at set offset bits
@@ -176,22 +178,22 @@ module _ (g : Setting) (has : HasRegisters g) (alive : Variable → Type 0) (n :
       fitting b = if b then then_make (a_field set (operand_bits bits op left right) d) (λ spare after. field_binary_of g.typed (layout g) bits op place left right f spare after) else moved g.typed (layout g) (O.Field f) whole d
 
       chosen : (b : Bool) → operation_bits bits op right == bits ≡ b → computed_to g.typed (layout g) (O.Field f) whole d ≡ fitting b
-      chosen b fits = ap (λ (c : Bool). fitting (c || operation_bits bits op right == bits)) is.1.0 ∙ ap fitting fits
+      chosen b fits = ap (λ (c : Bool). fitting (c || operation_bits bits op right == bits)) known.0 ∙ ap fitting fits
 
       by : (b : Bool) → operation_bits bits op right == bits ≡ b → After g Q (computed_to g.typed (layout g) (O.Field f) whole d)
       by true fits =
           let works : operation_bits bits op right ≡ bits = eqb-true (operation_bits bits op right) bits fits in
           after_same g Q
           (chosen true fits
-          ∙ ap (λ (k : ℕ). then_make (a_field set k d) (λ spare after. fields_by op (reads_signed op left right) place f spare (operand_by g.typed (layout g) k (value_of g.typed (layout g) k left) (is_quiet right) left) left (operand_by g.typed (layout g) k (value_of g.typed (layout g) k right) true right) right after)) (wide_operands bits op left right is.1.0 ∙ works)
-          ∙ ap (λ (signed : Bool). fields_by op signed place f (next_field set bits d) (operand bits (is_quiet right) left) left (operand bits true right) right (with_entry set bits W.Own d)) (signed_as op left right is.1.0 is.3.1))
-          (fields_after g has alive n ready places fields bits set ty place op p q f left right d s st is.0.0 is.1 (λ divided. sym works ∙ divides_wide bits op right divided) (λ x. subst (λ (k : ℕ). Keeps op (type_of left).elem.signed k (word_at (extents g set) st right x)) works (operands_keep g has alive n ready places fields bits set op (type_of left).elem.signed right st most is.1 (right_of set left right is.2) parts.1 x))
+          ∙ ap (λ (k : ℕ). then_make (a_field set k d) (λ spare after. fields_by op (reads_signed op left right) place f spare (operand_by g.typed (layout g) k (value_of g.typed (layout g) k left) (is_quiet right) left) left (operand_by g.typed (layout g) k (value_of g.typed (layout g) k right) true right) right after)) (wide_operands bits op left right known.0 ∙ works)
+          ∙ ap (λ (signed : Bool). fields_by op signed place f (next_field set bits d) (operand bits (is_quiet right) left) left (operand bits true right) right (with_entry set bits W.Own d)) (signed_as op left right known.0 is.3.1))
+          (fields_after g has alive n ready places fields bits set ty place op p q f left right d s st is.0.0 known (λ divided. sym works ∙ divides_wide bits op right divided) (λ x. subst (λ (k : ℕ). Keeps op (type_of left).elem.signed k (word_at (extents g set) st right x)) works (operands_keep g has alive n ready places fields bits set op (type_of left).elem.signed right st most known (right_of set left right is.2) parts.1 x))
           (λ x below. operand_at g has alive n ready places fields set right st s sim (right_of set left right is.2) is.4 parts.1 x) refl is.2 parts.0 parts.1
-          (λ pure. pure_after g has alive n ready places fields bits set left most pure parts.0) (λ pure. pure_after g has alive n ready places fields bits set right most pure parts.1)
+          (λ pure. pure_after g has alive n ready places fields bits set left some most pure parts.0) (λ pure. pure_after g has alive n ready places fields bits set right some most pure parts.1)
           (operand_grows g has alive n ready places fields bits left parts.0) (operand_grows g has alive n ready places fields bits right parts.1) here sim Q
           (λ given e2 i within passes puts. last given e2 i within (passes_from g alive (length d.fields) d (with_entry set bits W.Own d) e2 s st (Unit {0}) (and_entry set bits W.Own d) passes)
           (puts_same g set i f passes.t _ (words_of set whole st) (λ x below. binary_at g has alive n ready places fields set ty place op p q left right st passes.t passes.sim is c x) puts)) ended)
-      by false other = after_same g Q (chosen false other) (moved_last set offset bits whole most is c d s st here sim Q last ended)
+      by false other = after_same g Q (chosen false other) (moved_last set offset bits whole some most is c d s st here sim Q last ended)
 
   -- the own coordinates
   coordinate_last : (set offset bits axis : ℕ) (ty : ValueType) → IsWide set ty → PutsWords set offset bits (T.Pcoord ty axis)
@@ -207,9 +209,9 @@ module _ (g : Setting) (has : HasRegisters g) (alive : Variable → Type 0) (n :
       f = field_at set offset bits
 
   -- a conversion
-  converted_last : (set offset bits : ℕ) (ty : ValueType) (p : Boxed) (inner : TExpr) → bits ≤ 32 → IsPure set (T.Convert' ty p inner) → HasItsCode g.typed g.instance alive n (T.Convert' ty p inner) → PutsWords set offset bits inner → PutsWords set offset bits (T.Convert' ty p inner)
+  converted_last : (set offset bits : ℕ) (ty : ValueType) (p : Boxed) (inner : TExpr) → bits ≤ 32 → (ty.elem.bits == 1) ≡ false → IsPure set (T.Convert' ty p inner) → HasItsCode g.typed g.instance alive n (T.Convert' ty p inner) → (nat_le bits ty.elem.bits ≡ true → PutsWords set offset bits inner) → PutsWords set offset bits (T.Convert' ty p inner)
   unfolding computed_to goes_unchanged keeps_bits converted_to cast_to IsPure
-  converted_last set offset bits ty p inner most is c whole d s st here sim Q last ended = by (nat_le bits ty.elem.bits) refl
+  converted_last set offset bits ty p inner most no_truth is c whole d s st here sim Q last ended = by (nat_le bits ty.elem.bits) refl
     where
       f : Field
       f = field_at set offset bits
@@ -221,7 +223,7 @@ module _ (g : Setting) (has : HasRegisters g) (alive : Variable → Type 0) (n :
       fresh = pure_kept set inner is.2
 
       kept : (b : Bool) → nat_le bits ty.elem.bits ≡ b → (nat_le bits ty.elem.bits && (not (ty.elem.bits == 1) || is_flag inner)) ≡ b
-      kept b is_b = ap (λ (t : Bool). nat_le bits ty.elem.bits && (not t || is_flag inner)) is.1 ∙ by_both (nat_le bits ty.elem.bits) b is_b
+      kept b is_b = ap (λ (t : Bool). nat_le bits ty.elem.bits && (not t || is_flag inner)) no_truth ∙ by_both (nat_le bits ty.elem.bits) b is_b
         where
           by_both : (a b : Bool) → a ≡ b → (a && true) ≡ b
           by_both true b h = h
@@ -233,13 +235,13 @@ module _ (g : Setting) (has : HasRegisters g) (alive : Variable → Type 0) (n :
       by : (b : Bool) → nat_le bits ty.elem.bits ≡ b → After g Q (computed_to g.typed (layout g) (O.Field f) e d)
       by true enough =
           after_same g Q (ap (λ (b : Bool). if b then computed_to g.typed (layout g) (O.Field f) inner d else converted_to g.typed (layout g) (O.Field f) e ty.elem inner d) (kept true enough))
-          (puts_like set offset bits (λ d. computed_to g.typed (layout g) (O.Field f) inner d) inner e (λ st given. convert_means g has alive n ready places fields set ty p inner st is.0 given) (λ s st early. convert_ended g has alive n ready places fields ty p inner s st early) (λ st s sim. convert_alike g has alive n ready places fields bits set ty p inner st is.1 (grind (arith, nat_tests, enough))) whole d s st here sim Q last ended)
+          (puts_like set offset bits (λ d. computed_to g.typed (layout g) (O.Field f) inner d) inner e (λ st given. convert_means g has alive n ready places fields set ty p inner st is.0 given) (λ s st early. convert_ended g has alive n ready places fields ty p inner s st early) (λ st s sim. convert_alike g has alive n ready places fields bits set ty p inner st no_truth (grind (arith, nat_tests, enough))) (whole enough) d s st here sim Q last ended)
       by false less =
           after_same g Q
           (ap (λ (b : Bool). if b then computed_to g.typed (layout g) (O.Field f) inner d else converted_to g.typed (layout g) (O.Field f) e ty.elem inner d) (kept false less)
           ∙ ap (λ (b : Bool). if b then moved g.typed (layout g) (O.Field f) e d else if ty.elem.bits == 1 then truth_put f (tested g.typed (layout g) inner) d else extended ty.elem.signed f (next_of g.typed (layout g) ty.elem.bits true inner) d) fresh
-          ∙ ap (λ (b : Bool). if b then truth_put f (tested g.typed (layout g) inner) d else extended ty.elem.signed f (next_of g.typed (layout g) ty.elem.bits true inner) d) is.1)
-          (extended_after g has alive n ready places fields set ty p inner f (length d.fields) d s st is.0 is.1 most is.2 part (pure_after g has alive n ready places fields ty.elem.bits set inner (kind_bits ty.elem.bits ty.elem.signed ty.elem.kind).1 is.2 part) (omega arith) here sim Q last ended)
+          ∙ ap (λ (b : Bool). if b then truth_put f (tested g.typed (layout g) inner) d else extended ty.elem.signed f (next_of g.typed (layout g) ty.elem.bits true inner) d) no_truth)
+          (extended_after g has alive n ready places fields set ty p inner f (length d.fields) d s st is.0 no_truth most is.2 part (pure_after g has alive n ready places fields ty.elem.bits set inner (kind_bits ty.elem.bits ty.elem.signed ty.elem.kind).0 (kind_bits ty.elem.bits ty.elem.signed ty.elem.kind).1 is.2 part) (omega arith) here sim Q last ended)
 
   -- a get from neighbours
   pub gone_same : (dest : Out) (Q : Out → Draft → Type 0) (made : Made Out) → After g (λ out e. Q dest e) made → After g Q (gone_to dest made)
@@ -255,18 +257,29 @@ module _ (g : Setting) (has : HasRegisters g) (alive : Variable → Type 0) (n :
       (get_last g alive n places fields ty place p indexes k of set offset bits (λ after. spot_of g.typed (layout g) (T.LeftIndex' ty place p indexes (V.File k) of) after) (length d.fields) d s st most shaped same are c.code.names.0 (get_names g.typed g.instance n of set indexes same are c.code.names.1 c.code.names.2) (omega arith) here sim (λ out e. Q (O.Field (field_at set offset bits)) e)
       (last (get_gives g places fields n ty place p indexes k of set st shaped same are c.code.names.0 (get_names g.typed g.instance n of set indexes same are c.code.names.1 c.code.names.2))))
 
-  pub computed_last : (set offset bits : ℕ) (e : TExpr) → bits ≤ 32 → IsPure set e → HasItsCode g.typed g.instance alive n e → PutsWords set offset bits e
-  unfolding IsPure computed_to value_in NamesVariables evaluated
-  computed_last set offset bits (T.Variable ty (V.File k)) most is c = copied_last set k offset bits ty most is c.code.names
-  computed_last set offset bits (T.Brackets' ty p inner) most is c =
+  -- a value that is no truth value
+  pub computed_last : (set offset bits : ℕ) (e : TExpr) → 0 < bits → bits ≤ 32 → IsPure set e → IsPlain bits e → HasItsCode g.typed g.instance alive n e → PutsWords set offset bits e
+  unfolding IsPure IsPlain computed_to value_in NamesVariables evaluated
+  computed_last set offset bits (T.Variable ty (V.File k)) some most is plain c = copied_last set k offset bits ty most is c.code.names
+  computed_last set offset bits (T.Brackets' ty p inner) some most is plain c =
       puts_like set offset bits (λ d. computed_to g.typed (layout g) (O.Field (field_at set offset bits)) inner d) inner (T.Brackets' ty p inner) (λ st given. given) (λ s st early. early) (λ st s sim. alike_same g bits set _ _ (λ q below few. ap (λ (y : ValueType). held y.elem (value_in (extents g set) st inner q)) is.0))
-      (computed_last set offset bits inner most is.1 (brackets_part g alive n places fields ty p inner c))
-  computed_last set offset bits (T.Unary' ty op p inner) most is c = negated_last set offset bits ty op p inner most is c (computed_last set offset bits inner most is.2 (unary_part g alive n places fields ty op p inner c))
-  computed_last set offset bits (T.Binary' ty place op p left q right) most is c = operated_last set offset bits ty place op p q left right most is c
-  computed_last set offset bits (T.Convert' ty p inner) most is c = converted_last set offset bits ty p inner most is c (computed_last set offset bits inner most is.2 (convert_part g alive n places fields ty p inner c))
-  computed_last set offset bits (T.Pcoord ty axis) most is c = coordinate_last set offset bits axis ty is
-  computed_last set offset bits (T.LeftIndex' ty place p indexes (V.File k) of) most is c = get_computed set offset bits ty place p indexes k of most is.0 is.1 is.2 c
-  computed_last set offset bits _ most is c = absurd is
+      (computed_last set offset bits inner some most is.1 plain (brackets_part g alive n places fields ty p inner c))
+  computed_last set offset bits (T.Unary' ty op p inner) some most is plain c = by is.1 (λ plus. computed_last set offset bits inner some most is.2 (plain.1 plus) (unary_part g alive n places fields ty op p inner c))
+    where
+      by : ((negates op ≡ false) × IsWide set (type_of inner)) ⊎ ((negates op ≡ true) × HasKnownKind inner) → (is_plus op ≡ true → PutsWords set offset bits inner) → PutsWords set offset bits (T.Unary' ty op p inner)
+      by (inl h) whole = negated_last set offset bits ty op p inner some most plain.0 h.1 is c whole
+      by (inr h) whole = let wrong = sym plain.0 ∙ h.0 in cc
+  computed_last set offset bits (T.Binary' ty place op p left q right) some most is plain c = by is.1
+    where
+      by : IsOperation op right ⊎ IsRelation set op left right → PutsWords set offset bits (T.Binary' ty place op p left q right)
+      by (inl known) = operated_last set offset bits ty place op p q left right some most known is c
+      by (inr related) = let wrong = sym plain ∙ related.0 in cc
+  computed_last set offset bits (T.Convert' ty p inner) some most is plain c = converted_last set offset bits ty p inner most plain.0 is c (λ enough. computed_last set offset bits inner some most is.2 (plain.1 enough) (convert_part g alive n places fields ty p inner c))
+  computed_last set offset bits (T.Pcoord ty axis) some most is plain c = coordinate_last set offset bits axis ty is
+  computed_last set offset bits (T.LeftIndex' ty place p indexes (V.File k) of) some most is plain c = get_computed set offset bits ty place p indexes k of most is.0 is.1 is.2 c
+  computed_last set offset bits (T.LogicalOr' ty p left q right) some most is plain c = absurd plain
+  computed_last set offset bits (T.LogicalAnd' ty p left q right) some most is plain c = absurd plain
+  computed_last set offset bits _ some most is plain c = absurd is
 
   pub value_put : (f : Field) (x : Out) (after : Draft) → Extends g after (put_value (O.Field f) x after)
   unfolding Extends put_value put_in_field
@@ -274,14 +287,14 @@ module _ (g : Setting) (has : HasRegisters g) (alive : Variable → Type 0) (n :
   value_put f (O.Field source) after = (1, and_one g (I.Move true f source) after)
   value_put f O.Nothing after = tt
 
-  -- any operand
-  pub put_last : (set offset bits : ℕ) (e : TExpr) → bits ≤ 32 → IsOperand set e → HasItsCode g.typed g.instance alive n e → PutsLast set (field_at set offset bits) e (λ d. put_to g.typed (layout g) (O.Field (field_at set offset bits)) e d)
+  -- any operand that is no truth value
+  pub put_last : (set offset bits : ℕ) (e : TExpr) → 0 < bits → bits ≤ 32 → (IsPure set e × IsPlain bits e) ⊎ IsPromoted set e → HasItsCode g.typed g.instance alive n e → PutsLast set (field_at set offset bits) e (λ d. put_to g.typed (layout g) (O.Field (field_at set offset bits)) e d)
   unfolding put_to word_for word_put put_value put_in_field then_make
-  put_last set offset bits e most (inl pure) c d s st here sim Q last ended =
+  put_last set offset bits e some most (inl (pure, plain)) c d s st here sim Q last ended =
       let f : Field = field_at set offset bits in
       after_same g Q (ap (λ (o : Option ℕ). elim o as (λ _. Made Out) [ Some word ↦ word_put (O.Field f) word d | None ↦ computed_to g.typed (layout g) (O.Field f) e d ]) (pure_word set e pure))
-      (computed_last set offset bits e most pure c d s st here sim Q last ended)
-  put_last set offset bits e most (inr promoted) c d s st here sim Q last ended = by (promoted_stands g alive n set e promoted c)
+      (computed_last set offset bits e some most pure plain c d s st here sim Q last ended)
+  put_last set offset bits e some most (inr promoted) c d s st here sim Q last ended = by (promoted_stands g alive n set e promoted c)
     where
       f : Field
       f = field_at set offset bits
@@ -326,7 +339,7 @@ module _ (g : Setting) (has : HasRegisters g) (alive : Variable → Type 0) (n :
       }))
       (λ a begun. extends_then g begun (right_by (operand bits true value) op value begun) (λ right after. right_operated op signed place f a right spare after) (right_extends g (operand bits true value) op value (λ after. operand_grows g has alive n ready places fields bits value c true after) begun) (λ right after. operated_extends g op signed place f a spare right after known.0))
       (λ a e1 one. then_known g one.passes.t (meant g fields value st) (λ q. value_in (extents g set) st value q) st (λ right e. Takes op right × GivesRight g has alive n ready places fields bits (length e1.fields) e1 one.passes.t set st w right e) Q (right_by (operand bits true value) op value e1) (λ right after. right_operated op signed place f a right spare after)
-      (right_after g has alive n ready places fields bits set op value known.1 isin c (λ pure. pure_after g has alive n ready places fields bits set value most pure c) e1 one.passes.t st one.passes.at one.passes.sim)
+      (right_after g has alive n ready places fields bits set op value known.1 isin c (λ pure. pure_after g has alive n ready places fields bits set value (kind_bits info.elem.bits info.elem.signed info.elem.kind).0 most pure c) e1 one.passes.t st one.passes.at one.passes.sim)
       (λ right after. operated_extends g op signed place f a spare right after known.0)
       (λ given right e2 two. operated_after g has alive n ready places fields bits (length d1.fields) set op signed place f a v w d e1 e2 s st known.0 (λ divided. sym works ∙ divides_wide bits op value divided)
       (λ q. subst (λ (x : ℕ). Keeps op signed x (w q)) works (operands_keep g has alive n ready places fields bits set op signed value st most known isin c q)) refl (let first = one_more set bits W.Own d in omega (arith, first)) (fields_longer d1 e1 one.passes.grown.0 one.passes.grown.1) one right

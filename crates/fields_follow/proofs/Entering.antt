@@ -40,7 +40,7 @@ use Rattle.fields_follow.proofs.Meaning.{value_in}
 use Rattle.fields_follow.proofs.Passing.{After, code_longer, fields_longer}
 use Rattle.fields_follow.proofs.Places.{IsOwnField}
 use Rattle.fields_follow.proofs.TestFlags.{LeavesTests}
-use Rattle.fields_follow.proofs.Testing.{condition_tested}
+use Rattle.fields_follow.proofs.Computing.{condition_tested}
 use Rattle.fields_follow.proofs.Values.{and_entry, next_field, one_more, taken, with_entry}
 
 -- code that is made where it grows

@@ -30,7 +30,7 @@ use Rattle.lower_base.specs.Operators.{fold_of, is_signed, reduce_op_of}
 use Rattle.lower_expr.specs.Kinds.{is_modular, kind_with, operation_bits, relation_kind}
 use Rattle.lower_expr.specs.Steps.{register_word, word_of}
 use Rattle.fields_follow.specs.Example.{ExampleIsParallel, example, lift, lift_word, main}
-use Rattle.fields_follow.specs.Fragment.{IsDivisor, IsCondition, IsFold, IsPromoted, IsPure, IsTarget, IsUpdate, fields_beside}
+use Rattle.fields_follow.specs.Fragment.{IsDivisor, IsFold, IsNarrowed, IsPromoted, IsPure, IsTarget, IsUpdate, fields_beside}
 
 -- the calls of what has a list in a row
 abbrev PrintsInRow : T.TExpr → Type 0
@@ -74,7 +74,7 @@ module _ (heap : Global) where
   lift_calls = simp (block_in_row, fold_out-TExpr (List ℕ) call_step, fold_out-TStmt (List ℕ) statement_call_step)
 
 lift_is : (heap : Global) → IsScalarFunction (may_of fields_beside (example heap) (lift heap)) (lift heap)
-unfolding kind_of narrow relation_kind word_of register_word kind_with operation_bits is_modular IsBody IsInStatement IsInElse IsClosedElse IsCondition else_variables IsEffect IsGiven IsIn IsVariable AreIn AreInitials AreInStatements AreClosed IsClosed OfFileOrParam ScalarsAmong IsFold IsPromoted IsPure IsTarget IsUpdate assign_op_of constant_of relates divides is_constant residue value_of row_variables
+unfolding kind_of narrow relation_kind word_of register_word kind_with operation_bits is_modular IsBody IsInStatement IsInElse IsClosedElse IsNarrowed else_variables IsEffect IsGiven IsIn IsVariable AreIn AreInitials AreInStatements AreClosed IsClosed OfFileOrParam ScalarsAmong IsFold IsPromoted IsPure IsTarget IsUpdate assign_op_of constant_of relates divides is_constant residue value_of row_variables
 lift_is heap =
     record {
       params = All-nil IsScalarVariable;
@@ -85,12 +85,12 @@ lift_is heap =
           tt,
           (
             (
-              ((refl, refl), inl (refl, inl ((refl, inl refl), inr ((refl, refl, (refl, inl (2, refl, omega arith))), λ none. refl)), (refl, refl), (refl, refl), tt)),
+              (((refl, refl), inr (refl, inl (inl refl), inr ((refl, refl, (refl, inl (2, refl, omega arith))), λ none. refl), tt), inl (refl, inr (refl, refl, (refl, inl (2, refl, omega arith)))), (refl, refl), (refl, refl)), inr (inl refl)),
               ((λ is. inl tt), tt),
               (
                 All-nil (IsBlockLocal fields_beside),
                 tt,
-                (inr (inl (0, (refl, refl, ((refl, inl refl), refl, refl, refl), inl (inr (refl, refl, (refl, inl (10, refl, omega arith)))))), ((λ is. inl (inl tt)), tt)), (tt, tt)),
+                (inr (inl (0, (refl, refl, ((refl, inl refl), refl, refl, refl), inr (refl, refl, (refl, inl (10, refl, omega arith))))), ((λ is. inl (inl tt)), tt)), (tt, tt)),
               ),
               tt,
             ),
@@ -102,7 +102,7 @@ lift_is heap =
     }
 
 main_is : (heap : Global) → IsScalarFunction (may_of fields_beside (example heap) (main heap)) (main heap)
-unfolding folded_kind fold_of reduce_op_of is_signed kind_of narrow relation_kind word_of register_word kind_with operation_bits is_modular IsBody IsInStatement IsInElse IsClosedElse IsCondition else_variables IsDivisor IsEffect IsGiven IsIn IsVariable AreIn AreInitials AreInStatements AreClosed IsClosed OfFileOrParam ScalarsAmong IsFold IsPromoted IsPure IsTarget IsUpdate assign_op_of constant_of relates divides is_constant residue value_of row_variables
+unfolding folded_kind fold_of reduce_op_of is_signed kind_of narrow relation_kind word_of register_word kind_with operation_bits is_modular IsBody IsInStatement IsInElse IsClosedElse IsNarrowed else_variables IsDivisor IsEffect IsGiven IsIn IsVariable AreIn AreInitials AreInStatements AreClosed IsClosed OfFileOrParam ScalarsAmong IsFold IsPromoted IsPure IsTarget IsUpdate assign_op_of constant_of relates divides is_constant residue value_of row_variables
 main_is heap =
     let called : Contains (calls_within (main heap).body) 1 = subst (λ (calls : List ℕ). Contains calls 1) (sym (main_calls heap)) (0, omega arith, refl) in
     record {
@@ -117,15 +117,15 @@ main_is heap =
               All-nil (IsBlockLocal fields_beside),
               tt,
               (
-                inr (inl (0, (refl, refl, refl, inl (inl (refl, refl)))), ((λ is. inl (inl tt)), tt)),
+                inr (inl (0, (refl, refl, refl, inl (refl, refl))), ((λ is. inl (inl tt)), tt)),
                 (
-                  inr (inl (0, (refl, refl, ((refl, inl refl), refl, refl, refl), inl (inr (refl, refl, (refl, inl (1, refl, omega arith)))))), ((λ is. inl (inl tt)), tt)),
+                  inr (inl (0, (refl, refl, ((refl, inl refl), refl, refl, refl), inr (refl, refl, (refl, inl (1, refl, omega arith))))), ((λ is. inl (inl tt)), tt)),
                   (
                     (
-                      ((refl, refl), inl (refl, inl ((refl, inl refl), inr ((refl, refl, (refl, inl (3, refl, omega arith))), λ none. refl)), (refl, refl), (refl, refl), tt)),
+                      (((refl, refl), inr (refl, inl (inl refl), inr ((refl, refl, (refl, inl (3, refl, omega arith))), λ none. refl), tt), inl (refl, inr (refl, refl, (refl, inl (3, refl, omega arith)))), (refl, refl), (refl, refl)), inr (inl refl)),
                       ((λ is. inl (inl tt)), tt),
                       ((lift heap, (refl, omega arith, called, tt, tt)), tt),
-                      inr (inl (0, (refl, refl, refl, inl (inl ((refl, refl), (refl, inr tt), inr ((refl, refl, (refl, inl (12, refl, omega arith))), refl), (refl, refl), (refl, refl))))), ((λ is. inl (inl tt)), (tt, (λ is. inl (inl tt))))),
+                      inr (inl (0, (refl, refl, refl, inl ((refl, refl), inl (refl, inr tt), inr ((refl, refl, (refl, inl (12, refl, omega arith))), refl), (refl, refl), (refl, refl)))), ((λ is. inl (inl tt)), (tt, (λ is. inl (inl tt))))),
                     ),
                     (inl (refl, refl, (refl, inl (inl tt)), ((refl, refl), ((refl, refl), (0, ((refl, inl refl), (refl, refl)))), (λ is. inl (inl tt))), inl refl), tt),
                   ),

@@ -37,7 +37,7 @@ use Rattle.source_meaning.specs.Values.{Parallel, Value, at, convert_to, each, o
 use Rattle.source_meaning.proofs.ConstantLaws.{Boxed}
 use Rattle.vp_sets.specs.Positions.{coordinate}
 use Rattle.constant_trees.proofs.Words.{converted_below}
-use Rattle.code_follows.proofs.Following.{Extends, Follows, HasRegisters, Sim, follows_same, held}
+use Rattle.code_follows.proofs.Following.{Extends, Follows, HasRegisters, Sim, follows_same}
 use Rattle.code_follows.proofs.Growing.{Extended, extended as extended_on}
 use Rattle.code_follows.proofs.Operators.{wide_signed}
 use Rattle.code_follows.proofs.Settings.{Setting, Within, and_one, layout}
@@ -53,14 +53,14 @@ use Rattle.fields_follow.proofs.Lengths.{Keeps, converted_first, divides_wide, h
 use Rattle.fields_follow.proofs.Meaning.{as_shaped, left_of, right_of, unary_means, value_in, word_at}
 use Rattle.fields_follow.proofs.News.{get_last}
 use Rattle.fields_follow.proofs.Operands.{fields_after}
-use Rattle.fields_follow.proofs.Outcomes.{Ended, Given, Known, ended_on, follows_like, given_follows, given_weaker, known_follows, meant, then_known}
+use Rattle.fields_follow.proofs.Outcomes.{Ended, Given, Known, ended_on, follows_like, given_follows, known_follows, meant, then_known}
 use Rattle.fields_follow.proofs.Pure.{get_gives}
-use Rattle.fields_follow.proofs.Passing.{After, Behind, GivesField, Passes, after_same, fields_longer, gives_alike, gives_from, gives_numbers, gives_on, gives_set, made_after, names_second, passes_all, puts_own}
+use Rattle.fields_follow.proofs.Passing.{After, Behind, Passes, after_same, fields_longer, gives_alike, gives_from, gives_numbers, gives_on, gives_set, made_after, names_second, passes_all, puts_own}
 use Rattle.fields_follow.proofs.Places.{HoldsTheFields, PlacesFields, stands_here}
 use Rattle.fields_follow.proofs.Promoted.{IsComputed, promoted_stands}
-use Rattle.fields_follow.proofs.Sizes.{binary_parts, brackets_part, convert_part, promoted_small, pure_at, unary_part}
+use Rattle.fields_follow.proofs.Sizes.{binary_parts, convert_part, promoted_small, pure_at, unary_part}
 use Rattle.fields_follow.proofs.Totals.{held_below}
-use Rattle.fields_follow.proofs.Values.{Gives, IsFlag, Valued, and_entry, code_of, first_given, next_field, one_more, operand_after, operand_of, taken, variable_after, with_entry}
+use Rattle.fields_follow.proofs.Values.{Gives, IsFlag, Valued, and_entry, code_of, first_given, next_field, one_more, operand_after, operand_of, taken, with_entry}
 use Rattle.cstar_base.specs.Numbers.{converted}
 use Rattle.cstar_base.proofs.NumberLaws.{kind_bits}
 use Rattle.std.specs.Prelude.{nat_lt, unwrap_or}
@@ -89,10 +89,10 @@ module _ (g : Setting) (has : HasRegisters g) (alive : Variable → Type 0) (n :
   abbrev operand : ℕ → Bool → TExpr → Draft → Made Out
   operand bits quiet e d = operand_of g has alive n ready places fields bits quiet e d
 
-  abbrev Answers : Type 0 → ℕ → ℕ → Draft → CodeState → ℕ → State → (ℕ → ℕ) → Out → Draft → Type 0
+  abbrev pub Answers : Type 0 → ℕ → ℕ → Draft → CodeState → ℕ → State → (ℕ → ℕ) → Out → Draft → Type 0
   Answers flag bits bound d s set st v out e = Gives g has alive n ready places fields flag bits bound d s set st v out e
 
-  abbrev IsValued : ℕ → ℕ → TExpr → Type 0
+  abbrev pub IsValued : ℕ → ℕ → TExpr → Type 0
   IsValued bits set e = Valued g has alive n ready places fields bits set e (code bits e)
 
   -- its value, and it is known or the code ends
@@ -145,7 +145,7 @@ module _ (g : Setting) (has : HasRegisters g) (alive : Variable → Type 0) (n :
       works : ℕ
       works = operation_bits bits op right
 
-  named : (ty : ValueType) (k : ℕ) → HasItsCode g.typed g.instance alive n (T.Variable ty (V.File k)) → HasVariable g.typed g.instance n (V.File k) (plain ty)
+  pub named : (ty : ValueType) (k : ℕ) → HasItsCode g.typed g.instance alive n (T.Variable ty (V.File k)) → HasVariable g.typed g.instance n (V.File k) (plain ty)
   unfolding NamesVariables
   named ty k c = c.code.names
 
@@ -247,44 +247,44 @@ module _ (g : Setting) (has : HasRegisters g) (alive : Variable → Type 0) (n :
   unfolding done_as
   done_as_it_is bits op operand plain = ap (λ (b : Bool). if b && (bits == 1 && (not (is_kept operand) && bits_of (kind_of operand) == 1)) then U.Complement else op) plain
 
-  signed_after : (bits set : ℕ) (ty : ValueType) (op : UnaryOp) (p : Boxed) (inner : TExpr) → bits ≤ 32 → IsSign op → IsPure set (T.Unary' ty op p inner) → HasItsCode g.typed g.instance alive n (T.Unary' ty op p inner) → IsValued bits set inner → IsValued bits set (T.Unary' ty op p inner)
+  signed_after : (bits set : ℕ) (ty : ValueType) (op : UnaryOp) (p : Boxed) (inner : TExpr) → bits ≤ 32 → IsSign op → IsWide set (type_of inner) → IsPure set (T.Unary' ty op p inner) → HasItsCode g.typed g.instance alive n (T.Unary' ty op p inner) → IsValued bits set inner → IsValued bits set (T.Unary' ty op p inner)
   unfolding value_of unary_by unary_bits fresh_for then_make an_entry IsPure
-  signed_after bits set ty op p inner most sign is c whole d s st here sim =
+  signed_after bits set ty op p inner most sign wide is c whole d s st here sim =
       known_follows g s (meant g fields (T.Unary' ty op p inner) st) (number set (T.Unary' ty op p inner) st) st (Answers (IsFlag (T.Unary' ty op p inner)) bits (length d.fields) d s set st v) (code bits (T.Unary' ty op p inner) d)
       (after_same g (Knows bits d s set st (T.Unary' ty op p inner))
       (ap (λ (o : UnaryOp). if is_plus o then code bits inner d else then_make (fresh_for ty.shape bits d) (λ dest between. then_make (operand_by g.typed (layout g) (unary_bits bits op inner) (value_of g.typed (layout g) (unary_bits bits op inner) inner) true inner between) (λ x after. negated (layout g) o dest x after))) (done_as_it_is bits op inner sign.1)
       ∙ ap (λ (b : Bool). if b then code bits inner d else then_make (fresh_for ty.shape bits d) (λ dest between. then_make (operand_by g.typed (layout g) (unary_bits bits op inner) (value_of g.typed (layout g) (unary_bits bits op inner) inner) true inner between) (λ x after. negated (layout g) op dest x after))) sign.0
       ∙ ap (λ (b : Bool). then_make (fresh_for ty.shape bits d) (λ dest between. then_make (operand_by g.typed (layout g) (if b then bits_of (kind_of inner) else bits) (value_of g.typed (layout g) (if b then bits_of (kind_of inner) else bits) inner) true inner between) (λ x after. negated (layout g) op dest x after))) sign.1
       ∙ ap (λ (o : Option ℕ). then_make (fresh_for o bits d) (λ dest between. then_make (operand bits true inner between) (λ x after. negated (layout g) op dest x after))) is.0.0)
-      (negated_after bits set ty op p (next_field set bits d) inner (length d.fields) (with_entry set bits W.Own d) s st is.0.0 most sign refl is.2 is.3 (unary_part g alive n places fields ty op p inner c) whole (let one = one_more set bits W.Own d in omega (arith, one)) here sim (Knows bits d s set st (T.Unary' ty op p inner))
+      (negated_after bits set ty op p (next_field set bits d) inner (length d.fields) (with_entry set bits W.Own d) s st is.0.0 most sign refl is.2 wide (unary_part g alive n places fields ty op p inner c) whole (let one = one_more set bits W.Own d in omega (arith, one)) here sim (Knows bits d s set st (T.Unary' ty op p inner))
       (λ is_meant e1 i within passes puts. inl (is_meant, own_result bits set d e1 s st v i within passes (puts_same g set i (next_field set bits d) passes.t _ v (λ q below. unary_at set ty op p inner st passes.t passes.sim is c q) puts))) (λ early x f. inr early)))
     where
       v : ℕ → ℕ
       v = λ q. word_at (extents g set) st (T.Unary' ty op p inner) q
 
   -- a plus changes no word
-  pub plus_alike : (bits set : ℕ) (ty : ValueType) (p : Boxed) (inner : TExpr) (st : State) (s : CodeState) → Sim g alive st s → IsPure set (T.Unary' ty U.Plus p inner) → HasItsCode g.typed g.instance alive n (T.Unary' ty U.Plus p inner)
+  pub plus_alike : (bits set : ℕ) (ty : ValueType) (p : Boxed) (inner : TExpr) (st : State) (s : CodeState) → Sim g alive st s → IsWide set (type_of inner) → IsPure set (T.Unary' ty U.Plus p inner) → HasItsCode g.typed g.instance alive n (T.Unary' ty U.Plus p inner)
       → AreAlike g bits set (λ q. word_at (extents g set) st inner q) (λ q. word_at (extents g set) st (T.Unary' ty U.Plus p inner) q)
   unfolding value_in unary_of IsPure
-  plus_alike bits set ty p inner st s sim is c =
+  plus_alike bits set ty p inner st s sim wide is c =
       alike_same g bits set _ _ (λ q below few.
       pure_at g alive n places fields set (T.Unary' ty U.Plus p inner) st s sim is is.0 c q
-      ∙ sym (pure_at g alive n places fields set inner st s sim is.2 is.3 (unary_part g alive n places fields ty U.Plus p inner c) q))
+      ∙ sym (pure_at g alive n places fields set inner st s sim is.2 wide (unary_part g alive n places fields ty U.Plus p inner c) q))
 
   -- words that are alike are given alike
   pub answers_alike : (one other : Type 0) → (other → one) → (bits bound : ℕ) (d : Draft) (s : CodeState) (set : ℕ) (st : State) (v w : ℕ → ℕ) → AreAlike g bits set v w → (out : Out) (e : Draft) → Answers one bits bound d s set st v out e → Answers other bits bound d s set st w out e
   answers_alike one other less bits bound d s set st v w alike out e (f, (is, (gives, apart))) = (f, (is, (gives_alike g alive places fields bits bound d s set st v w f e alike gives, λ flag. apart (less flag))))
 
-  unary_after : (bits set : ℕ) (ty : ValueType) (op : UnaryOp) (p : Boxed) (inner : TExpr) → bits ≤ 32 → IsPure set (T.Unary' ty op p inner) → HasItsCode g.typed g.instance alive n (T.Unary' ty op p inner) → IsValued bits set inner → IsValued bits set (T.Unary' ty op p inner)
+  pub unary_after : (bits set : ℕ) (ty : ValueType) (op : UnaryOp) (p : Boxed) (inner : TExpr) → bits ≤ 32 → negates op ≡ false → IsWide set (type_of inner) → IsPure set (T.Unary' ty op p inner) → HasItsCode g.typed g.instance alive n (T.Unary' ty op p inner) → IsValued bits set inner → IsValued bits set (T.Unary' ty op p inner)
   unfolding value_of unary_by is_plus negates done_as IsPure value_in kind_of bits_of
-  unary_after bits set ty U.Plus p inner most is c whole d s st here sim =
+  unary_after bits set ty U.Plus p inner most plain wide is c whole d s st here sim =
       follows_like g s (meant g fields inner st) (meant g fields (T.Unary' ty U.Plus p inner) st) (number set inner st) (number set (T.Unary' ty U.Plus p inner) st) st (Answers (IsFlag inner) bits (length d.fields) d s set st (λ q. word_at (extents g set) st inner q))
       (Answers (IsFlag (T.Unary' ty U.Plus p inner)) bits (length d.fields) d s set st (λ q. word_at (extents g set) st (T.Unary' ty U.Plus p inner) q)) (code bits inner d)
       (λ is_meant. unary_means fields.scope fields.active set ty U.Plus p inner (number set inner st) st is.0.0 is_meant) (λ early. unary_ended ty U.Plus p inner s st early)
-      (answers_alike (IsFlag inner) (IsFlag (T.Unary' ty U.Plus p inner)) (λ one. let wrong = one in absurd (omega (arith, wrong))) bits (length d.fields) d s set st (λ q. word_at (extents g set) st inner q) (λ q. word_at (extents g set) st (T.Unary' ty U.Plus p inner) q) (plus_alike bits set ty p inner st s sim is c)) (whole d s st here sim)
-  unary_after bits set ty U.Minus p inner most is c whole d s st here sim = signed_after bits set ty U.Minus p inner most (refl, refl) is c whole d s st here sim
-  unary_after bits set ty U.Complement p inner most is c whole d s st here sim = signed_after bits set ty U.Complement p inner most (refl, refl) is c whole d s st here sim
-  unary_after bits set ty U.Not p inner most is c whole d s st here sim = let wrong = is.1 in cc
+      (answers_alike (IsFlag inner) (IsFlag (T.Unary' ty U.Plus p inner)) (λ one. let wrong = one in absurd (omega (arith, wrong))) bits (length d.fields) d s set st (λ q. word_at (extents g set) st inner q) (λ q. word_at (extents g set) st (T.Unary' ty U.Plus p inner) q) (plus_alike bits set ty p inner st s sim wide is c)) (whole d s st here sim)
+  unary_after bits set ty U.Minus p inner most plain wide is c whole d s st here sim = signed_after bits set ty U.Minus p inner most (refl, refl) wide is c whole d s st here sim
+  unary_after bits set ty U.Complement p inner most plain wide is c whole d s st here sim = signed_after bits set ty U.Complement p inner most (refl, refl) wide is c whole d s st here sim
+  unary_after bits set ty U.Not p inner most plain wide is c whole d s st here sim = cc
 
   -- an operand of 32 bits is its word
   pub operand_at : (set : ℕ) (e : TExpr) (st : State) (s : CodeState) → Sim g alive st s → IsPure set e ⊎ IsPromoted set e → IsWide set (type_of e) → HasItsCode g.typed g.instance alive n e → (q : ℕ) → word_at (extents g set) st e q ≡ value_in (extents g set) st e q
@@ -315,14 +315,14 @@ module _ (g : Setting) (has : HasRegisters g) (alive : Variable → Type 0) (n :
       ∙ ap (λ (b : ℕ). outcome op 32 (not (type_of left).elem.signed) (value_in (extents g set) st left x) b) (operand_at set right st s sim (right_of set left right is.2) is.4 parts.1 x)
       ∙ sym (pure_at g alive n places fields set (T.Binary' ty place op p left q right) st s sim is is.0 c x)
 
-  binary_after : (bits set : ℕ) (ty : ValueType) (place : Place) (op : Op) (p q : Boxed) (left right : TExpr) → bits ≤ 32 → IsPure set (T.Binary' ty place op p left q right) → HasItsCode g.typed g.instance alive n (T.Binary' ty place op p left q right)
+  pub binary_after : (bits set : ℕ) (ty : ValueType) (place : Place) (op : Op) (p q : Boxed) (left right : TExpr) → bits ≤ 32 → IsOperation op right → IsPure set (T.Binary' ty place op p left q right) → HasItsCode g.typed g.instance alive n (T.Binary' ty place op p left q right)
       → (IsPure set left → IsValued (operation_bits bits op right) set left) → (IsPure set right → IsValued (operation_bits bits op right) set right) → IsValued bits set (T.Binary' ty place op p left q right)
   unfolding IsPure
-  binary_after bits set ty place op p q left right most is c whole_left whole_right d s st here sim =
+  binary_after bits set ty place op p q left right most known is c whole_left whole_right d s st here sim =
       known_follows g s (meant g fields whole st) (number set whole st) st (Answers (IsFlag whole) bits (length d.fields) d s set st v) (code bits whole d)
-      (after_same g (Knows bits d s set st whole) (binary_code bits set ty place op p q left right d is.0.0 is.1.0 is.3.1)
+      (after_same g (Knows bits d s set st whole) (binary_code bits set ty place op p q left right d is.0.0 known.0 is.3.1)
       (first_given g has alive n ready places fields works bits (length d.fields) d s set st v (IsFlag whole) (IsMeant set whole st) (Ended g s (meant g fields whole st)) made (operation_most bits op right most).0
-      (fields_after g has alive n ready places fields works set ty place op p q (next_field set works d) left right d s st is.0.0 is.1 (divides_wide bits op right) (λ x. operands_keep bits set op (type_of left).elem.signed right st most is.1 (right_of set left right is.2) parts.1 x)
+      (fields_after g has alive n ready places fields works set ty place op p q (next_field set works d) left right d s st is.0.0 known (divides_wide bits op right) (λ x. operands_keep bits set op (type_of left).elem.signed right st most known (right_of set left right is.2) parts.1 x)
       (λ x below. operand_at set right st s sim (right_of set left right is.2) is.4 parts.1 x) refl is.2 parts.0 parts.1 whole_left whole_right (operand_grows works left parts.0) (operand_grows works right parts.1) here sim (Knows works d s set st whole)
       (λ is_meant e2 i within passes puts. inl (is_meant, own_result works set d e2 s st v i within passes (puts_same g set i (next_field set works d) passes.t _ v (λ x below. binary_at set ty place op p q left right st passes.t passes.sim is c x) puts)))
       (λ early x f. inr early))))
@@ -347,7 +347,7 @@ module _ (g : Setting) (has : HasRegisters g) (alive : Variable → Type 0) (n :
   unfolding evaluated own_coordinate value_in
   coordinate_means set axis ty st shaped exists = ap (λ (o : Option ℕ). Source.Gives (own_coordinate fields.scope o axis) st) shaped ∙ ap (λ (xs : List ℕ). Source.Gives (Parallel (λ q. coordinate xs q axis)) st) (fields.same_extents set exists)
 
-  coordinate_after : (bits set axis : ℕ) (ty : ValueType) → IsWide set ty → IsValued bits set (T.Pcoord ty axis)
+  pub coordinate_after : (bits set axis : ℕ) (ty : ValueType) → IsWide set ty → IsValued bits set (T.Pcoord ty axis)
   unfolding value_of coordinate_in then_make an_entry value_in
   coordinate_after bits set axis ty wide d s st here sim =
       known_follows g s (meant g fields (T.Pcoord ty axis) st) (number set (T.Pcoord ty axis) st) st (Answers (IsFlag (T.Pcoord ty axis)) bits (length d.fields) d s set st v) (code bits (T.Pcoord ty axis) d)
@@ -428,9 +428,9 @@ module _ (g : Setting) (has : HasRegisters g) (alive : Variable → Type 0) (n :
       grows (O.Field f) after = (1, and_one g (I.Move ty.elem.signed dest f) after)
       grows O.Nothing after = tt
 
-  convert_after : (bits set : ℕ) (ty : ValueType) (p : Boxed) (inner : TExpr) → bits ≤ 32 → IsPure set (T.Convert' ty p inner) → HasItsCode g.typed g.instance alive n (T.Convert' ty p inner) → ((k : ℕ) → k ≤ 32 → IsValued k set inner) → IsValued bits set (T.Convert' ty p inner)
+  pub convert_after : (bits set : ℕ) (ty : ValueType) (p : Boxed) (inner : TExpr) → 0 < bits → bits ≤ 32 → (ty.elem.bits == 1) ≡ false → IsPure set (T.Convert' ty p inner) → HasItsCode g.typed g.instance alive n (T.Convert' ty p inner) → ((k : ℕ) → 0 < k → k ≤ 32 → IsValued k set inner) → IsValued bits set (T.Convert' ty p inner)
   unfolding IsPure an_entry then_make kind_of
-  convert_after bits set ty p inner most is c whole d s st here sim = follows_same g R s refl (convert_code bits ty p inner d is.1 (pure_kept set inner is.2)) (by (nat_lt ty.elem.bits bits) refl)
+  convert_after bits set ty p inner some most no_truth is c whole d s st here sim = follows_same g R s refl (convert_code bits ty p inner d no_truth (pure_kept set inner is.2)) (by (nat_lt ty.elem.bits bits) refl)
     where
       e : TExpr
       e = T.Convert' ty p inner
@@ -451,16 +451,16 @@ module _ (g : Setting) (has : HasRegisters g) (alive : Variable → Type 0) (n :
       by true more =
           known_follows g s (meant g fields e st) (number set e st) st (Answers (IsFlag e) bits (length d.fields) d s set st w) (made (nat_lt ty.elem.bits bits))
           (after_same g (Knows bits d s set st e) (ap made more ∙ ap (λ (o : Option ℕ). then_make (a_field (unwrap_or o 0) bits d) (λ dest begun. extended ty.elem.signed dest (operand ty.elem.bits true inner) begun)) is.0)
-          (extended_after set ty p inner (next_field set bits d) (length d.fields) (with_entry set bits W.Own d) s st is.0 is.1 most is.2 part (whole ty.elem.bits (kind_bits ty.elem.bits ty.elem.signed ty.elem.kind).1) (let one = one_more set bits W.Own d in omega (arith, one)) here sim (Knows bits d s set st e)
+          (extended_after set ty p inner (next_field set bits d) (length d.fields) (with_entry set bits W.Own d) s st is.0 no_truth most is.2 part (whole ty.elem.bits (kind_bits ty.elem.bits ty.elem.signed ty.elem.kind).0 (kind_bits ty.elem.bits ty.elem.signed ty.elem.kind).1) (let one = one_more set bits W.Own d in omega (arith, one)) here sim (Knows bits d s set st e)
           (λ is_meant e1 i within passes puts. inl (is_meant, own_result bits set d e1 s st w i within passes puts)) (λ early x f. inr early)))
       by false enough =
           follows_same g R s refl (ap made enough)
           (follows_like g s (meant g fields inner st) (meant g fields e st) (number set inner st) (number set e st) st (Answers (IsFlag inner) bits (length d.fields) d s set st (λ q. word_at (extents g set) st inner q)) (Answers (IsFlag e) bits (length d.fields) d s set st w) (code bits inner d)
           (λ is_meant. convert_means set ty p inner st is.0 is_meant) (λ early. convert_ended ty p inner s st early)
-          (answers_alike (IsFlag inner) (IsFlag e) (λ one. flag_converted ty.elem (kind_of inner) is.1 one) bits (length d.fields) d s set st (λ q. word_at (extents g set) st inner q) w (convert_alike bits set ty p inner st is.1 (grind (arith, nat_tests, enough)))) (whole bits most d s st here sim))
+          (answers_alike (IsFlag inner) (IsFlag e) (λ one. flag_converted ty.elem (kind_of inner) no_truth one) bits (length d.fields) d s set st (λ q. word_at (extents g set) st inner q) w (convert_alike bits set ty p inner st no_truth (grind (arith, nat_tests, enough)))) (whole bits some most d s st here sim))
 
   -- a get from neighbours
-  get_after : (bits set : ℕ) (ty : ValueType) (place : Place) (p : _) (indexes : Row_of-TExpr _) (k of : ℕ) → bits ≤ 32 → ty.shape ≡ Some set → of ≡ set → AreWrapping set 0 indexes → HasItsCode g.typed g.instance alive n (T.LeftIndex' ty place p indexes (V.File k) of)
+  pub get_after : (bits set : ℕ) (ty : ValueType) (place : Place) (p : _) (indexes : Row_of-TExpr _) (k of : ℕ) → bits ≤ 32 → ty.shape ≡ Some set → of ≡ set → AreWrapping set 0 indexes → HasItsCode g.typed g.instance alive n (T.LeftIndex' ty place p indexes (V.File k) of)
       → IsValued bits set (T.LeftIndex' ty place p indexes (V.File k) of)
   unfolding value_of index_read_by fresh_for then_make an_entry NamesVariables
   get_after bits set ty place p indexes k of most shaped same are c d s st here sim =
@@ -478,29 +478,3 @@ module _ (g : Setting) (has : HasRegisters g) (alive : Variable → Type 0) (n :
 
       v : ℕ → ℕ
       v = λ q. word_at (extents g set) st e q
-
-  -- the code of so many bits of a pure expression leaves the lowest bits of its words in a field
-  pub pure_after : (bits set : ℕ) (e : TExpr) → bits ≤ 32 → IsPure set e → HasItsCode g.typed g.instance alive n e → IsValued bits set e
-  unfolding IsPure IsRead value_of value_in evaluated kind_of
-  pure_after bits set (T.Variable ty (V.File k)) most is c = variable_after g has alive n ready places fields bits set (V.File k) ty most tt is (named ty k c)
-  pure_after bits set (T.Brackets' ty p inner) most is c = λ d s st here sim.
-      given_weaker g s (meant g fields inner st) (number set inner st) st (Answers (IsFlag inner) bits (length d.fields) d s set st (λ q. word_at (extents g set) st inner q)) (Answers (IsFlag (T.Brackets' ty p inner)) bits (length d.fields) d s set st (λ q. word_at (extents g set) st (T.Brackets' ty p inner) q)) (code bits inner d)
-      (answers_alike (IsFlag inner) (IsFlag (T.Brackets' ty p inner)) (λ one. one) bits (length d.fields) d s set st (λ q. word_at (extents g set) st inner q) (λ q. word_at (extents g set) st (T.Brackets' ty p inner) q) (alike_same g bits set _ _ (λ q below few. ap (λ (y : ValueType). held y.elem (value_in (extents g set) st inner q)) is.0)))
-      (pure_after bits set inner most is.1 (brackets_part g alive n places fields ty p inner c) d s st here sim)
-  pure_after bits set (T.Unary' ty op p operand) most is c = unary_after bits set ty op p operand most is c (pure_after bits set operand most is.2 (unary_part g alive n places fields ty op p operand c))
-  pure_after bits set (T.Binary' ty place op p left q right) most is c =
-      let parts = binary_parts g alive n places fields ty place op p q left right c in
-      let works = (operation_most bits op right most).1 in
-      binary_after bits set ty place op p q left right most is c (λ pure. pure_after (operation_bits bits op right) set left works pure parts.0) (λ pure. pure_after (operation_bits bits op right) set right works pure parts.1)
-  pure_after bits set (T.Convert' ty p operand) most is c = convert_after bits set ty p operand most is c (λ k few. pure_after k set operand few is.2 (convert_part g alive n places fields ty p operand c))
-  pure_after bits set (T.Pcoord ty axis) most is c = coordinate_after bits set axis ty is
-  pure_after bits set (T.LeftIndex' ty place p indexes (V.File k) of) most is c = get_after bits set ty place p indexes k of most is.0 is.1 is.2 c
-  pure_after bits set _ most is c = absurd is
-
-  -- an operand of 32 bits has its numbers
-  pub whole_after : (bits set : ℕ) (e : TExpr) (quiet : Bool) → bits ≤ 32 → IsPure set e → IsWide set (type_of e) → HasItsCode g.typed g.instance alive n e → (d : Draft) (s : CodeState) (st : State) → Starts g alive s (length d.code) d.regs → Sim g alive st s
-      → Follows g (Given g (number set e st) st (λ out f. (h : Field) × ((out ≡ O.Field h) × GivesField g alive bits (length d.fields) d s set st (λ q. value_in (extents g set) st e q) h f))) s (meant g fields e st) (operand bits quiet e d)
-  whole_after bits set e quiet most pure wide c d s st here sim =
-      given_weaker g s (meant g fields e st) (number set e st) st (Answers (IsFlag e) bits (length d.fields) d s set st (λ q. word_at (extents g set) st e q)) (λ out f. (h : Field) × ((out ≡ O.Field h) × GivesField g alive bits (length d.fields) d s set st (λ q. value_in (extents g set) st e q) h f)) (operand bits quiet e d)
-      (λ out f (h, (is, (gives, apart))). (h, (is, gives_alike g alive places fields bits (length d.fields) d s set st (λ q. word_at (extents g set) st e q) (λ q. value_in (extents g set) st e q) h f (alike_same g bits set _ _ (λ q below few. sym (pure_at g alive n places fields set e st s sim pure wide c q))) gives)))
-      (operand_after g has alive n ready places fields bits set e quiet pure c.code.names (pure_after bits set e most pure c) d s st here sim)

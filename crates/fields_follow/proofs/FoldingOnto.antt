@@ -58,7 +58,7 @@ use Rattle.fields_follow.proofs.Outcomes.{Ended, Given, ended_on, given_through,
 use Rattle.fields_follow.proofs.Onto.{LeavesScalars, folds_onto, stored_in as stored_behind, stored_more}
 use Rattle.fields_follow.proofs.Passing.{after_same, gives_from, made_after, then_after}
 use Rattle.fields_follow.proofs.Places.{HoldsTheFields, PlacesFields}
-use Rattle.fields_follow.proofs.Reductions.{GivesPure, OperandsStand, folded_most, folds_so}
+use Rattle.fields_follow.proofs.Reductions.{GivesPure, OperandsStand, folded_most, folded_some, folds_so}
 use Rattle.fields_follow.proofs.Totals.{never_by_zero, operator_is}
 use Rattle.fields_follow.proofs.Starts.{Starts, starts_later}
 
@@ -209,7 +209,7 @@ module _ (g : Setting) (alive : Variable → Type 0) (n : ℕ) where
             let regs = gives.passes.grown.1.regs in
             folds_onto g alive has d free v.variable info v.living (known.named, v.scalar) reduction (type_of value).elem is.1.1 d.regs h.0 sign places fields set (λ x. value_in (extents g set) st value x) bits (folds_so g alive places fields n stand reduction value set is c s st sim) e s st (stored_over (fields.scope.extents set))
             (λ exists. ap stored_over (sym (fields.same_extents set exists))) (omega arith) (omega (arith, regs)) (gives_from g alive bits (length d.fields) d (with_reg d) e s set st (λ x. value_in (extents g set) st value x) h.0 (and_register d) gives) within))))
-            (stand bits set value (folded_most g alive places fields n stand (fold_by (reduce_op_of reduction) value) set value is.0) is.0.0 is.1 c (with_reg d) s st (starts_later g alive s s (length d.code) d.regs (length d.code) (d.regs + 1) (omega arith) (omega arith) here.stands here) sim)))
+            (stand bits set value (folded_some g alive places fields n stand (fold_by (reduce_op_of reduction) value) (kind_of value)) (folded_most g alive places fields n stand (fold_by (reduce_op_of reduction) value) set value is.0) is.0.0 is.1 c (with_reg d) s st (starts_later g alive s s (length d.code) d.regs (length d.code) (d.regs + 1) (omega arith) (omega arith) here.stands here) sim)))
           where
             R : Out → Draft → Type 0
             R out f = LeavesScalars g alive d s st left f

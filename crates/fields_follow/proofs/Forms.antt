@@ -49,6 +49,8 @@ unfolding IsPure
 pure_shape set (T.Variable ty (V.File k)) is = is
 pure_shape set (T.Brackets' ty p inner) is = ap (λ (y : ValueType). y.shape) is.0 ∙ pure_shape set inner is.1
 pure_shape set (T.Unary' ty op p operand) is = is.0.0
+pure_shape set (T.LogicalOr' ty p left q right) is = is.0.0
+pure_shape set (T.LogicalAnd' ty p left q right) is = is.0.0
 pure_shape set (T.Binary' ty place op p left q right) is = is.0.0
 pure_shape set (T.Convert' ty p operand) is = is.0
 pure_shape set (T.Pcoord ty axis) is = is.0
@@ -79,6 +81,8 @@ unfolding IsPure is_kept
 pure_kept set (T.Variable ty (V.File k)) is = shaped ty.shape set is
 pure_kept set (T.Brackets' ty p inner) is = pure_kept set inner is.1
 pure_kept set (T.Unary' ty op p operand) is = shaped ty.shape set is.0.0
+pure_kept set (T.LogicalOr' ty p left q right) is = shaped ty.shape set is.0.0
+pure_kept set (T.LogicalAnd' ty p left q right) is = shaped ty.shape set is.0.0
 pure_kept set (T.Binary' ty place op p left q right) is = shaped ty.shape set is.0.0
 pure_kept set (T.Convert' ty p operand) is = pure_kept set operand is.2
 pure_kept set (T.Pcoord ty axis) is = shaped ty.shape set is.0
@@ -97,6 +101,8 @@ unfolding IsPure is_constant
 pure_constant set (T.Variable ty (V.File k)) is = refl
 pure_constant set (T.Brackets' ty p inner) is = ap (λ (b : Bool). b && ty.elem.bits == (type_of inner).elem.bits && is_constant inner) (ap (λ (y : ValueType). is_none y.shape) is.0 ∙ shaped (type_of inner).shape set (pure_shape set inner is.1))
 pure_constant set (T.Unary' ty op p operand) is = ap (λ (b : Bool). b && ty.elem.bits == 32 && is_constant operand) (shaped ty.shape set is.0.0)
+pure_constant set (T.LogicalOr' ty p left q right) is = ap (λ (b : Bool). b && ty.elem.bits == 32 && is_constant left && is_constant right) (shaped ty.shape set is.0.0)
+pure_constant set (T.LogicalAnd' ty p left q right) is = ap (λ (b : Bool). b && ty.elem.bits == 32 && is_constant left && is_constant right) (shaped ty.shape set is.0.0)
 pure_constant set (T.Binary' ty place op p left q right) is = ap (λ (b : Bool). b && ty.elem.bits == 32 && is_constant left && is_constant right) (shaped ty.shape set is.0.0)
 pure_constant set (T.Convert' ty p operand) is = ap (λ (b : Bool). b && is_constant operand) (shaped ty.shape set is.0)
 pure_constant set (T.Pcoord ty axis) is = refl
@@ -125,6 +131,8 @@ unfolding IsPure word_of
 pure_word set (T.Variable ty (V.File k)) is = refl
 pure_word set (T.Brackets' ty p inner) is = pure_word set inner is.1
 pure_word set (T.Unary' ty op p operand) is = refl
+pure_word set (T.LogicalOr' ty p left q right) is = refl
+pure_word set (T.LogicalAnd' ty p left q right) is = refl
 pure_word set (T.Binary' ty place op p left q right) is = refl
 pure_word set (T.Convert' ty p operand) is = refl
 pure_word set (T.Pcoord ty axis) is = refl
@@ -214,6 +222,8 @@ pure_own t i n bits set (T.Brackets' ty p inner) is v = by (pure_own t i n bits 
     by (inl h) = inl (record { x = h.x; info = h.info; own = h.own; read = h.read; known = h.known; parallel = h.parallel; one = h.one; fits = h.fits; value = λ extents st q. ap (λ (y : ValueType). word_of_type y.elem (value_in extents st inner q) % 2 ^ bits) is.0 ∙ h.value extents st q; flag = h.flag; means = h.means })
     by (inr h) = inr h
 pure_own t i n bits set (T.Unary' ty op p operand) is v = inr refl
+pure_own t i n bits set (T.LogicalOr' ty p left q right) is v = inr refl
+pure_own t i n bits set (T.LogicalAnd' ty p left q right) is v = inr refl
 pure_own t i n bits set (T.Binary' ty place op p left q right) is v = inr refl
 pure_own t i n bits set (T.Convert' ty p operand) is v = by (is_unchanged bits ty.elem (is_kept operand)) refl (pure_own t i n bits set operand is.2 v)
   where

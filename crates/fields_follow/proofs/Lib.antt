@@ -5,6 +5,7 @@ pub mod Calm
 pub mod Checks
 pub mod Clearing
 pub mod ConditionCode
+pub mod Computing
 pub mod Conditions
 pub mod Contexts
 pub mod Deciding
@@ -72,6 +73,8 @@ pub mod Starts
 pub mod TestFlags
 pub mod Testing
 pub mod Totals
+pub mod TruthFields
+pub mod TruthPuts
 pub mod TruthValues
 pub mod Truths
 pub mod Updates

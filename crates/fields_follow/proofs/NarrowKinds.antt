@@ -6,18 +6,22 @@ use Rattle.std.proofs.lemmas.Nat.{mod_below, pow_pos}
 use Rattle.std.proofs.Math.Nat.{mod-eq_of_lt}
 use Rattle.cstar_base.specs.declared.elem.Elem.{Elem}
 use Rattle.cstar_base.specs.declared.operators.Op.{Op}
+use Rattle.cstar_base.specs.declared.operators.Op.TheVariants as P
 use Rattle.cstar_base.specs.Numbers.{converted}
 use Rattle.cstar_base.specs.Operators.{outcome}
 use Rattle.cstar_base.proofs.NumberLaws.{kind_bits}
 use Rattle.cstar_tree.specs.declared.typed.TExpr.{TExpr}
 use Rattle.cstar_tree.specs.declared.typed.TExpr as T
+use Rattle.cstar_tree.specs.declared.typed.UnaryOp.{UnaryOp}
+use Rattle.cstar_tree.specs.declared.typed.UnaryOp.TheVariants as U
 use Rattle.cstar_tree.specs.declared.typed.ValueType.{ValueType}
 use Rattle.cstar_tree.specs.declared.typed.Variable.{Variable}
 use Rattle.cstar_tree.specs.declared.typed.Variable.TheVariants as V
 use Rattle.cstar_tree.specs.Typed.{type_of}
-use Rattle.constant_trees.proofs.Words.{converted_below}
+use Rattle.std.specs.Int.{from_bool}
+use Rattle.constant_trees.proofs.Words.{converted_below, from_bool_below}
 use Rattle.lower_base.specs.Kinds.{binary_kind, bits_of, common_kind, converted_kind, has_all, is_bitwise, kind_of, narrow, truth_type}
-use Rattle.lower_base.specs.Operators.{relates}
+use Rattle.lower_base.specs.Operators.{negates, relates}
 use Rattle.lower_expr.specs.Kinds.{has_number, kind_with, relation_kind}
 use Rattle.lower_expr.specs.Steps.{word_of}
 use Rattle.paris_code.specs.Code.{CodeState}
@@ -26,19 +30,23 @@ use Rattle.short_values.proofs.Comparisons.{comparison}
 use Rattle.short_values.proofs.NarrowTypes.{is_word, wider_has, zero_test}
 use Rattle.source_meaning.specs.Reductions.{int_type}
 use Rattle.source_meaning.specs.State.{State}
+use Rattle.source_meaning.specs.Values.{nonzero, unary_of}
 use Rattle.code_follows.proofs.Following.{Sim, held}
 use Rattle.code_follows.proofs.Numbers.{held_zero, word_converted}
 use Rattle.code_follows.proofs.Settings.{Setting}
 use Rattle.code_follows.proofs.Standing.{some_same}
-use Rattle.fields_follow.specs.Fragment.{HasItsKind, HaveTheirKinds, IsNarrowed, IsPromoted, IsPure, IsSide}
-use Rattle.fields_follow.proofs.Forms.{HasItsCode, pure_word}
+use Rattle.code_follows.proofs.Words.{held_wide}
+use Rattle.fields_follow.specs.Fragment.{HasItsKind, HasKnownKind, IsNarrowed, IsPromoted, IsPure, IsRelation, IsSide, IsWide, ReadsSigns}
+use Rattle.fields_follow.proofs.Forms.{HasItsCode, promoted_kept, pure_kept, pure_word}
 use Rattle.fields_follow.proofs.Instructions.{extents, shapes}
 use Rattle.fields_follow.proofs.JoinedBits.{bitwise_has}
 use Rattle.fields_follow.proofs.Lengths.{held_has}
-use Rattle.fields_follow.proofs.Meaning.{value_in, word_at}
+use Rattle.fields_follow.proofs.Meaning.{AreOperands, value_in, word_at}
 use Rattle.fields_follow.proofs.Places.{HoldsTheFields, PlacesFields}
 use Rattle.fields_follow.proofs.Sizes.{binary_parts, brackets_part, convert_part, pure_at, value_small}
+use Rattle.fields_follow.proofs.TestFlags.{is_truth}
 use Rattle.fields_follow.proofs.Totals.{held_below}
+use Rattle.fields_follow.proofs.TruthValues.{bit_converted}
 
 -- a narrow type is the type itself, which has fewer than 32 bits
 narrow_is : (elem kind : Elem) → narrow elem ≡ Some kind → (elem ≡ kind) × (elem.bits < 32)
@@ -98,12 +106,69 @@ unfolding binary_kind
 joined_kind op a b kind plain bitwise is =
     sym (ap (λ (t : Bool). if t then Some truth_type else if is_bitwise op then common_kind a b else None) plain ∙ ap (λ (t : Bool). if t then common_kind a b else None) bitwise) ∙ is
 
+-- an operator that joins values bit by bit is no relation
+bitwise_plain : (op : Op) → is_bitwise op ≡ true → relates op ≡ false
+unfolding is_bitwise relates
+bitwise_plain P.And e = refl
+bitwise_plain P.Or e = refl
+bitwise_plain P.Xor e = refl
+bitwise_plain _ e = cc
+
+-- the type of truth values has them
+bit_has : (b : Bool) → has_number truth_type (from_bool b) ≡ true
+unfolding has_number
+bit_has b = ap (λ (w : ℕ). converted int_type truth_type w == from_bool b) (bit_converted truth_type int_type b) ∙ ap (λ (w : ℕ). w == from_bool b) (bit_converted int_type truth_type b) ∙ same b
+  where
+    same : (b : Bool) → (from_bool b == from_bool b) ≡ true
+    same true = refl
+    same false = refl
+
+truth_has : (elem kind : Elem) (w : ℕ) (b : Bool) → w ≡ from_bool b → elem.bits ≡ 32 → Some truth_type ≡ Some kind → HasWord kind (held elem w)
+truth_has elem kind w b is wide same =
+    subst (λ (k : Elem). HasWord k (held elem w)) (some_same truth_type kind same)
+    (subst (λ (x : ℕ). has_number truth_type x ≡ true) (sym (held_wide elem w wide (subst (λ (x : ℕ). x < 2 ^ 32) (sym is) (from_bool_below b)) ∙ is)) (bit_has b), omega arith)
+
+truth_narrow : (kind : Elem) → Some truth_type ≡ Some kind → kind.bits < 32
+truth_narrow kind same = subst (λ (k : Elem). k.bits < 32) (some_same truth_type kind same) (omega arith)
+
+pub not_bit : (op : UnaryOp) (x : ℕ) → negates op ≡ true → unary_of op x ≡ from_bool (x == 0)
+unfolding negates unary_of
+not_bit U.Not x e = refl
+not_bit U.Plus x e = cc
+not_bit U.Minus x e = cc
+not_bit U.Complement x e = cc
+
 -- neither of them is promoted
 not_promoted : (set : ℕ) (e : TExpr) → IsPromoted set e → IsNarrowed e → ⊥
 unfolding IsPromoted IsNarrowed
 not_promoted set (T.Promote' ty p operand) is so = so
 not_promoted set (T.Brackets' ty p inner) is so = not_promoted set inner is.1 so
 not_promoted set _ is so = is
+
+-- of the two sides of a relation one may be a promoted scalar
+abbrev pub HaveTheirKinds : ℕ → TExpr → TExpr → Type 0
+HaveTheirKinds set left right = (HasItsKind set left × (HasItsKind set right ⊎ IsSide set right)) ⊎ (IsSide set left × HasItsKind set right)
+
+-- a relation, with the types of its sides
+abbrev pub AreRelated : ℕ → Op → TExpr → TExpr → Type 0
+AreRelated set op left right = (relates op ≡ true) × HaveTheirKinds set left right × IsWide set (type_of left) × IsWide set (type_of right) × ReadsSigns left right
+
+kind_known : (set : ℕ) (e : TExpr) → IsPure set e → HasKnownKind e ⊎ IsSide set e → HasItsKind set e
+kind_known set e pure (inl known) = (pure, known)
+kind_known set e pure (inr side) = let wrong = sym (pure_kept set e pure) ∙ promoted_kept set e side.0 in cc
+
+side_known : (set : ℕ) (e : TExpr) → IsPromoted set e → HasKnownKind e ⊎ IsSide set e → IsSide set e
+side_known set e promoted (inl (inl none)) = (promoted, λ no_word. none)
+side_known set e promoted (inl (inr narrowed)) = absurd (not_promoted set e promoted narrowed)
+side_known set e promoted (inr side) = side
+
+pub are_related : (set : ℕ) (op : Op) (left right : TExpr) → IsRelation set op left right → AreOperands set left right → IsWide set (type_of left) → IsWide set (type_of right) → AreRelated set op left right
+are_related set op left right is operands wide other = (is.0, kinds operands, wide, other, is.3)
+  where
+    kinds : AreOperands set left right → HaveTheirKinds set left right
+    kinds (inl (pure, inl also)) = inl (kind_known set left pure is.1, inl (kind_known set right also is.2))
+    kinds (inl (pure, inr promoted)) = inl (kind_known set left pure is.1, inr (side_known set right promoted is.2))
+    kinds (inr (promoted, pure)) = inr (side_known set left promoted is.1, kind_known set right pure is.2)
 
 both_pure : (set : ℕ) (left right : TExpr) → (IsPure set left × (IsPure set right ⊎ IsPromoted set right)) ⊎ (IsPromoted set left × IsPure set right) → IsNarrowed left → IsNarrowed right → IsPure set left × IsPure set right
 both_pure set left right (inl (one, inl other)) so also = (one, other)
@@ -145,8 +210,11 @@ module _ (g : Setting) (alive : Variable → Type 0) (n : ℕ) (places : PlacesF
               let small : x < 2 ^ (type_of operand).elem.bits = value_small g alive n places fields set operand st s sim is.2 part q in
               subst (λ (w : ℕ). HasWord kind w) (sym (converted_has ty.elem (type_of operand).elem k x small it_has has.0)) (subst (λ (e : Elem). HasWord e (held (type_of operand).elem x)) same has)
           all false other h = cut (ap (λ (b : Bool). if b then Some k else narrow ty.elem) (sym other) ∙ h)
-  kind_has set (T.Binary' ty place op p left r right) st s sim is so c q kind is_kind =
-      by (λ k is_k. kind_has set left st s sim pure.0 so.1 parts.0 q k is_k) (λ k is_k. kind_has set right st s sim pure.1 so.2 parts.1 q k is_k)
+  kind_has set (T.Unary' ty op p operand) st s sim is so c q kind is_kind =
+      truth_has ty.elem kind _ (value_in (extents g set) st operand q == 0) (not_bit op (value_in (extents g set) st operand q) so) is.0.1 (sym (ap (λ (b : Bool). if b then Some truth_type else None) so) ∙ is_kind)
+  kind_has set (T.LogicalOr' ty p left r right) st s sim is so c q kind is_kind = truth_has ty.elem kind _ _ refl is.0.1 is_kind
+  kind_has set (T.LogicalAnd' ty p left r right) st s sim is so c q kind is_kind = truth_has ty.elem kind _ _ refl is.0.1 is_kind
+  kind_has set (T.Binary' ty place op p left r right) st s sim is so c q kind is_kind = either so (λ pure narrowed k is_k. kind_has set left st s sim pure narrowed parts.0 q k is_k) (λ pure narrowed k is_k. kind_has set right st s sim pure narrowed parts.1 q k is_k)
     where
       v : ℕ
       v = value_in (extents g set) st left q
@@ -154,21 +222,28 @@ module _ (g : Setting) (alive : Variable → Type 0) (n : ℕ) (places : PlacesF
       w : ℕ
       w = value_in (extents g set) st right q
 
-      pure : IsPure set left × IsPure set right
-      pure = both_pure set left right is.2 so.1 so.2
-
       parts : HasItsCode g.typed g.instance alive n left × HasItsCode g.typed g.instance alive n right
       parts = binary_parts g alive n places fields ty place op p r left right c
 
-      by : ((k : Elem) → kind_of left ≡ Some k → HasWord k (word_at (extents g set) st left q)) → ((k : Elem) → kind_of right ≡ Some k → HasWord k (word_at (extents g set) st right q))
+      by : (is_bitwise op ≡ true) → IsPure set left × IsPure set right → ((k : Elem) → kind_of left ≡ Some k → HasWord k (word_at (extents g set) st left q)) → ((k : Elem) → kind_of right ≡ Some k → HasWord k (word_at (extents g set) st right q))
           → HasWord kind (held ty.elem (outcome op 32 (not (type_of left).elem.signed) v w))
-      by one other =
+      by bitwise pure one other =
           let both : HasWord kind v × HasWord kind w =
-          common_has (kind_of left) (kind_of right) kind v w (joined_kind op (kind_of left) (kind_of right) kind is.1.0 so.0 is_kind)
+          common_has (kind_of left) (kind_of right) kind v w (joined_kind op (kind_of left) (kind_of right) kind (bitwise_plain op bitwise) bitwise is_kind)
           (λ k is_k. subst (λ (x : ℕ). HasWord k x) (pure_at g alive n places fields set left st s sim pure.0 is.3 parts.0 q) (one k is_k))
           (λ k is_k. subst (λ (x : ℕ). HasWord k x) (pure_at g alive n places fields set right st s sim pure.1 is.4 parts.1 q) (other k is_k)) in
           subst (λ (x : ℕ). HasWord kind x) (sym (pure_at g alive n places fields set (T.Binary' ty place op p left r right) st s sim is is.0 c q))
-          (bitwise_has op kind (not (type_of left).elem.signed) v w so.0 both.0.1 both.0.0 both.1.0, both.0.1)
+          (bitwise_has op kind (not (type_of left).elem.signed) v w bitwise both.0.1 both.0.0 both.1.0, both.0.1)
+
+      Before : TExpr → Type 0
+      Before e = IsPure set e → IsNarrowed e → (k : Elem) → kind_of e ≡ Some k → HasWord k (word_at (extents g set) st e q)
+
+      either : (relates op ≡ true) ⊎ ((is_bitwise op ≡ true) × IsNarrowed left × IsNarrowed right) → Before left → Before right → HasWord kind (held ty.elem (outcome op 32 (not (type_of left).elem.signed) v w))
+      either (inl related) one other =
+          truth_has ty.elem kind _ (nonzero (outcome op 32 (not (type_of left).elem.signed) v w)) (is_truth op 32 (not (type_of left).elem.signed) v w related) is.0.1
+          (sym (ap (λ (b : Bool). if b then Some truth_type else if is_bitwise op then common_kind (kind_of left) (kind_of right) else None) related) ∙ is_kind)
+      either (inr joined) one other =
+          let pure = both_pure set left right is.2 joined.1 joined.2 in by joined.0 pure (one pure.0 joined.1) (other pure.1 joined.2)
   kind_has set (T.Variable ty x) st s sim is so c q kind is_kind = absurd is
   kind_has set (T.LeftIndex' ty place p indexes x of) st s sim is so c q kind is_kind = absurd is
   kind_has set _ st s sim is so c q kind is_kind = absurd so
@@ -191,10 +266,19 @@ module _ (g : Setting) (alive : Variable → Type 0) (n : ℕ) (places : PlacesF
           all : (b : Bool) → has_all ty.elem k ≡ b → (if has_all ty.elem k then Some k else narrow ty.elem) ≡ Some kind → kind.bits < 32
           all true it_has h = subst (λ (e : Elem). e.bits < 32) (some_same k kind (ap (λ (b : Bool). if b then Some k else narrow ty.elem) (sym it_has) ∙ h)) (before narrowed k some)
           all false other h = cut (ap (λ (b : Bool). if b then Some k else narrow ty.elem) (sym other) ∙ h)
-  kind_narrow set (T.Binary' ty place op p left r right) is so kind is_kind =
-      let pure = both_pure set left right is.2 so.1 so.2 in
-      common_is (λ (k : Elem). k.bits < 32) (kind_of left) (kind_of right) kind (joined_kind op (kind_of left) (kind_of right) kind is.1.0 so.0 is_kind) (λ k is_k. kind_narrow set left pure.0 so.1 k is_k)
-      (λ k is_k. kind_narrow set right pure.1 so.2 k is_k)
+  kind_narrow set (T.Unary' ty op p operand) is so kind is_kind = truth_narrow kind (sym (ap (λ (b : Bool). if b then Some truth_type else None) so) ∙ is_kind)
+  kind_narrow set (T.LogicalOr' ty p left r right) is so kind is_kind = truth_narrow kind is_kind
+  kind_narrow set (T.LogicalAnd' ty p left r right) is so kind is_kind = truth_narrow kind is_kind
+  kind_narrow set (T.Binary' ty place op p left r right) is so kind is_kind = either so (λ pure narrowed k is_k. kind_narrow set left pure narrowed k is_k) (λ pure narrowed k is_k. kind_narrow set right pure narrowed k is_k)
+    where
+      Before : TExpr → Type 0
+      Before e = IsPure set e → IsNarrowed e → (k : Elem) → kind_of e ≡ Some k → k.bits < 32
+
+      either : (relates op ≡ true) ⊎ ((is_bitwise op ≡ true) × IsNarrowed left × IsNarrowed right) → Before left → Before right → kind.bits < 32
+      either (inl related) one other = truth_narrow kind (sym (ap (λ (b : Bool). if b then Some truth_type else if is_bitwise op then common_kind (kind_of left) (kind_of right) else None) related) ∙ is_kind)
+      either (inr joined) one other =
+          let pure = both_pure set left right is.2 joined.1 joined.2 in
+          common_is (λ (k : Elem). k.bits < 32) (kind_of left) (kind_of right) kind (joined_kind op (kind_of left) (kind_of right) kind (bitwise_plain op joined.0) joined.0 is_kind) (one pure.0 joined.1) (other pure.1 joined.2)
   kind_narrow set _ is so kind is_kind = absurd so
 
   -- so it is 0 where its lowest bits of that type are

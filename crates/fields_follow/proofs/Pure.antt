@@ -1,9 +1,12 @@
 -- What pure parallel expressions mean: a number at each position, with the state as it was.
-use Rattle.std.proofs.Common.{◌≡◌, ◌∙◌, ◌&&◌, not, Bool, ℕ, true, false, refl, List, Option, Some, sym, ap, subst}
-use Rattle.cstar_tree.specs.declared.typed.Instance.{Instance}
+use Rattle.std.proofs.Common.{◌≡◌, ◌∙◌, ◌&&◌, ◌||◌, not, Bool, ℕ, true, false, refl, List, Option, Some, sym, ap, subst}
 use Rattle.cstar_base.specs.declared.operators.Op.{Op}
 use Rattle.cstar_base.specs.declared.operators.Place.{Place}
 use Rattle.cstar_base.specs.Operators.{divides}
+use Rattle.std.specs.Int.{from_bool}
+use Rattle.source_meaning.specs.Narrowing.{and_then, or_then, where_nonzero, where_zero}
+use Rattle.source_meaning.specs.State as Source
+use Rattle.source_meaning.proofs.ConstantLaws.{Boxed}
 use Rattle.cstar_tree.specs.declared.typed.TExpr.{Row_of-TExpr, TExpr, items-the_row-TExpr}
 use Rattle.cstar_tree.specs.declared.typed.TExpr as T
 use Rattle.cstar_tree.specs.declared.typed.Typed.{Typed}
@@ -16,14 +19,14 @@ use Rattle.cstar_tree.specs.Typed.{type_of}
 use Rattle.code_lengths.specs.Naming.{HasVariable, plain}
 use Rattle.source_meaning.specs.Expressions.{evaluated}
 use Rattle.source_meaning.specs.State.{Gives, Outcome, State, then_do}
-use Rattle.source_meaning.specs.Values.{Active, Parallel, Scope, Value, at, convert_to, each, own_coordinate}
+use Rattle.source_meaning.specs.Values.{Active, Parallel, Scope, Value, at, convert_to, each, nonzero, own_coordinate}
 use Rattle.vp_sets.specs.Positions.{number_at, positions_fit}
 use Rattle.lower_expr.specs.Operands.{ignores_context}
 use Rattle.fields_follow.specs.Fragment.{AreWrapping, IsPure}
 use Rattle.fields_follow.proofs.Extents.{NameExtents, extents_in}
 use Rattle.fields_follow.proofs.Meaning.{as_shaped, binary_means, coordinates_behind, either, left_of, read_is, right_of, unary_means, value_in}
 use Rattle.fields_follow.specs.Fields.{IsElement}
-use Rattle.fields_follow.proofs.Forms.{element_is}
+use Rattle.fields_follow.proofs.Forms.{element_is, pure_shape}
 use Rattle.fields_follow.proofs.Neighbours.{get_means}
 use Rattle.code_follows.proofs.Settings.{Setting}
 use Rattle.fields_follow.proofs.Instructions.{SameExtents, extents}
@@ -41,6 +44,32 @@ ignores_both op left right free = by (divides op) (ignores_context left) (ignore
     by false false r h = cc
     by false true false h = cc
 
+-- two that ignore the context
+pub both_ignore : (left right : TExpr) → (ignores_context left && ignores_context right) ≡ true → (ignores_context left ≡ true) × (ignores_context right ≡ true)
+both_ignore left right free = by (ignores_context left) (ignores_context right) free
+  where
+    by : (l r : Bool) → (l && r) ≡ true → (l ≡ true) × (r ≡ true)
+    by true true h = (refl, refl)
+    by true false h = cc
+    by false r h = cc
+
+-- what two mean that are joined, where each gives its numbers
+pub or_means : (scope : Scope) (active : Active) (set : ℕ) (ty : ValueType) (p q : Boxed) (left right : TExpr) (v w : ℕ → ℕ) (st : State) → IsPure set left → evaluated scope left active st ≡ Source.Gives (Parallel v) st → evaluated scope right (where_zero set (Parallel v) active) st ≡ Source.Gives (Parallel w) st
+    → evaluated scope (T.LogicalOr' ty p left q right) active st ≡ Source.Gives (Parallel (λ x. from_bool (nonzero (v x) || nonzero (w x)))) st
+unfolding evaluated then_do or_then at
+or_means scope active set ty p q left right v w st is one other =
+    ap (λ (o : Outcome Value). then_do o (λ x after. or_then ty.shape (type_of left).shape x (λ a after. evaluated scope right a after) active after)) one
+    ∙ ap (λ (o : Option ℕ). or_then ty.shape o (Parallel v) (λ a after. evaluated scope right a after) active st) (pure_shape set left is)
+    ∙ ap (λ (o : Outcome Value). then_do o (λ y after. Source.Gives (Parallel (λ x. from_bool (nonzero (v x) || nonzero (at y x)))) after)) other
+
+pub and_means : (scope : Scope) (active : Active) (set : ℕ) (ty : ValueType) (p q : Boxed) (left right : TExpr) (v w : ℕ → ℕ) (st : State) → IsPure set left → evaluated scope left active st ≡ Source.Gives (Parallel v) st → evaluated scope right (where_nonzero set (Parallel v) active) st ≡ Source.Gives (Parallel w) st
+    → evaluated scope (T.LogicalAnd' ty p left q right) active st ≡ Source.Gives (Parallel (λ x. from_bool (nonzero (v x) && nonzero (w x)))) st
+unfolding evaluated then_do and_then at
+and_means scope active set ty p q left right v w st is one other =
+    ap (λ (o : Outcome Value). then_do o (λ x after. and_then ty.shape (type_of left).shape x (λ a after. evaluated scope right a after) active after)) one
+    ∙ ap (λ (o : Option ℕ). and_then ty.shape o (Parallel v) (λ a after. evaluated scope right a after) active st) (pure_shape set left is)
+    ∙ ap (λ (o : Outcome Value). then_do o (λ y after. Source.Gives (Parallel (λ x. from_bool (nonzero (v x) && nonzero (at y x)))) after)) other
+
 -- the shape is a grid of few positions, with the extents that are known
 abbrev pub IsGrid : Scope → (ℕ → List ℕ) → ℕ → Type 0
 IsGrid scope extents set = (extents set ≡ scope.extents set) × (positions_fit (scope.extents set) ≡ true)
@@ -49,23 +78,31 @@ IsGrid scope extents set = (extents set ≡ scope.extents set) × (positions_fit
 abbrev pub AreGrids : Scope → Typed → ℕ → Type 0
 AreGrids scope t set = (k : ℕ) (info : VarInfo) → IsElement t k info set 0 → IsGrid scope (extents_in t) set
 
-module _ (scope : Scope) (active : Active) (t : Typed) (i : Instance) (n : ℕ) where
-  -- one that ignores the context never fails
-  pub pure_means : (set : ℕ) (e : TExpr) (st : State) → IsPure set e → ignores_context e ≡ true → evaluated scope e active st ≡ Gives (Parallel (λ q. value_in (scope.extents set) st e q)) st
+-- one that ignores the context has its value under every context, and never fails
+module _ (scope : Scope) where
+  pub pure_means : (active : Active) (set : ℕ) (e : TExpr) (st : State) → IsPure set e → ignores_context e ≡ true → evaluated scope e active st ≡ Gives (Parallel (λ q. value_in (scope.extents set) st e q)) st
   unfolding IsPure ignores_context evaluated value_in then_do at convert_to each own_coordinate
-  pure_means set (T.Variable ty (V.File k)) st is free = ap (λ (v : Value). Gives v st) (read_is scope active ty set (V.File k) st is)
-  pure_means set (T.Brackets' ty p inner) st is free = pure_means set inner st is.1 free
-  pure_means set (T.Unary' ty op p operand) st is free = unary_means scope active set ty op p operand (λ q. value_in (scope.extents set) st operand q) st is.0.0 (pure_means set operand st is.2 free)
-  pure_means set (T.Binary' ty place op p left q right) st is free =
+  pure_means active set (T.Variable ty (V.File k)) st is free = ap (λ (v : Value). Gives v st) (read_is scope active ty set (V.File k) st is)
+  pure_means active set (T.Brackets' ty p inner) st is free = pure_means active set inner st is.1 free
+  pure_means active set (T.Unary' ty op p operand) st is free = unary_means scope active set ty op p operand (λ q. value_in (scope.extents set) st operand q) st is.0.0 (pure_means active set operand st is.2 free)
+  pure_means active set (T.Binary' ty place op p left q right) st is free =
       let parts = ignores_both op left right free in
       binary_means scope active set ty place op p q left right (λ q. value_in (scope.extents set) st left q) (λ q. value_in (scope.extents set) st right q) st is.0.0 parts.0
-      (either (λ h. pure_means set left st h parts.1) (λ h. promoted_free scope active set (scope.extents set) left st h parts.1) (left_of set left right is.2)) (either (λ h. pure_means set right st h parts.2) (λ h. promoted_free scope active set (scope.extents set) right st h parts.2) (right_of set left right is.2))
-  pure_means set (T.Convert' ty p operand) st is free =
-      ap (λ (o : Outcome Value). then_do o (λ v after. Gives (convert_to ty (type_of operand).elem v) after)) (pure_means set operand st is.2 free)
+      (either (λ h. pure_means active set left st h parts.1) (λ h. promoted_free scope active set (scope.extents set) left st h parts.1) (left_of set left right is.2)) (either (λ h. pure_means active set right st h parts.2) (λ h. promoted_free scope active set (scope.extents set) right st h parts.2) (right_of set left right is.2))
+  pure_means active set (T.LogicalOr' ty p left q right) st is free =
+      let parts = both_ignore left right free in
+      or_means scope active set ty p q left right (λ x. value_in (scope.extents set) st left x) (λ x. value_in (scope.extents set) st right x) st is.1.0 (pure_means active set left st is.1.0 parts.0)
+      (pure_means (where_zero set (Parallel (λ q. value_in (scope.extents set) st left q)) active) set right st is.2.0 parts.1)
+  pure_means active set (T.LogicalAnd' ty p left q right) st is free =
+      let parts = both_ignore left right free in
+      and_means scope active set ty p q left right (λ x. value_in (scope.extents set) st left x) (λ x. value_in (scope.extents set) st right x) st is.1.0 (pure_means active set left st is.1.0 parts.0)
+      (pure_means (where_nonzero set (Parallel (λ q. value_in (scope.extents set) st left q)) active) set right st is.2.0 parts.1)
+  pure_means active set (T.Convert' ty p operand) st is free =
+      ap (λ (o : Outcome Value). then_do o (λ v after. Gives (convert_to ty (type_of operand).elem v) after)) (pure_means active set operand st is.2 free)
       ∙ ap (λ (y : ValueType). Gives (convert_to y (type_of operand).elem (Parallel (λ q. value_in (scope.extents set) st operand q))) st) (as_shaped ty set is.0)
-  pure_means set (T.Pcoord ty axis) st is free = ap (λ (o : Option ℕ). Gives (own_coordinate scope o axis) st) is.0
-  pure_means set (T.LeftIndex' ty place p indexes (V.File k) of) st is free = cc
-  pure_means set _ st is free = absurd is
+  pure_means active set (T.Pcoord ty axis) st is free = ap (λ (o : Option ℕ). Gives (own_coordinate scope o axis) st) is.0
+  pure_means active set (T.LeftIndex' ty place p indexes (V.File k) of) st is free = cc
+  pure_means active set _ st is free = absurd is
 
 -- a shape of the image is such a grid
 pub are_grids : (g : Setting) (scope : Scope) → PlacesFields g → SameExtents g scope → (set : ℕ) → AreGrids scope g.typed set

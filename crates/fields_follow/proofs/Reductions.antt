@@ -1,5 +1,6 @@
 -- Unary reductions of pure parallel expressions follow, where the code of these leaves their numbers in a field.
 use Rattle.std.proofs.Common.{◌≡◌, ◌∙◌, ℕ, Bool, true, false, not, length, Option, Some, None, refl, sym, ap, subst, if◌then◌else◌, List, ◌+◌, ◌<◌, ◌≤◌, ◌⊎◌, inl, inr, arith}
+use Rattle.cstar_base.proofs.NumberLaws.{kind_bits}
 use Rattle.cstar_base.specs.declared.elem.Elem.{Elem}
 use Rattle.cstar_tree.specs.declared.syntax.ReduceOp.{ReduceOp}
 use Rattle.cstar_tree.specs.declared.typed.TExpr.{TExpr}
@@ -63,7 +64,7 @@ module _ (g : Setting) (alive : Variable → Type 0) where
 
   -- what the code of pure parallel expressions of 32 bits does
   abbrev pub OperandsStand : HoldsTheFields g → ℕ → Type 0
-  OperandsStand fields n = (bits set : ℕ) (e : TExpr) → bits ≤ 32 → IsPure set e → IsWide set (type_of e) → HasItsCode g.typed g.instance alive n e → (d : Draft) (s : CodeState) (st : State) → Starts g alive s (length d.code) d.regs → Sim g alive st s
+  OperandsStand fields n = (bits set : ℕ) (e : TExpr) → 0 < bits → bits ≤ 32 → IsPure set e → IsWide set (type_of e) → HasItsCode g.typed g.instance alive n e → (d : Draft) (s : CodeState) (st : State) → Starts g alive s (length d.code) d.regs → Sim g alive st s
       → Follows g (Given g (λ q. value_in (extents g set) st e q) st (GivesPure bits set e d s st)) s (meant g fields e st) (next_of g.typed (layout g) bits true e d)
 
   -- the number stands in a register, by code that passes up to its last instructions
@@ -115,6 +116,21 @@ module _ (g : Setting) (alive : Variable → Type 0) where
             (λ q below. subst (λ (w : ℕ). has_number kind w ≡ true) (pure_at g alive n places fields set operand st s sim kinded.0 wide c q) (kind_has g alive n places fields set operand st s sim kinded.0 narrowed c q kind some).0))
 
     -- it takes no more than 32
+    pub folded_some : (combiner : Reduction) (o : Option Elem) → 0 < folded_bits combiner o
+    unfolding folded_bits
+    folded_some combiner None = omega arith
+    folded_some combiner (Some kind) = by (joins_bits combiner) (combiner_of combiner).1 kind.signed
+      where
+        some : 0 < kind.bits
+        some = (kind_bits kind.bits kind.signed kind.kind).0
+
+        by : (a b c : Bool) → 0 < (if a then kind.bits else if b then (if c then 32 else kind.bits) else (if c then kind.bits else kind.bits + 1))
+        by true b c = some
+        by false true true = omega arith
+        by false true false = some
+        by false false true = some
+        by false false false = omega (arith, some)
+
     pub folded_most : (combiner : Reduction) (set : ℕ) (e : TExpr) → HasItsKind set e → folded_bits combiner (kind_of e) ≤ 32
     unfolding folded_bits
     folded_most combiner set e is = by (kind_of e) refl is.1
@@ -142,5 +158,5 @@ module _ (g : Setting) (alive : Variable → Type 0) where
         outcome_like g s (meant g fields operand st) (λ q. value_in (extents g set) st operand q) st (meant g fields (T.Reduce' ty op p operand) st) (Scalar w) st (GivesRegister r w d s st) (λ x u out f. (w : ℕ) × ((x ≡ Scalar w) × ((u ≡ st) × GivesRegister r w d s st out f)))
         (computed_to g.typed (layout g) (O.Scalar r) (T.Reduce' ty op p operand) d) (λ given. reduction_means ty op p operand set st is.1 given) (λ early. reduction_ended ty op p operand s st early) (λ out f said. (w, (refl, (refl, said))))
         (fold_passes g alive places fields ty op p operand set is.1 d s st (λ q. value_in (extents g set) st operand q) (reduced_bits op operand) (folds_so op operand set is part s st sim) r w (λ exists. ap (λ (xs : List ℕ). reduction op operand set st xs) (sym (fields.same_extents set exists)))
-        (meant g fields operand st) (λ q. value_in (extents g set) st operand q) (stand (reduced_bits op operand) set operand (folded_most (fold_by (reduce_op_of op) operand) set operand is.0) is.0.0 is.1 part d s st here sim))
+        (meant g fields operand st) (λ q. value_in (extents g set) st operand q) (stand (reduced_bits op operand) set operand (folded_some (fold_by (reduce_op_of op) operand) (kind_of operand)) (folded_most (fold_by (reduce_op_of op) operand) set operand is.0) is.0.0 is.1 part d s st here sim))
     folds_give _ is c d s st r here sim = absurd is

@@ -43,9 +43,9 @@ use Rattle.code_follows.proofs.Following.{Extends, Follows, HasRegisters, Sim, e
 use Rattle.code_follows.proofs.Growing.{and_instr}
 use Rattle.code_follows.proofs.Operators.{wide_signed}
 use Rattle.code_follows.proofs.Settings.{stay, Setting, Within, and_one, earlier, layout, one}
-use Rattle.fields_follow.specs.Fragment.{HaveTheirKinds, IsRelation}
-use Rattle.fields_follow.proofs.Expressions.{constant_at, operand_at, operand_grows, pure_after}
-use Rattle.fields_follow.proofs.NarrowKinds.{narrow_compares, relation_has}
+use Rattle.fields_follow.specs.Fragment.{IsPure}
+use Rattle.fields_follow.proofs.Expressions.{constant_at, operand_at, operand_grows}
+use Rattle.fields_follow.proofs.NarrowKinds.{AreRelated, HaveTheirKinds, narrow_compares, relation_has}
 use Rattle.fields_follow.proofs.Forms.{HasItsCode}
 use Rattle.fields_follow.proofs.Instructions.{HasNumbers, shapes, extents, place}
 use Rattle.fields_follow.proofs.Meaning.{AreOperands, binary_means, left_of, right_of, value_in, word_at}
@@ -55,7 +55,7 @@ use Rattle.fields_follow.proofs.Outcomes.{Ended, Given, Known, ended_back, known
 use Rattle.fields_follow.proofs.Passing.{After, Behind, GivesField, after_same, code_longer, fields_longer, gives_numbers, made_after, names_second, passes_from, passes_on, still_numbers}
 use Rattle.fields_follow.proofs.Places.{HoldsTheFields, PlacesFields, names_first, stands_here}
 use Rattle.fields_follow.proofs.Spreading.{GivesWord, HasBoth, spread_behind}
-use Rattle.fields_follow.proofs.Values.{and_entry, next_field, one_more, operand_of, with_entry}
+use Rattle.fields_follow.proofs.Values.{Valued, and_entry, code_of, next_field, one_more, operand_of, with_entry}
 use Rattle.fields_follow.proofs.TestFlags.{ComparesAs, LeavesTests, compares, is_truth, puts_compare, tested_last}
 use Rattle.fields_follow.proofs.Totals.{held_below}
 use Rattle.fields_follow.proofs.Starts.{Starts}
@@ -71,7 +71,13 @@ read_as : (op : Op) (left right : TExpr) → relates op ≡ true → reads_signe
 unfolding reads_signed
 read_as op left right related = ap (λ (c : Bool). if c then elim (relation_kind left right) as (λ _. Bool) [ None ↦ is_signed (type_of left).elem | Some kind ↦ kind.signed ] else is_signed (type_of left).elem) related
 
-relation_most : (o : Option Elem) → bits_of o ≤ 32
+-- the bits of a narrow type are some, and no more than 32
+pub kind_some : (o : Option Elem) → 0 < bits_of o
+unfolding bits_of
+kind_some None = omega arith
+kind_some (Some kind) = (kind_bits kind.bits kind.signed kind.kind).0
+
+pub relation_most : (o : Option Elem) → bits_of o ≤ 32
 unfolding bits_of
 relation_most None = omega arith
 relation_most (Some kind) = (kind_bits kind.bits kind.signed kind.kind).1
@@ -79,6 +85,9 @@ relation_most (Some kind) = (kind_bits kind.bits kind.signed kind.kind).1
 module _ (g : Setting) (has : HasRegisters g) (alive : Variable → Type 0) (n : ℕ) (ready : (d : Draft) → IsReadyButForFields g.typed g.instance (layout g) n d) (places : PlacesFields g) (fields : HoldsTheFields g) where
   abbrev operand : ℕ → Bool → TExpr → Draft → Made Out
   operand bits quiet e d = operand_of g has alive n ready places fields bits quiet e d
+
+  abbrev IsValued : ℕ → ℕ → TExpr → Type 0
+  IsValued bits set e = Valued g has alive n ready places fields bits set e (λ d. code_of g has alive n ready places fields bits e d)
 
   abbrev pub Tests : Draft → CodeState → ℕ → State → (ℕ → ℕ) → Draft → Type 0
   Tests d s set st v e = LeavesTests g alive fields d s set st v e
@@ -154,12 +163,10 @@ module _ (g : Setting) (has : HasRegisters g) (alive : Variable → Type 0) (n :
   compared_extends relation a (R.Field b) spare e = (1, and_one g (I.Compare relation a b) e)
   compared_extends relation a (R.Word k) spare e = (2, and_instr (I.Compare relation a spare) e (with_instr (I.MoveConstant spare k) e) 1 (and_one g (I.MoveConstant spare k) e))
 
-  module _ (set : ℕ) (op : Op) (left right : TExpr) (is : IsRelation set op left right) (no_check : divides op ≡ false) (c_left : HasItsCode g.typed g.instance alive n left) (c_right : HasItsCode g.typed g.instance alive n right) (d : Draft) (s : CodeState) (st : State) (here : Starts g alive s (length d.code) d.regs) (sim : Sim g alive st s) where
+  module _ (set : ℕ) (op : Op) (left right : TExpr) (is : AreRelated set op left right) (no_check : divides op ≡ false) (c_left : HasItsCode g.typed g.instance alive n left) (c_right : HasItsCode g.typed g.instance alive n right) (left_valued : IsPure set left → IsValued (bits_of (relation_kind left right)) set left)
+      (right_valued : IsPure set right → IsValued (bits_of (relation_kind left right)) set right) (d : Draft) (s : CodeState) (st : State) (here : Starts g alive s (length d.code) d.regs) (sim : Sim g alive st s) where
     abbrev bits : ℕ
     bits = bits_of (relation_kind left right)
-
-    most : bits ≤ 32
-    most = relation_most (relation_kind left right)
 
     abbrev c : ComparesAs op (reads_signed op left right)
     c = compares op (reads_signed op left right) is.0
@@ -244,9 +251,9 @@ module _ (g : Setting) (has : HasRegisters g) (alive : Variable → Type 0) (n :
     unfolding compared
     chosen o gives left_ends right_ends (inl (pure, any_operand)) =
         then_known g s (meant g fields left st) (number left) st (GivesField g alive bits (length d1.fields) d1 s set st v) (Known g s o u st Q) (spread_into (operand bits (is_quiet right) left) left spare d1) (λ a e. next a e)
-        (pure_left g has alive n ready places fields bits set left (is_quiet right) pure c_left (pure_after g has alive n ready places fields bits set left most pure c_left) spare d1 s st here sim) next_extends
+        (pure_left g has alive n ready places fields bits set left (is_quiet right) pure c_left (left_valued pure) spare d1 s st here sim) next_extends
         (λ is_left a e1 one. then_known g one.passes.t (meant g fields right st) (number right) st (λ b f. Takes op b × GivesRight g has alive n ready places fields bits (length e1.fields) e1 one.passes.t set st w b f) (Known g s o u st Q) (right_by (operand bits true right) op right e1) (λ b after. compared (M.Compare c.relation) a b spare after)
-        (right_after g has alive n ready places fields bits set op right (inl no_check) any_operand c_right (λ p. pure_after g has alive n ready places fields bits set right most p c_right) e1 one.passes.t st one.passes.at one.passes.sim) (λ b after. compared_extends c.relation a b spare after)
+        (right_after g has alive n ready places fields bits set op right (inl no_check) any_operand c_right right_valued e1 one.passes.t st one.passes.at one.passes.sim) (λ b after. compared_extends c.relation a b spare after)
         (λ is_right b e2 two. by (gives is_left is_right) a e1 one b e2 two.1) (λ early z f. inr (right_ends is_left (ended_back g s one.passes.t (meant g fields right st) one.passes.go early))))
         (λ early z f. inr (left_ends early))
       where
@@ -261,7 +268,7 @@ module _ (g : Setting) (has : HasRegisters g) (alive : Variable → Type 0) (n :
         then_known g s (meant g fields left st) (number left) st (GivesField g alive bits (length d.fields) d1 s set st v) (Known g s o u st Q) (spread_into (operand bits (is_quiet right) left) left spare d1) (λ a e. next a e)
         (promoted_left g has alive n ready places fields bits set left (is_quiet right) promoted c_left d s st here sim) next_extends
         (λ is_left a e1 one. then_known g one.passes.t (meant g fields right st) (number right) st (RightField g has alive n ready places fields bits e1 one.passes.t set st w) (Known g s o u st Q) (right_by (operand bits true right) op right e1) (λ b after. compared (M.Compare c.relation) a b spare after)
-        (pure_right g has alive n ready places fields bits set op right pure c_right (pure_after g has alive n ready places fields bits set right most pure c_right) e1 one.passes.t st one.passes.at one.passes.sim) (λ b after. compared_extends c.relation a b spare after)
+        (pure_right g has alive n ready places fields bits set op right pure c_right (right_valued pure) e1 one.passes.t st one.passes.at one.passes.sim) (λ b after. compared_extends c.relation a b spare after)
         (λ is_right b e2 (f, (same, given)). after_same g (Known g s o u st Q) (ap (λ (x : Right). compared (M.Compare c.relation) a x spare e2) same)
         (made_after g (Known g s o u st Q) tt (with_instr (I.Compare c.relation a f) e2) (λ within. inl (gives is_left is_right, field_compared bits set c.relation (length d.fields) a f v w u d e1 e2 s st words_compare (omega arith) (let first = one_more set bits W.Own d in let more = fields_longer d1 e1 one.passes.grown.0 one.passes.grown.1 in omega (arith, first, more)) one given within))))
         (λ early z f. inr (right_ends is_left (ended_back g s one.passes.t (meant g fields right st) one.passes.go early))))

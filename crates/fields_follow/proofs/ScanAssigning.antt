@@ -83,7 +83,7 @@ module _ (g : Setting) (has : HasRegisters g) (alive : Variable → Type 0) (n :
       }))
       (λ a begun. extends_then g begun (right_by (operand true) op value begun) (λ right after. right_operated op signed place f a right spare after) (right_extends g (operand true) op value (λ after. operand_grows g has alive n ready places fields bits value c true after) begun) (λ right after. operated_extends g op signed place f a spare right after known.0))
       (λ a e1 one. then_known g one.passes.t (meant g fields value st) w st (RightField g has alive n ready places fields bits e1 one.passes.t set st w) Q (right_by (operand true) op value e1) (λ right after. right_operated op signed place f a right spare after)
-      (scan_right g has alive n ready places fields set bits op value scans (scan_valued g has alive n ready places fields set bits value most scans c) e1 one.passes.t st one.passes.at one.passes.sim)
+      (scan_right g has alive n ready places fields set bits op value scans (scan_valued g has alive n ready places fields set bits value (kind_bits info.elem.bits info.elem.signed info.elem.kind).0 most scans c) e1 one.passes.t st one.passes.at one.passes.sim)
       (λ right after. operated_extends g op signed place f a spare right after known.0)
       (λ given right e2 two. operated_after g has alive n ready places fields bits (length d1.fields) set op signed place f a v w d e1 e2 s st known.0 (λ divided. sym works ∙ divides_wide bits op value divided)
       (λ q. subst (λ (x : ℕ). Keeps op signed x (w q)) works (right_keeps g has alive n ready places fields set bits op signed value st s sim most known (inl scans) wide c q)) refl (let first = one_more set bits W.Own d in omega (arith, first)) (fields_longer d1 e1 one.passes.grown.0 one.passes.grown.1) one right
@@ -207,7 +207,7 @@ module _ (g : Setting) (has : HasRegisters g) (alive : Variable → Type 0) (n :
           let few : (x : ℕ) → number x < 2 ^ bits = λ x. subst (λ (b : ℕ). number x < 2 ^ b) long (scanned_small g has alive n ready places fields set bits value st s sim scans c x) in
           let stored : (x : ℕ) → w x ≡ number x = λ x. plainly g has alive n ready places fields op ty.elem (type_of value).elem (old x) (number x) is in
           after_same g Q (ap code is)
-          (scanned_last g has alive n ready places fields set f bits value (kind_bits h.info.elem.bits h.info.elem.signed h.info.elem.kind).1 refl refl scans c (length d1.fields) d1 s st (omega arith) here sim Q
+          (scanned_last g has alive n ready places fields set f bits value (kind_bits h.info.elem.bits h.info.elem.signed h.info.elem.kind).0 (kind_bits h.info.elem.bits h.info.elem.signed h.info.elem.kind).1 refl refl scans c (length d1.fields) d1 s st (omega arith) here sim Q
           (λ given e2 i within passes puts. inl (plain_given is given, leaves_value g has alive n ready places fields set h.k h.info h.is d s st number w ((λ x below small. stored x ∙ sym (mod-eq_of_lt (few x))), λ x. subst (λ (m : ℕ). m < 2 ^ bits) (sym (stored x)) (few x)) e2 i within passes puts)) (λ early out e. inr (ends early)))
       by (Some x) is known scans =
           let signed : Bool = assigned_signed x (type_of target).elem (type_of value).elem in

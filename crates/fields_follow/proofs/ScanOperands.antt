@@ -1,5 +1,5 @@
 -- The code of the operands of an operator, where one of them has a scan in it.
-use Rattle.std.proofs.Common.{◌≡◌, ◌∙◌, ℕ, ◌+◌, ◌≤◌, ◌==◌, ◌&&◌, Bool, true, false, not, length, Option, Some, None, refl, sym, ap, subst, arith, ◌⊎◌, inl, inr, if◌then◌else◌}
+use Rattle.std.proofs.Common.{◌<◌, ◌≡◌, ◌∙◌, ℕ, ◌+◌, ◌≤◌, ◌==◌, ◌&&◌, Bool, true, false, not, length, Option, Some, None, refl, sym, ap, subst, arith, ◌⊎◌, inl, inr, if◌then◌else◌}
 use Rattle.cstar_base.specs.declared.faults.RunFault.TheVariants.{DivZero}
 use Rattle.cstar_base.specs.declared.operators.Op.{Op}
 use Rattle.cstar_base.specs.declared.operators.Place.{Place}
@@ -36,7 +36,8 @@ use Rattle.code_follows.proofs.Growing.{as_it_was}
 use Rattle.code_follows.proofs.Settings.{Setting, Within, layout}
 use Rattle.fields_follow.specs.Fragment.{IsOperand, IsOperation, IsPure, IsScan, IsWide}
 use Rattle.fields_follow.proofs.Dividing.{left_ended, operator_ends, operator_gives, right_ended}
-use Rattle.fields_follow.proofs.Expressions.{operand_at, operand_grows, operands_keep, pure_after}
+use Rattle.fields_follow.proofs.Expressions.{operand_at, operand_grows, operands_keep}
+use Rattle.fields_follow.proofs.Computing.{pure_after}
 use Rattle.fields_follow.proofs.Forms.{HasItsCode, not_held}
 use Rattle.fields_follow.proofs.Instructions.{Puts, extents, whole_keeps}
 use Rattle.fields_follow.proofs.Lengths.{Keeps, operation_keeps}
@@ -105,11 +106,11 @@ module _ (g : Setting) (has : HasRegisters g) (alive : Variable → Type 0) (n :
       Q : Field → Draft → Type 0
       Q = GivesField g alive bits (length d.fields) d s set st v
 
-  plain_left : (bits : ℕ) (e : TExpr) (quiet : Bool) (dest : Field) → bits ≤ 32 → IsPure set e → IsWide set (type_of e) → HasItsCode g.typed g.instance alive n e → LeftGiven bits e quiet dest
-  plain_left bits e quiet dest most pure wide c d s st here sim =
+  plain_left : (bits : ℕ) (e : TExpr) (quiet : Bool) (dest : Field) → 0 < bits → bits ≤ 32 → IsPure set e → IsWide set (type_of e) → HasItsCode g.typed g.instance alive n e → LeftGiven bits e quiet dest
+  plain_left bits e quiet dest some most pure wide c d s st here sim =
       subst (λ (v : ℕ → ℕ). Follows g (Given g v st (GivesField g alive bits (length d.fields) d s set st (λ q. number e st q))) s (meant g fields e st) (spread_into (operand bits quiet e) e dest d)) (own_numbers e st (inl pure))
       (subst (λ (w : ℕ → ℕ). Follows g (Given g (λ q. value_in (extents g set) st e q) st (GivesField g alive bits (length d.fields) d s set st w)) s (meant g fields e st) (spread_into (operand bits quiet e) e dest d)) (own_words e st s sim (inl pure) wide c)
-      (pure_left g has alive n ready places fields bits set e quiet pure c (pure_after g has alive n ready places fields bits set e most pure c) dest d s st here sim))
+      (pure_left g has alive n ready places fields bits set e quiet pure c (pure_after g has alive n ready places fields bits set e some most pure c) dest d s st here sim))
 
   -- a right operand
   abbrev IsRight : ℕ → Op → TExpr → Draft → CodeState → State → Right → Draft → Type 0
@@ -138,12 +139,12 @@ module _ (g : Setting) (has : HasRegisters g) (alive : Variable → Type 0) (n :
       given (Some right) after = (0, as_it_was after)
       given None after = tt
 
-  plain_right : (bits : ℕ) (op : Op) (e : TExpr) → bits ≤ 32 → IsOperation op e → IsOperand set e → IsWide set (type_of e) → HasItsCode g.typed g.instance alive n e → (d : Draft) (s : CodeState) (st : State) → Starts g alive s (length d.code) d.regs → Sim g alive st s
+  plain_right : (bits : ℕ) (op : Op) (e : TExpr) → 0 < bits → bits ≤ 32 → IsOperation op e → IsOperand set e → IsWide set (type_of e) → HasItsCode g.typed g.instance alive n e → (d : Draft) (s : CodeState) (st : State) → Starts g alive s (length d.code) d.regs → Sim g alive st s
       → Follows g (Given g (λ q. number e st q) st (IsRight bits op e d s st)) s (meant g fields e st) (right_by (operand bits true e) op e d)
-  plain_right bits op e most operates is wide c d s st here sim =
+  plain_right bits op e some most operates is wide c d s st here sim =
       subst (λ (v : ℕ → ℕ). Follows g (Given g v st (IsRight bits op e d s st)) s (meant g fields e st) (right_by (operand bits true e) op e d)) (own_numbers e st is)
       (subst (λ (w : ℕ → ℕ). Follows g (Given g (λ q. value_in (extents g set) st e q) st (λ right f. Takes op right × GivesRight g has alive n ready places fields bits (length d.fields) d s set st w right f)) s (meant g fields e st) (right_by (operand bits true e) op e d)) (own_words e st s sim is wide c)
-      (right_after g has alive n ready places fields bits set op e operates.1 is c (λ pure. pure_after g has alive n ready places fields bits set e most pure c) d s st here sim))
+      (right_after g has alive n ready places fields bits set op e operates.1 is c (λ pure. pure_after g has alive n ready places fields bits set e some most pure c) d s st here sim))
 
   -- an operation keeps the lowest bits
   pub right_keeps : (bits : ℕ) (op : Op) (signed : Bool) (right : TExpr) (st : State) (s : CodeState) → Sim g alive st s → bits ≤ 32 → IsOperation op right → IsScan set right ⊎ IsOperand set right → IsWide set (type_of right) → HasItsCode g.typed g.instance alive n right → (q : ℕ) → Keeps op signed (operation_bits bits op right) (number right st q)
@@ -155,7 +156,7 @@ module _ (g : Setting) (has : HasRegisters g) (alive : Variable → Type 0) (n :
   abbrev pub AreSides : TExpr → TExpr → Type 0
   AreSides left right = (IsScan set left × (IsScan set right ⊎ IsOperand set right)) ⊎ (IsOperand set left × IsScan set right)
 
-  pub sides_after : (bits : ℕ) (ty : ValueType) (place : Place) (op : Op) (p q : Boxed) (dest : Field) (left right : TExpr) (d : Draft) (s : CodeState) (st : State) → bits ≤ 32 → ty.shape ≡ Some set → IsOperation op right → (divides op ≡ true → bits ≡ 32)
+  pub sides_after : (bits : ℕ) (ty : ValueType) (place : Place) (op : Op) (p q : Boxed) (dest : Field) (left right : TExpr) (d : Draft) (s : CodeState) (st : State) → 0 < bits → bits ≤ 32 → ty.shape ≡ Some set → IsOperation op right → (divides op ≡ true → bits ≡ 32)
       → ((x : ℕ) → Keeps op (type_of left).elem.signed bits (number right st x)) → dest.len ≡ bits → AreSides left right → IsWide set (type_of left) → IsWide set (type_of right) → HasItsCode g.typed g.instance alive n left → HasItsCode g.typed g.instance alive n right
       → (IsScan set left → ScanValued bits left (λ d. value_of g.typed (layout g) bits left d)) → (IsScan set right → ScanValued bits right (λ d. value_of g.typed (layout g) bits right d))
       → Starts g alive s (length d.code) d.regs → Sim g alive st s → (Q : Out → Draft → Type 0)
@@ -164,7 +165,7 @@ module _ (g : Setting) (has : HasRegisters g) (alive : Variable → Type 0) (n :
       → (Ended g s (meant g fields (T.Binary' ty place op p left q right) st) → (x : Out) (f : Draft) → Q x f)
       → After g Q (fields_by op (type_of left).elem.signed place dest (next_field set bits d) (operand bits (is_quiet right) left) left (operand bits true right) right (with_entry set bits W.Own d))
   unfolding fields_by
-  sides_after bits ty place op p q dest left right d s st most shaped is wide keeps long sides wide_left wide_right c_left c_right left_valued right_valued here sim Q last ended = by sides
+  sides_after bits ty place op p q dest left right d s st some most shaped is wide keeps long sides wide_left wide_right c_left c_right left_valued right_valued here sim Q last ended = by sides
     where
       d1 : Draft
       d1 = with_entry set bits W.Own d
@@ -220,7 +221,7 @@ module _ (g : Setting) (has : HasRegisters g) (alive : Variable → Type 0) (n :
       any_behind e1 t (inl scans) there sim_there = scan_behind (length d1.fields) e1 t scans there sim_there
       any_behind e1 t (inr plain) there sim_there =
           given_weaker g t (meant g fields right st) w st (IsRight bits op right e1 t st) (λ b f. Spares g has alive n ready places fields bits set (length d1.fields) d b × IsRight bits op right e1 t st b f) (right_by (operand bits true right) op right e1)
-          (λ b f h. ((λ k same. omega arith), h)) (plain_right bits op right most is plain wide_right c_right e1 t st there sim_there)
+          (λ b f h. ((λ k same. omega arith), h)) (plain_right bits op right some most is plain wide_right c_right e1 t st there sim_there)
 
       -- a left one in a field
       in_field : LeftGiven bits left (is_quiet right) spare → IsScan set right ⊎ IsOperand set right → After g Q (then_make (spread_into (operand bits (is_quiet right) left) left spare d1) (λ a between. next a between))
@@ -231,7 +232,7 @@ module _ (g : Setting) (has : HasRegisters g) (alive : Variable → Type 0) (n :
 
       by : AreSides left right → After g Q (then_make (spread_into (operand bits (is_quiet right) left) left spare d1) (λ a between. next a between))
       by (inl (scans, any)) = in_field (scan_left bits left (is_quiet right) spare scans (left_valued scans)) any
-      by (inr (inl pure, scans)) = in_field (plain_left bits left (is_quiet right) spare most pure wide_left c_left) (inl scans)
+      by (inr (inl pure, scans)) = in_field (plain_left bits left (is_quiet right) spare some most pure wide_left c_left) (inl scans)
       by (inr (inr promoted, scans)) =
           then_known g s (meant g fields left st) v st (GivesField g alive bits (length d.fields) d1 s set st v) Q (spread_into (operand bits (is_quiet right) left) left spare d1) (λ a between. next a between)
           (subst (λ (f : ℕ → ℕ). Follows g (Given g f st (GivesField g alive bits (length d.fields) d1 s set st v)) s (meant g fields left st) (spread_into (operand bits (is_quiet right) left) left spare d1)) (own_numbers left st (inr promoted))

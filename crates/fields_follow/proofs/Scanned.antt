@@ -46,7 +46,8 @@ use Rattle.code_follows.proofs.Settings.{Setting, Within, and_one, layout}
 use Rattle.code_follows.proofs.Words.{below_bits, below_word, within_word}
 use Rattle.fields_follow.specs.Fragment.{IsOperand, IsPure, IsScan, IsScanned, IsWide}
 use Rattle.fields_follow.proofs.Effects.{gone_same}
-use Rattle.fields_follow.proofs.Expressions.{IsSign, binary_code, convert_code, convert_ended, done_as_it_is, negated_is, negating, own_result, puts_negating, signed_as, unary_ended, whole_after, wide_operands}
+use Rattle.fields_follow.proofs.Expressions.{IsSign, binary_code, convert_code, convert_ended, done_as_it_is, negated_is, negating, own_result, puts_negating, signed_as, unary_ended, wide_operands}
+use Rattle.fields_follow.proofs.Computing.{whole_after}
 use Rattle.fields_follow.proofs.Forms.{HasItsCode, flag_converted}
 use Rattle.fields_follow.proofs.Instructions.{AreAlike, HasNumbers, Puts, operation_below, puts_alike, puts_move}
 use Rattle.fields_follow.proofs.Lengths.{Keeps, cut_converted, divides_wide, operation_most}
@@ -129,7 +130,7 @@ module _ (g : Setting) (has : HasRegisters g) (alive : Variable → Type 0) (n :
   scan_source source wide c valued few (inr pure) = record {
     follows = λ d s st here sim.
         subst (λ (v : ℕ → ℕ). Follows g (Given g v st (λ out x. (h : Field) × ((out ≡ O.Field h) × GivesField g alive 32 (length d.fields) d s set st v h x))) s (meant g fields source st) (next_of g.typed (layout g) 32 true source d)) (own_numbers g has alive n ready places fields set source st (inl pure))
-        (whole_after g has alive n ready places fields 32 set source true (omega arith) pure wide c d s st here sim);
+        (whole_after g has alive n ready places fields 32 set source true (omega arith) (omega arith) pure wide c d s st here sim);
     few = λ s st sim q. subst (λ (m : ℕ). m < 2 ^ 32) (sym (operand_number g alive places fields set source st q (inl pure))) (below_word (type_of source).elem.bits _ wide.1 (value_small g alive n places fields set source st s sim pure c q));
   }
 
@@ -247,15 +248,15 @@ module _ (g : Setting) (has : HasRegisters g) (alive : Variable → Type 0) (n :
       enough = let wide = is.0.1 in grind (arith, nat_tests, wide, most)
 
   -- an operator
-  operated_valued : (bits : ℕ) (ty : ValueType) (place : Place) (op : Op) (p q : Boxed) (left right : TExpr) → bits ≤ 32 → IsScan set (T.Binary' ty place op p left q right) → HasItsCode g.typed g.instance alive n (T.Binary' ty place op p left q right)
+  operated_valued : (bits : ℕ) (ty : ValueType) (place : Place) (op : Op) (p q : Boxed) (left right : TExpr) → 0 < bits → bits ≤ 32 → IsScan set (T.Binary' ty place op p left q right) → HasItsCode g.typed g.instance alive n (T.Binary' ty place op p left q right)
       → (IsScan set left → Valued (operation_bits bits op right) left (λ d. value_of g.typed (layout g) (operation_bits bits op right) left d)) → (IsScan set right → Valued (operation_bits bits op right) right (λ d. value_of g.typed (layout g) (operation_bits bits op right) right d))
       → Valued bits (T.Binary' ty place op p left q right) (λ d. value_of g.typed (layout g) bits (T.Binary' ty place op p left q right) d)
   unfolding IsScan scanned_in
-  operated_valued bits ty place op p q left right most is c left_valued right_valued d s st here sim =
+  operated_valued bits ty place op p q left right some most is c left_valued right_valued d s st here sim =
       known_follows g s (meant g fields e st) (λ x. number e st x) st (ScanGiven bits e d s st) (value_of g.typed (layout g) bits e d)
       (after_same g (λ out f. (ScanGives g alive places fields set e st × ScanGiven bits e d s st out f) ⊎ Ended g s (meant g fields e st)) (binary_code g has alive n ready places fields bits set ty place op p q left right d is.0.0 is.1.0 is.3.1)
       (first_given g has alive n ready places fields works bits (length d.fields) d s set st (λ x. number e st x) (IsFlag e) (ScanGives g alive places fields set e st) (Ended g s (meant g fields e st)) _ (operation_most bits op right most).0
-      (sides_after g has alive n ready places fields set works ty place op p q (next_field set works d) left right d s st (operation_most bits op right most).1 is.0.0 is.1 (divides_wide bits op right) (λ x. right_keeps g has alive n ready places fields set bits op (type_of left).elem.signed right st s sim most is.1 (right_side set left right is.2) is.4 parts.1 x) refl
+      (sides_after g has alive n ready places fields set works ty place op p q (next_field set works d) left right d s st more (operation_most bits op right most).1 is.0.0 is.1 (divides_wide bits op right) (λ x. right_keeps g has alive n ready places fields set bits op (type_of left).elem.signed right st s sim most is.1 (right_side set left right is.2) is.4 parts.1 x) refl
       is.2 is.3 is.4 parts.0 parts.1 left_valued right_valued here sim (λ out f. (ScanGives g alive places fields set e st × ScanGiven works e d s st out f) ⊎ Ended g s (meant g fields e st))
       (λ given e2 i within passes puts. inl (given, own_result g has alive n ready places fields works set d e2 s st (λ x. number e st x) i within passes puts)) (λ early x f. inr early))))
     where
@@ -268,13 +269,16 @@ module _ (g : Setting) (has : HasRegisters g) (alive : Variable → Type 0) (n :
       parts : HasItsCode g.typed g.instance alive n left × HasItsCode g.typed g.instance alive n right
       parts = binary_parts g alive n places fields ty place op p q left right c
 
+      more : 0 < works
+      more = let less = (operation_most bits op right most).0 in omega (arith, some, less)
+
   -- its value
-  pub scan_valued : (bits : ℕ) (e : TExpr) → bits ≤ 32 → IsScan set e → HasItsCode g.typed g.instance alive n e → Valued bits e (λ d. value_of g.typed (layout g) bits e d)
+  pub scan_valued : (bits : ℕ) (e : TExpr) → 0 < bits → bits ≤ 32 → IsScan set e → HasItsCode g.typed g.instance alive n e → Valued bits e (λ d. value_of g.typed (layout g) bits e d)
   unfolding IsScan value_of scanned_in message_by fresh_for then_make an_entry kind_of evaluated
-  scan_valued bits (T.Brackets' ty p inner) most is c = scan_valued bits inner most is.1 (brackets_part g alive n places fields ty p inner c)
-  scan_valued bits (T.Scan' ty p source axis combiner direction mode bit way) most is c =
+  scan_valued bits (T.Brackets' ty p inner) some most is c = scan_valued bits inner some most is.1 (brackets_part g alive n places fields ty p inner c)
+  scan_valued bits (T.Scan' ty p source axis combiner direction mode bit way) some most is c =
       let part = (source_part g has alive n ready places fields set ty p source axis combiner direction mode bit way c).0 in
-      let given = scan_source source is.2 part (λ scans. scan_valued 32 source (omega arith) scans part) (λ scans s st sim q. scan_words source st s sim scans part q) in
+      let given = scan_source source is.2 part (λ scans. scan_valued 32 source (omega arith) (omega arith) scans part) (λ scans s st sim q. scan_words source st s sim scans part q) in
       λ d s st here sim.
       follows_same g (Given g (λ q. number whole st q) st (ScanGiven bits whole d s st)) s refl (ap (λ (o : Option ℕ). then_make (fresh_for o 32 d) (λ dest begun. lowest bits (code dest begun))) (scan_shape set whole is).0)
       (own_given bits whole (λ after. code (O.Field (next_field set 32 d)) after) d s st most here sim (scan_message g has alive n ready places fields set ty p source axis combiner direction mode bit way is.0 (given is.1) is.2 is.3 is.4 c (next_field set 32 d) refl))
@@ -284,7 +288,7 @@ module _ (g : Setting) (has : HasRegisters g) (alive : Variable → Type 0) (n :
 
       code : Out → Draft → Made Out
       code dest after = message_to g.typed (layout g) whole (next_of g.typed (layout g) 32 true source) dest after
-  scan_valued bits (T.Enumerate ty axis direction way mode bit) most is c =
+  scan_valued bits (T.Enumerate ty axis direction way mode bit) some most is c =
       λ d s st here sim.
       follows_same g (Given g (λ q. number ones st q) st (ScanGiven bits ones d s st)) s refl (ap (λ (o : Option ℕ). then_make (fresh_for o 32 d) (λ dest begun. lowest bits (code dest begun))) is.0.0)
       (own_given bits ones (λ after. code (O.Field (next_field set 32 d)) after) d s st most here sim (ones_message g has alive n ready places fields set ty axis direction way mode bit is.0 is.1 c (next_field set 32 d) refl))
@@ -294,19 +298,20 @@ module _ (g : Setting) (has : HasRegisters g) (alive : Variable → Type 0) (n :
 
       code : Out → Draft → Made Out
       code dest after = communicated g.typed (layout g) ones O.Nothing [] dest after
-  scan_valued bits (T.Convert' ty p operand) most is c = converted_valued bits ty p operand most is c (scan_valued bits operand most is.1 (convert_part g alive n places fields ty p operand c))
-  scan_valued bits (T.Unary' ty op p operand) most is c = signed_valued bits ty op p operand most is (scan_valued bits operand most is.2 (unary_part g alive n places fields ty op p operand c))
-  scan_valued bits (T.Binary' ty place op p left q right) most is c =
+  scan_valued bits (T.Convert' ty p operand) some most is c = converted_valued bits ty p operand most is c (scan_valued bits operand some most is.1 (convert_part g alive n places fields ty p operand c))
+  scan_valued bits (T.Unary' ty op p operand) some most is c = signed_valued bits ty op p operand most is (scan_valued bits operand some most is.2 (unary_part g alive n places fields ty op p operand c))
+  scan_valued bits (T.Binary' ty place op p left q right) some most is c =
       let parts = binary_parts g alive n places fields ty place op p q left right c in
       let works = (operation_most bits op right most).1 in
-      operated_valued bits ty place op p q left right most is c (λ scans. scan_valued (operation_bits bits op right) left works scans parts.0) (λ scans. scan_valued (operation_bits bits op right) right works scans parts.1)
-  scan_valued bits _ most is c = absurd is
+      let more : 0 < operation_bits bits op right = (let less = (operation_most bits op right most).0 in omega (arith, some, less)) in
+      operated_valued bits ty place op p q left right some most is c (λ scans. scan_valued (operation_bits bits op right) left more works scans parts.0) (λ scans. scan_valued (operation_bits bits op right) right more works scans parts.1)
+  scan_valued bits _ some most is c = absurd is
 
   -- moved to a field of as many bits
-  scan_moved : (f : Field) (bits : ℕ) (e : TExpr) → bits ≤ 32 → f.len ≡ bits → IsScan set e → HasItsCode g.typed g.instance alive n e → Puts_ f e (λ d. moved g.typed (layout g) (O.Field f) e d)
+  scan_moved : (f : Field) (bits : ℕ) (e : TExpr) → 0 < bits → bits ≤ 32 → f.len ≡ bits → IsScan set e → HasItsCode g.typed g.instance alive n e → Puts_ f e (λ d. moved g.typed (layout g) (O.Field f) e d)
   unfolding moved bits_for put_value put_in_field Extends step_of
-  scan_moved f bits e most long is c bound d s st less here sim Q last ended =
-      from_scan f.len e f (λ a. I.Move true f a) (λ v after. put_value (O.Field f) v after) (λ q. number e st q) bound d s st (λ a. refl) (λ a. refl) grows (λ a after. refl) (λ a t numbers. puts_move g f.len set true f a t (λ q. number e st q) refl numbers) is (scan_valued f.len e (omega (arith, most, long)) is c) less here sim Q last ended
+  scan_moved f bits e some most long is c bound d s st less here sim Q last ended =
+      from_scan f.len e f (λ a. I.Move true f a) (λ v after. put_value (O.Field f) v after) (λ q. number e st q) bound d s st (λ a. refl) (λ a. refl) grows (λ a after. refl) (λ a t numbers. puts_move g f.len set true f a t (λ q. number e st q) refl numbers) is (scan_valued f.len e (omega (arith, some, long)) (omega (arith, most, long)) is c) less here sim Q last ended
     where
       grows : (x : Out) (after : Draft) → Extends g after (put_value (O.Field f) x after)
       grows (O.Scalar r) after = (1, and_one g (I.MoveConstant f (K.Reg r)) after)
@@ -314,16 +319,16 @@ module _ (g : Setting) (has : HasRegisters g) (alive : Variable → Type 0) (n :
       grows O.Nothing after = tt
 
   -- a sign before it
-  signed_computed : (f : Field) (bits : ℕ) (ty : ValueType) (op : UnaryOp) (p : Boxed) (operand : TExpr) → bits ≤ 32 → f.len ≡ bits → IsScan set (T.Unary' ty op p operand) → HasItsCode g.typed g.instance alive n operand → Puts_ f operand (λ d. computed_to g.typed (layout g) (O.Field f) operand d)
+  signed_computed : (f : Field) (bits : ℕ) (ty : ValueType) (op : UnaryOp) (p : Boxed) (operand : TExpr) → 0 < bits → bits ≤ 32 → f.len ≡ bits → IsScan set (T.Unary' ty op p operand) → HasItsCode g.typed g.instance alive n operand → Puts_ f operand (λ d. computed_to g.typed (layout g) (O.Field f) operand d)
       → Puts_ f (T.Unary' ty op p operand) (λ d. computed_to g.typed (layout g) (O.Field f) (T.Unary' ty op p operand) d)
   unfolding IsScan computed_to scanned_in is_plus negates unary_bits bits_for done_as unary_of
-  signed_computed f bits ty U.Plus p operand most long is c whole bound d s st less here sim Q last ended =
+  signed_computed f bits ty U.Plus p operand some most long is c whole bound d s st less here sim Q last ended =
       whole bound d s st less here sim Q (λ given e2 i within passes puts. last (signed_gives ty U.Plus p operand st is.0.0 given) e2 i within passes puts) (λ early. ended (unary_ended g has alive n ready places fields ty U.Plus p operand s st early))
-  signed_computed f bits ty U.Minus p operand most long is c whole bound d s st less here sim Q last ended =
-      signed_from f.len U.Minus f operand bound d s st (omega (arith, most, long)) (refl, refl) refl is.2 (scan_valued f.len operand (omega (arith, most, long)) is.2 c) less here sim Q (λ given e2 i within passes puts. last (signed_gives ty U.Minus p operand st is.0.0 given) e2 i within passes puts) (λ early. ended (unary_ended g has alive n ready places fields ty U.Minus p operand s st early))
-  signed_computed f bits ty U.Complement p operand most long is c whole bound d s st less here sim Q last ended =
-      signed_from f.len U.Complement f operand bound d s st (omega (arith, most, long)) (refl, refl) refl is.2 (scan_valued f.len operand (omega (arith, most, long)) is.2 c) less here sim Q (λ given e2 i within passes puts. last (signed_gives ty U.Complement p operand st is.0.0 given) e2 i within passes puts) (λ early. ended (unary_ended g has alive n ready places fields ty U.Complement p operand s st early))
-  signed_computed f bits ty U.Not p operand most long is c whole bound d s st less here sim Q last ended = absurd (let wrong = is.1 in cc)
+  signed_computed f bits ty U.Minus p operand some most long is c whole bound d s st less here sim Q last ended =
+      signed_from f.len U.Minus f operand bound d s st (omega (arith, most, long)) (refl, refl) refl is.2 (scan_valued f.len operand (omega (arith, some, long)) (omega (arith, most, long)) is.2 c) less here sim Q (λ given e2 i within passes puts. last (signed_gives ty U.Minus p operand st is.0.0 given) e2 i within passes puts) (λ early. ended (unary_ended g has alive n ready places fields ty U.Minus p operand s st early))
+  signed_computed f bits ty U.Complement p operand some most long is c whole bound d s st less here sim Q last ended =
+      signed_from f.len U.Complement f operand bound d s st (omega (arith, most, long)) (refl, refl) refl is.2 (scan_valued f.len operand (omega (arith, some, long)) (omega (arith, most, long)) is.2 c) less here sim Q (λ given e2 i within passes puts. last (signed_gives ty U.Complement p operand st is.0.0 given) e2 i within passes puts) (λ early. ended (unary_ended g has alive n ready places fields ty U.Complement p operand s st early))
+  signed_computed f bits ty U.Not p operand some most long is c whole bound d s st less here sim Q last ended = absurd (let wrong = is.1 in cc)
 
   -- Of a value that is converted to a type of at least so many bits, as many of its lowest bits are those of the operand.
   converted_computed : (f : Field) (bits : ℕ) (ty : ValueType) (p : Boxed) (operand : TExpr) → bits ≤ 32 → f.len ≡ bits → ty.shape ≡ Some set → (ty.elem.bits == 1) ≡ false → bits ≤ ty.elem.bits → (type_of operand).elem.bits ≡ 32 → HasItsCode g.typed g.instance alive n (T.Convert' ty p operand)
@@ -349,10 +354,10 @@ module _ (g : Setting) (has : HasRegisters g) (alive : Variable → Type 0) (n :
           (ap (λ (m : ℕ). m % 2 ^ f.len) cut ∙ cut_cut (number operand st q) f.len ty.elem.bits fits, within_word ty.elem (number (T.Convert' ty p operand) st q) low)
 
   -- an operator
-  operated_computed : (f : Field) (bits : ℕ) (ty : ValueType) (place : Place) (op : Op) (p q : Boxed) (left right : TExpr) → bits ≤ 32 → f.len ≡ bits → f.set ≡ set → IsScan set (T.Binary' ty place op p left q right) → HasItsCode g.typed g.instance alive n (T.Binary' ty place op p left q right)
+  operated_computed : (f : Field) (bits : ℕ) (ty : ValueType) (place : Place) (op : Op) (p q : Boxed) (left right : TExpr) → 0 < bits → bits ≤ 32 → f.len ≡ bits → f.set ≡ set → IsScan set (T.Binary' ty place op p left q right) → HasItsCode g.typed g.instance alive n (T.Binary' ty place op p left q right)
       → Puts_ f (T.Binary' ty place op p left q right) (λ d. computed_to g.typed (layout g) (O.Field f) (T.Binary' ty place op p left q right) d)
   unfolding computed_to binary_to field_binary_to field_binary_of then_make an_entry passes_from passes_less IsScan fits_field scanned_in
-  operated_computed f bits ty place op p q left right most long on is c bound d s st less here sim Q last ended = by (operation_bits f.len op right == f.len) refl
+  operated_computed f bits ty place op p q left right some most long on is c bound d s st less here sim Q last ended = by (operation_bits f.len op right == f.len) refl
     where
       whole : TExpr
       whole = T.Binary' ty place op p left q right
@@ -362,6 +367,9 @@ module _ (g : Setting) (has : HasRegisters g) (alive : Variable → Type 0) (n :
 
       few : f.len ≤ 32
       few = omega (arith, most, long)
+
+      more : 0 < f.len
+      more = omega (arith, some, long)
 
       fitting : Bool → Made Out
       fitting b = if b then then_make (a_field f.set (operand_bits f.len op left right) d) (λ spare after. field_binary_of g.typed (layout g) f.len op place left right f spare after) else moved g.typed (layout g) (O.Field f) whole d
@@ -377,16 +385,16 @@ module _ (g : Setting) (has : HasRegisters g) (alive : Variable → Type 0) (n :
           ∙ ap (λ (k : ℕ). then_make (a_field k (operand_bits f.len op left right) d) (λ spare after. field_binary_of g.typed (layout g) f.len op place left right f spare after)) on
           ∙ ap (λ (k : ℕ). then_make (a_field set k d) (λ spare after. fields_by op (reads_signed op left right) place f spare (operand_by g.typed (layout g) k (value_of g.typed (layout g) k left) (is_quiet right) left) left (operand_by g.typed (layout g) k (value_of g.typed (layout g) k right) true right) right after)) (wide_operands f.len op left right is.1.0 ∙ works)
           ∙ ap (λ (signed : Bool). fields_by op signed place f (next_field set f.len d) (next_of g.typed (layout g) f.len (is_quiet right) left) left (next_of g.typed (layout g) f.len true right) right (with_entry set f.len W.Own d)) (signed_as op left right is.1.0 is.3.1))
-          (sides_after g has alive n ready places fields set f.len ty place op p q f left right d s st few is.0.0 is.1 (λ divided. sym works ∙ divides_wide f.len op right divided) (λ x. subst (λ (k : ℕ). Keeps op (type_of left).elem.signed k (number right st x)) works (right_keeps g has alive n ready places fields set f.len op (type_of left).elem.signed right st s sim few is.1 (right_side set left right is.2) is.4 parts.1 x)) refl
-          is.2 is.3 is.4 parts.0 parts.1 (λ scans. scan_valued f.len left few scans parts.0) (λ scans. scan_valued f.len right few scans parts.1) here sim Q
+          (sides_after g has alive n ready places fields set f.len ty place op p q f left right d s st more few is.0.0 is.1 (λ divided. sym works ∙ divides_wide f.len op right divided) (λ x. subst (λ (k : ℕ). Keeps op (type_of left).elem.signed k (number right st x)) works (right_keeps g has alive n ready places fields set f.len op (type_of left).elem.signed right st s sim few is.1 (right_side set left right is.2) is.4 parts.1 x)) refl
+          is.2 is.3 is.4 parts.0 parts.1 (λ scans. scan_valued f.len left more few scans parts.0) (λ scans. scan_valued f.len right more few scans parts.1) here sim Q
           (λ given e2 i within passes puts. last given e2 i within (passes_less g alive bound (length d.fields) d e2 s st (Unit {0}) less (passes_from g alive (length d.fields) d (with_entry set f.len W.Own d) e2 s st (Unit {0}) (and_entry set f.len W.Own d) passes)) puts) ended)
-      by false other = after_same g Q (chosen false other) (scan_moved f bits whole most long is c bound d s st less here sim Q last ended)
+      by false other = after_same g Q (chosen false other) (scan_moved f bits whole some most long is c bound d s st less here sim Q last ended)
 
   -- a scan becomes the value of a field: one of 32 bits by the scan itself
-  scan_computed : (f : Field) (bits : ℕ) (e : TExpr) → bits ≤ 32 → f.len ≡ bits → f.set ≡ set → IsScan set e → HasItsCode g.typed g.instance alive n e → Puts_ f e (λ d. computed_to g.typed (layout g) (O.Field f) e d)
+  scan_computed : (f : Field) (bits : ℕ) (e : TExpr) → 0 < bits → bits ≤ 32 → f.len ≡ bits → f.set ≡ set → IsScan set e → HasItsCode g.typed g.instance alive n e → Puts_ f e (λ d. computed_to g.typed (layout g) (O.Field f) e d)
   unfolding IsScan computed_to scanned_in evaluated bits_for
-  scan_computed f bits (T.Brackets' ty p inner) most long on is c = scan_computed f bits inner most long on is.1 (brackets_part g alive n places fields ty p inner c)
-  scan_computed f bits (T.Scan' ty p source axis combiner direction mode bit way) most long on is c =
+  scan_computed f bits (T.Brackets' ty p inner) some most long on is c = scan_computed f bits inner some most long on is.1 (brackets_part g alive n places fields ty p inner c)
+  scan_computed f bits (T.Scan' ty p source axis combiner direction mode bit way) some most long on is c =
       λ bound d s st less here sim Q last ended.
       by_bits (f.len == 32) refl bound d s st less here sim Q last ended
     where
@@ -397,7 +405,7 @@ module _ (g : Setting) (has : HasRegisters g) (alive : Variable → Type 0) (n :
       part = (source_part g has alive n ready places fields set ty p source axis combiner direction mode bit way c).0
 
       given : SourceGiven g has alive n ready places fields set source
-      given = scan_source source is.2 part (λ scans. scan_valued 32 source (omega arith) scans part) (λ scans s st sim q. scan_words source st s sim scans part q) is.1
+      given = scan_source source is.2 part (λ scans. scan_valued 32 source (omega arith) (omega arith) scans part) (λ scans s st sim q. scan_words source st s sim scans part q) is.1
 
       code : Bool → Draft → Made Out
       code b d = if b then gone_to (O.Field f) (message_to g.typed (layout g) whole (next_of g.typed (layout g) 32 true source) (O.Field f) d) else moved g.typed (layout g) (O.Field f) whole d
@@ -406,12 +414,12 @@ module _ (g : Setting) (has : HasRegisters g) (alive : Variable → Type 0) (n :
       by_bits true wide bound d s st less here sim Q last ended =
           after_same g Q (ap (λ (b : Bool). code b d) wide)
           (gone_same g has alive n ready places fields (O.Field f) Q _ (scan_message g has alive n ready places fields set ty p source axis combiner direction mode bit way is.0 given is.2 is.3 is.4 c f on bound d s st less here sim (λ out e. Q (O.Field f) e) last (λ early x after. ended early (O.Field f) after)))
-      by_bits false narrow bound d s st less here sim Q last ended = after_same g Q (ap (λ (b : Bool). code b d) narrow) (scan_moved f bits whole most long is c bound d s st less here sim Q last ended)
-  scan_computed f bits (T.Enumerate ty axis direction way mode bit) most long on is c = scan_moved f bits (T.Enumerate ty axis direction way mode bit) most long is c
-  scan_computed f bits (T.Convert' ty p operand) most long on is c = converted_computed f bits ty p operand most long is.0.0 (no_flag ty.elem is.0.1) (let wide = is.0.1 in omega (arith, wide, most)) (scan_shape set operand is.1).1 c (scan_computed f bits operand most long on is.1 (convert_part g alive n places fields ty p operand c))
-  scan_computed f bits (T.Unary' ty op p operand) most long on is c = let part = unary_part g alive n places fields ty op p operand c in signed_computed f bits ty op p operand most long is part (scan_computed f bits operand most long on is.2 part)
-  scan_computed f bits (T.Binary' ty place op p left q right) most long on is c = operated_computed f bits ty place op p q left right most long on is c
-  scan_computed f bits _ most long on is c = absurd is
+      by_bits false narrow bound d s st less here sim Q last ended = after_same g Q (ap (λ (b : Bool). code b d) narrow) (scan_moved f bits whole some most long is c bound d s st less here sim Q last ended)
+  scan_computed f bits (T.Enumerate ty axis direction way mode bit) some most long on is c = scan_moved f bits (T.Enumerate ty axis direction way mode bit) some most long is c
+  scan_computed f bits (T.Convert' ty p operand) some most long on is c = converted_computed f bits ty p operand most long is.0.0 (no_flag ty.elem is.0.1) (let wide = is.0.1 in omega (arith, wide, most)) (scan_shape set operand is.1).1 c (scan_computed f bits operand some most long on is.1 (convert_part g alive n places fields ty p operand c))
+  scan_computed f bits (T.Unary' ty op p operand) some most long on is c = let part = unary_part g alive n places fields ty op p operand c in signed_computed f bits ty op p operand some most long is part (scan_computed f bits operand some most long on is.2 part)
+  scan_computed f bits (T.Binary' ty place op p left q right) some most long on is c = operated_computed f bits ty place op p q left right some most long on is c
+  scan_computed f bits _ some most long on is c = absurd is
 
   pub scanned_small : (bits : ℕ) (e : TExpr) (st : State) (s : CodeState) → Sim g alive st s → IsScanned set bits e → HasItsCode g.typed g.instance alive n e → (q : ℕ) → number e st q < 2 ^ (type_of e).elem.bits
   unfolding IsScanned scanned_in
@@ -420,14 +428,14 @@ module _ (g : Setting) (has : HasRegisters g) (alive : Variable → Type 0) (n :
   scanned_small bits e st s sim is c q = below_bits (type_of e).elem.bits _ (scan_shape set e is).1 (scan_words e st s sim is c q)
 
   -- so does one that is converted
-  scanned_computed : (f : Field) (bits : ℕ) (e : TExpr) → bits ≤ 32 → f.len ≡ bits → f.set ≡ set → IsScanned set bits e → HasItsCode g.typed g.instance alive n e → Puts_ f e (λ d. computed_to g.typed (layout g) (O.Field f) e d)
+  scanned_computed : (f : Field) (bits : ℕ) (e : TExpr) → 0 < bits → bits ≤ 32 → f.len ≡ bits → f.set ≡ set → IsScanned set bits e → HasItsCode g.typed g.instance alive n e → Puts_ f e (λ d. computed_to g.typed (layout g) (O.Field f) e d)
   unfolding IsScanned computed_to scanned_in evaluated
-  scanned_computed f bits (T.Brackets' ty p inner) most long on is c = scanned_computed f bits inner most long on is.1 (brackets_part g alive n places fields ty p inner c)
-  scanned_computed f bits (T.Convert' ty p operand) most long on is c = converted_computed f bits ty p operand most long is.0 is.1 is.2 (scan_shape set operand is.3).1 c (scan_computed f bits operand most long on is.3 (convert_part g alive n places fields ty p operand c))
-  scanned_computed f bits e most long on is c = scan_computed f bits e most long on is c
+  scanned_computed f bits (T.Brackets' ty p inner) some most long on is c = scanned_computed f bits inner some most long on is.1 (brackets_part g alive n places fields ty p inner c)
+  scanned_computed f bits (T.Convert' ty p operand) some most long on is c = converted_computed f bits ty p operand most long is.0 is.1 is.2 (scan_shape set operand is.3).1 c (scan_computed f bits operand some most long on is.3 (convert_part g alive n places fields ty p operand c))
+  scanned_computed f bits e some most long on is c = scan_computed f bits e some most long on is c
 
-  pub scanned_last : (f : Field) (bits : ℕ) (e : TExpr) → bits ≤ 32 → f.len ≡ bits → f.set ≡ set → IsScanned set bits e → HasItsCode g.typed g.instance alive n e → Puts_ f e (λ d. put_to g.typed (layout g) (O.Field f) e d)
+  pub scanned_last : (f : Field) (bits : ℕ) (e : TExpr) → 0 < bits → bits ≤ 32 → f.len ≡ bits → f.set ≡ set → IsScanned set bits e → HasItsCode g.typed g.instance alive n e → Puts_ f e (λ d. put_to g.typed (layout g) (O.Field f) e d)
   unfolding put_to word_for
-  scanned_last f bits e most long on is c bound d s st less here sim Q last ended =
+  scanned_last f bits e some most long on is c bound d s st less here sim Q last ended =
       after_same g Q (ap (λ (o : Option ℕ). elim o as (λ _. Made Out) [ Some word ↦ word_put (O.Field f) word d | None ↦ computed_to g.typed (layout g) (O.Field f) e d ]) (scanned_word set bits e is))
-      (scanned_computed f bits e most long on is c bound d s st less here sim Q last ended)
+      (scanned_computed f bits e some most long on is c bound d s st less here sim Q last ended)

@@ -1,11 +1,12 @@
 -- The numbers of parallel values are numbers of their types.
-use Rattle.std.proofs.Common.{◌≡◌, ℕ, ◌<◌, ◌^◌, Option, Some, None, ◌⊎◌, inl, inr, sym, ap, subst}
+use Rattle.std.proofs.Common.{◌≡◌, ℕ, ◌<◌, ◌^◌, true, false, not, Option, Some, None, ◌⊎◌, inl, inr, sym, ap, subst}
 use Rattle.cstar_base.specs.declared.elem.Elem.{Elem}
 use Rattle.cstar_base.specs.declared.operators.Op.{Op}
 use Rattle.cstar_base.specs.declared.operators.Place.{Place}
 use Rattle.cstar_tree.specs.declared.typed.TExpr.{TExpr}
 use Rattle.cstar_tree.specs.declared.typed.TExpr as T
 use Rattle.cstar_tree.specs.declared.typed.UnaryOp.{UnaryOp}
+use Rattle.cstar_tree.specs.declared.typed.UnaryOp.TheVariants as U
 use Rattle.cstar_tree.specs.declared.typed.ValueType.{ValueType}
 use Rattle.cstar_tree.specs.declared.typed.Variable.{Variable}
 use Rattle.cstar_tree.specs.declared.typed.Variable.TheVariants as V
@@ -15,7 +16,9 @@ use Rattle.cstar_tree.specs.Typed.{type_of}
 use Rattle.code_lengths.specs.Lowerable.{IsLowerable}
 use Rattle.code_lengths.specs.Naming.{NamesVariables, plain}
 use Rattle.code_lengths.specs.Shaped.{IsShaped}
-use Rattle.constant_trees.proofs.Words.{converted_below, unary_below}
+use Rattle.constant_trees.proofs.Words.{converted_below, from_bool_below, unary_below}
+use Rattle.cstar_base.specs.Operators.{outcome}
+use Rattle.lower_base.specs.Operators.{negates}
 use Rattle.paris_code.specs.Code.{CodeState}
 use Rattle.source_meaning.specs.State as Source
 use Rattle.source_meaning.specs.State.{State, Outcome}
@@ -24,7 +27,7 @@ use Rattle.code_follows.specs.Fragment.{ScalarsAmong}
 use Rattle.code_follows.proofs.Following.{Sim}
 use Rattle.code_follows.proofs.Settings.{Setting}
 use Rattle.code_follows.proofs.Words.{below_bits, below_word, held_wide}
-use Rattle.fields_follow.specs.Fragment.{IsCalm, IsConstant, IsPromoted, IsPure, IsWide}
+use Rattle.fields_follow.specs.Fragment.{HasKnownKind, IsCalm, IsConstant, IsOperation, IsPromoted, IsPure, IsRelation, IsWide}
 use Rattle.fields_follow.proofs.Forms.{HasItsCode, element_is}
 use Rattle.fields_follow.proofs.Instructions.{extents, operation_below}
 use Rattle.fields_follow.proofs.Meaning.{computed_in, nobody, nowhere, scalar_in, value_in, word_at, given_in}
@@ -34,7 +37,8 @@ use Rattle.std.proofs.lemmas.Nat.{pow_pos}
 use Rattle.fields_follow.proofs.Calm.{IsCalmly, calm_gives}
 use Rattle.source_meaning.specs.Constants.{constant_of}
 use Rattle.source_meaning.specs.Expressions.{evaluated}
-use Rattle.source_meaning.specs.Values.{Value, at}
+use Rattle.source_meaning.specs.Values.{Value, at, unary_of}
+use Rattle.fields_follow.proofs.TestFlags.{is_truth}
 
 -- what is given is a number of the type
 number_small : (bits : ℕ) (st : State) (o : Outcome Value) (q : ℕ) → IsCalmly bits st o → at (given_in o) q < 2 ^ bits
@@ -75,17 +79,26 @@ module _ (g : Setting) (alive : Variable → Type 0) (n : ℕ) (places : PlacesF
   promoted_small set _ st s sim is c q = absurd is
 
   pub value_small : (set : ℕ) (e : TExpr) (st : State) (s : CodeState) → Sim g alive st s → IsPure set e → HasItsCode g.typed g.instance alive n e → (q : ℕ) → value_in (extents g set) st e q < 2 ^ (type_of e).elem.bits
-  unfolding IsPure value_in NamesVariables
+  unfolding IsPure value_in unary_of negates NamesVariables
   value_small set (T.Variable ty (V.File k)) st s sim is c q =
       small_there g alive places fields set k (variable_info c.code.names.word (plain ty) c.code.names.start) st s (element_is g.typed g.instance n k set ty is c.code.names) sim q
   value_small set (T.Brackets' ty p inner) st s sim is c q = subst (λ (y : ValueType). value_in (extents g set) st inner q < 2 ^ y.elem.bits) (sym is.0) (value_small set inner st s sim is.1 (brackets_part ty p inner c) q)
-  value_small set (T.Unary' ty op p operand) st s sim is c q =
-      below_bits ty.elem.bits _ is.0.1 (unary_below op (value_in (extents g set) st operand q) (below_word (type_of operand).elem.bits _ is.3.1 (value_small set operand st s sim is.2 (unary_part ty op p operand c) q)))
+  value_small set (T.Unary' ty op p operand) st s sim is c q = below_bits ty.elem.bits _ is.0.1 (by is.1 (value_small set operand st s sim is.2 (unary_part ty op p operand c) q))
+    where
+      truth : (op : UnaryOp) → negates op ≡ true → unary_of op (value_in (extents g set) st operand q) < 2 ^ 32
+      truth U.Not e = from_bool_below _
+      truth U.Plus e = cc
+      truth U.Minus e = cc
+      truth U.Complement e = cc
+
+      by : ((negates op ≡ false) × IsWide set (type_of operand)) ⊎ ((negates op ≡ true) × HasKnownKind operand) → value_in (extents g set) st operand q < 2 ^ (type_of operand).elem.bits → unary_of op (value_in (extents g set) st operand q) < 2 ^ 32
+      by (inl h) few = unary_below op (value_in (extents g set) st operand q) (below_word (type_of operand).elem.bits _ h.1.1 few)
+      by (inr h) few = truth op h.0
+  value_small set (T.LogicalOr' ty p left r right) st s sim is c q = below_bits ty.elem.bits _ is.0.1 (from_bool_below _)
+  value_small set (T.LogicalAnd' ty p left r right) st s sim is c q = below_bits ty.elem.bits _ is.0.1 (from_bool_below _)
   value_small set (T.Binary' ty place op p left r right) st s sim is c q =
       let parts = binary_parts ty place op p r left right c in
-      below_bits ty.elem.bits _ is.0.1
-      (operation_below op (type_of left).elem.signed (value_in (extents g set) st left q) (value_in (extents g set) st right q) is.1.0
-      (left_small is.2 parts.0 (λ pure. value_small set left st s sim pure parts.0 q)) (right_small is.2 parts.1 (λ pure. value_small set right st s sim pure parts.1 q)))
+      below_bits ty.elem.bits _ is.0.1 (by is.1 (left_small is.2 parts.0 (λ pure. value_small set left st s sim pure parts.0 q)) (right_small is.2 parts.1 (λ pure. value_small set right st s sim pure parts.1 q)))
     where
       Operands : Type 0
       Operands = (IsPure set left × (IsPure set right ⊎ IsPromoted set right)) ⊎ (IsPromoted set left × IsPure set right)
@@ -104,6 +117,10 @@ module _ (g : Setting) (alive : Variable → Type 0) (n : ℕ) (places : PlacesF
 
       right_small : Operands → HasItsCode g.typed g.instance alive n right → (IsPure set right → value_in (extents g set) st right q < 2 ^ (type_of right).elem.bits) → value_in (extents g set) st right q < 2 ^ 32
       right_small h code small = pure_or_not (by_right h) code small
+
+      by : IsOperation op right ⊎ IsRelation set op left right → value_in (extents g set) st left q < 2 ^ 32 → value_in (extents g set) st right q < 2 ^ 32 → outcome op 32 (not (type_of left).elem.signed) (value_in (extents g set) st left q) (value_in (extents g set) st right q) < 2 ^ 32
+      by (inl h) one other = operation_below op (type_of left).elem.signed (value_in (extents g set) st left q) (value_in (extents g set) st right q) h.0 one other
+      by (inr h) one other = subst (λ (w : ℕ). w < 2 ^ 32) (sym (is_truth op 32 (not (type_of left).elem.signed) (value_in (extents g set) st left q) (value_in (extents g set) st right q) h.0)) (from_bool_below _)
   value_small set (T.Convert' ty p operand) st s sim is c q = converted_below ty.elem (type_of operand).elem (value_in (extents g set) st operand q)
   value_small set (T.Pcoord ty axis) st s sim is c q = below_bits ty.elem.bits _ is.1 (places.few set axis q)
   value_small set (T.LeftIndex' ty place p indexes (V.File k) of) st s sim is c q =

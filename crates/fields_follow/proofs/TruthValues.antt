@@ -1,7 +1,7 @@
 -- What is known of truth values, which are 0 or 1, and of conversions to `bool`.
-use Rattle.std.proofs.Common.{◌≡◌, ◌≢◌, ◌∙◌, ℕ, ℤ, pos, zero, suc, ◌-◌, ◌<◌, ◌≤◌, ◌^◌, ◌==◌, ◌&&◌, ◌⊎◌, Bool, true, false, not, Option, Some, None, refl, sym, ap, arith, inl, inr, lit<, if◌then◌else◌}
+use Rattle.std.proofs.Common.{◌≡◌, ◌≢◌, ◌∙◌, ℕ, ℤ, pos, zero, suc, ◌-◌, ◌<◌, ◌≤◌, ◌^◌, ◌==◌, ◌⊎◌, Bool, true, false, not, Some, None, refl, sym, ap, arith, inl, inr, lit<, if◌then◌else◌}
 use Rattle.std.specs.Int.{from_bool}
-use Rattle.std.specs.Prelude.{nat_le, nat_lt, negsuc}
+use Rattle.std.specs.Prelude.{nat_le, negsuc}
 use Rattle.std.proofs.lemmas.Nat.{pow_pos}
 use Rattle.std.proofs.lemmas.Bool.{cases_eq, eqb-true}
 use Rattle.std.proofs.lemmas.Bool.Decides.{nat_tests}
@@ -13,16 +13,15 @@ use Rattle.cstar_tree.specs.declared.typed.TExpr.{TExpr}
 use Rattle.cstar_tree.specs.declared.typed.TExpr as T
 use Rattle.cstar_tree.specs.declared.typed.UnaryOp.{UnaryOp}
 use Rattle.cstar_tree.specs.declared.typed.UnaryOp.TheVariants as U
-use Rattle.lower_base.specs.Kinds.{binary_kind, bits_of, common_kind, converted_kind, has_all, is_bitwise, kind_of, narrow, truth_type as truth_kind}
 use Rattle.lower_base.specs.Operators.{negates, relates}
+use Rattle.lower_expr.specs.Operands.{is_plus}
 use Rattle.lower_expr.specs.Steps.{word_of}
-use Rattle.lower_expr.specs.Values.{flag_of}
 use Rattle.short_values.proofs.NarrowTypes.{bool_unsigned}
 use Rattle.source_meaning.specs.State.{State}
 use Rattle.source_meaning.specs.Values.{nonzero, unary_of}
 use Rattle.code_follows.proofs.Numbers.{zero_converted}
 use Rattle.cstar_tree.specs.Typed.{type_of}
-use Rattle.fields_follow.specs.Fragment.{HasItsKind, IsCondition, IsNarrowed, IsPure, IsRelation, IsTruth}
+use Rattle.fields_follow.specs.Fragment.{HasKnownKind, IsCondition, IsOperation, IsPure, IsRelation, IsWide}
 use Rattle.fields_follow.proofs.Instructions.{extents, place}
 use Rattle.fields_follow.proofs.Meaning.{value_in}
 use Rattle.fields_follow.proofs.TestFlags.{is_truth, truth_is}
@@ -45,7 +44,7 @@ one_number from = by from.signed refl
         by_cases (inl one) no_one = absurd (no_one one)
         by_cases (inr other) no_one = grind (arith, nat_tests, some, other)
 
-bit_converted : (to from : Elem) (b : Bool) → converted to from (from_bool b) ≡ from_bool b
+pub bit_converted : (to from : Elem) (b : Bool) → converted to from (from_bool b) ≡ from_bool b
 unfolding converted truth_number
 bit_converted to from false = zero_converted to from
 bit_converted to from true =
@@ -56,7 +55,7 @@ bit_converted to from true =
     by false = residue_of_pos to.bits 1 ∙ mod-eq_of_lt (let some = (kind_bits to.bits to.signed to.kind).0 in let least : 2 ^ 1 ≤ 2 ^ to.bits = pow-le-pow_right (lit< tt) some in omega (arith, least))
 
 -- a conversion to `bool` gives 0 or 1, by whether a number is 0
-bool_bit : (to from : Elem) (w : ℕ) → to.bits ≡ 1 → converted to from w ≡ from_bool (nonzero (converted to from w))
+pub bool_bit : (to from : Elem) (w : ℕ) → to.bits ≡ 1 → converted to from w ≡ from_bool (nonzero (converted to from w))
 unfolding converted truth_number
 bool_bit to from w one = is ∙ by (number_of from.bits from.signed w) ∙ ap (λ (n : ℕ). from_bool (nonzero n)) (sym is)
   where
@@ -83,79 +82,89 @@ bool_nonzero to from w one few = by (w == 0) refl (number_of from.bits from.sign
     by false some (pos (suc n)) number = ap not some ∙ sym (ap (λ (m : ℕ). nonzero m) (is ∙ ap truth_number number))
     by false some (negsuc n) number = ap not some ∙ sym (ap (λ (m : ℕ). nonzero m) (is ∙ ap truth_number number))
 
--- and is known to
-bool_flag : (elem : Elem) (k : Option Elem) → elem.bits ≡ 1 → (bits_of (converted_kind elem k) == 1) ≡ true
-unfolding bits_of converted_kind has_all narrow
-bool_flag elem None one = ap (λ (n : ℕ). bits_of (if n == 32 then None else Some elem) == 1) one ∙ ap (λ (n : ℕ). n == 1) one
-bool_flag elem (Some kind) one = by (has_all elem kind) refl
+-- A truth value that goes to so many bits: a relation, `!`, two values joined, one of these behind `+` or converted to
+-- other types than `bool` that have so many, or a value that is converted to `bool`.
+unfoldable pub IsTruth : ℕ → ℕ → TExpr → Type 0
+IsTruth set bits (T.Brackets' ty p inner) = (ty ≡ type_of inner) × IsTruth set bits inner
+IsTruth set bits (T.Convert' ty p operand) = (ty.shape ≡ Some set) × (((bits ≤ ty.elem.bits) × ((ty.elem.bits == 1) ≡ false) × IsTruth set bits operand) ⊎ ((ty.elem.bits ≡ 1) × IsCondition set operand))
+IsTruth set bits (T.Unary' ty op p operand) = IsWide set ty × (((is_plus op ≡ true) × IsTruth set bits operand) ⊎ ((negates op ≡ true) × IsCondition set operand))
+IsTruth set bits (T.LogicalOr' ty p left q right) = IsPure set (T.LogicalOr' ty p left q right)
+IsTruth set bits (T.LogicalAnd' ty p left q right) = IsPure set (T.LogicalAnd' ty p left q right)
+IsTruth set bits (T.Binary' ty place op p left q right) = (relates op ≡ true) × IsPure set (T.Binary' ty place op p left q right)
+IsTruth set bits _ = ⊥
+
+-- it is none
+unfoldable pub IsPlain : ℕ → TExpr → Type 0
+IsPlain bits (T.Brackets' ty p inner) = IsPlain bits inner
+IsPlain bits (T.Convert' ty p operand) = ((ty.elem.bits == 1) ≡ false) × (nat_le bits ty.elem.bits ≡ true → IsPlain bits operand)
+IsPlain bits (T.Unary' ty op p operand) = (negates op ≡ false) × (is_plus op ≡ true → IsPlain bits operand)
+IsPlain bits (T.LogicalOr' ty p left q right) = ⊥
+IsPlain bits (T.LogicalAnd' ty p left q right) = ⊥
+IsPlain bits (T.Binary' ty place op p left q right) = relates op ≡ false
+IsPlain bits _ = Unit {0}
+
+-- so each value is one of them
+pub truth_or_plain : (set bits : ℕ) (e : TExpr) → IsPure set e → IsTruth set bits e ⊎ IsPlain bits e
+unfolding IsPure IsTruth IsPlain negates is_plus
+truth_or_plain set bits (T.Brackets' ty p inner) is = by (truth_or_plain set bits inner is.1)
   where
-    plain : elem.signed ≡ false
-    plain = bool_unsigned elem.bits elem.signed elem.kind one
-
-    some : 0 < kind.bits
-    some = (kind_bits kind.bits kind.signed kind.kind).0
-
-    few : (c : Bool) → kind.signed ≡ c → (if c then elem.signed && nat_le kind.bits elem.bits else (if elem.signed then nat_lt kind.bits elem.bits else nat_le kind.bits elem.bits)) ≡ true → (kind.bits == 1) ≡ true
-    few true signed all = let wrong = sym (ap (λ (b : Bool). b && nat_le kind.bits elem.bits) plain) ∙ all in cc
-    few false signed all =
-        let less : nat_le kind.bits elem.bits ≡ true = sym (ap (λ (b : Bool). if b then nat_lt kind.bits elem.bits else nat_le kind.bits elem.bits) plain) ∙ all in
-        grind (arith, nat_tests, less, one, some)
-
-    by : (b : Bool) → has_all elem kind ≡ b → (bits_of (if has_all elem kind then Some kind else (if elem.bits == 32 then None else Some elem)) == 1) ≡ true
-    by true all = ap (λ (b : Bool). bits_of (if b then Some kind else (if elem.bits == 32 then None else Some elem)) == 1) all
-        ∙ few kind.signed refl (all)
-    by false less = ap (λ (b : Bool). bits_of (if b then Some kind else (if elem.bits == 32 then None else Some elem)) == 1) less ∙ ap (λ (n : ℕ). bits_of (if n == 32 then None else Some elem) == 1) one ∙ ap (λ (n : ℕ). n == 1) one
-
--- a conversion of one is known to be one
-converted_flag : (elem : Elem) (k : Option Elem) → (bits_of k == 1) ≡ true → (bits_of (converted_kind elem k) == 1) ≡ true
-unfolding bits_of converted_kind has_all
-converted_flag elem None h = cc
-converted_flag elem (Some kind) h = ap (λ (b : Bool). bits_of (if b then Some kind else narrow elem) == 1) all ∙ h
+    by : IsTruth set bits inner ⊎ IsPlain bits inner → IsTruth set bits (T.Brackets' ty p inner) ⊎ IsPlain bits (T.Brackets' ty p inner)
+    by (inl truth) = inl (is.0, truth)
+    by (inr plain) = inr plain
+truth_or_plain set bits (T.Convert' ty p operand) is = by is.1 (truth_or_plain set bits operand is.2) (nat_le bits ty.elem.bits) refl
   where
-    one : kind.bits ≡ 1
-    one = eqb-true kind.bits 1 h
-
-    plain : kind.signed ≡ false
-    plain = bool_unsigned kind.bits kind.signed kind.kind one
-
-    some : 0 < elem.bits
-    some = (kind_bits elem.bits elem.signed elem.kind).0
-
-    by : (b : Bool) → elem.signed ≡ b → (if b then nat_lt kind.bits elem.bits else nat_le kind.bits elem.bits) ≡ true
-    by false e = grind (arith, nat_tests, one, some)
-    by true e =
-        let several : elem.bits ≡ 1 → ⊥ = λ bit. (let wrong = sym (bool_unsigned elem.bits elem.signed elem.kind bit) ∙ e in cc) in
-        by_cases (cases_eq elem.bits 1) several
-      where
-        by_cases : (elem.bits ≡ 1) ⊎ (elem.bits ≢ 1) → (elem.bits ≡ 1 → ⊥) → nat_lt kind.bits elem.bits ≡ true
-        by_cases (inl bit) no_bit = absurd (no_bit bit)
-        by_cases (inr other) no_bit = grind (arith, nat_tests, one, some, other)
-
-    all : has_all elem kind ≡ true
-    all = ap (λ (b : Bool). if b then elem.signed && nat_le kind.bits elem.bits else (if elem.signed then nat_lt kind.bits elem.bits else nat_le kind.bits elem.bits)) plain ∙ by elem.signed refl
+    by : ((ty.elem.bits == 1) ≡ false) ⊎ ((ty.elem.bits ≡ 1) × HasKnownKind operand) → IsTruth set bits operand ⊎ IsPlain bits operand → (b : Bool) → nat_le bits ty.elem.bits ≡ b → IsTruth set bits (T.Convert' ty p operand) ⊎ IsPlain bits (T.Convert' ty p operand)
+    by (inr bool) any b e = inl (is.0, inr (bool.0, (is.2, bool.1)))
+    by (inl other) (inl truth) true e = inl (is.0, inl (grind (arith, nat_tests, e), other, truth))
+    by (inl other) (inl truth) false e = inr (other, λ enough. let wrong = sym e ∙ enough in cc)
+    by (inl other) (inr plain) b e = inr (other, λ enough. plain)
+truth_or_plain set bits (T.Unary' ty op p operand) is = by op is.1 (truth_or_plain set bits operand is.2)
+  where
+    by : (op : UnaryOp) → ((negates op ≡ false) × IsWide set (type_of operand)) ⊎ ((negates op ≡ true) × HasKnownKind operand) → IsTruth set bits operand ⊎ IsPlain bits operand → IsTruth set bits (T.Unary' ty op p operand) ⊎ IsPlain bits (T.Unary' ty op p operand)
+    by op (inr h) any = inl (is.0, inr (h.0, (is.2, h.1)))
+    by U.Plus (inl h) (inl truth) = inl (is.0, inl (refl, truth))
+    by U.Plus (inl h) (inr plain) = inr (refl, λ plus. plain)
+    by U.Minus (inl h) any = inr (refl, λ plus. cc)
+    by U.Complement (inl h) any = inr (refl, λ plus. cc)
+    by U.Not (inl h) any = let wrong = h.0 in cc
+truth_or_plain set bits (T.LogicalOr' ty p left q right) is = inl is
+truth_or_plain set bits (T.LogicalAnd' ty p left q right) is = inl is
+truth_or_plain set bits (T.Binary' ty place op p left q right) is = by is.1
+  where
+    by : IsOperation op right ⊎ IsRelation set op left right → IsTruth set bits (T.Binary' ty place op p left q right) ⊎ IsPlain bits (T.Binary' ty place op p left q right)
+    by (inl operation) = inr operation.0
+    by (inr relation) = inl (relation.0, is)
+truth_or_plain set bits (T.Variable ty x) is = inr tt
+truth_or_plain set bits (T.Pcoord ty axis) is = inr tt
+truth_or_plain set bits (T.LeftIndex' ty place p indexes x of) is = inr tt
+truth_or_plain set bits _ is = absurd is
 
 -- it is 0 or 1
 pub truth_bit : (extents : _) (st : State) (set bits : ℕ) (e : TExpr) (x : ℕ) → IsTruth set bits e → value_in extents st e x ≡ from_bool (nonzero (value_in extents st e x))
-unfolding IsTruth value_in unary_of negates
+unfolding IsTruth value_in unary_of negates is_plus
 truth_bit extents st set bits (T.Brackets' ty p inner) x is = truth_bit extents st set bits inner x is.1
 truth_bit extents st set bits (T.Convert' ty p inner) x is = by is.1 (λ part. truth_bit extents st set bits inner x part)
   where
     v : ℕ
     v = value_in extents st inner x
 
-    by : ((bits ≤ ty.elem.bits) × IsTruth set bits inner) ⊎ ((ty.elem.bits ≡ 1) × IsCondition set inner) → (IsTruth set bits inner → v ≡ from_bool (nonzero v)) → converted ty.elem (type_of inner).elem v ≡ from_bool (nonzero (converted ty.elem (type_of inner).elem v))
+    by : ((bits ≤ ty.elem.bits) × ((ty.elem.bits == 1) ≡ false) × IsTruth set bits inner) ⊎ ((ty.elem.bits ≡ 1) × IsCondition set inner) → (IsTruth set bits inner → v ≡ from_bool (nonzero v)) → converted ty.elem (type_of inner).elem v ≡ from_bool (nonzero (converted ty.elem (type_of inner).elem v))
     by (inl part) bit_of =
-        let bit = bit_of part.1 in
+        let bit = bit_of part.2 in
         ap (λ (w : ℕ). converted ty.elem (type_of inner).elem w) bit ∙ bit_converted ty.elem (type_of inner).elem (nonzero v) ∙ truth_is (nonzero v)
         ∙ ap (λ (w : ℕ). from_bool (nonzero w)) (sym (ap (λ (w : ℕ). converted ty.elem (type_of inner).elem w) bit ∙ bit_converted ty.elem (type_of inner).elem (nonzero v)))
     by (inr whole) bit_of = bool_bit ty.elem (type_of inner).elem v whole.0
-truth_bit extents st set bits (T.Unary' ty op p operand) x is = by op is.1
+truth_bit extents st set bits (T.Unary' ty op p operand) x is = by op is.1 (λ part. truth_bit extents st set bits operand x part)
   where
-    by : (op : UnaryOp) → negates op ≡ true → unary_of op (value_in extents st operand x) ≡ from_bool (nonzero (unary_of op (value_in extents st operand x)))
-    by U.Not e = truth_is _
-    by U.Plus e = cc
-    by U.Minus e = cc
-    by U.Complement e = cc
+    by : (op : UnaryOp) → ((is_plus op ≡ true) × IsTruth set bits operand) ⊎ ((negates op ≡ true) × IsCondition set operand) → (IsTruth set bits operand → value_in extents st operand x ≡ from_bool (nonzero (value_in extents st operand x)))
+        → unary_of op (value_in extents st operand x) ≡ from_bool (nonzero (unary_of op (value_in extents st operand x)))
+    by U.Plus (inl h) bit_of = bit_of h.1
+    by U.Minus (inl h) bit_of = let wrong = h.0 in cc
+    by U.Complement (inl h) bit_of = let wrong = h.0 in cc
+    by U.Not any bit_of = truth_is _
+    by U.Plus (inr h) bit_of = let wrong = h.0 in cc
+    by U.Minus (inr h) bit_of = let wrong = h.0 in cc
+    by U.Complement (inr h) bit_of = let wrong = h.0 in cc
 truth_bit extents st set bits (T.LogicalOr' ty p left q right) x is = truth_is _
 truth_bit extents st set bits (T.LogicalAnd' ty p left q right) x is = truth_is _
 truth_bit extents st set bits (T.Binary' ty place op p left q right) x is = is_truth op 32 _ _ _ is.0
@@ -176,40 +185,3 @@ truth_word set bits (T.LogicalOr' ty p left q right) is = refl
 truth_word set bits (T.LogicalAnd' ty p left q right) is = refl
 truth_word set bits (T.Binary' ty place op p left q right) is = refl
 truth_word set bits _ is = absurd is
-
--- and it is known to be one
-pub truth_flag : (set bits : ℕ) (e : TExpr) → IsTruth set bits e → (bits_of (kind_of e) == 1) ≡ true
-unfolding IsTruth kind_of binary_kind bits_of converted_kind
-truth_flag set bits (T.Brackets' ty p inner) is = truth_flag set bits inner is.1
-truth_flag set bits (T.Convert' ty p inner) is = by is.1 (λ part. truth_flag set bits inner part)
-  where
-    by : ((bits ≤ ty.elem.bits) × IsTruth set bits inner) ⊎ ((ty.elem.bits ≡ 1) × IsCondition set inner) → (IsTruth set bits inner → (bits_of (kind_of inner) == 1) ≡ true) → (bits_of (converted_kind ty.elem (kind_of inner)) == 1) ≡ true
-    by (inl part) flag_of = converted_flag ty.elem (kind_of inner) (flag_of part.1)
-    by (inr whole) flag_of = bool_flag ty.elem (kind_of inner) whole.0
-truth_flag set bits (T.Unary' ty op p operand) is = ap (λ (b : Bool). bits_of (if b then Some truth_kind else None) == 1) is.1
-truth_flag set bits (T.LogicalOr' ty p left q right) is = refl
-truth_flag set bits (T.LogicalAnd' ty p left q right) is = refl
-truth_flag set bits (T.Binary' ty place op p left q right) is = ap (λ (b : Bool). bits_of (if b then Some truth_kind else if is_bitwise op then common_kind (kind_of left) (kind_of right) else None) == 1) is.0
-truth_flag set bits _ is = absurd is
-
--- a condition is a value of its own kind, or a truth value
-pub condition_or_truth : (set bits : ℕ) (e : TExpr) → IsCondition set e → HasItsKind set e ⊎ IsTruth set bits e
-unfolding IsCondition IsTruth IsPure IsNarrowed kind_of
-condition_or_truth set bits (T.Brackets' ty p inner) is = by (condition_or_truth set bits inner is.1)
-  where
-    by : HasItsKind set inner ⊎ IsTruth set bits inner → HasItsKind set (T.Brackets' ty p inner) ⊎ IsTruth set bits (T.Brackets' ty p inner)
-    by (inl kinded) = inl ((is.0, kinded.0), kinded.1)
-    by (inr truth) = inr (is.0, truth)
-condition_or_truth set bits (T.Unary' ty op p operand) is = by is.1
-  where
-    by : ((negates op ≡ true) × IsCondition set operand) ⊎ ((negates op ≡ false) × IsPure set (T.Unary' ty op p operand)) → HasItsKind set (T.Unary' ty op p operand) ⊎ IsTruth set bits (T.Unary' ty op p operand)
-    by (inl h) = inr (is.0, h.0, h.1)
-    by (inr h) = inl (h.1, inl (ap (λ (b : Bool). if b then Some truth_kind else None) h.0))
-condition_or_truth set bits (T.LogicalOr' ty p left q right) is = inr is
-condition_or_truth set bits (T.LogicalAnd' ty p left q right) is = inr is
-condition_or_truth set bits (T.Binary' ty place op p left q right) is = by is.1
-  where
-    by : IsRelation set op left right ⊎ ((relates op ≡ false) × HasItsKind set (T.Binary' ty place op p left q right)) → HasItsKind set (T.Binary' ty place op p left q right) ⊎ IsTruth set bits (T.Binary' ty place op p left q right)
-    by (inl relation) = inr (relation.0, is)
-    by (inr plain) = inl plain.1
-condition_or_truth set bits e is = inl is

@@ -1,5 +1,5 @@
 -- Fields of one bit tell where a condition holds.
-use Rattle.std.proofs.Common.{◌≡◌, ◌∙◌, inl, inr, ℕ, ◌+◌, ◌-◌, ◌%◌, ◌^◌, ◌<◌, ◌≤◌, ◌==◌, Bool, true, false, not, ◌&&◌, ◌||◌, if◌then◌else◌, List, [], ◌∷◌, length, refl, sym, ap, arith, slice_index}
+use Rattle.std.proofs.Common.{◌≡◌, ◌∙◌, inl, inr, ℕ, ◌+◌, ◌%◌, ◌^◌, ◌<◌, ◌≤◌, ◌==◌, Bool, true, false, not, ◌&&◌, ◌||◌, if◌then◌else◌, List, [], ◌∷◌, length, refl, sym, ap, arith, slice_index}
 use Rattle.std.specs.Int.{from_bool}
 use Rattle.std.proofs.lemmas.Bool.Decides.{nat_tests}
 use Rattle.std.proofs.lemmas.Nat.{mod_below}
@@ -11,13 +11,11 @@ use Rattle.lower_expr.specs.Joined.{operation_of}
 use Rattle.paris_code.specs.declared.instr.Instr.{Instr}
 use Rattle.paris_code.specs.declared.instr.Instr.TheVariants as I
 use Rattle.paris_code.specs.declared.operands.Field.{Field}
-use Rattle.paris_code.specs.declared.program.Owner.TheVariants as W
 use Rattle.paris_code.specs.Code.{CodeState, Goes, applied, begun}
-use Rattle.paris_code.specs.Elementwise.{element}
 use Rattle.paris_code.specs.Meaning.{after}
 use Rattle.paris_code.specs.Memory.{is_active, is_tested, processors}
 use Rattle.paris_code.specs.Operators.{operator_of}
-use Rattle.paris_code.specs.Spans.{IsNamedAt, StandsAt, fields_of}
+use Rattle.paris_code.specs.Spans.{IsNamedAt, fields_of}
 use Rattle.source_meaning.specs.State.{State}
 use Rattle.source_meaning.specs.Values.{nonzero}
 use Rattle.code_follows.proofs.Besides.{sim_saying}
@@ -30,22 +28,18 @@ use Rattle.fields_follow.proofs.Flags.{Stored, bit_fits, stored, written_to}
 use Rattle.fields_follow.proofs.Instructions.{number_in, place, shapes, wrote}
 use Rattle.fields_follow.proofs.Leaving.{EndsBelow, PassesTests, under}
 use Rattle.fields_follow.proofs.Named.{NamesFields}
-use Rattle.fields_follow.proofs.Passing.{Behind, GivesField, Stands, code_longer, fields_longer, first_there, flags_of, gives_numbers, gives_set, in_variable_numbers, names_second, names_third}
-use Rattle.fields_follow.proofs.PassingTests.{tests_behind_entry, tests_on, tests_passed}
+use Rattle.fields_follow.proofs.Passing.{Behind, GivesField, Stands, code_longer, fields_longer, first_there, flags_of, gives_numbers, gives_set, in_variable_numbers}
+use Rattle.fields_follow.proofs.PassingTests.{tests_passed}
 use Rattle.fields_follow.proofs.Places.{HoldsTheFields, IsOwnField, PlacesFields, names_first, of_file, stands_here}
 use Rattle.fields_follow.proofs.TestFlags.{Tells, numbers_tell}
-use Rattle.fields_follow.proofs.Values.{IsApart, with_entry}
+use Rattle.fields_follow.proofs.Values.{IsApart}
 use Rattle.fields_follow.proofs.Starts.{starts_next}
 
 zero_bit : (b : Bool) → (from_bool (not b) == 0) ≡ b
 zero_bit true = refl
 zero_bit false = refl
 
--- the complement of a bit, and two bits joined
-other_bit : (b : Bool) (len n : ℕ) → len ≡ 1 → n ≡ from_bool (not b) → (2 ^ len - 1 - n) % 2 ^ 1 ≡ from_bool (nonzero (from_bool b))
-other_bit true len n wide is = ap (λ (k : ℕ). (2 ^ k - 1 - n) % 2 ^ 1) wide ∙ ap (λ (k : ℕ). (2 ^ 1 - 1 - k) % 2 ^ 1) is
-other_bit false len n wide is = ap (λ (k : ℕ). (2 ^ k - 1 - n) % 2 ^ 1) wide ∙ ap (λ (k : ℕ). (2 ^ 1 - 1 - k) % 2 ^ 1) is
-
+-- two bits joined
 abbrev pub either_or_both : Bool → Bool → Bool → Bool
 either_or_both is_or a b = if is_or then a || b else a && b
 
@@ -74,9 +68,10 @@ module _ (g : Setting) (alive : Variable → Type 0) (places : PlacesFields g) (
     pub exists : set < length (shapes g)
     pub tells : Behind g f e → Tells g set f passes.t v
 
-  -- what stands in own entries below the flags that are named by now is there in another state too, where they are named
-  abbrev Stays : Draft → CodeState → CodeState → ℕ → Type 0
-  Stays e s t last = (h : Field) (first q : ℕ) → h.offset < length e.fields → IsOwnField g h → EndsBelow g h → IsNamedAt g.unit h.offset first → first < length e.code → IsNamedAt g.unit h.offset last → number_in g h t q ≡ number_in g h s q
+  -- what stands in own entries behind a draft and below the flags that are named by now is there in another state too, where
+  -- they are named
+  abbrev pub Stays : Draft → Draft → CodeState → CodeState → ℕ → Type 0
+  Stays d e s t last = (h : Field) (first q : ℕ) → length d.fields ≤ h.offset → h.offset < length e.fields → IsOwnField g h → EndsBelow g h → IsNamedAt g.unit h.offset first → first < length e.code → IsNamedAt g.unit h.offset last → number_in g h t q ≡ number_in g h s q
 
   -- It gives a field of one bit that is 1 where, at active positions, these numbers are not zero, if an instruction behind
   -- it names the field. That lasts to where the field is named, and it is apart from variables of more bits.
@@ -86,13 +81,13 @@ module _ (g : Setting) (alive : Variable → Type 0) (places : PlacesFields g) (
     pub exists : set < length (shapes g)
     pub len : f.len ≡ 1
     pub are : Behind g f e → (q : ℕ) → q < processors (shapes g) set → fields.active set q ≡ true → number_in g f passes.t q ≡ from_bool (nonzero (v q))
-    pub lasts : (t : CodeState) (last : ℕ) → Sim g alive st t → Stays e passes.t t last → IsNamedAt g.unit f.offset last → length e.code ≤ last → t.at ≤ start g + last → (q : ℕ) → q < processors (shapes g) set → number_in g f t q ≡ number_in g f passes.t q
+    pub lasts : (t : CodeState) (last : ℕ) → Sim g alive st t → Stays d e passes.t t last → IsNamedAt g.unit f.offset last → length e.code ≤ last → t.at ≤ start g + last → (q : ℕ) → q < processors (shapes g) set → number_in g f t q ≡ number_in g f passes.t q
     pub apart : (k : ℕ) (info : VarInfo) → IsElement g.typed k info set 0 → 1 < info.elem.bits → Apart (place g f) (of_file g k 0)
 
   -- so it is behind more code of conditions
   pub truth_still : (d e e2 : Draft) (s : CodeState) (set : ℕ) (st : State) (v : ℕ → ℕ) (f : Field) (used : Type 0) (last : ℕ) → (one : GivesTruth d s set st v f e) → (two : PassesTests g alive e e2 one.passes.t st used) → used → IsNamedAt g.unit f.offset last → length e2.code ≤ last
       → (q : ℕ) → q < processors (shapes g) set → number_in g f two.t q ≡ number_in g f one.passes.t q
-  truth_still d e e2 s set st v f used last one two wanted named late q below = one.lasts two.t last two.sim (λ h first p inside own ends before early there. two.stays wanted h first last p inside own ends before early there late) named
+  truth_still d e e2 s set st v f used last one two wanted named late q below = one.lasts two.t last two.sim (λ h first p new inside own ends before early there. two.stays wanted h first last p inside own ends before early there late) named
       (let longer = code_longer e e2 two.grown.0 two.grown.1 in omega (arith, longer, late)) (let there = two.at.stands in omega (arith, there, late)) q below
 
   -- a field of one bit of a value that is zero where its lowest bit is, apart from wider variables
@@ -117,10 +112,10 @@ module _ (g : Setting) (alive : Variable → Type 0) (places : PlacesFields g) (
       is_bit n few true e = grind (arith, nat_tests, few, e)
       is_bit n few false e = grind (arith, nat_tests, few, e)
 
-      by : Stands g alive 1 (length d.fields) e set f h.passes.t st v → (t : CodeState) (last : ℕ) → Sim g alive st t → Stays e h.passes.t t last → IsNamedAt g.unit f.offset last → length e.code ≤ last → t.at ≤ start g + last → (q : ℕ) → q < processors (shapes g) set → number_in g f t q ≡ number_in g f h.passes.t q
+      by : Stands g alive 1 (length d.fields) e set f h.passes.t st v → (t : CodeState) (last : ℕ) → Sim g alive st t → Stays d e h.passes.t t last → IsNamedAt g.unit f.offset last → length e.code ≤ last → t.at ≤ start g + last → (q : ℕ) → q < processors (shapes g) set → number_in g f t q ≡ number_in g f h.passes.t q
       by (inl own) t last sim stays named early late q below =
           first_there g alive places fields set f own.long st t sim of.0 of.1 own.fits own.ends q below
-          ∙ ap (λ (m : ℕ). m % 2 ^ f.len) (stays (record f { len = own.long }) own.somewhere q own.older own.own own.ends own.named own.before named)
+          ∙ ap (λ (m : ℕ). m % 2 ^ f.len) (stays (record f { len = own.long }) own.somewhere q own.newer own.older own.own own.ends own.named own.before named)
           ∙ sym (first_there g alive places fields set f own.long st h.passes.t h.passes.sim of.0 of.1 own.fits own.ends q below)
       by (inr variable) t last sim stays named early late q below =
           (in_variable_numbers g alive places fields 1 set f st v t variable sim last named late q below).0
@@ -170,7 +165,7 @@ module _ (g : Setting) (alive : Variable → Type 0) (places : PlacesFields g) (
       exists = w.exists;
       len = len;
       are = λ behind q below on. w.has q below (below, on);
-      lasts = λ t last sim stays named early late q below. stays f (length e.code) q (let l = fields_longer e (with_instr i e) 1 (and_one g i e) in omega (arith, older, l)) own w.ends (names_first g i f others (length e.code) (stands_here g i e within plain) names) (omega (arith, long)) named;
+      lasts = λ t last sim stays named early late q below. stays f (length e.code) q newer (let l = fields_longer e (with_instr i e) 1 (and_one g i e) in omega (arith, older, l)) own w.ends (names_first g i f others (length e.code) (stands_here g i e within plain) names) (omega (arith, long)) named;
       apart = λ k info is more. places.own_file k 0 set info f is own;
     }
       where
@@ -188,53 +183,3 @@ module _ (g : Setting) (alive : Variable → Type 0) (places : PlacesFields g) (
   truth_stored set d e f s st v p flags newer older own of_set len within =
       put_truth set d e (I.StoreTest f) f [] s st v (λ q. from_bool (is_tested (shapes g) p.t.memory f.set q)) (Unit {0}) p tt newer older own of_set len refl tt refl refl within
       (λ q below on. bit_fits (is_tested (shapes g) p.t.memory f.set q) 1 refl ∙ ap (λ (n : ℕ). from_bool (is_tested (shapes g) p.t.memory n q)) of_set ∙ ap from_bool (flags q below on))
-
-  -- a bit's complement, in an entry that was taken before it
-  pub truth_turned : (set : ℕ) (d e : Draft) (a f : Field) (s : CodeState) (st : State) (v : ℕ → ℕ) → GivesTruth (with_entry set 1 W.Own d) s set st v a e → length d.fields ≤ f.offset → f.offset < length e.fields → IsOwnField g f → f.set ≡ set → f.len ≡ 1 → Within g (with_instr (I.Lognot f a) e)
-      → GivesTruth d s set st (λ q. from_bool (v q == 0)) f (with_instr (I.Lognot f a) e)
-  unfolding begun applied after step_of tests_behind_entry
-  truth_turned set d e a f s st v one newer older own of_set len within =
-      put_truth set d e i f (a ∷ []) s st (λ q. from_bool (v q == 0)) (λ q. element (shapes g) (I.Lognot (place g f) (place g a)) [] one.passes.t.memory q) (Behind g a e) (tests_behind_entry g alive set 1 d e s st (Behind g a e) one.passes)
-      behind newer older own of_set len refl tt refl refl within
-      (λ q below on. other_bit (v q == 0) f.len (number_in g a one.passes.t q) len (one.are behind q below on))
-    where
-      i : Instr
-      i = I.Lognot f a
-
-      behind : Behind g a e
-      behind = (length e.code, (names_second g i f a [] (length e.code) (stands_here g i e within refl) refl, omega arith))
-
-  -- two bits joined, in an entry that was taken before them
-  pub truth_joined : (is_or : Bool) (set : ℕ) (d e1 e2 : Draft) (a b f : Field) (s : CodeState) (st : State) (v w : ℕ → ℕ) → (one : GivesTruth (with_entry set 1 W.Own d) s set st v a e1) → GivesTruth e1 one.passes.t set st w b e2
-      → length d.fields ≤ f.offset → f.offset < length e2.fields → IsOwnField g f → f.set ≡ set → f.len ≡ 1 → Within g (with_instr (I.Operate (operation_of is_or) f a b) e2)
-      → GivesTruth d s set st (λ q. from_bool (either_or_both is_or (nonzero (v q)) (nonzero (w q)))) f (with_instr (I.Operate (operation_of is_or) f a b) e2)
-  unfolding begun applied after step_of tests_behind_entry tests_on
-  truth_joined is_or set d e1 e2 a b f s st v w one two newer older own of_set len within =
-      put_truth set d e2 i f (a ∷ b ∷ []) s st (λ q. from_bool (either_or_both is_or (nonzero (v q)) (nonzero (w q)))) (λ q. element (shapes g) (I.Operate (operation_of is_or) (place g f) (place g a) (place g b)) [] two.passes.t.memory q) (Unit {0})
-      (tests_behind_entry g alive set 1 d e2 s st (Unit {0}) (tests_on g alive d1 e1 e2 s st (Behind g a e1) (Behind g b e2) (Unit {0}) one.passes two.passes (λ u. early) (λ u. behind_b)))
-      tt newer older own of_set len refl tt refl refl within
-      (λ q below on.
-      ap (λ (n : ℕ). outcome (operator_of (operation_of is_or)).0 f.len (operator_of (operation_of is_or)).1 n (number_in g b two.passes.t q) % 2 ^ 1) (still q below ∙ one.are early q below on)
-      ∙ ap (λ (n : ℕ). outcome (operator_of (operation_of is_or)).0 f.len (operator_of (operation_of is_or)).1 (from_bool (nonzero (v q))) n % 2 ^ 1) (two.are behind_b q below on)
-      ∙ joined_bits is_or (nonzero (v q)) (nonzero (w q)) f.len)
-    where
-      d1 : Draft
-      d1 = with_entry set 1 W.Own d
-
-      i : Instr
-      i = I.Operate (operation_of is_or) f a b
-
-      there : StandsAt g.unit (length e2.code) i
-      there = stands_here g i e2 within refl
-
-      named_a : IsNamedAt g.unit a.offset (length e2.code)
-      named_a = names_second g i f a (b ∷ []) (length e2.code) there refl
-
-      behind_b : Behind g b e2
-      behind_b = (length e2.code, (names_third g i f a b [] (length e2.code) there refl, omega arith))
-
-      early : Behind g a e1
-      early = (length e2.code, (named_a, code_longer e1 e2 two.passes.grown.0 two.passes.grown.1))
-
-      still : (q : ℕ) → q < processors (shapes g) set → number_in g a two.passes.t q ≡ number_in g a one.passes.t q
-      still q below = truth_still d1 e1 e2 s set st v a (Behind g b e2) (length e2.code) one two.passes behind_b named_a (omega arith) q below

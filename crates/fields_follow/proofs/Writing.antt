@@ -128,12 +128,32 @@ module _ (g : Setting) (places : PlacesFields g) (fields : HoldsTheFields g) (al
     pub few : (p : ℕ) → p < processors (shapes g) set → fields.active set p ≡ true → v p < 2 ^ 32
     few p below on = takes.small p below (was.flags set p set_exists below ∙ on)
 
-    elsewhere : (f : Field) (p : ℕ) → Apart (place g d) f → field_number behind f p ≡ field_number s.memory f p
+    pub elsewhere : (f : Field) (p : ℕ) → Apart (place g d) f → field_number behind f p ≡ field_number s.memory f p
     elsewhere f p apart = field_apart takes.write s.memory f p (subst (λ (h : Field). Apart h f) (sym takes.run) apart)
 
     winner_still : behind.winner ≡ st.winner
     unfolding written
     winner_still = was.winner
+
+    -- where it is that of an own entry, the state is as it was, and the entry has the numbers
+    pub own_sim : (at : ℕ) → IsOwnField g d → Sim g alive st (record s { at = at; memory = behind })
+    own_sim at own =
+        with_memory st st s at takes.write refl refl refl refl refl (record {
+          numbers = λ k element q p info is below. elsewhere (of_file g k element) p (places.own_file k element q info d is own) ∙ was.numbers k element q p info is below;
+          small = was.small;
+          flags = active_still;
+          winner = winner_still;
+          bits = bits_written (shapes g) takes.write s.memory was.bits;
+        }) sim
+
+    pub own_has : (at : ℕ) → HasNumbers g d.len set d (record s { at = at; memory = behind }) v
+    own_has at = record {
+      of_set = of_set;
+      exists = set_exists;
+      len = refl;
+      are = λ p below on. value_is p below (sym (active_still set p set_exists below) ∙ on);
+      small = λ p below on. few p below (sym (active_still set p set_exists below) ∙ on);
+    }
 
     -- Where it is that of a variable of the file, the state has what this takes where it is active, or other numbers that
     -- are the same there.

@@ -120,15 +120,47 @@ unfoldable pub AreWrapping : {k : _} → ℕ → ℕ → Row_of-TExpr k → Type
 AreWrapping set axis end_of-TExpr = Unit {0}
 AreWrapping set axis (more_of-TExpr index rest) = IsWrapping set axis index × AreWrapping set (axis + 1) rest
 
+-- a value whose narrow type is that of a variable or of a conversion, one of truth values, or that of two such values that
+-- are joined bit by bit
+unfoldable pub IsNarrowed : TExpr → Type 0
+IsNarrowed (T.Variable ty x) = Unit {0}
+IsNarrowed (T.LeftIndex' ty place p indexes x of) = Unit {0}
+IsNarrowed (T.Brackets' ty p inner) = IsNarrowed inner
+IsNarrowed (T.Convert' ty p operand) = (kind_of operand ≡ None) ⊎ IsNarrowed operand
+IsNarrowed (T.Unary' ty op p operand) = negates op ≡ true
+IsNarrowed (T.LogicalOr' ty p left q right) = Unit {0}
+IsNarrowed (T.LogicalAnd' ty p left q right) = Unit {0}
+IsNarrowed (T.Binary' ty place op p left q right) = (relates op ≡ true) ⊎ ((is_bitwise op ≡ true) × IsNarrowed left × IsNarrowed right)
+IsNarrowed _ = ⊥
+
+-- one of which no type of fewer than 32 bits is known, or one of such a type
+abbrev pub HasKnownKind : TExpr → Type 0
+HasKnownKind e = (kind_of e ≡ None) ⊎ IsNarrowed e
+
+-- a relation in a narrow type with a sign is one of numbers with a sign
+abbrev pub ReadsSigns : TExpr → TExpr → Type 0
+ReadsSigns left right = elim (relation_kind left right) [ None ↦ Unit {0} | Some kind ↦ kind.signed ≡ true → (type_of left).elem.signed ≡ true ]
+
+-- a side of a relation that is a promoted scalar: a constant, or one of which no type of fewer than 32 bits is known
+abbrev pub IsSide : ℕ → TExpr → Type 0
+IsSide set e = IsPromoted set e × (word_of e ≡ None → kind_of e ≡ None)
+
+-- a relation of two operands, of which one may be such a scalar
+abbrev pub IsRelation : ℕ → Op → TExpr → TExpr → Type 0
+IsRelation set op left right = (relates op ≡ true) × (HasKnownKind left ⊎ IsSide set left) × (HasKnownKind right ⊎ IsSide set right) × ReadsSigns left right
+
 -- A parallel expression that is not promoted; of an operator's two operands one may be. Operators work at 32 bits, to
--- which narrower values are converted; no value is converted to `bool`.
+-- which narrower values are converted. Truth values are relations, `!`, conversions to `bool`, and two values that are
+-- joined by `&&` or `||`: the right one of these ignores the context: it has no get and no quotient, not even one of constants.
 unfoldable pub IsPure : ℕ → TExpr → Type 0
 IsPure set (T.Variable ty (V.File k)) = ty.shape ≡ Some set
 IsPure set (T.Brackets' ty p inner) = (ty ≡ type_of inner) × IsPure set inner
-IsPure set (T.Unary' ty op p operand) = IsWide set ty × (negates op ≡ false) × IsPure set operand × IsWide set (type_of operand)
+IsPure set (T.Unary' ty op p operand) = IsWide set ty × (((negates op ≡ false) × IsWide set (type_of operand)) ⊎ ((negates op ≡ true) × HasKnownKind operand)) × IsPure set operand
+IsPure set (T.LogicalOr' ty p left q right) = IsWide set ty × (IsPure set left × HasKnownKind left) × (IsPure set right × HasKnownKind right) × (ignores_context right ≡ true)
+IsPure set (T.LogicalAnd' ty p left q right) = IsWide set ty × (IsPure set left × HasKnownKind left) × (IsPure set right × HasKnownKind right) × (ignores_context right ≡ true)
 IsPure set (T.Binary' ty place op p left q right) =
-    IsWide set ty × IsOperation op right × ((IsPure set left × (IsPure set right ⊎ IsPromoted set right)) ⊎ (IsPromoted set left × IsPure set right)) × IsWide set (type_of left) × IsWide set (type_of right)
-IsPure set (T.Convert' ty p operand) = (ty.shape ≡ Some set) × ((ty.elem.bits == 1) ≡ false) × IsPure set operand
+    IsWide set ty × (IsOperation op right ⊎ IsRelation set op left right) × ((IsPure set left × (IsPure set right ⊎ IsPromoted set right)) ⊎ (IsPromoted set left × IsPure set right)) × IsWide set (type_of left) × IsWide set (type_of right)
+IsPure set (T.Convert' ty p operand) = (ty.shape ≡ Some set) × (((ty.elem.bits == 1) ≡ false) ⊎ ((ty.elem.bits ≡ 1) × HasKnownKind operand)) × IsPure set operand
 IsPure set (T.Pcoord ty axis) = IsWide set ty
 IsPure set (T.LeftIndex' ty place p indexes (V.File k) of) = (ty.shape ≡ Some set) × (of ≡ set) × AreWrapping set 0 indexes
 IsPure set _ = ⊥
@@ -137,34 +169,9 @@ IsPure set _ = ⊥
 abbrev pub IsOperand : ℕ → TExpr → Type 0
 IsOperand set e = IsPure set e ⊎ IsPromoted set e
 
--- a value whose narrow type is that of a variable or of a conversion, or of two such values that are joined bit by bit
-unfoldable pub IsNarrowed : TExpr → Type 0
-IsNarrowed (T.Variable ty x) = Unit {0}
-IsNarrowed (T.LeftIndex' ty place p indexes x of) = Unit {0}
-IsNarrowed (T.Brackets' ty p inner) = IsNarrowed inner
-IsNarrowed (T.Convert' ty p operand) = (kind_of operand ≡ None) ⊎ IsNarrowed operand
-IsNarrowed (T.Binary' ty place op p left q right) = (is_bitwise op ≡ true) × IsNarrowed left × IsNarrowed right
-IsNarrowed _ = ⊥
-
--- one of which no type of fewer than 32 bits is known, or one of such a type
+-- one of a kind that is known
 abbrev pub HasItsKind : ℕ → TExpr → Type 0
-HasItsKind set e = IsPure set e × ((kind_of e ≡ None) ⊎ IsNarrowed e)
-
--- a side of a relation that is a promoted scalar: a constant, or one of which no type of fewer than 32 bits is known
-abbrev pub IsSide : ℕ → TExpr → Type 0
-IsSide set e = IsPromoted set e × (word_of e ≡ None → kind_of e ≡ None)
-
--- of the two sides of a relation one may be such a scalar
-abbrev pub HaveTheirKinds : ℕ → TExpr → TExpr → Type 0
-HaveTheirKinds set left right = (HasItsKind set left × (HasItsKind set right ⊎ IsSide set right)) ⊎ (IsSide set left × HasItsKind set right)
-
--- a relation in a narrow type with a sign is one of numbers with a sign
-abbrev pub ReadsSigns : TExpr → TExpr → Type 0
-ReadsSigns left right = elim (relation_kind left right) [ None ↦ Unit {0} | Some kind ↦ kind.signed ≡ true → (type_of left).elem.signed ≡ true ]
-
--- a relation of two operands
-abbrev pub IsRelation : ℕ → Op → TExpr → TExpr → Type 0
-IsRelation set op left right = (relates op ≡ true) × HaveTheirKinds set left right × IsWide set (type_of left) × IsWide set (type_of right) × ReadsSigns left right
+HasItsKind set e = IsPure set e × HasKnownKind e
 
 -- what is assigned to: a variable of the file
 unfoldable pub IsTarget : ℕ → TExpr → Type 0
@@ -180,34 +187,13 @@ HasOperation op elem value = elim (assign_op_of op) [
   | Some o ↦ IsOperation o value × ((type_of value).elem.bits ≡ 32) × ((elem.bits == 1) ≡ false) × (operation_bits elem.bits o value ≡ elem.bits)
 ]
 
--- A condition: a relation of two operands, a value that is not zero, `!` of a condition, or two joined by `&&` or `||`. The
--- right one of these ignores the context: it has no get and no quotient, not even one of constants.
-unfoldable pub IsCondition : ℕ → TExpr → Type 0
-IsCondition set (T.Brackets' ty p inner) = (ty ≡ type_of inner) × IsCondition set inner
-IsCondition set (T.Unary' ty op p operand) = IsWide set ty × (((negates op ≡ true) × IsCondition set operand) ⊎ ((negates op ≡ false) × IsPure set (T.Unary' ty op p operand)))
-IsCondition set (T.LogicalOr' ty p left q right) = IsWide set ty × IsCondition set left × IsCondition set right × (ignores_context right ≡ true)
-IsCondition set (T.LogicalAnd' ty p left q right) = IsWide set ty × IsCondition set left × IsCondition set right × (ignores_context right ≡ true)
-IsCondition set (T.Binary' ty place op p left q right) = IsWide set ty × (IsRelation set op left right ⊎ ((relates op ≡ false) × HasItsKind set (T.Binary' ty place op p left q right)))
+-- a condition: it holds where the value is not zero
+abbrev pub IsCondition : ℕ → TExpr → Type 0
 IsCondition set e = HasItsKind set e
-
--- A truth value that goes to so many bits: a relation, `!` of a condition, two conditions joined, one of these converted,
--- or any condition that is converted to `bool`.
-unfoldable pub IsTruth : ℕ → ℕ → TExpr → Type 0
-IsTruth set bits (T.Brackets' ty p inner) = (ty ≡ type_of inner) × IsTruth set bits inner
-IsTruth set bits (T.Convert' ty p operand) = (ty.shape ≡ Some set) × (((bits ≤ ty.elem.bits) × IsTruth set bits operand) ⊎ ((ty.elem.bits ≡ 1) × IsCondition set operand))
-IsTruth set bits (T.Unary' ty op p operand) = IsWide set ty × (negates op ≡ true) × IsCondition set operand
-IsTruth set bits (T.LogicalOr' ty p left q right) = IsCondition set (T.LogicalOr' ty p left q right)
-IsTruth set bits (T.LogicalAnd' ty p left q right) = IsCondition set (T.LogicalAnd' ty p left q right)
-IsTruth set bits (T.Binary' ty place op p left q right) = (relates op ≡ true) × IsCondition set (T.Binary' ty place op p left q right)
-IsTruth set bits _ = ⊥
-
--- what is assigned is an operand or, without an operator, such a truth value
-abbrev pub IsOperandOrTruth : ℕ → ℕ → AssignOp → TExpr → Type 0
-IsOperandOrTruth set bits op e = IsOperand set e ⊎ ((assign_op_of op ≡ None) × IsTruth set bits e)
 
 -- an assignment to a parallel variable, or a step of one
 unfoldable pub IsUpdate : TExpr → Type 0
-IsUpdate (T.Assign' ty place op p target q value) = (set : ℕ) × ((ty ≡ type_of target) × IsTarget set target × HasOperation op ty.elem value × IsOperandOrTruth set ty.elem.bits op value)
+IsUpdate (T.Assign' ty place op p target q value) = (set : ℕ) × ((ty ≡ type_of target) × IsTarget set target × HasOperation op ty.elem value × IsOperand set value)
 IsUpdate (T.Step' ty op order p target) = (set : ℕ) × ((ty ≡ type_of target) × IsTarget set target × ((ty.elem.bits == 1) ≡ false))
 IsUpdate _ = ⊥
 
