@@ -4,7 +4,8 @@
 -- and `?:`, and change nothing; they fail where a divisor is 0 at an active position, or that of a scalar is, and nowhere
 -- else. They are assigned to such variables, as scans of them and of ones with operators on these are, and folded into
 -- numbers and onto scalar variables, and they are the conditions of `where`. Folds and scans are of the active positions.
--- Scalars that change variables, by assignments, steps and `getchar`, are assigned to such variables too.
+-- Scalars that change variables, by assignments, steps and `getchar`, are assigned to such variables too, also with an
+-- operator that does not divide.
 -- Blocks may have parallel variables without initialisers, which no expression names.
 -- Under `where` and `everywhere` stand the statements of scalar programs with these, also calls, `return` and jumps that
 -- lead out of them.
