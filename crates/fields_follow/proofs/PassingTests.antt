@@ -5,7 +5,7 @@ use Rattle.lower_base.specs.Drafts.{Draft}
 use Rattle.paris_code.specs.declared.program.Owner.TheVariants as W
 use Rattle.paris_code.specs.Code.{CodeState}
 use Rattle.source_meaning.specs.State.{State}
-use Rattle.code_follows.proofs.Following.{keeps_less, keeps_on}
+use Rattle.code_follows.proofs.Following.{keeps_on}
 use Rattle.code_follows.proofs.Growing.{extended}
 use Rattle.code_follows.proofs.Settings.{Setting, onto}
 use Rattle.fields_follow.proofs.Leaving.{PassesTests}
@@ -39,18 +39,7 @@ module _ (g : Setting) (alive : Variable → Type 0) where
         ∙ a.stays (use_one wanted) h first last p below own ends before low after (let l = code_longer e f b.grown.0 b.grown.1 in omega (arith, high, l));
   }
 
-  -- an entry that is taken before it, or behind it, is no part of the code
-  unfoldable pub tests_behind_entry : (set len : ℕ) (d f : Draft) (s : CodeState) (st : State) (used : Type 0) → PassesTests g alive (with_entry set len W.Own d) f s st used → PassesTests g alive d f s st used
-  tests_behind_entry set len d f s st used a = record {
-    grown = (0 + a.grown.0, extended d (with_entry set len W.Own d) f 0 a.grown.0 (and_entry set len W.Own d) a.grown.1);
-    t = a.t;
-    go = a.go;
-    at = a.at;
-    registers = keeps_less g d (with_entry set len W.Own d) s a.t (and_entry set len W.Own d).regs a.registers;
-    sim = a.sim;
-    stays = λ wanted h first last p below. a.stays wanted h first last p (let l = fields_longer d (with_entry set len W.Own d) 0 (and_entry set len W.Own d) in omega (arith, below, l));
-  }
-
+  -- an entry that is taken behind it is no part of the code
   unfoldable pub tests_and_entry : (set len : ℕ) (d e : Draft) (s : CodeState) (st : State) (used : Type 0) → PassesTests g alive d e s st used → PassesTests g alive d (with_entry set len W.Own e) s st used
   tests_and_entry set len d e s st used a = record {
     grown = (a.grown.0 + 0, extended d e (with_entry set len W.Own e) a.grown.0 0 a.grown.1 (and_entry set len W.Own e));

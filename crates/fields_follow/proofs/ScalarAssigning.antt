@@ -12,10 +12,8 @@ use Rattle.cstar_tree.specs.declared.typed.ValueType.{ValueType}
 use Rattle.cstar_tree.specs.declared.typed.Variable.{Variable}
 use Rattle.cstar_tree.specs.declared.typed.Variable.TheVariants as V
 use Rattle.cstar_tree.specs.Typed.{type_of}
-use Rattle.code_lengths.specs.Lowerable.{IsLowerable}
 use Rattle.code_lengths.specs.Naming.{NamesVariables}
 use Rattle.code_lengths.specs.Ready.{IsReadyButForFields}
-use Rattle.code_lengths.specs.Shaped.{IsShaped}
 use Rattle.lower_base.specs.declared.emit.Out.{Out}
 use Rattle.lower_base.specs.declared.emit.Out.TheVariants as O
 use Rattle.lower_base.specs.Drafts.{Draft, Made, Makes, then_make, with_instr}
@@ -38,11 +36,11 @@ use Rattle.source_meaning.specs.State.{Gives, Outcome, State, then_do, with_posi
 use Rattle.source_meaning.specs.Targets.{OfElement, Target, assigned}
 use Rattle.source_meaning.specs.Values.{Parallel, Value, at}
 use Rattle.source_meaning.proofs.ConstantLaws.{Boxed}
-use Rattle.code_follows.specs.Fragment.{IsIn, ScalarsAmong}
+use Rattle.code_follows.specs.Fragment.{IsIn}
 use Rattle.code_follows.proofs.Following.{Follows, HasRegisters, Sim, follows_same, held, then_follows}
 use Rattle.code_follows.proofs.Settings.{Setting, Within, layout, stay}
 use Rattle.fields_follow.specs.Fields.{file_number}
-use Rattle.fields_follow.specs.Fragment.{HasOperation, IsChanging, IsChangingAssigned, IsOperation, IsTarget, alone}
+use Rattle.fields_follow.specs.Fragment.{HasOperation, IsChanging, IsOperation, IsTarget, alone}
 use Rattle.fields_follow.proofs.Assigning.{leaves_value, own_is, plainly, variable_is}
 use Rattle.fields_follow.proofs.Effects.{value_put}
 use Rattle.fields_follow.proofs.Forms.{HasItsCode}

@@ -1,6 +1,5 @@
 -- Assignments with an operator of a scalar that may change variables to a parallel variable.
-use Rattle.std.proofs.Common.{◌≡◌, ◌∙◌, ℕ, ◌<◌, ◌^◌, ◌==◌, true, false, length, Option, Some, None, refl, sym, ap, subst, arith, inr, not, Bool, ◌&&◌, if◌then◌else◌, ◌≤◌, ◌+◌, ◌%◌, [], ◌∷◌, inl}
-use Rattle.std.proofs.Math.Nat.{mod-eq_of_lt}
+use Rattle.std.proofs.Common.{◌≡◌, ◌∙◌, ℕ, ◌<◌, ◌^◌, ◌==◌, true, false, length, Option, Some, None, refl, sym, ap, subst, arith, inr, not, Bool, ◌&&◌, if◌then◌else◌, ◌≤◌, ◌+◌, ◌%◌}
 use Rattle.cstar_base.specs.declared.elem.Elem.{Elem}
 use Rattle.cstar_base.specs.declared.operators.Op.{Op}
 use Rattle.cstar_base.specs.declared.operators.Place.{Place}
@@ -17,17 +16,16 @@ use Rattle.code_lengths.specs.Ready.{IsReadyButForFields}
 use Rattle.code_lengths.specs.Shaped.{IsShaped}
 use Rattle.lower_base.specs.declared.emit.Out.{Out}
 use Rattle.lower_base.specs.declared.emit.Out.TheVariants as O
-use Rattle.lower_base.specs.Drafts.{Draft, Made, Makes, then_make, with_instr, Fails, an_entry, from}
+use Rattle.lower_base.specs.Drafts.{Draft, Made, Makes, then_make, Fails, an_entry, from}
 use Rattle.lower_base.specs.Operators.{assign_op_of}
 use Rattle.lower_expr.specs.declared.operands.Own.{Own}
 use Rattle.lower_expr.specs.declared.steps.Right.{Right}
 use Rattle.lower_expr.specs.declared.steps.Right.TheVariants as Rt
-use Rattle.lower_expr.specs.Effects.{assignment_effect, computed_to, effect_of, put_to, variable_assigned, variable_operated, whole_of, field_operated}
+use Rattle.lower_expr.specs.Effects.{assignment_effect, effect_of, put_to, variable_assigned, variable_operated, whole_of, field_operated}
 use Rattle.lower_expr.specs.Kinds.{operation_bits}
 use Rattle.lower_expr.specs.Operands.{operand_by}
-use Rattle.lower_expr.specs.Steps.{put_in_field, put_value, word_for, word_put, assigned_signed, right_operated, word_taken}
+use Rattle.lower_expr.specs.Steps.{assigned_signed, right_operated, word_taken}
 use Rattle.lower_expr.specs.Values.{value_of, right_by, right_given}
-use Rattle.paris_code.specs.declared.instr.Instr.TheVariants as I
 use Rattle.paris_code.specs.declared.operands.Field.{Field}
 use Rattle.paris_code.specs.declared.operands.Konst.TheVariants as K
 use Rattle.paris_code.specs.declared.program.Owner.TheVariants as W
@@ -44,17 +42,16 @@ use Rattle.code_follows.proofs.Following.{Follows, HasRegisters, Sim, follows_sa
 use Rattle.code_follows.proofs.Settings.{Setting, Within, layout, stay, earlier}
 use Rattle.fields_follow.specs.Fields.{file_number}
 use Rattle.fields_follow.specs.Fragment.{HasOperation, IsChanging, IsChangingAssigned, IsOperation, IsTarget, alone}
-use Rattle.fields_follow.proofs.Assigning.{leaves_value, own_is, plainly, variable_is, entry_for}
-use Rattle.fields_follow.proofs.Effects.{value_put}
+use Rattle.fields_follow.proofs.Assigning.{leaves_value, own_is, variable_is, entry_for}
 use Rattle.fields_follow.proofs.Forms.{HasItsCode}
-use Rattle.fields_follow.proofs.Instructions.{Puts, puts_constant, operation_below, whole_keeps}
+use Rattle.fields_follow.proofs.Instructions.{operation_below, whole_keeps}
 use Rattle.fields_follow.proofs.Leaving.{Leaves, UpdateLeaves}
-use Rattle.fields_follow.proofs.Lengths.{held_first, Keeps, operation_keeps}
+use Rattle.fields_follow.proofs.Lengths.{Keeps, operation_keeps}
 use Rattle.fields_follow.proofs.Places.{HoldsTheFields, PlacesFields}
 use Rattle.fields_follow.proofs.Promoted.{Spreads, changing_stands, everywhere}
 use Rattle.fields_follow.proofs.Scalars.{GivesChanged, changed_follows}
 use Rattle.fields_follow.proofs.Starts.{Starts}
-use Rattle.fields_follow.proofs.Updates.{IsFileTarget, assigned_is, divides_never, file_target, divides_as, updated_is}
+use Rattle.fields_follow.proofs.Updates.{IsFileTarget, assigned_is, file_target, divides_as, updated_is}
 use Rattle.fields_follow.proofs.Values.{next_field, with_entry, and_entry, one_more}
 use Rattle.std.proofs.lemmas.Nat.{pow_pos, mod_below}
 use Rattle.cstar_base.proofs.NumberLaws.{kind_bits}
@@ -63,7 +60,7 @@ use Rattle.source_meaning.specs.Constants.{then_value}
 use Rattle.code_follows.proofs.Growing.{extended}
 use Rattle.code_follows.proofs.Words.{held_wide}
 use Rattle.fields_follow.proofs.Operands.{operated_after, operated_extends}
-use Rattle.fields_follow.proofs.Passing.{After, fields_longer, passes_all, passes_from, Behind, Passes, GivesField}
+use Rattle.fields_follow.proofs.Passing.{After, fields_longer, passes_all, passes_from}
 use Rattle.fields_follow.proofs.ScalarAssigning.{then_both, assigns}
 use Rattle.fields_follow.proofs.Totals.{held_below}
 use Rattle.fields_follow.proofs.Variables.{file_carries}

@@ -1,10 +1,12 @@
 -- The programs with parallel variables of which it is said so far that their code means them. Their parallel
 -- expressions are pure ones, of variables of the file of all types, gets from neighbours round the ends of the grid and by
--- indexes that are such expressions, own coordinates and promoted scalars, which are computed by operators, conversions,
--- casts and `?:`, and change nothing; they fail where a divisor is 0 at an active position, or that of a scalar is, or an
--- index does not lie within its extent at one, and nowhere else. They are assigned to such variables, as truth values of them are, and scans of them and of ones with operators on these, and folded into numbers
--- and onto scalar variables, and they are the conditions of `where`. Folds and scans are of the active positions.
--- Scalars that change variables, by assignments, steps and `getchar`, are assigned to such variables too.
+-- indexes that are such expressions, own coordinates, truth values of such expressions, and promoted scalars, which are
+-- computed by operators, conversions, casts and `?:`, and change nothing; they fail where a divisor is 0 at an active
+-- position, or that of a scalar is, or where an index does not lie within its extent at one, and nowhere else. They are
+-- assigned to such variables, as scans of them and of ones with operators on these are, and folded into
+-- numbers and onto scalar variables, and they are the conditions of `where`. Folds and scans are of the active positions.
+-- Scalars that change variables, by assignments, steps and `getchar`, are assigned to such variables too, also with an
+-- operator that does not divide.
 -- Blocks may have parallel variables without initialisers, which no expression names.
 -- Under `where` and `everywhere` stand the statements of scalar programs with these, also calls, `return` and jumps that
 -- lead out of them.
