@@ -176,7 +176,7 @@ module _ (g : Setting) (has : HasRegisters g) (alive : Variable → Type 0) (fil
       inner_here free = record { among = inner_among; loop = restores_none g contexts 0 refl; all = among.all; lives = λ x h. h; outer = among.outer; after = lasts_behind after (omega arith); next = lasts_behind next (omega arith) }
         where
           lasts_behind : (target : ℕ) → length made_first.e.code ≤ target → LastsTo g (OpenAmong g alive) g.held target
-          lasts_behind target behind = calls_follow.lasts (OpenAmong g alive) target (let low = free.code in omega (arith, low, behind)) (open_named g (OpenAmong g alive) made_first.e target free.opened behind)
+          lasts_behind target behind = calls_follow.lasts (OpenAmong g alive) target (let low = free.code in omega (arith, low, behind)) (open_named g (OpenAmong g alive) (length made_first.e.code) target (length made_first.e.fields) behind free.opened)
 
       begin_known : HasDeclared g.typed g.instance (layout g) n before_body
       begin_known = declared_on g I.FrontTurn n enters (declared_on g (I.FrontJump place) n made_first.e made_first.declared)
@@ -253,7 +253,7 @@ module _ (g : Setting) (has : HasRegisters g) (alive : Variable → Type 0) (fil
           (λ s v here_s sim_s. subst (λ (m : Made ℕ). Follows g (Left g alive (in_body inner g.held alive f) before_body s) s (executed scope body n active v) m) made_body.is (agrees (in_body inner g.held alive f) before_body s v inner_frame (inner_here free) begin_known begun_body here_s sim_s c.body_code))
           (part_falls n step)
           (λ s v here_s sim_s. subst (λ (m : Made (Unit {0})). Follows g (RanOn g alive made_body.e s) s (done scope active step v) m) made_step.is (part_follows n step steps c.step_code made_body.e s v begun_step here_s sim_s))
-          (λ s v here_s sim_s. made_back.leads begun_back (let low = free.code in let turn_is = so.3 in let a = code_more g (I.FrontJump place) made_first.e in omega (arith, low, turn_is, a)) (open_named g (OpenAmong g alive) made_first.e turn free.opened (let turn_is = so.3 in let a = code_more g (I.FrontJump place) made_first.e in omega (arith, turn_is, a))) within s v here_s sim_s)
+          (λ s v here_s sim_s. made_back.leads begun_back (let low = free.code in let turn_is = so.3 in let a = code_more g (I.FrontJump place) made_first.e in omega (arith, low, turn_is, a)) (open_named g (OpenAmong g alive) (length made_first.e.code) turn (length made_first.e.fields) (let turn_is = so.3 in let a = code_more g (I.FrontJump place) made_first.e in omega (arith, turn_is, a)) free.opened) within s v here_s sim_s)
           (behind n body) steps_in_all t (moved_to g alive (place + start g) t) u all_grown (jumps g alive place made_first.e t (earlier g enters behind_loop (1 + (long + (part_length_of g.typed (layout g) step + (condition_length_of g.typed (layout g) test + 1)))) enters_grown within) at)
           (keeps_all g made_first.e t) (omega (arith, at_test)) (sim_moved g alive u t (place + start g) (let turn_is = so.3 in let a = code_more g (I.FrontJump place) made_first.e in omega (arith, at, turn_is, a)) sim))
 
@@ -335,7 +335,7 @@ module _ (g : Setting) (has : HasRegisters g) (alive : Variable → Type 0) (fil
       do_here free = record { among = do_among; loop = restores_none g contexts 0 refl; all = among.all; lives = λ x h. h; outer = among.outer; after = lasts_behind do_after (omega arith); next = lasts_behind do_next (omega arith) }
         where
           lasts_behind : (target : ℕ) → length d.code ≤ target → LastsTo g (OpenAmong g alive) g.held target
-          lasts_behind target behind = calls_follow.lasts (OpenAmong g alive) target (let low = free.code in omega (arith, low, behind)) (open_named g (OpenAmong g alive) d target free.opened behind)
+          lasts_behind target behind = calls_follow.lasts (OpenAmong g alive) target (let low = free.code in omega (arith, low, behind)) (open_named g (OpenAmong g alive) (length d.code) target (length d.fields) behind free.opened)
 
       do_known : HasDeclared g.typed g.instance (layout g) n do_before
       do_known = declared_on g I.FrontTurn n d known
@@ -385,7 +385,7 @@ module _ (g : Setting) (has : HasRegisters g) (alive : Variable → Type 0) (fil
           (λ s v here_s sim_s. subst (λ (m : Made ℕ). Follows g (Left g alive (in_body do_inner g.held alive f) do_before s) s (executed scope body n active v) m) made_do.is (agrees (in_body do_inner g.held alive f) do_before s v do_frame (do_here free) do_known begun_body here_s sim_s (do_body g numbers n p body test c)))
           (λ v. omega arith)
           (λ s v here_s sim_s within_s. (refl, record { grown = (0, as_it_was made_do.e); t = s; go = stay g s; at = here_s; sim = sim_s; keeps = keeps_all g made_do.e s }))
-          (λ s v here_s sim_s. made_while.leads (begun_later g alive do_before made_do.e do_long made_do.extended begun_body) (let low = free.code in let turn_is = so.2 in omega (arith, low, turn_is)) (open_named g (OpenAmong g alive) d _ free.opened (let turn_is = so.2 in omega (arith, turn_is))) within s v here_s sim_s)
+          (λ s v here_s sim_s. made_while.leads (begun_later g alive do_before made_do.e do_long made_do.extended begun_body) (let low = free.code in let turn_is = so.2 in omega (arith, low, turn_is)) (open_named g (OpenAmong g alive) (length d.code) _ (length d.fields) (let turn_is = so.2 in omega (arith, turn_is)) free.opened) within s v here_s sim_s)
           (behind n body) _ t u refl do_grown at sim)
 
     pub do_agrees : Agrees g has alive files numbers ready scope active calls_follow contexts n (S.Do' p body test)

@@ -158,20 +158,25 @@ module _ (g : Setting) where
   more_entries : (d e : Draft) (n : ℕ) → Extended d n e → length d.fields ≤ length e.fields
   more_entries d e n x = let both = ap (λ (entries : List Virtual). length entries) x.fields ∙ length-append d.fields x.entries in omega (arith, both)
 
-  -- the variable has an entry of the draft, which its code names; so has each of these
+  -- the variable has one of so many entries, which is named before a place; so has each of these
+  abbrev pub IsOpenAt : ℕ → ℕ → ℕ → Type 0
+  IsOpenAt place entries k = (entry : ℕ) × (HasHome k entry × (IsNamedBefore entry place × (entry < entries)))
+
+  abbrev pub AreOpenAt : (ℕ → Type 0) → ℕ → ℕ → Type 0
+  AreOpenAt live place entries = (k : ℕ) → live k → IsOpenAt place entries k
+
+  -- it has an entry of the draft, which its code names
   abbrev pub IsOpenIn : ℕ → Draft → Type 0
-  IsOpenIn k d = (entry : ℕ) × (HasHome k entry × (IsNamedBefore entry (length d.code) × (entry < length d.fields)))
+  IsOpenIn k d = IsOpenAt (length d.code) (length d.fields) k
 
-  abbrev pub AreOpen : (ℕ → Type 0) → Draft → Type 0
-  AreOpen live d = (k : ℕ) → live k → IsOpenIn k d
-
-  pub open_later : (live : ℕ → Type 0) (d e : Draft) (n : ℕ) → Extended d n e → AreOpen live d → AreOpen live e
-  open_later live d e n x opened k living =
+  -- so it is at a later place, and where there are more entries
+  pub open_later : (live : ℕ → Type 0) (place later entries more : ℕ) → place ≤ later → entries ≤ more → AreOpenAt live place entries → AreOpenAt live later more
+  open_later live place later entries more behind longer opened k living =
       let (entry, (home, ((first, (named, before)), inside))) = opened k living in
-      (entry, (home, ((first, (named, omega (arith, before, longer d e n x))), omega (arith, inside, more_entries d e n x))))
+      (entry, (home, ((first, (named, omega (arith, before, behind))), omega (arith, inside, longer))))
 
-  pub open_named : (live : ℕ → Type 0) (d : Draft) (place : ℕ) → AreOpen live d → length d.code ≤ place → AreNamedBefore live place
-  open_named live d place opened behind k living =
+  pub open_named : (live : ℕ → Type 0) (place later entries : ℕ) → place ≤ later → AreOpenAt live place entries → AreNamedBefore live later
+  open_named live place later entries behind opened k living =
       let (entry, (home, ((first, (named, before)), inside))) = opened k living in
       (entry, (home, (first, (named, omega (arith, before, behind)))))
 
@@ -181,10 +186,10 @@ module _ (g : Setting) where
     pub regs : g.begins ≤ d.regs
     pub code : g.from ≤ length d.code
     pub fields : g.entries ≤ length d.fields
-    pub opened : AreOpen (OpenAmong alive) d
+    pub opened : AreOpenAt (OpenAmong alive) (length d.code) (length d.fields)
 
   pub begun_later : (alive : Variable → Type 0) (d e : Draft) (n : ℕ) → Extended d n e → Begun alive d → Begun alive e
-  begun_later alive d e n x b = record { regs = omega (arith, x.regs, b.regs); code = omega (arith, longer d e n x, b.code); fields = omega (arith, more_entries d e n x, b.fields); opened = open_later (OpenAmong alive) d e n x b.opened }
+  begun_later alive d e n x b = record { regs = omega (arith, x.regs, b.regs); code = omega (arith, longer d e n x, b.code); fields = omega (arith, more_entries d e n x, b.fields); opened = open_later (OpenAmong alive) (length d.code) (length e.code) (length d.fields) (length e.fields) (longer d e n x) (more_entries d e n x) b.opened }
 
   -- so it has where fewer variables are alive
   pub begun_fewer : (more fewer : Variable → Type 0) (d : Draft) → ((x : Variable) → fewer x → more x) → Begun more d → Begun fewer d

@@ -69,7 +69,7 @@ use Rattle.fields_follow.proofs.Instructions.{Puts, extents, operation_below, pu
 use Rattle.fields_follow.proofs.Meaning.{value_in, word_at}
 use Rattle.fields_follow.proofs.Outcomes.{Ended, meant, outcome_follows}
 use Rattle.fields_follow.proofs.Leaving.{Leaves, PassesTests, UpdateLeaves}
-use Rattle.fields_follow.proofs.Passing.{After, Passes, after_same, code_longer, made_after, passes_all}
+use Rattle.fields_follow.proofs.Passing.{fields_longer, After, Passes, after_same, code_longer, made_after, passes_all}
 use Rattle.fields_follow.proofs.PassingTests.{tests_passed}
 use Rattle.fields_follow.proofs.Places.{HoldsTheFields, IsFileField, PlacesFields, names_first, stands_here}
 use Rattle.fields_follow.proofs.Updates.{IsFileTarget, assign_ends, assign_means, assigned_divides, assigned_is, divides_as, divides_never, file_target, promoted_wide, step_means, updated_is}
@@ -113,7 +113,7 @@ module _ (g : Setting) (has : HasRegisters g) (alive : Variable → Type 0) (n :
           grown = (0 + (p.grown.0 + last.more.0), extended d entered f 0 (p.grown.0 + last.more.0) (and_entry set info.elem.bits (W.File (file_number g.typed k 0)) d) x);
           t = record p.t { at = last.place; memory = written last.takes.write p.t.memory };
           go = onto g s p.t (record p.t { at = last.place; memory = written last.takes.write p.t.memory }) p.go last.go;
-          at = starts_later g alive p.t (record p.t { at = last.place; memory = written last.takes.write p.t.memory }) (length e2.code) e2.regs (length f.code) f.regs longer last.more.1.regs last.at p.at;
+          at = starts_later g alive p.t (record p.t { at = last.place; memory = written last.takes.write p.t.memory }) (length e2.code) e2.regs (length e2.fields) (length f.code) f.regs (length f.fields) longer last.more.1.regs (fields_longer e2 f last.more.0 last.more.1) last.at p.at;
           registers = keeps_less g d entered s p.t (and_entry set info.elem.bits (W.File (file_number g.typed k 0)) d).regs p.registers;
           sim = file_sim g places fields alive set variable p.t st v p.sim refl ends.0 ends.1 last.takes k 0 info is refl file last.place (fields.active set) w (λ q below. refl)
               (λ q below on. same.0 q below (few g places fields alive set variable p.t st v p.sim refl ends.0 ends.1 last.takes q below on)) same.1;
@@ -179,7 +179,7 @@ module _ (g : Setting) (has : HasRegisters g) (alive : Variable → Type 0) (n :
       by (Some x) h = ap (λ (b : Bool). if b then Some mine else None) (within x (h.2, h.3))
 
   assigns : (ty : ValueType) (place : Place) (op : AssignOp) (p q : Boxed) (target value : TExpr) (set : ℕ) → ty ≡ type_of target → IsTarget set target → HasOperation op ty.elem value → IsOperand set value → NamesVariables g.typed g.instance n target → HasItsCode g.typed g.instance alive n value
-      → (d : Draft) (s : CodeState) (st : State) → Starts g alive s (length d.code) d.regs → Sim g alive st s
+      → (d : Draft) (s : CodeState) (st : State) → Starts g alive s (length d.code) d.regs (length d.fields) → Sim g alive st s
       → UpdateLeaves g alive fields (T.Assign' ty place op p target q value) d s st
   unfolding effect_of assignment_effect variable_operated
   assigns ty place op p q target value set same is_target operates is_value names c d s st here sim =
@@ -364,7 +364,7 @@ module _ (g : Setting) (has : HasRegisters g) (alive : Variable → Type 0) (n :
       mine = record { shape = Some set; variable = V.File k }
 
   steps : (ty : ValueType) (op : StepOp) (order : StepOrder) (p : Boxed) (target : TExpr) (set : ℕ) → ty ≡ type_of target → IsTarget set target → (ty.elem.bits == 1) ≡ false → NamesVariables g.typed g.instance n target
-      → (d : Draft) (s : CodeState) (st : State) → Starts g alive s (length d.code) d.regs → Sim g alive st s
+      → (d : Draft) (s : CodeState) (st : State) → Starts g alive s (length d.code) d.regs (length d.fields) → Sim g alive st s
       → UpdateLeaves g alive fields (T.Step' ty op order p target) d s st
   unfolding effect_of step_effect variable_stepped word_in step_of
   steps ty op order p target set same is_target no_truth names d s st here sim =
@@ -431,7 +431,7 @@ module _ (g : Setting) (has : HasRegisters g) (alive : Variable → Type 0) (n :
       Q out e = ((meant g fields (T.Step' ty op order p target) st ≡ Gives means.0 u) × Leaves g alive d e s u) ⊎ Ended g s (meant g fields (T.Step' ty op order p target) st)
 
   -- an update leaves what it leaves in the source
-  pub updates_leave : (e : TExpr) → IsUpdate e → HasItsCode g.typed g.instance alive n e → (d : Draft) (s : CodeState) (st : State) → Starts g alive s (length d.code) d.regs → Sim g alive st s → UpdateLeaves g alive fields e d s st
+  pub updates_leave : (e : TExpr) → IsUpdate e → HasItsCode g.typed g.instance alive n e → (d : Draft) (s : CodeState) (st : State) → Starts g alive s (length d.code) d.regs (length d.fields) → Sim g alive st s → UpdateLeaves g alive fields e d s st
   unfolding IsUpdate NamesVariables IsShaped IsLowerable ScalarsAmong
   updates_leave (T.Assign' ty place op p target q value) is c =
       assigns ty place op p q target value set_of is.1.0 is.1.1 is.1.2 is.1.3 c.code.names.0 (record { code = record { shaped = c.code.shaped.3; lowerable = c.code.lowerable.3; names = c.code.names.1 }; among = c.among.1 })

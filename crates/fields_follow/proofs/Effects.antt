@@ -95,7 +95,7 @@ module _ (g : Setting) (has : HasRegisters g) (alive : Variable → Type 0) (n :
 
   abbrev pub PutsLast : ℕ → Field → TExpr → (Draft → Made Out) → Type 1
   PutsLast set f e made =
-      (d : Draft) (s : CodeState) (st : State) → Starts g alive s (length d.code) d.regs → Sim g alive st s → (Q : Out → Draft → Type 0)
+      (d : Draft) (s : CodeState) (st : State) → Starts g alive s (length d.code) d.regs (length d.fields) → Sim g alive st s → (Q : Out → Draft → Type 0)
       → (IsGiven set e st → (e2 : Draft) (i : Instr) → Within g (with_instr i e2) → (p : Passes g alive (length d.fields) d e2 s st (Unit {0})) → Puts g set i f p.t (words_of set e st) → Q (O.Field f) (with_instr i e2))
       → (Ended g s (meant g fields e st) → (x : Out) (after : Draft) → Q x after) → After g Q (made d)
 
@@ -344,7 +344,7 @@ module _ (g : Setting) (has : HasRegisters g) (alive : Variable → Type 0) (n :
   IsEntryFor k f d = (e : Draft) (m : ℕ) → Extended d m e → Within g e → IsFileField g k 0 f
 
   pub in_place_last : (set offset k : ℕ) (info : VarInfo) (op : Op) (signed : Bool) (place : Place) (value : TExpr) (d : Draft) (s : CodeState) (st : State) → IsElement g.typed k info set 0 → IsEntryFor k (field_at set offset info.elem.bits) d
-      → IsOperation op value → operation_bits info.elem.bits op value ≡ info.elem.bits → IsOperand set value → HasItsCode g.typed g.instance alive n value → Starts g alive s (length d.code) d.regs → Sim g alive st s → (Q : Out → Draft → Type 0)
+      → IsOperation op value → operation_bits info.elem.bits op value ≡ info.elem.bits → IsOperand set value → HasItsCode g.typed g.instance alive n value → Starts g alive s (length d.code) d.regs (length d.fields) → Sim g alive st s → (Q : Out → Draft → Type 0)
       → (IsGiven set value st → set < length (shapes g) → (divides op ≡ true → zero_at g fields set (words_of set value st) ≡ None) → (e2 : Draft) (i : Instr) → Within g (with_instr i e2) → (p : Passes g alive (length d.fields) d e2 s st (Unit {0})) → Puts g set i (field_at set offset info.elem.bits) p.t (λ q. outcome op 32 (not signed) (held info.elem (st.parallel (V.File k) 0 q)) (words_of set value st q)) → Q (O.Field (field_at set offset info.elem.bits)) (with_instr i e2))
       → (Ended g s (meant g fields value st) → (x : Out) (after : Draft) → Q x after)
       → (IsGiven set value st → set < length (shapes g) → divides op ≡ true → (q : ℕ) → zero_at g fields set (words_of set value st) ≡ Some q → Finishes g (Source.Fault DivZero place (Some q)) st s → (x : Out) (after : Draft) → Q x after)

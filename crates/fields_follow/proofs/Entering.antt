@@ -110,7 +110,7 @@ module _ (g : Setting) (shape : ℕ) (d : Draft) (test : TExpr) where
     pub code_more_by : length d.code ≤ length after.code
     code_more_by = code_longer (for_test shape d) after made.1.1.1.0 longer
 
-    module _ (scope : Scope) (active : Active) (known : KnowsFields g scope active) (alive : Variable → Type 0) (begun : Begun g d) (s : CodeState) (st : State) where
+    module _ (scope : Scope) (active : Active) (known : KnowsFields g scope active) (alive : Variable → Type 0) (begun : Begun g alive d) (s : CodeState) (st : State) where
       -- what is kept, and the test flags
       abbrev Tested : (BitMemory → Type 0) → BitMemory → Type 0
       Tested kept m = kept m × TestsAre g shape active (λ q. value_in (extents g shape) st test q) m

@@ -178,7 +178,7 @@ module _ (g : Setting) (has : HasRegisters g) (alive : Variable → Type 0) (n :
   pub from_operand : (bits set : ℕ) (inner : TExpr) (dest : Field) (i : Field → Instr) (next : Out → Draft → Made Out) (bound : ℕ) (d : Draft) (s : CodeState) (st : State) (w : ℕ → ℕ) → ((a : Field) → step_of (i a) ≡ Plain (i a)) → ((a : Field) → fields_of (i a) ≡ dest ∷ a ∷ [])
       → ((x : Out) (after : Draft) → Extends g after (next x after)) → ((a : Field) (after : Draft) → next (O.Field a) after ≡ Makes (O.Field dest) (with_instr (i a) after))
       → ((a : Field) (t : CodeState) → HasNumbers g bits set a t (λ q. word_at (extents g set) st inner q) → Sim g alive st t → Puts g set (i a) dest t w)
-      → IsPure set inner → HasItsCode g.typed g.instance alive n inner → IsValued bits set inner → bound ≤ length d.fields → Starts g alive s (length d.code) d.regs → Sim g alive st s → (Q : Out → Draft → Type 0)
+      → IsPure set inner → HasItsCode g.typed g.instance alive n inner → IsValued bits set inner → bound ≤ length d.fields → Starts g alive s (length d.code) d.regs (length d.fields) → Sim g alive st s → (Q : Out → Draft → Type 0)
       → (IsMeant set inner st → (e1 : Draft) (i : Instr) → Within g (with_instr i e1) → (p : Passes g alive bound d e1 s st (Unit {0})) → Puts g set i dest p.t w → Q (O.Field dest) (with_instr i e1)) → (Ended g s (meant g fields inner st) → (x : Out) (f : Draft) → Q x f)
       → After g Q (then_make (operand bits true inner d) (λ v after. next v after))
   unfolding step_of
@@ -207,7 +207,7 @@ module _ (g : Setting) (has : HasRegisters g) (alive : Variable → Type 0) (n :
   unary_ended ty op p inner s st early = ended_on g s (meant g fields inner st) (λ v after. Source.Gives (mapped ty (unary_of op) v) after) early
 
   pub negated_after : (bits set : ℕ) (ty : ValueType) (op : UnaryOp) (p : Boxed) (dest : Field) (inner : TExpr) (bound : ℕ) (d : Draft) (s : CodeState) (st : State) → ty.shape ≡ Some set → bits ≤ 32 → IsSign op → dest.len ≡ bits → IsPure set inner → IsWide set (type_of inner) → HasItsCode g.typed g.instance alive n inner → IsValued bits set inner
-      → bound ≤ length d.fields → Starts g alive s (length d.code) d.regs → Sim g alive st s → (Q : Out → Draft → Type 0)
+      → bound ≤ length d.fields → Starts g alive s (length d.code) d.regs (length d.fields) → Sim g alive st s → (Q : Out → Draft → Type 0)
       → (IsMeant set (T.Unary' ty op p inner) st → (e1 : Draft) (i : Instr) → Within g (with_instr i e1) → (p : Passes g alive bound d e1 s st (Unit {0})) → Puts g set i dest p.t (λ q. unary_of op (value_in (extents g set) st inner q)) → Q (O.Field dest) (with_instr i e1))
       → (Ended g s (meant g fields (T.Unary' ty op p inner) st) → (x : Out) (f : Draft) → Q x f)
       → After g Q (then_make (operand bits true inner d) (λ v after. negated (layout g) op (O.Field dest) v after))
@@ -411,7 +411,7 @@ module _ (g : Setting) (has : HasRegisters g) (alive : Variable → Type 0) (n :
 
   -- a field of as many bits as the type has is extended
   pub extended_after : (set : ℕ) (ty : ValueType) (p : Boxed) (inner : TExpr) (dest : Field) (bound : ℕ) (d : Draft) (s : CodeState) (st : State) → ty.shape ≡ Some set → (ty.elem.bits == 1) ≡ false → dest.len ≤ 32 → IsPure set inner → HasItsCode g.typed g.instance alive n inner → IsValued ty.elem.bits set inner
-      → bound ≤ length d.fields → Starts g alive s (length d.code) d.regs → Sim g alive st s → (Q : Out → Draft → Type 0)
+      → bound ≤ length d.fields → Starts g alive s (length d.code) d.regs (length d.fields) → Sim g alive st s → (Q : Out → Draft → Type 0)
       → (IsMeant set (T.Convert' ty p inner) st → (e1 : Draft) (i : Instr) → Within g (with_instr i e1) → (passes : Passes g alive bound d e1 s st (Unit {0})) → Puts g set i dest passes.t (λ q. word_at (extents g set) st (T.Convert' ty p inner) q) → Q (O.Field dest) (with_instr i e1))
       → (Ended g s (meant g fields (T.Convert' ty p inner) st) → (x : Out) (f : Draft) → Q x f)
       → After g Q (extended ty.elem.signed dest (operand ty.elem.bits true inner) d)

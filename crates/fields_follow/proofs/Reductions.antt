@@ -64,7 +64,7 @@ module _ (g : Setting) (alive : Variable → Type 0) where
 
   -- what the code of pure parallel expressions of 32 bits does
   abbrev pub OperandsStand : HoldsTheFields g → ℕ → Type 0
-  OperandsStand fields n = (bits set : ℕ) (e : TExpr) → 0 < bits → bits ≤ 32 → IsPure set e → IsWide set (type_of e) → HasItsCode g.typed g.instance alive n e → (d : Draft) (s : CodeState) (st : State) → Starts g alive s (length d.code) d.regs → Sim g alive st s
+  OperandsStand fields n = (bits set : ℕ) (e : TExpr) → 0 < bits → bits ≤ 32 → IsPure set e → IsWide set (type_of e) → HasItsCode g.typed g.instance alive n e → (d : Draft) (s : CodeState) (st : State) → Starts g alive s (length d.code) d.regs (length d.fields) → Sim g alive st s
       → Follows g (Given g (λ q. value_in (extents g set) st e q) st (GivesPure bits set e d s st)) s (meant g fields e st) (next_of g.typed (layout g) bits true e d)
 
   -- the number stands in a register, by code that passes up to its last instructions
@@ -149,7 +149,7 @@ module _ (g : Setting) (alive : Variable → Type 0) where
 
     -- A fold gives a number in the source and changes nothing, or ends early; its code passes, and its last instructions
     -- put that number in the register that is to have it.
-    pub folds_give : (e : TExpr) → IsFold e → HasItsCode g.typed g.instance alive n e → (d : Draft) (s : CodeState) (st : State) (r : ℕ) → Starts g alive s (length d.code) d.regs → Sim g alive st s
+    pub folds_give : (e : TExpr) → IsFold e → HasItsCode g.typed g.instance alive n e → (d : Draft) (s : CodeState) (st : State) (r : ℕ) → Starts g alive s (length d.code) d.regs (length d.fields) → Sim g alive st s
         → Follows g (λ x u out f. (w : ℕ) × ((x ≡ Scalar w) × ((u ≡ st) × GivesRegister r w d s st out f))) s (meant g fields e st) (computed_to g.typed (layout g) (O.Scalar r) e d)
     unfolding IsFold
     folds_give (T.Reduce' ty op p operand) (word, (set, is)) c d s st r here sim =

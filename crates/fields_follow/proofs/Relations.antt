@@ -164,7 +164,7 @@ module _ (g : Setting) (has : HasRegisters g) (alive : Variable → Type 0) (n :
   compared_extends relation a (R.Word k) spare e = (2, and_instr (I.Compare relation a spare) e (with_instr (I.MoveConstant spare k) e) 1 (and_one g (I.MoveConstant spare k) e))
 
   module _ (set : ℕ) (op : Op) (left right : TExpr) (is : AreRelated set op left right) (no_check : divides op ≡ false) (c_left : HasItsCode g.typed g.instance alive n left) (c_right : HasItsCode g.typed g.instance alive n right) (left_valued : IsPure set left → IsValued (bits_of (relation_kind left right)) set left)
-      (right_valued : IsPure set right → IsValued (bits_of (relation_kind left right)) set right) (d : Draft) (s : CodeState) (st : State) (here : Starts g alive s (length d.code) d.regs) (sim : Sim g alive st s) where
+      (right_valued : IsPure set right → IsValued (bits_of (relation_kind left right)) set right) (d : Draft) (s : CodeState) (st : State) (here : Starts g alive s (length d.code) d.regs (length d.fields)) (sim : Sim g alive st s) where
     abbrev bits : ℕ
     bits = bits_of (relation_kind left right)
 

@@ -161,7 +161,7 @@ module _ (g : Setting) where
       there m made x within part fits = file_everywhere g alive n places fields part set k info (record source { len = part }) t st is (taken g set info.elem.bits (owner_of g k) e made m within x) refl refl fits a.passes.sim
 
       -- code behind the address that only takes entries
-      passing : (e2 : Draft) → Extended e 0 e2 → Starts g alive t (length e2.code) e2.regs → Behind g at e → Passes g alive bound d e2 s st (Unit {0})
+      passing : (e2 : Draft) → Extended e 0 e2 → Starts g alive t (length e2.code) e2.regs (length e2.fields) → Behind g at e → Passes g alive bound d e2 s st (Unit {0})
       passing e2 x here behind =
           passes_on g alive bound bound d e e2 s st (Behind g at e) (Unit {0}) (Unit {0}) (omega arith) a.passes (passes_from g alive bound e e2 e2 t st (Unit {0}) x (passes_all g alive bound e2 t st (Unit {0}) here a.passes.sim)) (λ u. behind) (λ u. tt)
 
@@ -245,7 +245,7 @@ module _ (g : Setting) where
     -- behind the code of its indexes
     pub routed_last : (ty : ValueType) (place_of : Place) (p : _) (indexes : Row_of-TExpr _) (k set offset bits bound : ℕ) (quiet : Bool) (spot : Draft → Made Spot) (d : Draft) (s : CodeState) (st : State) → bits ≤ 32 → ty.shape ≡ Some set → all_go_by_news set 0 (items-the_row-TExpr _ indexes) ≡ false
         → ArePure set indexes → AllCoded g has alive n ready places fields indexes → AllValued g has alive n ready places fields set indexes → HasVariable g.typed g.instance n (V.File k) (plain (parallel ty.elem set)) → HasAxes g.typed set (length (items-the_row-TExpr _ indexes))
-        → spot d ≡ indexed_spot g.typed (layout g) (T.LeftIndex' ty place_of p indexes (V.File k) set) (values_of g.typed (layout g) false quiet indexes) d → bound ≤ length d.fields → Starts g alive s (length d.code) d.regs → Sim g alive st s → (Q : Out → Draft → Type 0)
+        → spot d ≡ indexed_spot g.typed (layout g) (T.LeftIndex' ty place_of p indexes (V.File k) set) (values_of g.typed (layout g) false quiet indexes) d → bound ≤ length d.fields → Starts g alive s (length d.code) d.regs (length d.fields) → Sim g alive st s → (Q : Out → Draft → Type 0)
         → (meant g fields (T.LeftIndex' ty place_of p indexes (V.File k) set) st ≡ Source.Gives (Parallel (λ q. value_in (extents g set) st (T.LeftIndex' ty place_of p indexes (V.File k) set) q)) st → (e2 : Draft) (i : Instr) → Within g (with_instr i e2) → (passes : Passes g alive bound d e2 s st (Unit {0}))
         → Puts g set i (record { set = set; offset = offset; len = bits }) passes.t (λ q. word_at (extents g set) st (T.LeftIndex' ty place_of p indexes (V.File k) set) q) → Q (O.Field (record { set = set; offset = offset; len = bits })) (with_instr i e2))
         → (Ended g s (meant g fields (T.LeftIndex' ty place_of p indexes (V.File k) set) st) → (x : Out) (after : Draft) → Q x after)

@@ -66,7 +66,7 @@ module _ (g : Setting) (has : HasRegisters g) (alive : Variable → Type 0) (n :
   made_follows Q s x u y e h = h
 
   pub assigns : (ty : ValueType) (place : Place) (op : AssignOp) (p q : Boxed) (target value : TExpr) (set : ℕ) → ty ≡ type_of target → assign_op_of op ≡ None → (type_of value).elem.bits ≡ ty.elem.bits → IsTarget set target → IsChanging set value → NamesVariables g.typed g.instance n target
-      → HasItsCode g.typed g.instance alive n value → (d : Draft) (s : CodeState) (st : State) → Starts g alive s (length d.code) d.regs → Sim g alive st s → UpdateLeaves g alive fields (T.Assign' ty place op p target q value) d s st
+      → HasItsCode g.typed g.instance alive n value → (d : Draft) (s : CodeState) (st : State) → Starts g alive s (length d.code) d.regs (length d.fields) → Sim g alive st s → UpdateLeaves g alive fields (T.Assign' ty place op p target q value) d s st
   unfolding effect_of assignment_effect variable_operated put_to word_for evaluated then_do put_value put_in_field at
   assigns ty place op p q target value set same none long is_target is names c d s st here sim =
       follows_same g Q s means code

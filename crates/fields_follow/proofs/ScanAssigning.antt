@@ -68,7 +68,7 @@ use Rattle.fields_follow.proofs.Variables.{file_carries}
 module _ (g : Setting) (has : HasRegisters g) (alive : Variable → Type 0) (n : ℕ) (ready : (d : Draft) → IsReadyButForFields g.typed g.instance (layout g) n d) (places : PlacesFields g) (fields : HoldsTheFields g) where
   -- An operator on the field of a variable and a value with scans in it: the last instruction writes the variable.
   in_place : (set k : ℕ) (info : VarInfo) (is : IsElement g.typed k info set 0) (op : Op) (signed : Bool) (place : Place) (value : TExpr) (d0 : Draft) (s : CodeState) (st : State) → IsOperation op value → operation_bits info.elem.bits op value ≡ info.elem.bits → IsScan set value → IsWide set (type_of value)
-      → HasItsCode g.typed g.instance alive n value → Starts g alive s (length (entered g has alive n ready places fields set k info is d0 s st).code) (entered g has alive n ready places fields set k info is d0 s st).regs → Sim g alive st s → (Q : Out → Draft → Type 0)
+      → HasItsCode g.typed g.instance alive n value → Starts g alive s (length (entered g has alive n ready places fields set k info is d0 s st).code) (entered g has alive n ready places fields set k info is d0 s st).regs (length (entered g has alive n ready places fields set k info is d0 s st).fields) → Sim g alive st s → (Q : Out → Draft → Type 0)
       → (ScanGives g alive places fields set value st → set < length (shapes g) → (divides op ≡ true → zero_at g fields set (λ q. scanned_in g alive places fields set st value q) ≡ None) → (e2 : Draft) (i : Instr) → Within g (with_instr i e2) → (p : Passes g alive (length (entered g has alive n ready places fields set k info is d0 s st).fields) (entered g has alive n ready places fields set k info is d0 s st) e2 s st (Unit {0}))
       → Puts g set i (next_field set info.elem.bits d0) p.t (λ q. outcome op 32 (not signed) (held info.elem (st.parallel (V.File k) 0 q)) (scanned_in g alive places fields set st value q)) → Q (O.Field (next_field set info.elem.bits d0)) (with_instr i e2))
       → (Ended g s (meant g fields value st) → (x : Out) (after : Draft) → Q x after)
@@ -119,7 +119,7 @@ module _ (g : Setting) (has : HasRegisters g) (alive : Variable → Type 0) (n :
       w = λ q. scanned_in g alive places fields set st value q
 
   assigns : (ty : ValueType) (place : Place) (op : AssignOp) (p q : Boxed) (target value : TExpr) (set : ℕ) → ty ≡ type_of target → HasOperation op ty.elem value → IsTarget set target → IsScanFor set ty.elem.bits op value → NamesVariables g.typed g.instance n target
-      → HasItsCode g.typed g.instance alive n value → (d : Draft) (s : CodeState) (st : State) → Starts g alive s (length d.code) d.regs → Sim g alive st s → UpdateLeaves g alive fields (T.Assign' ty place op p target q value) d s st
+      → HasItsCode g.typed g.instance alive n value → (d : Draft) (s : CodeState) (st : State) → Starts g alive s (length d.code) d.regs (length d.fields) → Sim g alive st s → UpdateLeaves g alive fields (T.Assign' ty place op p target q value) d s st
   unfolding effect_of assignment_effect variable_operated
   assigns ty place op p q target value set same operates is_target is_value names c d s st here sim =
       outcome_follows g s o (Parallel w) u (λ out e. Leaves g alive d e s u) (λ v t out e. Leaves g alive d e s t) (effect_of g.typed (layout g) (T.Assign' ty place op p target q value) d) (λ out e said. said)
@@ -228,7 +228,7 @@ module _ (g : Setting) (has : HasRegisters g) (alive : Variable → Type 0) (n :
           (λ given there divided y none finishes out e. inr (record { early = Source.Fault DivZero place (Some y); state = st; is = divided_so x is given there divided ∙ ap by_zero none; finishes = finishes })))
 
   -- the assignment of a scan leaves what it leaves in the source
-  pub scans_leave : (e : TExpr) → IsScanAssigned e → HasItsCode g.typed g.instance alive n e → (d : Draft) (s : CodeState) (st : State) → Starts g alive s (length d.code) d.regs → Sim g alive st s → UpdateLeaves g alive fields e d s st
+  pub scans_leave : (e : TExpr) → IsScanAssigned e → HasItsCode g.typed g.instance alive n e → (d : Draft) (s : CodeState) (st : State) → Starts g alive s (length d.code) d.regs (length d.fields) → Sim g alive st s → UpdateLeaves g alive fields e d s st
   unfolding IsScanAssigned NamesVariables IsShaped IsLowerable ScalarsAmong
   scans_leave (T.Assign' ty place op p target q value) is c =
       assigns ty place op p q target value is.2.0 is.0 is.1 is.2.1.0 is.2.1.1 c.code.names.0 (record { code = record { shaped = c.code.shaped.3; lowerable = c.code.lowerable.3; names = c.code.names.1 }; among = c.among.1 })

@@ -84,7 +84,7 @@ module _ (g : Setting) (has : HasRegisters g) (alive : Variable → Type 0) (n :
   Valued bits e code = ScanValued g has alive n ready places fields set bits e code
 
   -- what puts it in the entry that is taken first gives it
-  own_given : (bits : ℕ) (e : TExpr) (made : Draft → Made Out) (d : Draft) (s : CodeState) (st : State) → bits ≤ 32 → Starts g alive s (length d.code) d.regs → Sim g alive st s → Puts_ (next_field set 32 d) e made
+  own_given : (bits : ℕ) (e : TExpr) (made : Draft → Made Out) (d : Draft) (s : CodeState) (st : State) → bits ≤ 32 → Starts g alive s (length d.code) d.regs (length d.fields) → Sim g alive st s → Puts_ (next_field set 32 d) e made
       → Follows g (Given g (λ q. number e st q) st (ScanGiven bits e d s st)) s (meant g fields e st) (lowest bits (made (with_entry set 32 W.Own d)))
   own_given bits e made d s st most here sim whole =
       known_follows g s (meant g fields e st) (λ q. number e st q) st (ScanGiven bits e d s st) (lowest bits (made (with_entry set 32 W.Own d)))
@@ -137,7 +137,7 @@ module _ (g : Setting) (has : HasRegisters g) (alive : Variable → Type 0) (n :
   -- an instruction from its field to another one, behind its code
   from_scan : (bits : ℕ) (e : TExpr) (dest : Field) (i : Field → Instr) (next : Out → Draft → Made Out) (w : ℕ → ℕ) (bound : ℕ) (d : Draft) (s : CodeState) (st : State) → ((a : Field) → step_of (i a) ≡ Plain (i a)) → ((a : Field) → fields_of (i a) ≡ dest ∷ a ∷ [])
       → ((x : Out) (after : Draft) → Extends g after (next x after)) → ((a : Field) (after : Draft) → next (O.Field a) after ≡ Makes (O.Field dest) (with_instr (i a) after)) → ((a : Field) (t : CodeState) → HasNumbers g bits set a t (λ q. number e st q) → Puts g set (i a) dest t w)
-      → IsScan set e → Valued bits e (λ d. value_of g.typed (layout g) bits e d) → bound ≤ length d.fields → Starts g alive s (length d.code) d.regs → Sim g alive st s → (Q : Out → Draft → Type 0)
+      → IsScan set e → Valued bits e (λ d. value_of g.typed (layout g) bits e d) → bound ≤ length d.fields → Starts g alive s (length d.code) d.regs (length d.fields) → Sim g alive st s → (Q : Out → Draft → Type 0)
       → (ScanGives g alive places fields set e st → (e1 : Draft) (i : Instr) → Within g (with_instr i e1) → (p : Passes g alive bound d e1 s st (Unit {0})) → Puts g set i dest p.t w → Q (O.Field dest) (with_instr i e1)) → (Ended g s (meant g fields e st) → (x : Out) (f : Draft) → Q x f)
       → After g Q (then_make (next_of g.typed (layout g) bits true e d) (λ v after. next v after))
   from_scan bits e dest i next w bound d s st plain both grows is_next puts is valued less here sim Q last ended =
@@ -157,7 +157,7 @@ module _ (g : Setting) (has : HasRegisters g) (alive : Variable → Type 0) (n :
 
   -- a sign before it
   signed_from : (bits : ℕ) (op : UnaryOp) (dest : Field) (operand : TExpr) (bound : ℕ) (d : Draft) (s : CodeState) (st : State) → bits ≤ 32 → IsSign g has alive n ready places fields op → dest.len ≡ bits → IsScan set operand → Valued bits operand (λ d. value_of g.typed (layout g) bits operand d)
-      → bound ≤ length d.fields → Starts g alive s (length d.code) d.regs → Sim g alive st s → (Q : Out → Draft → Type 0)
+      → bound ≤ length d.fields → Starts g alive s (length d.code) d.regs (length d.fields) → Sim g alive st s → (Q : Out → Draft → Type 0)
       → (ScanGives g alive places fields set operand st → (e1 : Draft) (i : Instr) → Within g (with_instr i e1) → (p : Passes g alive bound d e1 s st (Unit {0})) → Puts g set i dest p.t (λ q. unary_of op (number operand st q)) → Q (O.Field dest) (with_instr i e1)) → (Ended g s (meant g fields operand st) → (x : Out) (f : Draft) → Q x f)
       → After g Q (then_make (next_of g.typed (layout g) bits true operand d) (λ v after. negated (layout g) op (O.Field dest) v after))
   unfolding negated in_field Extends step_of

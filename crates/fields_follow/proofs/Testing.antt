@@ -73,7 +73,7 @@ module _ (g : Setting) (has : HasRegisters g) (alive : Variable → Type 0) (n :
 
   -- This is said of code wherever it begins, where the source gives the expression's numbers; else both end early.
   abbrev pub Says : {B : Type 0} → ℕ → TExpr → (Draft → CodeState → State → B → Draft → Type 0) → (Draft → Made B) → Type 0
-  Says set e said made = (d : Draft) (s : CodeState) (st : State) → Starts g alive s (length d.code) d.regs → Sim g alive st s → Follows g (Given g (numbers_of set e st) st (said d s st)) s (meant g fields e st) (made d)
+  Says set e said made = (d : Draft) (s : CodeState) (st : State) → Starts g alive s (length d.code) d.regs (length d.fields) → Sim g alive st s → Follows g (Given g (numbers_of set e st) st (said d s st)) s (meant g fields e st) (made d)
 
   -- the source gives them
   abbrev pub IsGiven : ℕ → TExpr → State → Type 0
@@ -103,7 +103,7 @@ module _ (g : Setting) (has : HasRegisters g) (alive : Variable → Type 0) (n :
       (operand_after g has alive n ready places fields bits set e true kinded.0 c.code.names whole d s st here sim)
 
   -- a variable of the file, where it stands
-  pub variable_tested : (set k : ℕ) (ty : ValueType) → ty.shape ≡ Some set → HasVariable g.typed g.instance n (V.File k) (plain ty) → (d : Draft) (s : CodeState) (st : State) → Starts g alive s (length d.code) d.regs → Sim g alive st s
+  pub variable_tested : (set k : ℕ) (ty : ValueType) → ty.shape ≡ Some set → HasVariable g.typed g.instance n (V.File k) (plain ty) → (d : Draft) (s : CodeState) (st : State) → Starts g alive s (length d.code) d.regs (length d.fields) → Sim g alive st s
       → Follows g (Given g (λ q. st.parallel (V.File k) 0 q) st (λ _ f. LeavesTests g alive fields d s set st (λ q. st.parallel (V.File k) 0 q) f)) s (meant g fields (T.Variable ty (V.File k)) st) (truth_of g.typed (layout g) (T.Variable ty (V.File k)) d)
   unfolding truth_of then_make an_entry step_of passes_from evaluated
   variable_tested set k ty shaped v d s st here sim =
@@ -245,7 +245,7 @@ module _ (g : Setting) (has : HasRegisters g) (alive : Variable → Type 0) (n :
   ignoring_means set e st active is free exists = pure_means fields.scope active set e st is free ∙ ap (λ (xs : List ℕ). Source.Gives (Parallel (λ q. value_in xs st e q)) st) (fields.same_extents set exists)
 
   -- what comes behind two of them
-  pub flags_after : (set : ℕ) (left right : TExpr) → HasItsKind set left → HasItsKind set right → ignores_context right ≡ true → HaveTheirCode g.typed g.instance alive n left right → IsDone set left → IsDone set right → (d : Draft) (s : CodeState) (st : State) → Starts g alive s (length d.code) d.regs → Sim g alive st s
+  pub flags_after : (set : ℕ) (left right : TExpr) → HasItsKind set left → HasItsKind set right → ignores_context right ≡ true → HaveTheirCode g.typed g.instance alive n left right → IsDone set left → IsDone set right → (d : Draft) (s : CodeState) (st : State) → Starts g alive s (length d.code) d.regs (length d.fields) → Sim g alive st s
       → (Q : Out → Draft → Type 0) (last : Field → Field → Draft → Made Out) → ((f h : Field) (e : Draft) → Extends g e (last f h e))
       → (IsGiven set left st → set < length (shapes g) → (f h : Field) (e1 e2 : Draft) (one : Truth g alive places fields d s set st (numbers_of set left st) f e1) → Truth g alive places fields e1 one.passes.t set st (numbers_of set right st) h e2 → After g Q (last f h e2))
       → (Ended g s (meant g fields left st) → (x : Out) (e : Draft) → Q x e)
