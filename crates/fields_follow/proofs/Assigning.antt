@@ -80,7 +80,7 @@ use Rattle.fields_follow.proofs.Writing.{TakesBehind, entry_and_below, entry_end
 use Rattle.fields_follow.proofs.Effects.{IsEntryFor, in_place_last, put_last}
 use Rattle.fields_follow.proofs.Expressions.{operand_at}
 use Rattle.code_follows.specs.Fragment.{ScalarsAmong}
-use Rattle.fields_follow.proofs.Starts.{Starts, starts_later}
+use Rattle.fields_follow.proofs.Starts.{starts_entry, Starts, starts_later}
 use Rattle.fields_follow.proofs.Variables.{file_carries}
 use Rattle.paris_code.specs.Spans.{IsNamedAt}
 
@@ -289,7 +289,7 @@ module _ (g : Setting) (has : HasRegisters g) (alive : Variable → Type 0) (n :
       plain_put : assign_op_of op ≡ None → (type_of value).elem.bits ≡ bits → IsOperand set value → (IsPure set value × IsPlain bits value) ⊎ IsPromoted set value → After g Q (code (assign_op_of op))
       plain_put is known is_operand any =
           after_same g Q (ap code is)
-          (put_last g has alive n ready places fields set (length d.fields) bits value (kind_bits h.info.elem.bits h.info.elem.signed h.info.elem.kind).0 most any c d1 s st here sim Q
+          (put_last g has alive n ready places fields set (length d.fields) bits value (kind_bits h.info.elem.bits h.info.elem.signed h.info.elem.kind).0 most any c d1 s st (starts_entry g alive _ _ here) sim Q
           (λ given e2 i within passes puts. inl (plain_given is given, leaves_value set h.k h.info h.is d s st (λ x. word_at (extents g set) st value x) w (λ x below small. (plain_stored is known is_operand x).0, λ x. (plain_stored is known is_operand x).1) e2 i within passes puts)) (λ early out e. inr (value_ended early)))
 
       truth_put : assign_op_of op ≡ None → IsTruth set bits value → After g Q (code (assign_op_of op))
@@ -297,7 +297,7 @@ module _ (g : Setting) (has : HasRegisters g) (alive : Variable → Type 0) (n :
           let few : (x : ℕ) → number x < 2 ^ bits = λ x. subst (λ (m : ℕ). m < 2 ^ bits) (sym (truth_bit (extents g set) st set bits value x truth)) (bit_below (nonzero (number x))) in
           let stored : (x : ℕ) → w x ≡ number x = λ x. plainly op ty.elem (type_of value).elem (old x) (number x) is in
           after_same g Q (ap code is)
-          (truth_last g has alive n ready places fields set h.k (length d.fields) bits h.info h.is (kind_bits h.info.elem.bits h.info.elem.signed h.info.elem.kind).0 refl d1 s st here sim (entry_for set h.k h.info h.is d s st) Q value truth c
+          (truth_last g has alive n ready places fields set h.k (length d.fields) bits h.info h.is (kind_bits h.info.elem.bits h.info.elem.signed h.info.elem.kind).0 refl d1 s st (starts_entry g alive _ _ here) sim (entry_for set h.k h.info h.is d s st) Q value truth c
           (λ given e2 f2 used within passes wanted last. inl (plain_given is given, leaves set h.k h.info h.is d s st number w (λ x below small. stored x ∙ sym (mod-eq_of_lt (few x)), λ x. subst (λ (m : ℕ). m < 2 ^ bits) (sym (stored x)) (few x)) e2 f2 used within passes wanted last)) (λ early out e. inr (value_ended early)))
 
       pure_put : assign_op_of op ≡ None → (type_of value).elem.bits ≡ bits → IsPure set value → IsTruth set bits value ⊎ IsPlain bits value → After g Q (code (assign_op_of op))
@@ -317,7 +317,7 @@ module _ (g : Setting) (has : HasRegisters g) (alive : Variable → Type 0) (n :
           ∙ updated_is op x h.info.elem (type_of value).elem (old y) (number y) is known.2 known.1
           (operation_below x (assigned_signed x h.info.elem (type_of value).elem) (held h.info.elem (old y)) (number y) known.0.0 (held_below h.info.elem (old y)) (below_word (type_of value).elem.bits _ known.1 (operand_small g alive n places fields set value st s sim is_operand c y))) in
           after_same g Q (ap code is)
-          (in_place_last g has alive n ready places fields set (length d.fields) h.k h.info x signed place value d1 s st h.is (entry_for set h.k h.info h.is d s st) known.0 known.3 is_operand c here sim Q
+          (in_place_last g has alive n ready places fields set (length d.fields) h.k h.info x signed place value d1 s st h.is (entry_for set h.k h.info h.is d s st) known.0 known.3 is_operand c (starts_entry g alive _ _ here) sim Q
           (λ given there never e2 i within passes puts. inl (
             operator_given x (is, (known, is_operand)) given there never,
             leaves_value set h.k h.info h.is d s st (λ y. outcome x 32 (not signed) (held h.info.elem (old y)) (word_at (extents g set) st value y)) w (
@@ -382,7 +382,7 @@ module _ (g : Setting) (has : HasRegisters g) (alive : Variable → Type 0) (n :
         means.1,
         leaves_value set h.k h.info h.is d s st (λ x. outcome (stepping op) 32 (not signed) (held elem (old x)) 1) w
             (λ x below small. moved x, λ x. subst (λ (m : ℕ). m < 2 ^ elem.bits) (sym (moved x)) (mod_below (given_by x) (2 ^ elem.bits) (pow_pos elem.bits)))
-            d1 i within (passes_all g alive (length d1.fields) d1 s st (Unit {0}) here sim)
+            d1 i within (passes_all g alive (length d1.fields) d1 s st (Unit {0}) (starts_entry g alive _ _ here) sim)
             (puts_operate_constant g elem.bits set (stepping op) signed f f (K.Imm 1) s (λ q. held elem (old q)) (step_known op) (modular_keeps (stepping op) signed elem.bits 1 (step_modular op) (kind_bits elem.bits elem.signed elem.kind).1) refl numbers.0 (omega arith)),
       ))))
     where

@@ -13,7 +13,7 @@ use Rattle.code_lengths.specs.Ready.{HasDeclared, NumbersVariables, homes_of}
 use Rattle.cstar_tree.specs.Variables.{variables_of}
 use Rattle.lower_base.specs.declared.names.LocalName.{LocalName}
 use Rattle.lower_base.specs.Drafts.{Draft, Made, Makes, an_entry, step as step_of, then_make, with_instr, with_step}
-use Rattle.lower_base.specs.Layouts.{entries_of, nothing_numbered, register_of}
+use Rattle.lower_base.specs.Layouts.{entries_of, nothing_numbered, numbered, register_of}
 use Rattle.lower_stmt.specs.Variables.{cleared, cleared_fields, is_kept_so, with_home}
 use Rattle.paris_code.specs.declared.instr.Instr.{Instr}
 use Rattle.paris_code.specs.declared.instr.Instr.TheVariants as I
@@ -137,12 +137,15 @@ module _ (g : Setting) (scope : Scope) (active : Active) (known : KnowsFields g 
   home numbers declared within = (
     record { home = before_it; entries = entries_of info },
     (
-      ap (λ (names : List LocalName). slice_get names n) numbers ∙ numbered_at (variables_of g.instance.body) nothing_numbered n info named,
+      ap (λ (names : List LocalName). slice_get names n) numbers ∙ ap (λ (k : ℕ). slice_get (numbered (variables_of g.instance.body) nothing_numbered).locals k) (none n) ∙ numbered_at (variables_of g.instance.body) nothing_numbered n info named,
       ap (λ (homes : List ℕ). slice_get homes before_it) (within.homes_are ∙ ap (λ (homes : List ℕ). homes ++ within.homes) homes_now ∙ append_assoc d.homes (length d.fields ∷ []) within.homes)
           ∙ ap (λ (k : ℕ). slice_get (d.homes ++ length d.fields ∷ within.homes) k) (sym declared.homes) ∙ at_length d.homes (length d.fields) within.homes,
     ),
   )
     where
+      none : (k : ℕ) → k ≡ 0 + k
+      none k = omega arith
+
       before_it : ℕ
       before_it = homes_of (take n (variables_of g.instance.body))
 

@@ -53,7 +53,7 @@ use Rattle.fields_follow.proofs.Places.{HoldsTheFields, PlacesFields, stands_her
 use Rattle.fields_follow.proofs.Promoted.{IsComputed, computed_after, promoted_stands}
 use Rattle.fields_follow.proofs.Spreading.{GivesWord, HasBoth, spread_behind}
 use Rattle.fields_follow.proofs.Values.{Gives, IsFlag, Valued, code_of, next_field, one_more, operand_after, operand_of, taken, with_entry}
-use Rattle.fields_follow.proofs.Starts.{Starts}
+use Rattle.fields_follow.proofs.Starts.{starts_entry, Starts}
 
 -- the instruction that operates on a field and what the right operand is
 abbrev pub operating : Op → Bool → Field → Field → Right → Instr
@@ -217,13 +217,13 @@ module _ (g : Setting) where
         by : HasItsWord e ⊎ IsComputed g alive n set e → Follows g (Given g v st Q) s (meant g fields e st) (spread_into (operand bits quiet e) e dest d1)
         by (inl h) =
             given_follows g s (meant g fields e st) v st Q (spread_into (operand bits quiet e) e dest d1) (h.means fields.scope fields.active (extents g set) st)
-            (after_same g Q (ap code h.is) (made_after g Q dest (with_instr (I.MoveConstant dest (K.Imm h.word)) d1) (λ within. word_spread bits set d d1 (K.Imm h.word) (λ q. word_at (extents g set) st e q) s st (constant_given (length d.fields) set e h d1 s st here sim) within)))
+            (after_same g Q (ap code h.is) (made_after g Q dest (with_instr (I.MoveConstant dest (K.Imm h.word)) d1) (λ within. word_spread bits set d d1 (K.Imm h.word) (λ q. word_at (extents g set) st e q) s st (constant_given (length d.fields) set e h d1 s st (starts_entry g alive _ _ here) sim) within)))
         by (inr h) =
             follows_same g (Given g v st Q) s refl (ap code h.no_word)
             (given_through g s (meant g fields e st) v st P Q (operand bits quiet e d1) (λ x after. in_a_field x dest after) (λ x after. in_field_extends x dest after)
             (λ part said. then_after g P Q part (λ x after. in_a_field x dest after) said (λ x after. in_field_extends x dest after) (λ x after (r, (is, gives)). after_same g Q (ap (λ (o : Out). in_a_field o dest after) is)
             (made_after g Q dest (with_instr (I.MoveConstant dest (K.Reg r)) after) (λ within. word_spread bits set d after (K.Reg r) (λ q. word_at (extents g set) st e q) s st gives within))))
-            (computed_after g alive n has ready fields set bits (length d.fields) quiet e h d1 s st here sim))
+            (computed_after g alive n has ready fields set bits (length d.fields) quiet e h d1 s st (starts_entry g alive _ _ here) sim))
 
     -- the right operand stands in a field, or is a word that is the same at every position
     abbrev pub GivesRight : ℕ → ℕ → Draft → CodeState → ℕ → State → (ℕ → ℕ) → Right → Draft → Type 0
@@ -492,7 +492,7 @@ module _ (g : Setting) where
         by : AreOperands set left right → After g Q (then_make (spread_into (operand bits (is_quiet right) left) left spare d1) (λ a between. next a between))
         by (inl (pure, any)) =
             then_known g s (meant g fields left st) v st (GivesField g alive bits (length d1.fields) d1 s set st (λ x. word_at (extents g set) st left x)) Q (spread_into (operand bits (is_quiet right) left) left spare d1) (λ a between. next a between)
-            (pure_left bits set left (is_quiet right) pure c_left (whole_left pure) spare d1 s st here sim) next_extends
+            (pure_left bits set left (is_quiet right) pure c_left (whole_left pure) spare d1 s st (starts_entry g alive _ _ here) sim) next_extends
             (λ is_left a e1 one. behind (length d1.fields) (omega (arith, first)) a e1 is_left (fields_longer d1 e1 one.passes.grown.0 one.passes.grown.1) one
             (given_weaker g one.passes.t (meant g fields right st) w st (λ b f. Takes op b × GivesRight bits (length e1.fields) e1 one.passes.t set st (λ x. word_at (extents g set) st right x) b f)
             (λ b f. Spares bits set (length d1.fields) d b × (Takes op b × GivesRight bits (length e1.fields) e1 one.passes.t set st (λ x. word_at (extents g set) st right x) b f)) (right_by (operand bits true right) op right e1) (λ b f h. ((λ k same. omega arith), h))

@@ -60,7 +60,7 @@ use Rattle.fields_follow.proofs.Passing.{After, Behind, GivesField, Passes, afte
 use Rattle.fields_follow.proofs.Places.{HoldsTheFields, PlacesFields, stands_here}
 use Rattle.fields_follow.proofs.RouterCode.{behind_indexes, for_got, got, got_field, plain_get, router_code, wide_get}
 use Rattle.fields_follow.proofs.Routing.{indexes_at, outside_at, routed_faults, routed_gives, routed_value, target_of}
-use Rattle.fields_follow.proofs.Starts.{Starts}
+use Rattle.fields_follow.proofs.Starts.{starts_entry, Starts}
 use Rattle.fields_follow.proofs.Values.{and_entry, next_field, one_more, taken, with_entry}
 
 module _ (g : Setting) where
@@ -169,7 +169,7 @@ module _ (g : Setting) where
       plain_last : bits ≤ info.elem.bits → Within g (plain_get g set k info f at e) → Q (O.Field f) (plain_get g set k info f at e)
       unfolding first_bits passing passes_on passes_from step_of
       plain_last fits within =
-          last e1 i within (passing e1 (and_entry set info.elem.bits (owner_of g k) e) a.passes.at behind)
+          last e1 i within (passing e1 (and_entry set info.elem.bits (owner_of g k) e) (starts_entry g alive _ _ a.passes.at) behind)
           (subst (λ (w : ℕ → ℕ). Puts g set i f t w) elem_words (puts_get bits set f at part t to words refl (named behind) leads (there 1 (with_instr i e1) (and_one g i e1) within bits fits)))
         where
           part : Field
@@ -215,7 +215,7 @@ module _ (g : Setting) where
           named_later = (length e2.code, (names_second g get field at (source ∷ []) (length e2.code) (stands_here g get e2 within3 refl) refl, omega arith))
 
           before : Passes g alive bound d e2 s st (Unit {0})
-          before = passing e2 taking a.passes.at named_later
+          before = passing e2 taking (starts_entry g alive _ _ (starts_entry g alive _ _ a.passes.at)) named_later
 
           behind : Behind g field e3
           behind = (length e3.code, (names_second g move f field [] (length e3.code) (stands_here g move e3 within refl) refl, omega arith))
@@ -226,7 +226,7 @@ module _ (g : Setting) where
           gives : GivesField g alive info.elem.bits bound e2 t set st (λ q. words (to q)) field e3
           gives =
               puts_own g alive places fields info.elem.bits bound set get field e2 t st (λ q. words (to q)) (let one = one_more set info.elem.bits (owner_of g k) e in omega (arith, less, one)) (let two = one_more set info.elem.bits W.Own e1 in omega (arith, two))
-              (taken g set info.elem.bits W.Own e1 e3 1 within3 (and_one g get e2)) refl refl within3 a.passes.at a.passes.sim
+              (taken g set info.elem.bits W.Own e1 e3 1 within3 (and_one g get e2)) refl refl within3 (starts_entry g alive _ _ (starts_entry g alive _ _ a.passes.at)) a.passes.sim
               (puts_get info.elem.bits set field at source t to words refl (named named_later) leads (there (0 + 1) e3 longer within3 info.elem.bits (omega arith)))
 
       got_last : Within g (got g set k info ty.elem f at e) → Q (O.Field f) (got g set k info ty.elem f at e)
@@ -293,7 +293,7 @@ module _ (g : Setting) where
         to = target_of (extents g set) st indexes
 
         start : PartsStand g alive bound d1 s set st [] [] d1
-        start = record { shaped = tt; passes = passes_all g alive bound d1 s st (AllBehind g [] d1) here sim; stand = λ b. tt }
+        start = record { shaped = tt; passes = passes_all g alive bound d1 s st (AllBehind g [] d1) (starts_entry g alive _ _ here) sim; stand = λ b. tt }
 
         same : (q : ℕ) → held ty.elem (st.parallel (V.File k) 0 (to q)) ≡ word_at (extents g set) st e q
         same q = ap (λ (x : ℕ). held ty.elem x) (sym (routed_value (extents g set) st ty place_of p indexes (V.File k) set q goes))

@@ -50,7 +50,7 @@ use Rattle.fields_follow.proofs.Lengths.{Keeps, operation_keeps}
 use Rattle.fields_follow.proofs.Places.{HoldsTheFields, PlacesFields}
 use Rattle.fields_follow.proofs.Promoted.{Spreads, changing_stands, everywhere}
 use Rattle.fields_follow.proofs.Scalars.{GivesChanged, changed_follows}
-use Rattle.fields_follow.proofs.Starts.{Starts}
+use Rattle.fields_follow.proofs.Starts.{starts_entry, Starts}
 use Rattle.fields_follow.proofs.Updates.{IsFileTarget, assigned_is, file_target, divides_as, updated_is}
 use Rattle.fields_follow.proofs.Values.{next_field, with_entry, and_entry, one_more}
 use Rattle.std.proofs.lemmas.Nat.{pow_pos, mod_below}
@@ -89,7 +89,7 @@ module _ (g : Setting) (has : HasRegisters g) (alive : Variable → Type 0) (n :
   operates ty place op p q target value set x same is_op plain known operation wide no_truth works is_target is names c d s st here sim =
       follows_same g Q s means code
       (then_follows g R Q s s (evaluated fields.scope v.operand fields.active st) k made (λ y after. next y after) (stay g s)
-      (changed_follows g has alive n ready fields true bits (length d2.fields) v.operand v.is v.among v.has d2 s st here sim) grows gives)
+      (changed_follows g has alive n ready fields true bits (length d2.fields) v.operand v.is v.among v.has d2 s st (starts_entry g alive _ _ (starts_entry g alive _ _ here)) sim) grows gives)
     where
       h : IsFileTarget g.typed set target
       h = file_target g.typed g.instance n set target is_target names

@@ -48,7 +48,7 @@ use Rattle.fields_follow.proofs.Passing.{After, GivesField, Passes, after_same, 
 use Rattle.fields_follow.proofs.Places.{HoldsTheFields, PlacesFields}
 use Rattle.fields_follow.proofs.ScanForms.{operand_number, scan_constant, scan_own, scan_word}
 use Rattle.fields_follow.proofs.Scanning.{scanned_in}
-use Rattle.fields_follow.proofs.Starts.{Starts}
+use Rattle.fields_follow.proofs.Starts.{starts_entry, Starts}
 use Rattle.fields_follow.proofs.Values.{Gives, IsFlag, next_field, one_more, operand_of, with_entry}
 
 module _ (g : Setting) (has : HasRegisters g) (alive : Variable → Type 0) (n : ℕ) (ready : (d : Draft) → IsReadyButForFields g.typed g.instance (layout g) n d) (places : PlacesFields g) (fields : HoldsTheFields g) (set : ℕ) where
@@ -226,7 +226,7 @@ module _ (g : Setting) (has : HasRegisters g) (alive : Variable → Type 0) (n :
       -- a left one in a field
       in_field : LeftGiven bits left (is_quiet right) spare → IsScan set right ⊎ IsOperand set right → After g Q (then_make (spread_into (operand bits (is_quiet right) left) left spare d1) (λ a between. next a between))
       in_field given any =
-          then_known g s (meant g fields left st) v st (GivesField g alive bits (length d1.fields) d1 s set st v) Q (spread_into (operand bits (is_quiet right) left) left spare d1) (λ a between. next a between) (given d1 s st here sim) next_extends
+          then_known g s (meant g fields left st) v st (GivesField g alive bits (length d1.fields) d1 s set st v) Q (spread_into (operand bits (is_quiet right) left) left spare d1) (λ a between. next a between) (given d1 s st (starts_entry g alive _ _ here) sim) next_extends
           (λ is_left a e1 one. behind (length d1.fields) (omega (arith, first)) a e1 is_left (fields_longer d1 e1 one.passes.grown.0 one.passes.grown.1) one (any_behind e1 one.passes.t any one.passes.at one.passes.sim))
           (λ early z f. ended (left_ended g fields ty place op p q left right s st early) z f)
 

@@ -60,7 +60,7 @@ use Rattle.fields_follow.proofs.ScanOperands.{GivesScan, ScanValued, own_numbers
 use Rattle.fields_follow.proofs.Scans.{PutsScan, SourceGiven, ones_message, scan_message, source_part}
 use Rattle.fields_follow.proofs.Meaning.{as_shaped, either, unary_means}
 use Rattle.fields_follow.proofs.Sizes.{binary_parts, brackets_part, convert_part, operand_small, unary_part, value_small}
-use Rattle.fields_follow.proofs.Starts.{Starts}
+use Rattle.fields_follow.proofs.Starts.{starts_entry, Starts}
 use Rattle.fields_follow.proofs.Values.{IsFlag, and_entry, first_given, next_field, one_more, with_entry}
 
 no_flag : (elem : Elem) → elem.bits ≡ 32 → (elem.bits == 1) ≡ false
@@ -89,7 +89,7 @@ module _ (g : Setting) (has : HasRegisters g) (alive : Variable → Type 0) (n :
   own_given bits e made d s st most here sim whole =
       known_follows g s (meant g fields e st) (λ q. number e st q) st (ScanGiven bits e d s st) (lowest bits (made (with_entry set 32 W.Own d)))
       (first_given g has alive n ready places fields 32 bits (length d.fields) d s set st (λ q. number e st q) (IsFlag e) (ScanGives g alive places fields set e st) (Ended g s (meant g fields e st)) (made (with_entry set 32 W.Own d)) most
-      (whole (length d.fields) (with_entry set 32 W.Own d) s st (let one = one_more set 32 W.Own d in omega (arith, one)) here sim (λ out f. (ScanGives g alive places fields set e st × ScanGiven 32 e d s st out f) ⊎ Ended g s (meant g fields e st))
+      (whole (length d.fields) (with_entry set 32 W.Own d) s st (let one = one_more set 32 W.Own d in omega (arith, one)) (starts_entry g alive _ _ here) sim (λ out f. (ScanGives g alive places fields set e st × ScanGiven 32 e d s st out f) ⊎ Ended g s (meant g fields e st))
       (λ given e2 i within passes puts. inl (given, own_result g has alive n ready places fields 32 set d e2 s st (λ q. number e st q) i within passes puts)) (λ early x f. inr early)))
 
   -- its numbers are those of its type
@@ -198,7 +198,7 @@ module _ (g : Setting) (has : HasRegisters g) (alive : Variable → Type 0) (n :
       ∙ ap (λ (b : Bool). if b then value_of g.typed (layout g) bits operand d else then_make (fresh_for ty.shape bits d) (λ dest between. then_make (operand_by g.typed (layout g) (unary_bits bits op operand) (value_of g.typed (layout g) (unary_bits bits op operand) operand) true operand between) (λ x after. negated (layout g) op dest x after))) sign.0
       ∙ ap (λ (b : Bool). then_make (fresh_for ty.shape bits d) (λ dest between. then_make (operand_by g.typed (layout g) (if b then bits_of (kind_of operand) else bits) (value_of g.typed (layout g) (if b then bits_of (kind_of operand) else bits) operand) true operand between) (λ x after. negated (layout g) op dest x after))) sign.1
       ∙ ap (λ (o : Option ℕ). then_make (fresh_for o bits d) (λ dest between. then_make (next_of g.typed (layout g) bits true operand between) (λ x after. negated (layout g) op dest x after))) is.0.0)
-      (signed_from bits op (next_field set bits d) operand (length d.fields) (with_entry set bits W.Own d) s st most sign refl is.2 valued (let one = one_more set bits W.Own d in omega (arith, one)) here sim Q
+      (signed_from bits op (next_field set bits d) operand (length d.fields) (with_entry set bits W.Own d) s st most sign refl is.2 valued (let one = one_more set bits W.Own d in omega (arith, one)) (starts_entry g alive _ _ here) sim Q
       (λ given e1 i within passes puts. inl (signed_gives ty op p operand st is.0.0 given, own_result g has alive n ready places fields bits set d e1 s st (λ q. number e st q) i within passes puts)) (λ early x f. inr (unary_ended g has alive n ready places fields ty op p operand s st early))))
     where
       e : TExpr

@@ -1,10 +1,11 @@
 -- Where the code of an expression starts: at a place of the unit behind which its registers are free, where the variables
 -- of the file are alive, and the parallel ones of blocks that are alive have entries.
-use Rattle.std.proofs.Common.{◌≡◌, ℕ, ◌≤◌, ⊥, arith, length, refl}
+use Rattle.std.proofs.Common.{◌≡◌, ℕ, ◌≤◌, List, [], ◌∷◌, ◌++◌, arith, length, length-append, refl}
 use Rattle.cstar_tree.specs.declared.typed.Variable.{Variable}
 use Rattle.cstar_tree.specs.declared.typed.Variable.TheVariants as V
 use Rattle.lower_base.specs.Drafts.{Draft, with_instr, with_step}
 use Rattle.paris_code.specs.declared.instr.Instr.{Instr}
+use Rattle.paris_code.specs.declared.program.Virtual.{Virtual}
 use Rattle.paris_code.specs.Code.{CodeState}
 use Rattle.code_follows.proofs.Settings.{AreOpenAt, At, OpenAmong, Setting, code_more, open_later, regs_more}
 
@@ -30,6 +31,10 @@ module _ (g : Setting) (alive : Variable → Type 0) where
   -- where there are more entries
   pub starts_wider : (s : CodeState) (place regs entries more : ℕ) → entries ≤ more → Starts s place regs entries → Starts s place regs more
   starts_wider s place regs entries more less here = starts_later s s place regs entries place regs more (omega arith) (omega arith) less here.stands here
+
+  -- where there is one more
+  pub starts_entry : {s : CodeState} {place regs : ℕ} (entries : List Virtual) (v : Virtual) → Starts s place regs (length entries) → Starts s place regs (length (entries ++ v ∷ []))
+  starts_entry {s} {place} {regs} entries v here = let one = length-append entries (v ∷ []) in starts_wider s place regs (length entries) (length (entries ++ v ∷ [])) (omega (arith, one)) here
 
   same_entries : (i : Instr) (d : Draft) → length (with_instr i d).fields ≡ length d.fields
   unfolding with_instr with_step

@@ -42,7 +42,7 @@ use Rattle.code_follows.proofs.Values.{extends_grown}
 use Rattle.code_follows.proofs.Settings.{Setting, and_one, layout, start, start}
 use Rattle.fields_follow.specs.Fields.{IsElement, file_number}
 use Rattle.fields_follow.specs.Fragment.{HasItsKind, HasKnownKind, IsPure}
-use Rattle.fields_follow.proofs.Starts.{Starts}
+use Rattle.fields_follow.proofs.Starts.{starts_entry, Starts}
 use Rattle.fields_follow.proofs.ConditionCode.{Bit, Told, Truth, bit_taken, flag_after, flag_extends, nonzero_after, operand_at, zero_after}
 use Rattle.fields_follow.proofs.Conditions.{HaveTheirCode}
 use Rattle.fields_follow.proofs.Expressions.{unary_ended}
@@ -116,7 +116,7 @@ module _ (g : Setting) (has : HasRegisters g) (alive : Variable → Type 0) (n :
       let behind : s.at ≤ start g + length d1.code = (let at = here.stands in omega (arith, at)) in
       let numbers = variable_has g has alive n ready places fields set (V.File k) info source s st carries (length d1.code) named behind sim in
       tested_last g alive fields places (length d.fields) set d d1 (I.NeZero source) s st number (Unit {0}) (omega arith)
-      (passes_from g alive (length d.fields) d d1 d1 s st (Unit {0}) (and_entry set info.elem.bits (W.File (file_number g.typed k 0)) d) (passes_all g alive (length d.fields) d1 s st (Unit {0}) here sim)) tt numbers.0.exists within
+      (passes_from g alive (length d.fields) d d1 d1 s st (Unit {0}) (and_entry set info.elem.bits (W.File (file_number g.typed k 0)) d) (passes_all g alive (length d.fields) d1 s st (Unit {0}) (starts_entry g alive _ _ here) sim)) tt numbers.0.exists within
       (puts_nonzero g set source s number (numbers_tell g info.elem.bits set source s (λ q. held info.elem (number q)) number (λ q below. ap (λ (m : ℕ). m == 0) (held_first info.elem (number q) info.elem.bits (small q) (omega arith) ∙ mod-eq_of_lt (small q))) numbers.0)))))
     where
       number : ℕ → ℕ

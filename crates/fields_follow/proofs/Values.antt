@@ -47,7 +47,7 @@ use Rattle.fields_follow.proofs.Outcomes.{Given, given_follows, meant}
 use Rattle.fields_follow.proofs.Passing.{After, Behind, GivesField, after_same, fields_longer, gives_first, gives_from, gives_set, in_variable_has, made_after, names_second, passes_all, passes_from, puts_own}
 use Rattle.fields_follow.proofs.Places.{HoldsTheFields, IsFileField, IsOwnField, PlacesFields, entry_is, of_file, stands_here}
 use Rattle.fields_follow.proofs.Totals.{held_below}
-use Rattle.fields_follow.proofs.Starts.{starts_wider, Starts}
+use Rattle.fields_follow.proofs.Starts.{starts_entry, starts_wider, Starts}
 use Rattle.fields_follow.proofs.Variables.{Carries, file_carries}
 use Rattle.paris_code.specs.Spans.{IsNamedAt}
 
@@ -244,7 +244,7 @@ module _ (g : Setting) where
         let source : Field = found.f in
         let i : Instr = I.Move info.elem.signed dest source in
         let v : ℕ → ℕ = λ q. held info.elem (st.parallel x 0 q) in
-        let starts : Starts g alive s (length d2.code) d2.regs (length d2.fields) = starts_found set x info d1 s found here in
+        let starts : Starts g alive s (length d2.code) d2.regs (length d2.fields) = starts_found set x info d1 s found (starts_entry g alive _ _ here) in
         after_same g (Gives flag bits (length d.fields) d s set st v) (ap (λ (m : Made Field). then_make m (λ f after. Makes (O.Field dest) (with_instr (I.Move info.elem.signed dest f) after))) found.is)
         (made_after g (Gives flag bits (length d.fields) d s set st v) (O.Field dest) (with_instr i d2) (λ within.
         let own : IsOwnField g dest = taken set bits W.Own d (with_instr i d2) 1 within (and_instr i d1 d2 0 found.grown) in
