@@ -122,7 +122,7 @@ AreWrapping set axis end_of-TExpr = Unit {0}
 AreWrapping set axis (more_of-TExpr index rest) = IsWrapping set axis index × AreWrapping set (axis + 1) rest
 
 -- a value whose narrow type is that of a variable or of a conversion, one of truth values, or that of two such values that
--- are joined bit by bit
+-- are joined bit by bit or of which one is chosen
 unfoldable pub IsNarrowed : TExpr → Type 0
 IsNarrowed (T.Variable ty x) = Unit {0}
 IsNarrowed (T.LeftIndex' ty place p indexes x of) = Unit {0}
@@ -132,6 +132,7 @@ IsNarrowed (T.Unary' ty op p operand) = negates op ≡ true
 IsNarrowed (T.LogicalOr' ty p left q right) = Unit {0}
 IsNarrowed (T.LogicalAnd' ty p left q right) = Unit {0}
 IsNarrowed (T.Binary' ty place op p left q right) = (relates op ≡ true) ⊎ ((is_bitwise op ≡ true) × IsNarrowed left × IsNarrowed right)
+IsNarrowed (T.Choice' ty p test q first r second) = IsNarrowed first × IsNarrowed second
 IsNarrowed _ = ⊥
 
 -- one of which no type of fewer than 32 bits is known, or one of such a type
@@ -154,7 +155,8 @@ IsRelation set op left right = (relates op ≡ true) × (HasKnownKind left ⊎ I
 -- which narrower values are converted. Truth values are relations, `!`, conversions to `bool`, and two values that are
 -- joined by `&&` or `||`: the right one of these ignores the context: it has no get and no quotient, not even one of constants.
 -- A get goes round the ends of the grid, or its indexes are such expressions, which fail where they do not lie within the
--- extents at an active position.
+-- extents at an active position. `?:` chooses one of two values at each position, each of which may be promoted, and an
+-- operand that is chosen nowhere among the active positions does not fail.
 unfoldable mutual
   pub IsPure : ℕ → TExpr → Type 0
   IsPure set (T.Variable ty (V.File k)) = ty.shape ≡ Some set
@@ -164,6 +166,7 @@ unfoldable mutual
   IsPure set (T.LogicalAnd' ty p left q right) = IsWide set ty × (IsPure set left × HasKnownKind left) × (IsPure set right × HasKnownKind right) × (ignores_context right ≡ true)
   IsPure set (T.Binary' ty place op p left q right) =
       IsWide set ty × (IsOperation op right ⊎ IsRelation set op left right) × ((IsPure set left × (IsPure set right ⊎ IsPromoted set right)) ⊎ (IsPromoted set left × IsPure set right)) × IsWide set (type_of left) × IsWide set (type_of right)
+  IsPure set (T.Choice' ty p test q first r second) = IsWide set ty × (IsPure set test × HasKnownKind test) × (IsPure set first ⊎ IsPromoted set first) × (IsPure set second ⊎ IsPromoted set second) × IsWide set (type_of first) × IsWide set (type_of second)
   IsPure set (T.Convert' ty p operand) = (ty.shape ≡ Some set) × (((ty.elem.bits == 1) ≡ false) ⊎ ((ty.elem.bits ≡ 1) × HasKnownKind operand)) × IsPure set operand
   IsPure set (T.Pcoord ty axis) = IsWide set ty
   IsPure set (T.LeftIndex' ty place p indexes (V.File k) of) = (ty.shape ≡ Some set) × (of ≡ set) × (AreWrapping set 0 indexes ⊎ ((all_go_by_news set 0 (items-the_row-TExpr _ indexes) ≡ false) × ArePure set indexes))
