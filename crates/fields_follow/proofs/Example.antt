@@ -127,7 +127,7 @@ main_is heap =
                       ((lift heap, (refl, omega arith, called, tt, tt)), tt),
                       inr (inl (0, (refl, refl, refl, inl ((refl, refl), inl (refl, inr tt), inr ((refl, refl, (refl, inl (12, refl, omega arith))), refl), (refl, refl), (refl, refl)))), ((λ is. inl (inl tt)), (tt, (λ is. inl (inl tt))))),
                     ),
-                    (inl (refl, refl, (refl, inl (inl tt)), ((refl, refl), ((refl, refl), (0, ((refl, inl refl), (refl, refl)))), (λ is. inl (inl tt))), inl refl), tt),
+                    (inl (refl, refl, (refl, inl (inl tt)), ((refl, refl), ((refl, refl), (0, inl ((refl, inl refl), (refl, refl)))), (λ is. inl (inl tt))), inl refl), tt),
                   ),
                 ),
               ),

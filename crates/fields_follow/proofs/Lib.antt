@@ -19,6 +19,7 @@ pub mod Extents
 pub mod Fields
 pub mod FileFields
 pub mod Flags
+pub mod Folded
 pub mod FoldingOnto
 pub mod Folds
 pub mod Forms

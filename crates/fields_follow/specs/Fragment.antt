@@ -3,8 +3,8 @@
 -- indexes that are such expressions, own coordinates, truth values of such expressions, and promoted scalars, which are
 -- computed by operators, conversions, casts and `?:`, and change nothing; they fail where a divisor is 0 at an active
 -- position, or that of a scalar is, or where an index does not lie within its extent at one, and nowhere else. They are
--- assigned to such variables, as scans of them and of ones with operators on these are, and folded into
--- numbers and onto scalar variables, and they are the conditions of `where`. Folds and scans are of the active positions.
+-- assigned to such variables and folded into numbers and onto scalar variables, as scans of them and of ones with
+-- operators on these are, and they are the conditions of `where`. Folds and scans are of the active positions.
 -- Scalars that change variables, by assignments, steps and `getchar`, are assigned to such variables too, also with an
 -- operator that does not divide.
 -- Blocks may have parallel variables without initialisers, which no expression names.
@@ -248,9 +248,9 @@ unfoldable pub IsChangingAssigned : TExpr → Type 0
 IsChangingAssigned (T.Assign' ty place op p target q value) = (ty ≡ type_of target) × HasOperation op ty.elem value × ((o : Op) → assign_op_of op ≡ Some o → divides o ≡ false) × ((set : ℕ) × (IsTarget set target × IsChanging set value))
 IsChangingAssigned _ = ⊥
 
--- a value of 32 bits that is folded
+-- a value of 32 bits that is folded: a pure one, or one with scans in it
 abbrev pub IsFolded : ℕ → TExpr → Type 0
-IsFolded set e = HasItsKind set e × IsWide set (type_of e)
+IsFolded set e = (HasItsKind set e × IsWide set (type_of e)) ⊎ IsScan set e
 
 -- the numbers of a value at the active positions are folded into one
 unfoldable pub IsFold : TExpr → Type 0
