@@ -5,8 +5,8 @@
 -- position, or that of a scalar is, or where an index does not lie within its extent at one, and nowhere else. They are
 -- assigned to such variables and folded into numbers and onto scalar variables, as scans of them and of ones with
 -- operators on these are, and they are the conditions of `where`. Folds and scans are of the active positions.
--- Scalars that change variables, by assignments, steps and `getchar`, are assigned to such variables too, also with an
--- operator that does not divide.
+-- Scalars that change variables, by assignments, steps and `getchar`, are assigned to such variables too, also with
+-- operators.
 -- Blocks may have parallel variables without initialisers, which no expression names.
 -- Under `where` and `everywhere` stand the statements of scalar programs with these, also calls, `return` and jumps that
 -- lead out of them.
@@ -243,9 +243,9 @@ IsChanging set (T.Promote' ty p operand) = (ty.shape ≡ Some set) × (ty.elem �
 IsChanging set (T.Brackets' ty p inner) = (ty ≡ type_of inner) × IsChanging set inner
 IsChanging set _ = ⊥
 
--- it is assigned to a parallel variable of as many bits, or with an operator that does not divide
+-- it is assigned to a parallel variable of as many bits, or with an operator
 unfoldable pub IsChangingAssigned : TExpr → Type 0
-IsChangingAssigned (T.Assign' ty place op p target q value) = (ty ≡ type_of target) × HasOperation op ty.elem value × ((o : Op) → assign_op_of op ≡ Some o → divides o ≡ false) × ((set : ℕ) × (IsTarget set target × IsChanging set value))
+IsChangingAssigned (T.Assign' ty place op p target q value) = (ty ≡ type_of target) × HasOperation op ty.elem value × ((set : ℕ) × (IsTarget set target × IsChanging set value))
 IsChangingAssigned _ = ⊥
 
 -- a value of 32 bits that is folded: a pure one, or one with scans in it
