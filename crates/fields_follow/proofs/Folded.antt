@@ -1,6 +1,6 @@
 -- Values that are folded: their code gives their numbers in a field, at the bits that the fold takes, and there the fold
 -- is that of the numbers.
-use Rattle.std.proofs.Common.{◌≡◌, ◌∙◌, ℕ, Bool, true, false, length, Option, Some, None, refl, sym, subst, if◌then◌else◌, ◌+◌, ◌<◌, ◌≤◌, inl, inr, arith}
+use Rattle.std.proofs.Common.{◌≡◌, ℕ, Bool, true, false, length, Option, Some, None, refl, sym, subst, if◌then◌else◌, ◌+◌, ◌<◌, ◌≤◌, inl, inr, arith}
 use Rattle.cstar_base.proofs.NumberLaws.{kind_bits}
 use Rattle.cstar_base.specs.declared.elem.Elem.{Elem}
 use Rattle.cstar_tree.specs.declared.syntax.ReduceOp.{ReduceOp}
@@ -30,7 +30,8 @@ use Rattle.fields_follow.proofs.Folds.{folding}
 use Rattle.fields_follow.proofs.Forms.{HasItsCode, pure_kept}
 use Rattle.fields_follow.proofs.Instructions.{extents}
 use Rattle.fields_follow.proofs.Meaning.{value_in}
-use Rattle.fields_follow.proofs.NarrowKinds.{kind_has, kind_narrow}
+use Rattle.fields_follow.proofs.KnownKinds.{kind_few}
+use Rattle.fields_follow.proofs.NarrowKinds.{kind_has}
 use Rattle.fields_follow.proofs.Outcomes.{Given, given_weaker, meant}
 use Rattle.fields_follow.proofs.Passing.{GivesField}
 use Rattle.fields_follow.proofs.Places.{HoldsTheFields, PlacesFields}
@@ -113,20 +114,15 @@ module _ (g : Setting) (has : HasRegisters g) (alive : Variable → Type 0) (n :
       by None none = folds_whole v none
       by (Some kind) some =
           subst (λ (o : Option Elem). FoldsAt v o) (sym some)
-          (narrow_whole g alive op signed places fields set v kind (kind_narrow g alive n places fields set e pure narrowed kind some)
+          (narrow_whole g alive op signed places fields set v kind (kind_few e kind some)
           (λ q below. subst (λ (w : ℕ). has_number kind w ≡ true) (pure_at g alive n places fields set e st s sim pure wide c q) (kind_has g alive n places fields set e st s sim pure narrowed c q kind some).0))
-
-  -- a kind that is known has fewer than 32 bits
-  kind_few : HasItsKind set e → (kind : Elem) → kind_of e ≡ Some kind → kind.bits < 32
-  kind_few (pure, inl none) kind some = let wrong = sym none ∙ some in cc
-  kind_few (pure, inr narrowed) kind some = kind_narrow g alive n places fields set e pure narrowed kind some
 
   pub folds_so : IsFolded set e → Foldable g alive places fields op set e
   folds_so (inl (is, wide)) = record {
     kept = pure_kept set e is.0;
     wide = wide;
     number = λ st q. value_in (extents g set) st e q;
-    gives = λ d s st here sim. whole_after g has alive n ready places fields (reduced_bits op e) set e true (folded_some (fold_by (reduce_op_of op) e) (kind_of e)) (folded_most (fold_by (reduce_op_of op) e) (kind_of e) (kind_few is)) is.0 wide c d s st here sim;
+    gives = λ d s st here sim. whole_after g has alive n ready places fields (reduced_bits op e) set e true (folded_some (fold_by (reduce_op_of op) e) (kind_of e)) (folded_most (fold_by (reduce_op_of op) e) (kind_of e) (kind_few e)) is.0 wide c d s st here sim;
     folds = λ s st sim. folds_there _ wide (pure_folds is wide s st sim);
   }
   folds_so (inr scans) = record {
@@ -137,6 +133,6 @@ module _ (g : Setting) (has : HasRegisters g) (alive : Variable → Type 0) (n :
         given_weaker g s (meant g fields e st) (λ q. scanned_in g alive places fields set st e q) st (GivesScan g has alive n ready places fields set (reduced_bits op e) e d s st) (InField g alive (reduced_bits op e) set (λ q. scanned_in g alive places fields set st e q) d s st) (next_of g.typed (layout g) (reduced_bits op e) true e d)
         (λ out x (h, (same, (gives, apart))). (h, (same, gives)))
         (scan_operand g has alive n ready places fields set (reduced_bits op e) true e scans
-        (scan_valued g has alive n ready places fields set (reduced_bits op e) e (folded_some (fold_by (reduce_op_of op) e) (kind_of e)) (folded_most (fold_by (reduce_op_of op) e) (kind_of e) (λ kind some. let wrong = sym (scan_kind set e scans) ∙ some in cc)) scans c) d s st here sim);
+        (scan_valued g has alive n ready places fields set (reduced_bits op e) e (folded_some (fold_by (reduce_op_of op) e) (kind_of e)) (folded_most (fold_by (reduce_op_of op) e) (kind_of e) (kind_few e)) scans c) d s st here sim);
     folds = λ s st sim. folds_there _ (scan_shape set e scans) (folds_whole _ (scan_kind set e scans));
   }

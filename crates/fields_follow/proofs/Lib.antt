@@ -2,6 +2,7 @@ pub mod Assigning
 pub mod Besides
 pub mod Bits
 pub mod Calm
+pub mod CalmKinds
 pub mod Checks
 pub mod Clearing
 pub mod ConditionCode
@@ -30,6 +31,7 @@ pub mod Instructions
 pub mod JoinedBits
 pub mod Joining
 pub mod Knowing
+pub mod KnownKinds
 pub mod Leading
 pub mod Leaving
 pub mod Lengths

@@ -33,7 +33,6 @@ use Rattle.lower_comm.specs.declared.news.NewsStep.{NewsStep}
 use Rattle.lower_comm.specs.News.{all_go_by_news, step_of}
 use Rattle.lower_expr.specs.Kinds.{operation_bits, relation_kind}
 use Rattle.lower_expr.specs.Operands.{ignores_context}
-use Rattle.lower_expr.specs.Steps.{word_of}
 use Rattle.source_meaning.specs.Constants.{constant_of}
 use Rattle.source_meaning.specs.Values.{cast_type}
 use Rattle.code_follows.specs.Fragment.{Beside, IsOperand as OperatesOn, IsProgramBeside, IsScalarType, IsWord, IsIn, May}
@@ -142,13 +141,9 @@ HasKnownKind e = (kind_of e ≡ None) ⊎ IsNarrowed e
 abbrev pub ReadsSigns : TExpr → TExpr → Type 0
 ReadsSigns left right = elim (relation_kind left right) [ None ↦ Unit {0} | Some kind ↦ kind.signed ≡ true → (type_of left).elem.signed ≡ true ]
 
--- a side of a relation that is a promoted scalar: a constant, or one of which no type of fewer than 32 bits is known
-abbrev pub IsSide : ℕ → TExpr → Type 0
-IsSide set e = IsPromoted set e × (word_of e ≡ None → kind_of e ≡ None)
-
--- a relation of two operands, of which one may be such a scalar
+-- a relation of two operands, of which one may be a promoted scalar
 abbrev pub IsRelation : ℕ → Op → TExpr → TExpr → Type 0
-IsRelation set op left right = (relates op ≡ true) × (HasKnownKind left ⊎ IsSide set left) × (HasKnownKind right ⊎ IsSide set right) × ReadsSigns left right
+IsRelation set op left right = (relates op ≡ true) × (HasKnownKind left ⊎ IsPromoted set left) × (HasKnownKind right ⊎ IsPromoted set right) × ReadsSigns left right
 
 -- A parallel expression that is not promoted; of an operator's two operands one may be. Operators work at 32 bits, to
 -- which narrower values are converted. Truth values are relations, `!`, conversions to `bool`, and two values that are
