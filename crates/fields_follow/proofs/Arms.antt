@@ -1,12 +1,12 @@
 -- Code that becomes the value of a field: its last instruction puts the lowest bits of its words there. So does an arm of
 -- `?:`.
-use Rattle.std.proofs.Common.{◌≡◌, ◌∙◌, ℕ, ◌<◌, ◌≤◌, Option, Some, None, Bool, true, ◌∷◌, [], length, refl, sym, ap, subst, arith, ◌⊎◌, inl, inr}
+use Rattle.std.proofs.Common.{◌≡◌, ℕ, Option, Some, None, true, length, refl, sym, ap, subst, arith, ◌⊎◌, inl, inr}
 use Rattle.cstar_tree.specs.declared.typed.TExpr.{TExpr}
 use Rattle.cstar_tree.specs.declared.typed.Variable.{Variable}
 use Rattle.code_lengths.specs.Ready.{IsReadyButForFields}
 use Rattle.lower_base.specs.declared.emit.Out.{Out}
 use Rattle.lower_base.specs.declared.emit.Out.TheVariants as O
-use Rattle.lower_base.specs.Drafts.{Draft, Made, Makes, step as step_of, then_make, with_instr}
+use Rattle.lower_base.specs.Drafts.{Draft, Made, step as step_of, then_make, with_instr}
 use Rattle.lower_expr.specs.Steps.{put_in_field, put_value, word_for, word_of, word_put}
 use Rattle.lower_expr.specs.Values.{arm_by}
 use Rattle.paris_code.specs.declared.instr.Instr.{Instr}

@@ -1,6 +1,6 @@
 -- The code of `?:` of parallel values leaves the lowest bits of its words in a field: it saves the context, puts the first
 -- operand in the field where the condition holds, and the second one elsewhere.
-use Rattle.std.proofs.Common.{◌≡◌, ◌∙◌, ℕ, ◌+◌, ◌<◌, ◌≤◌, ◌%◌, ◌^◌, ◌==◌, ◌||◌, ◌⊎◌, inl, inr, Bool, true, false, not, List, [], ◌∷◌, length, slice_index, Option, Some, None, refl, sym, ap, subst, arith, if◌then◌else◌}
+use Rattle.std.proofs.Common.{◌≡◌, ◌∙◌, ℕ, ◌+◌, ◌<◌, ◌≤◌, ◌%◌, ◌^◌, ◌==◌, ◌||◌, ◌⊎◌, inl, inr, Bool, true, false, not, List, [], length, slice_index, Option, refl, sym, ap, subst, arith, if◌then◌else◌}
 use Rattle.std.specs.Int.{from_bool}
 use Rattle.cstar_tree.specs.declared.typed.TExpr.{TExpr}
 use Rattle.cstar_tree.specs.declared.typed.TExpr as T
@@ -10,12 +10,11 @@ use Rattle.cstar_tree.specs.Typed.{type_of}
 use Rattle.code_lengths.specs.Ready.{IsReadyButForFields}
 use Rattle.lower_base.specs.declared.emit.Out.{Out}
 use Rattle.lower_base.specs.declared.emit.Out.TheVariants as O
-use Rattle.lower_base.specs.Drafts.{Draft, Fails, Made, Makes, an_entry, fresh_for, in_field, step as step_of, then_make, with_instr}
+use Rattle.lower_base.specs.Drafts.{Draft, Made, Makes, an_entry, fresh_for, in_field, step as step_of, then_make, with_instr}
 use Rattle.lower_base.specs.Kinds.{bits_of, kind_of}
 use Rattle.lower_expr.specs.Lengths.{arm_length_of}
 use Rattle.lower_expr.specs.Operands.{is_quiet, operand_by}
-use Rattle.lower_expr.specs.Steps.{is_kept}
-use Rattle.lower_expr.specs.Values.{arm_by, choice_by, limited, narrowed_by, parallel_choice_by, scalar_choice_by, turned_over, value_of}
+use Rattle.lower_expr.specs.Values.{arm_by, choice_by, limited, narrowed_by, parallel_choice_by, turned_over, value_of}
 use Rattle.paris_code.specs.declared.instr.Instr.TheVariants as I
 use Rattle.paris_code.specs.declared.operands.Field.{Field}
 use Rattle.paris_code.specs.declared.program.Owner.TheVariants as W
@@ -28,22 +27,22 @@ use Rattle.source_meaning.specs.State as Source
 use Rattle.source_meaning.specs.State.{Outcome, State, then_do}
 use Rattle.source_meaning.specs.Values.{Active, Parallel, Value, at, nonzero}
 use Rattle.source_meaning.proofs.ConstantLaws.{Boxed}
-use Rattle.code_follows.proofs.Following.{Extends, Follows, HasRegisters, Keeps, Sim, extends_made, extends_then, keeps_less, keeps_on}
+use Rattle.code_follows.proofs.Following.{Extends, Follows, HasRegisters, Sim, extends_made, extends_then, keeps_less, keeps_on}
 use Rattle.code_follows.proofs.Growing.{Extended, as_it_was, extended}
-use Rattle.code_follows.proofs.Settings.{Reaches, Setting, Within, and_one, code_more, earlier, layout, onto, regs_more, start}
+use Rattle.code_follows.proofs.Settings.{Reaches, Setting, Within, and_one, code_more, earlier, layout, onto, start}
 use Rattle.fields_follow.specs.Fragment.{HasItsKind, IsPromoted, IsPure, IsWide}
 use Rattle.fields_follow.proofs.Arms.{arm, arm_grows, arm_last, words_of}
 use Rattle.fields_follow.proofs.Expressions.{Answers, IsMeant, IsValued, operand_at}
 use Rattle.fields_follow.proofs.Flags.{Stored, store_context}
-use Rattle.fields_follow.proofs.Forms.{HasItsCode, pure_kept, pure_shape}
-use Rattle.fields_follow.proofs.Halves.{Halved, IsMeantUnder, PutsUnder, Ready, after_delayed, half, half_after, named_apart, narrowed_more}
-use Rattle.fields_follow.proofs.Instructions.{HasNumbers, extents, number_in, shapes}
-use Rattle.fields_follow.proofs.Leaving.{EndsBelow, fields_under, places_under, registers_under, under}
+use Rattle.fields_follow.proofs.Forms.{HasItsCode, pure_kept}
+use Rattle.fields_follow.proofs.Halves.{Halved, IsMeantUnder, Ready, after_delayed, half, half_after, named_apart, narrowed_more}
+use Rattle.fields_follow.proofs.Instructions.{extents, number_in, shapes}
+use Rattle.fields_follow.proofs.Leaving.{fields_under, places_under, registers_under, under}
 use Rattle.fields_follow.proofs.Meaning.{value_in, word_at}
 use Rattle.fields_follow.proofs.NarrowKinds.{zero_told}
 use Rattle.fields_follow.proofs.Narrowing.{among, among_active, others, others_active}
 use Rattle.fields_follow.proofs.Outcomes.{Ended, Given, Known, ended_back, ended_on, known_follows, meant, then_known}
-use Rattle.fields_follow.proofs.Passing.{After, Behind, GivesField, after_same, code_longer, fields_longer, flags_of, gives_numbers, gives_set, made_after}
+use Rattle.fields_follow.proofs.Passing.{After, GivesField, after_same, code_longer, fields_longer, flags_of, gives_numbers, gives_set, made_after}
 use Rattle.fields_follow.proofs.Places.{HoldsTheFields, IsOwnField, PlacesFields, names_first, stands_here}
 use Rattle.fields_follow.proofs.Pure.{choice_means, choice_so}
 use Rattle.fields_follow.proofs.Relations.{kind_some, relation_most}

@@ -25,13 +25,11 @@ use Rattle.lower_expr.specs.Effects.{binary_to, bits_for, cast_to, computed_to, 
 use Rattle.lower_expr.specs.Kinds.{done_as, operand_bits, operation_bits, reads_signed, unary_bits}
 use Rattle.lower_expr.specs.Operands.{are_quiet, is_plus, is_quiet, operand_by}
 use Rattle.lower_expr.specs.Spots.{field_loaded, loaded, variable_spot}
-use Rattle.lower_expr.specs.Steps.{is_kept, put_in_field, put_value, right_operated, word_for, word_put}
+use Rattle.lower_expr.specs.Steps.{is_kept, put_value, right_operated, word_for, word_put}
 use Rattle.lower_expr.specs.Values.{arm_by, extended, field_binary_of, fields_by, next_of, read_to, right_by, scalar_choice_of, spot_of, tested, truth_put, value_of}
 use Rattle.paris_code.specs.declared.instr.Instr.{Instr}
 use Rattle.paris_code.specs.declared.instr.Instr.TheVariants as I
 use Rattle.paris_code.specs.declared.operands.Field.{Field}
-use Rattle.paris_code.specs.declared.operands.Konst.{Konst}
-use Rattle.paris_code.specs.declared.operands.Konst.TheVariants as K
 use Rattle.paris_code.specs.declared.program.Owner.{Owner}
 use Rattle.paris_code.specs.declared.program.Owner.TheVariants as W
 use Rattle.paris_code.specs.Code.{CodeState}
@@ -41,12 +39,12 @@ use Rattle.source_meaning.specs.State.{State}
 use Rattle.source_meaning.specs.Values.{Value}
 use Rattle.source_meaning.proofs.ConstantLaws.{Boxed}
 use Rattle.vp_sets.specs.Positions.{coordinate}
-use Rattle.code_follows.proofs.Following.{Extends, Finishes, HasRegisters, Sim, extends_then, held}
+use Rattle.code_follows.proofs.Following.{Finishes, HasRegisters, Sim, extends_then, held}
 use Rattle.code_follows.proofs.Growing.{Extended}
 use Rattle.code_follows.proofs.Words.{held_wide}
 use Rattle.code_follows.proofs.Settings.{Setting, Within, and_one, layout, start}
 use Rattle.fields_follow.specs.Fragment.{ArePure, AreWrapping, HasKnownKind, IsOperand, IsOperation, IsPromoted, IsPure, IsRelation, IsWide}
-use Rattle.fields_follow.proofs.Arms.{PutsLast as Puts_last, field_at, promoted_last, value_last, value_put}
+use Rattle.fields_follow.proofs.Arms.{PutsLast as Puts_last, field_at, promoted_last, value_last}
 use Rattle.fields_follow.proofs.Extents.{get_names}
 use Rattle.fields_follow.specs.Fields.{IsElement, file_number}
 use Rattle.fields_follow.proofs.Forms.{HasItsCode, HasItsWord, element_is, field_is, pure_kept, pure_word}
@@ -54,21 +52,21 @@ use Rattle.fields_follow.proofs.Dividing.{zero_at}
 use Rattle.fields_follow.proofs.Outcomes.{Ended, ended_back, meant, then_known}
 use Rattle.fields_follow.proofs.Pure.{get_gives}
 use Rattle.fields_follow.proofs.Hops.{puts_same}
-use Rattle.fields_follow.proofs.Instructions.{AreAlike, Puts, alike_same, extents, shapes, puts_alike, puts_constant, puts_coordinate, puts_extended, puts_move, word_in}
+use Rattle.fields_follow.proofs.Instructions.{AreAlike, Puts, alike_same, extents, shapes, puts_alike, puts_coordinate, puts_extended}
 use Rattle.fields_follow.proofs.Lengths.{Keeps, divides_wide}
 use Rattle.fields_follow.proofs.Meaning.{as_shaped, read_is, right_of, unary_means, value_in, word_at}
 use Rattle.lower_comm.specs.News.{all_go_by_news}
 use Rattle.fields_follow.proofs.Indexing.{all_coded}
 use Rattle.fields_follow.proofs.News.{get_last}
 use Rattle.fields_follow.proofs.Router.{routed_last}
-use Rattle.fields_follow.proofs.Operands.{GivesRight, Takes, fields_after, operated_after, operated_extends, right_after, right_extends, constant_given}
+use Rattle.fields_follow.proofs.Operands.{GivesRight, Takes, fields_after, operated_after, operated_extends, right_after, right_extends}
 use Rattle.fields_follow.proofs.Passing.{After, Behind, GivesField, Passes, after_same, fields_longer, made_after, passes_all, passes_from, then_after, names_second}
 use Rattle.fields_follow.proofs.Places.{HoldsTheFields, IsFileField, PlacesFields, stands_here}
-use Rattle.fields_follow.proofs.Promoted.{IsComputed, computed_after, promoted_stands}
+use Rattle.fields_follow.proofs.Promoted.{IsComputed, promoted_stands}
 use Rattle.fields_follow.proofs.Sizes.{binary_parts, brackets_part, convert_part, unary_part}
 use Rattle.fields_follow.proofs.Totals.{held_below}
 use Rattle.fields_follow.proofs.Values.{and_entry, next_field, one_more, operand_of, taken, variable_has, with_entry}
-use Rattle.fields_follow.proofs.Expressions.{IsMeant, binary_at, convert_alike, convert_ended, convert_means, coordinate_means, operand_at, unary_ended, extended_after, from_operand, negated_after, operand_grows, operands_keep, plus_alike, signed_as, unary_at, wide_operands}
+use Rattle.fields_follow.proofs.Expressions.{IsMeant, binary_at, convert_alike, convert_ended, convert_means, coordinate_means, operand_at, unary_ended, extended_after, negated_after, operand_grows, operands_keep, plus_alike, signed_as, unary_at, wide_operands}
 use Rattle.fields_follow.proofs.Computing.{each_after, pure_after}
 use Rattle.fields_follow.proofs.TruthValues.{IsPlain}
 use Rattle.lower_expr.specs.Joined.{is_flag}
@@ -77,7 +75,6 @@ use Rattle.std.proofs.lemmas.Bool.{eqb-true}
 use Rattle.std.proofs.lemmas.Bool.Decides.{nat_tests}
 use Rattle.std.specs.Prelude.{nat_le}
 use Rattle.fields_follow.proofs.Starts.{Starts}
-use Rattle.fields_follow.proofs.Spreading.{GivesWord}
 use Rattle.fields_follow.proofs.Variables.{file_carries}
 use Rattle.paris_code.specs.Spans.{IsNamedAt}
 

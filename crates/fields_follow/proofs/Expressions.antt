@@ -49,10 +49,10 @@ use Rattle.fields_follow.specs.Fragment.{ArePure, AreWrapping, IsOperation, IsPr
 use Rattle.fields_follow.proofs.Extents.{get_names}
 use Rattle.fields_follow.proofs.Forms.{HasItsCode, HasItsWord, flag_converted, pure_kept, pure_word}
 use Rattle.fields_follow.proofs.Hops.{puts_same}
-use Rattle.fields_follow.proofs.Indexing.{AllCoded, AllValued, all_coded}
+use Rattle.fields_follow.proofs.Indexing.{AllValued, all_coded}
 use Rattle.fields_follow.proofs.Instructions.{AreAlike, HasNumbers, Puts, alike_same, extents, has_alike, puts_coordinate, puts_extended, puts_lognot, puts_negate, shapes, whole_keeps}
 use Rattle.fields_follow.proofs.Lengths.{Keeps, converted_first, divides_wide, held_has, operation_keeps, operation_most}
-use Rattle.fields_follow.proofs.Meaning.{as_shaped, either, left_of, right_of, unary_means, value_in, word_at}
+use Rattle.fields_follow.proofs.Meaning.{as_shaped, left_of, right_of, unary_means, value_in, word_at}
 use Rattle.fields_follow.proofs.News.{get_last}
 use Rattle.fields_follow.proofs.Operands.{fields_after}
 use Rattle.fields_follow.proofs.Outcomes.{Ended, Given, Known, ended_on, follows_like, given_follows, known_follows, meant, then_known}

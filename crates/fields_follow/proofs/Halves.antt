@@ -1,12 +1,11 @@
 -- One of the two halves of `?:`: positions where its condition does not hold, or where it does, become inactive, an operand
 -- is put in a field where the others are active, and the old context is loaded.
-use Rattle.std.proofs.Common.{◌≡◌, ◌∙◌, ℕ, ◌+◌, ◌<◌, ◌≤◌, ◌%◌, ◌^◌, ◌⊎◌, inl, inr, Bool, true, false, not, [], ◌∷◌, List, length, slice_index, refl, sym, ap, subst, arith}
+use Rattle.std.proofs.Common.{◌≡◌, ◌∙◌, ℕ, ◌+◌, ◌<◌, ◌≤◌, ◌%◌, ◌^◌, ◌⊎◌, inl, inr, Bool, true, false, not, [], List, length, slice_index, refl, sym, ap, subst, arith}
 use Rattle.std.specs.Int.{from_bool}
 use Rattle.cstar_tree.specs.declared.typed.TExpr.{TExpr}
 use Rattle.cstar_tree.specs.declared.typed.Variable.{Variable}
 use Rattle.code_lengths.specs.Ready.{IsReadyButForFields}
 use Rattle.lower_base.specs.declared.emit.Out.{Out}
-use Rattle.lower_base.specs.declared.emit.Out.TheVariants as O
 use Rattle.lower_base.specs.Drafts.{Draft, Fails, Made, Makes, step as step_of, then_make, with_instr}
 use Rattle.lower_expr.specs.Values.{narrowed_by}
 use Rattle.paris_code.specs.declared.instr.Instr.{Instr}
@@ -15,13 +14,11 @@ use Rattle.paris_code.specs.declared.operands.Field.{Field}
 use Rattle.paris_code.specs.declared.program.Owner.TheVariants as W
 use Rattle.paris_code.specs.Code.{CodeState}
 use Rattle.paris_code.specs.Memory.{is_active, is_tested, processors}
-use Rattle.paris_code.specs.Shapes.{bits_at}
 use Rattle.paris_code.specs.Spans.{IsInUse, IsNamedAt, Span, StandsAt}
 use Rattle.paris_code.specs.Writes.{written}
 use Rattle.source_meaning.specs.Expressions.{evaluated}
-use Rattle.source_meaning.specs.State as Source
 use Rattle.source_meaning.specs.State.{Outcome, State}
-use Rattle.source_meaning.specs.Values.{Active, Value, nonzero}
+use Rattle.source_meaning.specs.Values.{Active, nonzero}
 use Rattle.code_follows.proofs.Following.{Extends, HasRegisters, Keeps, Sim, extends_made, extends_then, keeps_on}
 use Rattle.code_follows.proofs.Growing.{Extended, extended}
 use Rattle.code_follows.proofs.Settings.{At, Reaches, Setting, Within, and_one, code_more, earlier, layout, onto, regs_more}

@@ -3,6 +3,7 @@ pub mod Assigning
 pub mod Besides
 pub mod Bits
 pub mod Calm
+pub mod CalmKinds
 pub mod Checks
 pub mod Choosing
 pub mod Clearing
@@ -21,6 +22,7 @@ pub mod Extents
 pub mod Fields
 pub mod FileFields
 pub mod Flags
+pub mod Folded
 pub mod FoldingOnto
 pub mod Folds
 pub mod Forms
@@ -32,6 +34,7 @@ pub mod Instructions
 pub mod JoinedBits
 pub mod Joining
 pub mod Knowing
+pub mod KnownKinds
 pub mod Leading
 pub mod Leaving
 pub mod Lengths
