@@ -1,5 +1,5 @@
 -- What is known of the code of parallel expressions and of contexts, wherever fields are known.
-use Rattle.std.proofs.Common.{ℕ, ◌+◌, ◌≡◌, ◌∙◌, inl, inr, true, length, arith, sym, subst}
+use Rattle.std.proofs.Common.{ℕ, ◌+◌, ◌≡◌, ◌∙◌, inl, inr, length, arith, sym, subst}
 use Rattle.cstar_tree.specs.declared.typed.TExpr.{TExpr}
 use Rattle.cstar_tree.specs.declared.typed.Variable.{Variable}
 use Rattle.cstar_tree.specs.declared.typed.Variable.TheVariants as V
@@ -22,7 +22,6 @@ use Rattle.fields_follow.specs.Fragment.{IsFold, IsParallelEffect}
 use Rattle.fields_follow.proofs.Assigning.{updates_leave}
 use Rattle.fields_follow.proofs.Contexts.{where_follows}
 use Rattle.fields_follow.proofs.Widening.{widening_follows}
-use Rattle.fields_follow.proofs.Computing.{whole_after}
 use Rattle.fields_follow.proofs.FoldingOnto.{onto_leaves}
 use Rattle.fields_follow.proofs.Onto.{LeavesScalars, scalars_stay}
 use Rattle.fields_follow.proofs.Forms.{HasItsCode}
@@ -34,7 +33,7 @@ use Rattle.fields_follow.proofs.Passing.{code_longer}
 use Rattle.fields_follow.proofs.Places.{HoldsTheFields}
 use Rattle.fields_follow.proofs.Reducing.{GivesNumber, number_to}
 use Rattle.fields_follow.proofs.ScanAssigning.{scans_leave}
-use Rattle.fields_follow.proofs.Reductions.{GivesRegister, OperandsStand, fold_type, folds_give}
+use Rattle.fields_follow.proofs.Reductions.{GivesRegister, fold_type, folds_give}
 use Rattle.fields_follow.proofs.Starts.{Starts}
 use Rattle.fields_follow.proofs.ScalarOperating.{changing_leaves}
 
@@ -76,10 +75,6 @@ module _ (g : Setting) (scope : Scope) (active : Active) (known : KnowsFields g 
     abbrev there : HoldsTheFields (under g active)
     there = fields_under g active scope known.same_extents
 
-    -- the code of a pure parallel expression leaves its numbers in a field
-    operands_stand : OperandsStand (under g active) alive there n
-    operands_stand bits set o some most is wide code d0 s0 st0 at_o sim_o = whole_after (under g active) (registers_under g active has) alive n ready (places_under g active known.places) there bits set o true some most is wide code d0 s0 st0 at_o sim_o
-
     -- an update, a fold onto a variable, or a scan or a scalar that is assigned
     effect_follows : IsParallelEffect e → Follows g (λ v u out f. Ran g alive d s u f) s (evaluated scope e active st) (effect_of g.typed (layout g) e d)
     effect_follows (inl is) =
@@ -93,7 +88,7 @@ module _ (g : Setting) (scope : Scope) (active : Active) (known : KnowsFields g 
         (changing_leaves (under g active) (registers_under g active has) alive n ready (places_under g active known.places) there e is c d s st here (sim_open g scope active known alive st s sim))
     effect_follows (inr (inl is)) =
         follows_so g scope active known (λ v u out f. LeavesScalars (under g active) alive d s st u f) (λ v u out f. Ran g alive d s u f) s (evaluated scope e active st) (effect_of g.typed (layout g) e d) (λ v u out f within leaves. onto_ran f u within leaves)
-        (onto_leaves (under g active) alive n (registers_under g active has) (places_under g active known.places) there operands_stand e is c d s st begun.regs here (sim_open g scope active known alive st s sim))
+        (onto_leaves (under g active) alive n (registers_under g active has) ready (places_under g active known.places) there e is c d s st begun.regs here (sim_open g scope active known alive st s sim))
 
     number_again : (r w : ℕ) (f : Draft) → Within g f → GivesNumber (under g active) alive d s st r w f → GivesNumber g alive d s st r w f
     number_again r w f within given =
@@ -117,7 +112,7 @@ module _ (g : Setting) (scope : Scope) (active : Active) (known : KnowsFields g 
     fold_follows : IsFold e → (R : Value → State → Out → Draft → Type 0) (r : ℕ) → Dest g has alive (type_of e).elem d s R r → Follows g R s (evaluated scope e active st) (computed_to g.typed (layout g) (O.Scalar r) e d)
     fold_follows is R r dest =
         follows_so g scope active known Folded R s (evaluated scope e active st) (computed_to g.typed (layout g) (O.Scalar r) e d) by
-        (folds_give (under g active) alive (places_under g active known.places) there n operands_stand e is c d s st r here (sim_open g scope active known alive st s sim))
+        (folds_give (under g active) alive (places_under g active known.places) there (registers_under g active has) n ready e is c d s st r here (sim_open g scope active known alive st s sim))
       where
         Folded : Value → State → Out → Draft → Type 0
         Folded x u out f = (w : ℕ) × ((x ≡ Scalar w) × ((u ≡ st) × GivesRegister (under g active) alive r w d s st out f))

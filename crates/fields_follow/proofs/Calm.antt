@@ -228,7 +228,7 @@ module _ (g : Setting) (alive : Variable → Type 0) (n : ℕ) (scope : Scope) (
   unfolding each
   each_calmly ty f scalar few = subst (λ (o : Option ℕ). IsCalmly ty.elem.bits st (Gives (each o f) st)) (sym scalar) (gives_calmly ty.elem.bits st (f 0) few)
 
-  scalar_operated : (ty : ValueType) (place : Place) (op : Op) (unsigned : Bool) (x y : ℕ) → ty.shape ≡ None → operated scope active ty place op unsigned (Scalar x) (Scalar y) st ≡ (if divides op && (y == 0) then Ends (Fault DivZero place None) st else Gives (Scalar (outcome op 32 unsigned x y)) st)
+  pub scalar_operated : (ty : ValueType) (place : Place) (op : Op) (unsigned : Bool) (x y : ℕ) → ty.shape ≡ None → operated scope active ty place op unsigned (Scalar x) (Scalar y) st ≡ (if divides op && (y == 0) then Ends (Fault DivZero place None) st else Gives (Scalar (outcome op 32 unsigned x y)) st)
   unfolding operated failing unless each at
   scalar_operated ty place op unsigned x y scalar =
       ap (λ (o : Option ℕ). unless (failing scope active o (λ p. divides op && (y == 0))) DivZero place st (Gives (each o (λ p. outcome op 32 unsigned x y)) st)) scalar ∙ by (divides op && (y == 0))

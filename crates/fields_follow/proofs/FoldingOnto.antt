@@ -1,5 +1,5 @@
--- What an assignment leaves that folds a pure parallel value onto a scalar variable.
-use Rattle.std.proofs.Common.{◌≡◌, ◌∙◌, ℕ, ◌≤◌, ◌&&◌, Bool, true, not, List, length, Option, Some, None, refl, sym, ap, subst, if◌then◌else◌, arith, ◌+◌}
+-- What an assignment leaves that folds a parallel value onto a scalar variable.
+use Rattle.std.proofs.Common.{◌≡◌, ◌∙◌, ℕ, ◌≤◌, ◌&&◌, Bool, true, false, not, List, length, Option, Some, None, refl, sym, ap, subst, if◌then◌else◌, arith, ◌+◌}
 use denote.Hole.Carrier
 use Rattle.cstar_base.specs.declared.elem.Elem.{Elem}
 use Rattle.cstar_base.specs.declared.faults.RunFault.TheVariants.{DivZero}
@@ -16,11 +16,12 @@ use Rattle.cstar_tree.specs.StatementTypes.{variable_info}
 use Rattle.cstar_tree.specs.Typed.{type_of}
 use Rattle.code_lengths.specs.Lowerable.{IsLowerable}
 use Rattle.code_lengths.specs.Naming.{HasVariable, NamesVariables, plain}
+use Rattle.code_lengths.specs.Ready.{IsReadyButForFields}
 use Rattle.code_lengths.specs.Shaped.{IsShaped}
 use Rattle.lower_base.specs.declared.emit.Out.{Out}
 use Rattle.lower_base.specs.declared.emit.Out.TheVariants as O
 use Rattle.lower_base.specs.Drafts.{Draft, Fails, Made, Makes, a_register, from, in_field, in_register, shortened, then_make, with_instr}
-use Rattle.lower_base.specs.Kinds.{fold_bits, fold_by, folded_kind, kind_of}
+use Rattle.lower_base.specs.Kinds.{fold_bits, folded_kind, kind_of}
 use Rattle.lower_base.specs.Layouts.{register_of}
 use Rattle.lower_base.specs.Operators.{assign_op_of, fold_of, is_signed, operation_of, reduce_op_of}
 use Rattle.lower_comm.specs.Messages.{assigned as assigned_in, communicated, folded_onto, part_field, part_register, with_fold, with_sign}
@@ -49,16 +50,15 @@ use Rattle.code_follows.proofs.Operators.{wide_signed}
 use Rattle.code_follows.proofs.Settings.{Setting, layout}
 use Rattle.code_follows.proofs.Targets.{TargetIs, assign_code, assign_means, bare_target, variable_in}
 use Rattle.code_follows.proofs.Values.{and_register, with_reg}
-use Rattle.fields_follow.specs.Fragment.{IsFoldOnto, IsFolded, IsScalarTarget, assignment_of}
+use Rattle.fields_follow.specs.Fragment.{IsFoldOnto, IsScalarTarget, IsWide, assignment_of}
+use Rattle.fields_follow.proofs.Folded.{Foldable, InField, folds_so}
 use Rattle.fields_follow.proofs.Folds.{folding}
-use Rattle.fields_follow.proofs.Forms.{HasItsCode, pure_kept}
-use Rattle.fields_follow.proofs.Instructions.{extents}
-use Rattle.fields_follow.proofs.Meaning.{as_shaped, value_in}
+use Rattle.fields_follow.proofs.Forms.{HasItsCode}
+use Rattle.fields_follow.proofs.Meaning.{as_shaped}
 use Rattle.fields_follow.proofs.Outcomes.{Ended, Given, ended_on, given_through, meant, outcome_like}
 use Rattle.fields_follow.proofs.Onto.{LeavesScalars, folds_onto, stored_in as stored_behind, stored_more}
 use Rattle.fields_follow.proofs.Passing.{after_same, gives_from, made_after, then_after}
 use Rattle.fields_follow.proofs.Places.{HoldsTheFields, PlacesFields}
-use Rattle.fields_follow.proofs.Reductions.{GivesPure, OperandsStand, folded_most, folded_some, folds_so}
 use Rattle.fields_follow.proofs.Totals.{never_by_zero, operator_is}
 use Rattle.fields_follow.proofs.Starts.{Starts, starts_later}
 
@@ -84,7 +84,7 @@ onto_means scope active place reduction elem from set x v st shaped =
     ∙ ap (λ (b : Bool). unless (if b then Some None else None) DivZero place st (assign_to scope active (assignment_of reduction) (scalar_type elem) (record { elem = from.elem; shape = Some set }) (OfScalar x) (Parallel v) st)) (never_by_zero reduction (v 0))
 
 module _ (g : Setting) (alive : Variable → Type 0) (n : ℕ) where
-  module _ (target : TExpr) (v : TargetIs g alive n target) (ty : ValueType) (place : Place) (reduction : ReduceOp) (p q : Boxed) (value : TExpr) (set : ℕ) (is : IsFolded set value) where
+  module _ (target : TExpr) (v : TargetIs g alive n target) (ty : ValueType) (place : Place) (reduction : ReduceOp) (p q : Boxed) (value : TExpr) (set : ℕ) (kept : is_kept value ≡ false) (wide : IsWide set (type_of value)) where
     abbrev whole : TExpr
     whole = T.Assign' ty place (assignment_of reduction) p target q value
 
@@ -102,7 +102,7 @@ module _ (g : Setting) (alive : Variable → Type 0) (n : ℕ) where
     unfolding effect_of assignment_effect writes_itself folds
     as_value d =
         ap (λ (o : Option Own). written (elim o as (λ _. Option Own) [ Some own ↦ if writes_itself own (assignment_of reduction) (type_of target).elem value then Some own else None | None ↦ None ])) (v.own 1)
-        ∙ ap (λ (k : Bool). written (if not (true && not k) && (elim (assign_op_of (assignment_of reduction)) as (λ _. Bool) [ None ↦ true | Some o ↦ true ]) then Some (record { shape = None; variable = v.variable }) else None)) (pure_kept set value is.0.0)
+        ∙ ap (λ (k : Bool). written (if not (true && not k) && (elim (assign_op_of (assignment_of reduction)) as (λ _. Bool) [ None ↦ true | Some o ↦ true ]) then Some (record { shape = None; variable = v.variable }) else None)) kept
       where
         written : Option Own → Made Out
         written o = elim o as (λ _. Made Out) [
@@ -116,7 +116,7 @@ module _ (g : Setting) (alive : Variable → Type 0) (n : ℕ) where
 
     bits_are : operator_bits operator None value ≡ bits
     unfolding operator_bits
-    bits_are = ap (λ (k : Bool). if k then 32 else fold_bits operator value) (pure_kept set value is.0.0)
+    bits_are = ap (λ (k : Bool). if k then 32 else fold_bits operator value) kept
 
     -- the code of the value, and what is behind it
     code_is : (d : Draft) → effect_of g.typed (layout g) whole d ≡ then_make (next_of g.typed (layout g) bits true value (with_reg d)) (λ out after. behind d out after)
@@ -124,7 +124,7 @@ module _ (g : Setting) (alive : Variable → Type 0) (n : ℕ) where
     code_is d =
         as_value d ∙ assign_code g alive n target v ty place (assignment_of reduction) p q value ty.elem.bits d
         ∙ ap (λ (m : Option Op). lowest ty.elem.bits (assigned_by g.typed (layout g) whole (bits_by m) m place bare_one value None (spot_of g.typed (layout g) bare_one) (λ b. value_of g.typed (layout g) (bits_by m) value b) d)) (operator_is reduction)
-        ∙ ap (λ (b : ℕ). made b (is_kept value)) bits_are ∙ ap (λ (k : Bool). made bits k) (pure_kept set value is.0.0)
+        ∙ ap (λ (b : ℕ). made b (is_kept value)) bits_are ∙ ap (λ (k : Bool). made bits k) kept
         ∙ lowest_inside ty.elem.bits (next_of g.typed (layout g) bits true value (with_reg d)) (λ out after. register_folded g.typed (layout g) whole bare_one d.regs (S.Register own) out after)
       where
         bare_one : TExpr
@@ -150,14 +150,14 @@ module _ (g : Setting) (alive : Variable → Type 0) (n : ℕ) where
       sign = folded_kind (folding reduction (type_of value).elem.signed) (kind_of value)
 
       abbrev stored_in : Field → Draft → Draft
-      stored_in f e = stored_behind g alive has d free v.variable info v.living (known.named, v.scalar) reduction (type_of value).elem is.1.1 d.regs f sign e
+      stored_in f e = stored_behind g alive has d free v.variable info v.living (known.named, v.scalar) reduction (type_of value).elem wide.1 d.regs f sign e
 
       -- behind a value in a field it is folded and stored
       field_made : (f : Field) (e : Draft) → behind d (O.Field f) e ≡ Makes (O.Scalar d.regs) (stored_in f e)
       unfolding lowest shortened register_folded a_register then_make loaded in_register communicated assigned_in folded_onto part_field part_register from in_field out-TExpr Carrier.out with_fold stored_at put_value
       field_made f e =
           ap (λ (m : Option Op). made (elim m as (λ _. Op) [ None ↦ Op.Add | Some given ↦ given ]) (is_signed (type_of value).elem)) (operator_is reduction)
-          ∙ ap (λ (signed : Bool). made operator signed) (wide_signed (type_of value).elem is.1.1)
+          ∙ ap (λ (signed : Bool). made operator signed) (wide_signed (type_of value).elem wide.1)
         where
           made : Op → Bool → Made Out
           made o signed =
@@ -167,24 +167,24 @@ module _ (g : Setting) (alive : Variable → Type 0) (n : ℕ) where
 
       behind_grows : (out : Out) (e : Draft) → Extends g e (behind d out e)
       unfolding Extends lowest register_folded a_register then_make loaded in_register communicated assigned_in folded_onto part_field from in_field out-TExpr Carrier.out
-      behind_grows (O.Field f) e = subst (λ (m : Made Out). Extends g e m) (sym (field_made f e)) (stored_more g alive has d free v.variable info v.living (known.named, v.scalar) reduction (type_of value).elem is.1.1 d.regs f sign e)
+      behind_grows (O.Field f) e = subst (λ (m : Made Out). Extends g e m) (sym (field_made f e)) (stored_more g alive has d free v.variable info v.living (known.named, v.scalar) reduction (type_of value).elem wide.1 d.regs f sign e)
       behind_grows (O.Scalar r) e = tt
       behind_grows O.Nothing e = tt
 
-      module _ (places : PlacesFields g) (fields : HoldsTheFields g) (stand : OperandsStand g alive fields n) (st : State) where
+      module _ (places : PlacesFields g) (fields : HoldsTheFields g) (h : Foldable g alive places fields reduction set value) (st : State) where
         -- what the variable has then, over these extents
         abbrev stored_over : List ℕ → ℕ
-        stored_over xs = folded_into (assignment_of reduction) (type_of target).elem (type_of value).elem (st.scalar v.variable) (fields.active set) (λ x. value_in (extents g set) st value x) (position_count xs)
+        stored_over xs = folded_into (assignment_of reduction) (type_of target).elem (type_of value).elem (st.scalar v.variable) (fields.active set) (h.number st) (position_count xs)
 
         abbrev left : State
         left = with_scalar v.variable (stored_over (fields.scope.extents set)) st
 
-        means_it : ty ≡ type_of target → meant g fields value st ≡ Source.Gives (Parallel (λ x. value_in (extents g set) st value x)) st → meant g fields whole st ≡ Source.Gives (Scalar (stored_over (fields.scope.extents set))) left
+        means_it : ty ≡ type_of target → meant g fields value st ≡ Source.Gives (Parallel (h.number st)) st → meant g fields whole st ≡ Source.Gives (Scalar (stored_over (fields.scope.extents set))) left
         unfolding then_do positions
         means_it same given =
             assign_means g alive n target v ty place (assignment_of reduction) p q value same fields.scope fields.active st
             ∙ ap (λ (o : Outcome Value). then_do o (λ w after. assigned fields.scope fields.active place (assignment_of reduction) (scalar_type (type_of target).elem) (type_of value) (OfScalar v.variable) w after)) given
-            ∙ onto_means fields.scope fields.active place reduction (type_of target).elem (type_of value) set v.variable (λ x. value_in (extents g set) st value x) st is.1.0
+            ∙ onto_means fields.scope fields.active place reduction (type_of target).elem (type_of value) set v.variable (h.number st) st wide.0
 
         ends_it : ty ≡ type_of target → (s : CodeState) → Ended g s (meant g fields value st) → Ended g s (meant g fields whole st)
         ends_it same s early =
@@ -197,24 +197,23 @@ module _ (g : Setting) (alive : Variable → Type 0) (n : ℕ) where
               finishes = behind_it.finishes;
             }
 
-        leaves_it : ty ≡ type_of target → HasItsCode g.typed g.instance alive n value → (s : CodeState) → Starts g alive s (length d.code) d.regs (length d.fields) → Sim g alive st s → Follows g (λ x u out f. LeavesScalars g alive d s st u f) s (meant g fields whole st) (effect_of g.typed (layout g) whole d)
-        leaves_it same c s here sim =
-            outcome_like g s (meant g fields value st) (λ x. value_in (extents g set) st value x) st (meant g fields whole st) (Scalar (stored_over (fields.scope.extents set))) left R (λ x u out f. LeavesScalars g alive d s st u f) (effect_of g.typed (layout g) whole d)
+        leaves_it : ty ≡ type_of target → (s : CodeState) → Starts g alive s (length d.code) d.regs (length d.fields) → Sim g alive st s → Follows g (λ x u out f. LeavesScalars g alive d s st u f) s (meant g fields whole st) (effect_of g.typed (layout g) whole d)
+        leaves_it same s here sim =
+            outcome_like g s (meant g fields value st) (h.number st) st (meant g fields whole st) (Scalar (stored_over (fields.scope.extents set))) left R (λ x u out f. LeavesScalars g alive d s st u f) (effect_of g.typed (layout g) whole d)
             (λ given. means_it same given) (λ early. ends_it same s early) (λ out f said. said)
-            (follows_same g (Given g (λ x. value_in (extents g set) st value x) st R) s refl (code_is d)
-            (given_through g s (meant g fields value st) (λ x. value_in (extents g set) st value x) st (GivesPure g alive bits set value (with_reg d) s st) R (next_of g.typed (layout g) bits true value (with_reg d)) (λ out after. behind d out after) behind_grows
-            (λ part h. then_after g (GivesPure g alive bits set value (with_reg d) s st) R part (λ out after. behind d out after) h behind_grows
-            (λ out e h. after_same g R (ap (λ (o : Out). behind d o e) h.1.0 ∙ field_made h.0 e) (made_after g R (O.Scalar d.regs) (stored_in h.0 e) (λ within.
-            let gives = h.1.1 in
+            (follows_same g (Given g (h.number st) st R) s refl (code_is d)
+            (given_through g s (meant g fields value st) (h.number st) st (InField g alive bits set (h.number st) (with_reg d) s st) R (next_of g.typed (layout g) bits true value (with_reg d)) (λ out after. behind d out after) behind_grows
+            (λ part given. then_after g (InField g alive bits set (h.number st) (with_reg d) s st) R part (λ out after. behind d out after) given behind_grows
+            (λ out e (f, (is, gives)). after_same g R (ap (λ (o : Out). behind d o e) is ∙ field_made f e) (made_after g R (O.Scalar d.regs) (stored_in f e) (λ within.
             let regs = gives.passes.grown.1.regs in
-            folds_onto g alive has d free v.variable info v.living (known.named, v.scalar) reduction (type_of value).elem is.1.1 d.regs h.0 sign places fields set (λ x. value_in (extents g set) st value x) bits (folds_so g alive places fields n stand reduction value set is c s st sim) e s st (stored_over (fields.scope.extents set))
-            (λ exists. ap stored_over (sym (fields.same_extents set exists))) (omega arith) (omega (arith, regs)) (gives_from g alive bits (length d.fields) d (with_reg d) e s set st (λ x. value_in (extents g set) st value x) h.0 (and_register d) gives) within))))
-            (stand bits set value (folded_some g alive places fields n stand (fold_by (reduce_op_of reduction) value) (kind_of value)) (folded_most g alive places fields n stand (fold_by (reduce_op_of reduction) value) set value is.0) is.0.0 is.1 c (with_reg d) s st (starts_later g alive s s (length d.code) d.regs (length d.fields) (length d.code) (d.regs + 1) (length d.fields) (omega arith) (omega arith) (omega arith) here.stands here) sim)))
+            folds_onto g alive has d free v.variable info v.living (known.named, v.scalar) reduction (type_of value).elem wide.1 d.regs f sign places fields set (h.number st) bits (h.folds s st sim) e s st (stored_over (fields.scope.extents set))
+            (λ exists. ap stored_over (sym (fields.same_extents set exists))) (omega arith) (omega (arith, regs)) (gives_from g alive bits (length d.fields) d (with_reg d) e s set st (h.number st) f (and_register d) gives) within))))
+            (h.gives (with_reg d) s st (starts_later g alive s s (length d.code) d.regs (length d.fields) (length d.code) (d.regs + 1) (length d.fields) (omega arith) (omega arith) (omega arith) here.stands here) sim)))
           where
             R : Out → Draft → Type 0
             R out f = LeavesScalars g alive d s st left f
 
-  module _ (has : HasRegisters g) (places : PlacesFields g) (fields : HoldsTheFields g) (stand : OperandsStand g alive fields n) where
+  module _ (has : HasRegisters g) (ready : (d : Draft) → IsReadyButForFields g.typed g.instance (layout g) n d) (places : PlacesFields g) (fields : HoldsTheFields g) where
     -- its code leaves the state that it gives in the source
     abbrev OntoLeaves : TExpr → Draft → CodeState → State → Type 0
     OntoLeaves e d s st = Follows g (λ x u out f. LeavesScalars g alive d s st u f) s (meant g fields e st) (effect_of g.typed (layout g) e d)
@@ -222,13 +221,13 @@ module _ (g : Setting) (alive : Variable → Type 0) (n : ℕ) where
     pub onto_leaves : (e : TExpr) → IsFoldOnto e → HasItsCode g.typed g.instance alive n e → (d : Draft) (s : CodeState) (st : State) → g.begins ≤ d.regs → Starts g alive s (length d.code) d.regs (length d.fields) → Sim g alive st s → OntoLeaves e d s st
     unfolding IsFoldOnto NamesVariables IsShaped IsLowerable ScalarsAmong
     onto_leaves (T.Assign' ty place op p target q value) is c d s st free here sim =
-        subst (λ (o : AssignOp). OntoLeaves (T.Assign' ty place o p target q value) d s st) (sym is.2.1.0) (leaves_it target v ty place is.2.0 p q value is.2.1.1.0 is.2.1.1.1 has names d free places fields stand st is.0 value_code s here sim)
+        subst (λ (o : AssignOp). OntoLeaves (T.Assign' ty place o p target q value) d s st) (sym is.2.1.0) (leaves_it target v ty place is.2.0 p q value is.2.1.1.0 h.kept h.wide has names d free places fields h st is.0 s here sim)
       where
         names : NamesVariables g.typed g.instance n target
         names = c.code.names.0
 
-        value_code : HasItsCode g.typed g.instance alive n value
-        value_code = record { code = record { shaped = c.code.shaped.3; lowerable = c.code.lowerable.3; names = c.code.names.1 }; among = c.among.1 }
+        h : Foldable g alive places fields is.2.0 is.2.1.1.0 value
+        h = folds_so g has alive n ready places fields is.2.0 is.2.1.1.0 value (record { code = record { shaped = c.code.shaped.3; lowerable = c.code.lowerable.3; names = c.code.names.1 }; among = c.among.1 }) is.2.1.1.1
 
         v : TargetIs g alive n target
         v = variable_in g alive n target (target_in g alive target is.1 c.among.0)

@@ -1,142 +1,43 @@
 -- The narrow type that is known of a parallel value has its words.
-use Rattle.std.proofs.Common.{◌≡◌, ◌∙◌, ℕ, ◌<◌, ◌≤◌, ◌^◌, ◌%◌, ◌==◌, Bool, true, false, not, Option, Some, None, refl, sym, ap, subst, arith, ◌⊎◌, inl, inr, if◌then◌else◌}
-use Rattle.std.proofs.lemmas.Bool.{eqb-true}
-use Rattle.std.proofs.lemmas.Bool.Decides.{nat_tests}
+use Rattle.std.proofs.Common.{◌≡◌, ◌∙◌, ℕ, ◌<◌, ◌^◌, ◌%◌, ◌==◌, Bool, true, false, not, Option, Some, None, refl, sym, ap, subst, ◌⊎◌, inl, inr, if◌then◌else◌}
 use Rattle.std.proofs.lemmas.Nat.{mod_below, pow_pos}
 use Rattle.std.proofs.Math.Nat.{mod-eq_of_lt}
 use Rattle.cstar_base.specs.declared.elem.Elem.{Elem}
 use Rattle.cstar_base.specs.declared.operators.Op.{Op}
-use Rattle.cstar_base.specs.declared.operators.Op.TheVariants as P
 use Rattle.cstar_base.specs.Numbers.{converted}
 use Rattle.cstar_base.specs.Operators.{outcome}
-use Rattle.cstar_base.proofs.NumberLaws.{kind_bits}
 use Rattle.cstar_tree.specs.declared.typed.TExpr.{TExpr}
 use Rattle.cstar_tree.specs.declared.typed.TExpr as T
-use Rattle.cstar_tree.specs.declared.typed.UnaryOp.{UnaryOp}
-use Rattle.cstar_tree.specs.declared.typed.UnaryOp.TheVariants as U
 use Rattle.cstar_tree.specs.declared.typed.ValueType.{ValueType}
 use Rattle.cstar_tree.specs.declared.typed.Variable.{Variable}
 use Rattle.cstar_tree.specs.declared.typed.Variable.TheVariants as V
 use Rattle.cstar_tree.specs.Typed.{type_of}
-use Rattle.std.specs.Int.{from_bool}
-use Rattle.constant_trees.proofs.Words.{converted_below, from_bool_below}
-use Rattle.lower_base.specs.Kinds.{binary_kind, bits_of, common_kind, converted_kind, has_all, is_bitwise, kind_of, narrow, truth_type}
-use Rattle.lower_base.specs.Operators.{negates, relates}
+use Rattle.lower_base.specs.Kinds.{binary_kind, bits_of, common_kind, is_bitwise, kind_of, truth_type}
+use Rattle.lower_base.specs.Operators.{relates}
 use Rattle.lower_expr.specs.Kinds.{has_number, kind_with, relation_kind}
 use Rattle.lower_expr.specs.Steps.{word_of}
 use Rattle.paris_code.specs.Code.{CodeState}
 use Rattle.paris_code.specs.Memory.{processors}
 use Rattle.short_values.proofs.Comparisons.{comparison}
-use Rattle.short_values.proofs.NarrowTypes.{is_word, wider_has, zero_test}
+use Rattle.short_values.proofs.NarrowTypes.{is_word, zero_test}
 use Rattle.source_meaning.specs.Reductions.{int_type}
 use Rattle.source_meaning.specs.State.{State}
-use Rattle.source_meaning.specs.Values.{nonzero, unary_of}
+use Rattle.source_meaning.specs.Values.{nonzero}
 use Rattle.code_follows.proofs.Following.{Sim, held}
-use Rattle.code_follows.proofs.Numbers.{held_zero, word_converted}
+use Rattle.code_follows.proofs.Numbers.{held_zero}
 use Rattle.code_follows.proofs.Settings.{Setting}
 use Rattle.code_follows.proofs.Standing.{some_same}
-use Rattle.code_follows.proofs.Words.{held_wide}
-use Rattle.fields_follow.specs.Fragment.{HasItsKind, HasKnownKind, IsNarrowed, IsPromoted, IsPure, IsRelation, IsSide, IsWide, ReadsSigns}
+use Rattle.fields_follow.specs.Fragment.{HasItsKind, HasKnownKind, IsNarrowed, IsPromoted, IsPure, IsRelation, IsWide, ReadsSigns}
+use Rattle.fields_follow.proofs.CalmKinds.{promoted_has}
 use Rattle.fields_follow.proofs.Forms.{HasItsCode, promoted_kept, pure_kept, pure_word}
 use Rattle.fields_follow.proofs.Instructions.{extents, shapes}
 use Rattle.fields_follow.proofs.JoinedBits.{bitwise_has}
-use Rattle.fields_follow.proofs.Lengths.{held_has}
 use Rattle.fields_follow.proofs.Meaning.{AreOperands, value_in, word_at}
+use Rattle.fields_follow.proofs.KnownKinds.{HasWord, bitwise_plain, common_has, convert_has, joined_kind, narrow_has, not_bit, truth_has}
 use Rattle.fields_follow.proofs.Places.{HoldsTheFields, PlacesFields}
-use Rattle.fields_follow.proofs.Sizes.{binary_parts, brackets_part, convert_part, pure_at, value_small}
+use Rattle.fields_follow.proofs.Sizes.{choice_parts, binary_parts, brackets_part, convert_part, pure_at, value_small}
 use Rattle.fields_follow.proofs.TestFlags.{is_truth}
 use Rattle.fields_follow.proofs.Totals.{held_below}
-use Rattle.fields_follow.proofs.TruthValues.{bit_converted}
-
--- a narrow type is the type itself, which has fewer than 32 bits
-narrow_is : (elem kind : Elem) → narrow elem ≡ Some kind → (elem ≡ kind) × (elem.bits < 32)
-unfolding narrow
-narrow_is elem kind is = by (elem.bits == 32) refl is
-  where
-    by : (b : Bool) → (elem.bits == 32) ≡ b → (if elem.bits == 32 then None else Some elem) ≡ Some kind → (elem ≡ kind) × (elem.bits < 32)
-    by true e h = let none = ap (λ (b : Bool). if b then None else Some elem) (sym e) ∙ h in cc
-    by false e h = (
-      some_same elem kind (ap (λ (b : Bool). if b then None else Some elem) (sym e) ∙ h),
-      (let most = (kind_bits elem.bits elem.signed elem.kind).1 in let other : elem.bits ≡ 32 → ⊥ = λ same. (let equal = ap (λ (n : ℕ). n == 32) same in cc) in grind (arith, nat_tests, most, e)),
-    )
-
--- a type has a word, and fewer bits than one
-abbrev pub HasWord : Elem → ℕ → Type 0
-HasWord kind word = (has_number kind word ≡ true) × (kind.bits < 32)
-
-narrow_has : (elem kind : Elem) (x : ℕ) → x < 2 ^ elem.bits → narrow elem ≡ Some kind → HasWord kind (held elem x)
-narrow_has elem kind x few is = let h = narrow_is elem kind is in subst (λ (k : Elem). HasWord k (held elem x)) h.0 (held_has elem x few, h.1)
-
--- a type that has all numbers of another one is converted to without a change of the word
-converted_has : (elem from kind : Elem) (x : ℕ) → x < 2 ^ from.bits → has_all elem kind ≡ true → has_number kind (held from x) ≡ true → held elem (converted elem from x) ≡ held from x
-unfolding has_number
-converted_has elem from kind x few all has =
-    ap (held elem) (sym (word_converted elem from x few)) ∙ eqb-true (converted int_type elem (converted elem int_type (held from x))) (held from x) (wider_has elem kind (held from x) all has)
-
-common_has : (a b : Option Elem) (kind : Elem) (v w : ℕ) → common_kind a b ≡ Some kind → ((k : Elem) → a ≡ Some k → HasWord k v) → ((k : Elem) → b ≡ Some k → HasWord k w) → HasWord kind v × HasWord kind w
-unfolding common_kind
-common_has None b kind v w is one other = cc
-common_has (Some a) None kind v w is one other = cc
-common_has (Some a) (Some b) kind v w is one other = by (has_all a b) (has_all b a) refl refl is
-  where
-    by : (x y : Bool) → has_all a b ≡ x → has_all b a ≡ y → (if has_all a b then Some a else if has_all b a then Some b else None) ≡ Some kind → HasWord kind v × HasWord kind w
-    by true y first second h =
-        subst (λ (k : Elem). HasWord k v × HasWord k w) (some_same a kind (ap (λ (t : Bool). if t then Some a else if has_all b a then Some b else None) (sym first) ∙ h))
-        (one a refl, (wider_has a b w first (other b refl).0, (one a refl).1))
-    by false true first second h =
-        subst (λ (k : Elem). HasWord k v × HasWord k w) (some_same b kind (ap (λ (t : Bool). if t then Some b else None) (sym second) ∙ ap (λ (t : Bool). if t then Some a else if has_all b a then Some b else None) (sym first) ∙ h))
-        ((wider_has b a v second (one a refl).0, (other b refl).1), other b refl)
-    by false false first second h = let wrong = ap (λ (t : Bool). if t then Some b else None) (sym second) ∙ ap (λ (t : Bool). if t then Some a else if has_all b a then Some b else None) (sym first) ∙ h in cc
-
--- the common type of two
-common_is : (Q : Elem → Type 0) (a b : Option Elem) (kind : Elem) → common_kind a b ≡ Some kind → ((k : Elem) → a ≡ Some k → Q k) → ((k : Elem) → b ≡ Some k → Q k) → Q kind
-unfolding common_kind
-common_is Q None b kind is one other = cc
-common_is Q (Some a) None kind is one other = cc
-common_is Q (Some a) (Some b) kind is one other = by (has_all a b) (has_all b a) refl refl
-  where
-    by : (x y : Bool) → has_all a b ≡ x → has_all b a ≡ y → Q kind
-    by true y first second = subst Q (some_same a kind (ap (λ (t : Bool). if t then Some a else if has_all b a then Some b else None) (sym first) ∙ is)) (one a refl)
-    by false true first second = subst Q (some_same b kind (ap (λ (t : Bool). if t then Some b else None) (sym second) ∙ ap (λ (t : Bool). if t then Some a else if has_all b a then Some b else None) (sym first) ∙ is)) (other b refl)
-    by false false first second = let wrong = ap (λ (t : Bool). if t then Some b else None) (sym second) ∙ ap (λ (t : Bool). if t then Some a else if has_all b a then Some b else None) (sym first) ∙ is in cc
-
--- and that of two values that are joined
-joined_kind : (op : Op) (a b : Option Elem) (kind : Elem) → relates op ≡ false → is_bitwise op ≡ true → binary_kind op a b ≡ Some kind → common_kind a b ≡ Some kind
-unfolding binary_kind
-joined_kind op a b kind plain bitwise is =
-    sym (ap (λ (t : Bool). if t then Some truth_type else if is_bitwise op then common_kind a b else None) plain ∙ ap (λ (t : Bool). if t then common_kind a b else None) bitwise) ∙ is
-
--- an operator that joins values bit by bit is no relation
-bitwise_plain : (op : Op) → is_bitwise op ≡ true → relates op ≡ false
-unfolding is_bitwise relates
-bitwise_plain P.And e = refl
-bitwise_plain P.Or e = refl
-bitwise_plain P.Xor e = refl
-bitwise_plain _ e = cc
-
--- the type of truth values has them
-bit_has : (b : Bool) → has_number truth_type (from_bool b) ≡ true
-unfolding has_number
-bit_has b = ap (λ (w : ℕ). converted int_type truth_type w == from_bool b) (bit_converted truth_type int_type b) ∙ ap (λ (w : ℕ). w == from_bool b) (bit_converted int_type truth_type b) ∙ same b
-  where
-    same : (b : Bool) → (from_bool b == from_bool b) ≡ true
-    same true = refl
-    same false = refl
-
-truth_has : (elem kind : Elem) (w : ℕ) (b : Bool) → w ≡ from_bool b → elem.bits ≡ 32 → Some truth_type ≡ Some kind → HasWord kind (held elem w)
-truth_has elem kind w b is wide same =
-    subst (λ (k : Elem). HasWord k (held elem w)) (some_same truth_type kind same)
-    (subst (λ (x : ℕ). has_number truth_type x ≡ true) (sym (held_wide elem w wide (subst (λ (x : ℕ). x < 2 ^ 32) (sym is) (from_bool_below b)) ∙ is)) (bit_has b), omega arith)
-
-truth_narrow : (kind : Elem) → Some truth_type ≡ Some kind → kind.bits < 32
-truth_narrow kind same = subst (λ (k : Elem). k.bits < 32) (some_same truth_type kind same) (omega arith)
-
-pub not_bit : (op : UnaryOp) (x : ℕ) → negates op ≡ true → unary_of op x ≡ from_bool (x == 0)
-unfolding negates unary_of
-not_bit U.Not x e = refl
-not_bit U.Plus x e = cc
-not_bit U.Minus x e = cc
-not_bit U.Complement x e = cc
 
 -- neither of them is promoted
 not_promoted : (set : ℕ) (e : TExpr) → IsPromoted set e → IsNarrowed e → ⊥
@@ -147,69 +48,50 @@ not_promoted set _ is so = is
 
 -- of the two sides of a relation one may be a promoted scalar
 abbrev pub HaveTheirKinds : ℕ → TExpr → TExpr → Type 0
-HaveTheirKinds set left right = (HasItsKind set left × (HasItsKind set right ⊎ IsSide set right)) ⊎ (IsSide set left × HasItsKind set right)
+HaveTheirKinds set left right = (HasItsKind set left × (HasItsKind set right ⊎ IsPromoted set right)) ⊎ (IsPromoted set left × HasItsKind set right)
 
 -- a relation, with the types of its sides
 abbrev pub AreRelated : ℕ → Op → TExpr → TExpr → Type 0
 AreRelated set op left right = (relates op ≡ true) × HaveTheirKinds set left right × IsWide set (type_of left) × IsWide set (type_of right) × ReadsSigns left right
 
-kind_known : (set : ℕ) (e : TExpr) → IsPure set e → HasKnownKind e ⊎ IsSide set e → HasItsKind set e
+kind_known : (set : ℕ) (e : TExpr) → IsPure set e → HasKnownKind e ⊎ IsPromoted set e → HasItsKind set e
 kind_known set e pure (inl known) = (pure, known)
-kind_known set e pure (inr side) = let wrong = sym (pure_kept set e pure) ∙ promoted_kept set e side.0 in cc
-
-side_known : (set : ℕ) (e : TExpr) → IsPromoted set e → HasKnownKind e ⊎ IsSide set e → IsSide set e
-side_known set e promoted (inl (inl none)) = (promoted, λ no_word. none)
-side_known set e promoted (inl (inr narrowed)) = absurd (not_promoted set e promoted narrowed)
-side_known set e promoted (inr side) = side
+kind_known set e pure (inr promoted) = let wrong = sym (pure_kept set e pure) ∙ promoted_kept set e promoted in cc
 
 pub are_related : (set : ℕ) (op : Op) (left right : TExpr) → IsRelation set op left right → AreOperands set left right → IsWide set (type_of left) → IsWide set (type_of right) → AreRelated set op left right
 are_related set op left right is operands wide other = (is.0, kinds operands, wide, other, is.3)
   where
     kinds : AreOperands set left right → HaveTheirKinds set left right
     kinds (inl (pure, inl also)) = inl (kind_known set left pure is.1, inl (kind_known set right also is.2))
-    kinds (inl (pure, inr promoted)) = inl (kind_known set left pure is.1, inr (side_known set right promoted is.2))
-    kinds (inr (promoted, pure)) = inr (side_known set left promoted is.1, kind_known set right pure is.2)
+    kinds (inl (pure, inr promoted)) = inl (kind_known set left pure is.1, inr promoted)
+    kinds (inr (promoted, pure)) = inr (promoted, kind_known set right pure is.2)
+
+narrowed_pure : (set : ℕ) (e : TExpr) → IsPure set e ⊎ IsPromoted set e → IsNarrowed e → IsPure set e
+narrowed_pure set e (inl pure) so = pure
+narrowed_pure set e (inr promoted) so = absurd (not_promoted set e promoted so)
 
 both_pure : (set : ℕ) (left right : TExpr) → (IsPure set left × (IsPure set right ⊎ IsPromoted set right)) ⊎ (IsPromoted set left × IsPure set right) → IsNarrowed left → IsNarrowed right → IsPure set left × IsPure set right
-both_pure set left right (inl (one, inl other)) so also = (one, other)
-both_pure set left right (inl (one, inr promoted)) so also = absurd (not_promoted set right promoted also)
+both_pure set left right (inl (one, other)) so also = (one, narrowed_pure set right other also)
 both_pure set left right (inr (promoted, other)) so also = absurd (not_promoted set left promoted so)
 
 module _ (g : Setting) (alive : Variable → Type 0) (n : ℕ) (places : PlacesFields g) (fields : HoldsTheFields g) where
   pub kind_has : (set : ℕ) (e : TExpr) (st : State) (s : CodeState) → Sim g alive st s → IsPure set e → IsNarrowed e → HasItsCode g.typed g.instance alive n e → (q : ℕ) → (kind : Elem) → kind_of e ≡ Some kind → HasWord kind (word_at (extents g set) st e q)
-  unfolding IsPure IsNarrowed kind_of value_in converted_kind binary_kind
+  unfolding IsPure IsNarrowed kind_of value_in binary_kind
   kind_has set (T.Variable ty (V.File k)) st s sim is so c q kind is_kind = narrow_has ty.elem kind _ (value_small g alive n places fields set (T.Variable ty (V.File k)) st s sim is c q) is_kind
   kind_has set (T.LeftIndex' ty place p indexes (V.File k) of) st s sim is so c q kind is_kind =
       narrow_has ty.elem kind _ (value_small g alive n places fields set (T.LeftIndex' ty place p indexes (V.File k) of) st s sim is c q) is_kind
   kind_has set (T.Brackets' ty p inner) st s sim is so c q kind is_kind =
       subst (λ (y : ValueType). HasWord kind (held y.elem (value_in (extents g set) st inner q))) (sym is.0) (kind_has set inner st s sim is.1 so (brackets_part g alive n places fields ty p inner c) q kind is_kind)
   kind_has set (T.Convert' ty p operand) st s sim is so c q kind is_kind =
-      by (kind_of operand) refl so is_kind (λ narrowed k is_k. kind_has set operand st s sim is.2 narrowed part q k is_k)
+      let part = convert_part g alive n places fields ty p operand c in
+      convert_has ty.elem (type_of operand).elem (kind_of operand) (value_in (extents g set) st operand q) (value_small g alive n places fields set operand st s sim is.2 part q) (by so (λ narrowed k is_k. kind_has set operand st s sim is.2 narrowed part q k is_k)) kind is_kind
     where
-      part : HasItsCode g.typed g.instance alive n operand
-      part = convert_part g alive n places fields ty p operand c
+      Has : Type 0
+      Has = (k : Elem) → kind_of operand ≡ Some k → HasWord k (word_at (extents g set) st operand q)
 
-      x : ℕ
-      x = value_in (extents g set) st operand q
-
-      cut : narrow ty.elem ≡ Some kind → HasWord kind (held ty.elem (converted ty.elem (type_of operand).elem x))
-      cut h = narrow_has ty.elem kind _ (converted_below ty.elem (type_of operand).elem x) h
-
-      by : (o : Option Elem) → kind_of operand ≡ o → (kind_of operand ≡ None) ⊎ IsNarrowed operand → converted_kind ty.elem (kind_of operand) ≡ Some kind → (IsNarrowed operand → (k : Elem) → kind_of operand ≡ Some k → HasWord k (held (type_of operand).elem x))
-          → HasWord kind (held ty.elem (converted ty.elem (type_of operand).elem x))
-      by None none any h before = cut (ap (λ (o : Option Elem). converted_kind ty.elem o) (sym none) ∙ h)
-      by (Some k) some (inl none) h before = let wrong = sym none ∙ some in cc
-      by (Some k) some (inr narrowed) h before = all (has_all ty.elem k) refl (ap (λ (o : Option Elem). converted_kind ty.elem o) (sym some) ∙ h)
-        where
-          has : HasWord k (held (type_of operand).elem x)
-          has = before narrowed k some
-
-          all : (b : Bool) → has_all ty.elem k ≡ b → (if has_all ty.elem k then Some k else narrow ty.elem) ≡ Some kind → HasWord kind (held ty.elem (converted ty.elem (type_of operand).elem x))
-          all true it_has h =
-              let same : k ≡ kind = some_same k kind (ap (λ (b : Bool). if b then Some k else narrow ty.elem) (sym it_has) ∙ h) in
-              let small : x < 2 ^ (type_of operand).elem.bits = value_small g alive n places fields set operand st s sim is.2 part q in
-              subst (λ (w : ℕ). HasWord kind w) (sym (converted_has ty.elem (type_of operand).elem k x small it_has has.0)) (subst (λ (e : Elem). HasWord e (held (type_of operand).elem x)) same has)
-          all false other h = cut (ap (λ (b : Bool). if b then Some k else narrow ty.elem) (sym other) ∙ h)
+      by : (kind_of operand ≡ None) ⊎ IsNarrowed operand → (IsNarrowed operand → Has) → Has
+      by (inl none) before k some = let wrong = sym none ∙ some in cc
+      by (inr narrowed) before k some = before narrowed k some
   kind_has set (T.Unary' ty op p operand) st s sim is so c q kind is_kind =
       truth_has ty.elem kind _ (value_in (extents g set) st operand q == 0) (not_bit op (value_in (extents g set) st operand q) so) is.0.1 (sym (ap (λ (b : Bool). if b then Some truth_type else None) so) ∙ is_kind)
   kind_has set (T.LogicalOr' ty p left r right) st s sim is so c q kind is_kind = truth_has ty.elem kind _ _ refl is.0.1 is_kind
@@ -244,52 +126,25 @@ module _ (g : Setting) (alive : Variable → Type 0) (n : ℕ) (places : PlacesF
           (sym (ap (λ (b : Bool). if b then Some truth_type else if is_bitwise op then common_kind (kind_of left) (kind_of right) else None) related) ∙ is_kind)
       either (inr joined) one other =
           let pure = both_pure set left right is.2 joined.1 joined.2 in by joined.0 pure (one pure.0 joined.1) (other pure.1 joined.2)
+  kind_has set (T.Choice' ty p test b first r second) st s sim is so c q kind is_kind =
+      let parts = choice_parts g alive n places fields ty p b r test first second c in
+      let one : IsPure set first = narrowed_pure set first is.2 so.0 in
+      let other : IsPure set second = narrowed_pure set second is.3 so.1 in
+      let v : ℕ = value_in (extents g set) st first q in
+      let w : ℕ = value_in (extents g set) st second q in
+      let both : HasWord kind v × HasWord kind w =
+      common_has (kind_of first) (kind_of second) kind v w is_kind (λ k is_k. subst (λ (x : ℕ). HasWord k x) (pure_at g alive n places fields set first st s sim one is.4 parts.1 q) (kind_has set first st s sim one so.0 parts.1 q k is_k))
+      (λ k is_k. subst (λ (x : ℕ). HasWord k x) (pure_at g alive n places fields set second st s sim other is.5 parts.2 q) (kind_has set second st s sim other so.1 parts.2 q k is_k)) in
+      subst (λ (x : ℕ). HasWord kind x) (sym (pure_at g alive n places fields set (T.Choice' ty p test b first r second) st s sim is is.0 c q)) (chosen (nonzero (value_in (extents g set) st test q)) v w both)
+    where
+      chosen : (b : Bool) (v w : ℕ) → HasWord kind v × HasWord kind w → HasWord kind (if b then v else w)
+      chosen true v w both = both.0
+      chosen false v w both = both.1
   kind_has set (T.Variable ty x) st s sim is so c q kind is_kind = absurd is
   kind_has set (T.LeftIndex' ty place p indexes x of) st s sim is so c q kind is_kind = absurd is
   kind_has set _ st s sim is so c q kind is_kind = absurd so
 
-  pub kind_narrow : (set : ℕ) (e : TExpr) → IsPure set e → IsNarrowed e → (kind : Elem) → kind_of e ≡ Some kind → kind.bits < 32
-  unfolding IsPure IsNarrowed kind_of converted_kind binary_kind
-  kind_narrow set (T.Variable ty x) is so kind is_kind = let h = narrow_is ty.elem kind is_kind in subst (λ (k : Elem). k.bits < 32) h.0 h.1
-  kind_narrow set (T.LeftIndex' ty place p indexes x of) is so kind is_kind = let h = narrow_is ty.elem kind is_kind in subst (λ (k : Elem). k.bits < 32) h.0 h.1
-  kind_narrow set (T.Brackets' ty p inner) is so kind is_kind = kind_narrow set inner is.1 so kind is_kind
-  kind_narrow set (T.Convert' ty p operand) is so kind is_kind = by (kind_of operand) refl so is_kind (λ narrowed k is_k. kind_narrow set operand is.2 narrowed k is_k)
-    where
-      cut : narrow ty.elem ≡ Some kind → kind.bits < 32
-      cut h = let is_elem = narrow_is ty.elem kind h in subst (λ (k : Elem). k.bits < 32) is_elem.0 is_elem.1
-
-      by : (o : Option Elem) → kind_of operand ≡ o → (kind_of operand ≡ None) ⊎ IsNarrowed operand → converted_kind ty.elem (kind_of operand) ≡ Some kind → (IsNarrowed operand → (k : Elem) → kind_of operand ≡ Some k → k.bits < 32) → kind.bits < 32
-      by None none any h before = cut (ap (λ (o : Option Elem). converted_kind ty.elem o) (sym none) ∙ h)
-      by (Some k) some (inl none) h before = let wrong = sym none ∙ some in cc
-      by (Some k) some (inr narrowed) h before = all (has_all ty.elem k) refl (ap (λ (o : Option Elem). converted_kind ty.elem o) (sym some) ∙ h)
-        where
-          all : (b : Bool) → has_all ty.elem k ≡ b → (if has_all ty.elem k then Some k else narrow ty.elem) ≡ Some kind → kind.bits < 32
-          all true it_has h = subst (λ (e : Elem). e.bits < 32) (some_same k kind (ap (λ (b : Bool). if b then Some k else narrow ty.elem) (sym it_has) ∙ h)) (before narrowed k some)
-          all false other h = cut (ap (λ (b : Bool). if b then Some k else narrow ty.elem) (sym other) ∙ h)
-  kind_narrow set (T.Unary' ty op p operand) is so kind is_kind = truth_narrow kind (sym (ap (λ (b : Bool). if b then Some truth_type else None) so) ∙ is_kind)
-  kind_narrow set (T.LogicalOr' ty p left r right) is so kind is_kind = truth_narrow kind is_kind
-  kind_narrow set (T.LogicalAnd' ty p left r right) is so kind is_kind = truth_narrow kind is_kind
-  kind_narrow set (T.Binary' ty place op p left r right) is so kind is_kind = either so (λ pure narrowed k is_k. kind_narrow set left pure narrowed k is_k) (λ pure narrowed k is_k. kind_narrow set right pure narrowed k is_k)
-    where
-      Before : TExpr → Type 0
-      Before e = IsPure set e → IsNarrowed e → (k : Elem) → kind_of e ≡ Some k → k.bits < 32
-
-      either : (relates op ≡ true) ⊎ ((is_bitwise op ≡ true) × IsNarrowed left × IsNarrowed right) → Before left → Before right → kind.bits < 32
-      either (inl related) one other = truth_narrow kind (sym (ap (λ (b : Bool). if b then Some truth_type else if is_bitwise op then common_kind (kind_of left) (kind_of right) else None) related) ∙ is_kind)
-      either (inr joined) one other =
-          let pure = both_pure set left right is.2 joined.1 joined.2 in
-          common_is (λ (k : Elem). k.bits < 32) (kind_of left) (kind_of right) kind (joined_kind op (kind_of left) (kind_of right) kind (bitwise_plain op joined.0) joined.0 is_kind) (one pure.0 joined.1) (other pure.1 joined.2)
-  kind_narrow set _ is so kind is_kind = absurd so
-
-  -- so it is 0 where its lowest bits of that type are
-  pub kind_most : (set : ℕ) (e : TExpr) → HasItsKind set e → bits_of (kind_of e) ≤ 32
-  unfolding bits_of
-  kind_most set e is = by (kind_of e)
-    where
-      by : (o : Option Elem) → (elim o as (λ _. ℕ) [ None ↦ 32 | Some kind ↦ kind.bits ]) ≤ 32
-      by None = omega arith
-      by (Some kind) = (kind_bits kind.bits kind.signed kind.kind).1
-
+  -- it is 0 where its lowest bits of that type are
   pub zero_told : (set : ℕ) (e : TExpr) (st : State) (s : CodeState) → Sim g alive st s → HasItsKind set e → HasItsCode g.typed g.instance alive n e → (q : ℕ)
       → (word_at (extents g set) st e q % 2 ^ bits_of (kind_of e) == 0) ≡ (value_in (extents g set) st e q == 0)
   unfolding bits_of
@@ -306,11 +161,11 @@ module _ (g : Setting) (alive : Variable → Type 0) (n : ℕ) (places : PlacesF
   -- ---- the two sides of a relation
 
   -- a side that has no word of its own
-  side_has : (set : ℕ) (e : TExpr) (st : State) (s : CodeState) → Sim g alive st s → HasItsKind set e ⊎ IsSide set e → (type_of e).elem.bits ≡ 32 → HasItsCode g.typed g.instance alive n e → word_of e ≡ None → (q : ℕ) → q < processors (shapes g) set → (kind : Elem) → kind_of e ≡ Some kind
+  side_has : (set : ℕ) (e : TExpr) (st : State) (s : CodeState) → Sim g alive st s → HasItsKind set e ⊎ IsPromoted set e → (type_of e).elem.bits ≡ 32 → HasItsCode g.typed g.instance alive n e → word_of e ≡ None → (q : ℕ) → q < processors (shapes g) set → (kind : Elem) → kind_of e ≡ Some kind
       → HasWord kind (word_at (extents g set) st e q)
   side_has set e st s sim (inl (pure, inl none)) wide c no_word q below kind is = let wrong = sym none ∙ is in cc
   side_has set e st s sim (inl (pure, inr narrowed)) wide c no_word q below kind is = kind_has set e st s sim pure narrowed c q kind is
-  side_has set e st s sim (inr side) wide c no_word q below kind is = let wrong = sym (side.1 no_word) ∙ is in cc
+  side_has set e st s sim (inr promoted) wide c no_word q below kind is = promoted_has g alive n set e st s sim promoted c no_word q kind is
 
   kind_given : (o : Option Elem) (word : ℕ) (kind : Elem) → kind_with o word ≡ Some kind → (o ≡ Some kind) × (has_number kind word ≡ true)
   unfolding kind_with
@@ -321,11 +176,11 @@ module _ (g : Setting) (alive : Variable → Type 0) (n : ℕ) (places : PlacesF
       by true it_has h = let same : Some k ≡ Some kind = ap (λ (b : Bool). if b then Some k else None) (sym it_has) ∙ h in (same, subst (λ (e : Elem). has_number e word ≡ true) (some_same k kind same) it_has)
       by false other h = let wrong = ap (λ (b : Bool). if b then Some k else None) (sym other) ∙ h in cc
 
-  left_side : (set : ℕ) (left right : TExpr) → HaveTheirKinds set left right → HasItsKind set left ⊎ IsSide set left
+  left_side : (set : ℕ) (left right : TExpr) → HaveTheirKinds set left right → HasItsKind set left ⊎ IsPromoted set left
   left_side set left right (inl h) = inl h.0
   left_side set left right (inr h) = inr h.0
 
-  right_side : (set : ℕ) (left right : TExpr) → HaveTheirKinds set left right → HasItsKind set right ⊎ IsSide set right
+  right_side : (set : ℕ) (left right : TExpr) → HaveTheirKinds set left right → HasItsKind set right ⊎ IsPromoted set right
   right_side set left right (inl h) = h.1
   right_side set left right (inr h) = inl h.1
 

@@ -13,6 +13,7 @@ use Rattle.code_lengths.specs.Shaped.{IsShaped}
 use Rattle.lower_base.specs.declared.emit.Out.{Out}
 use Rattle.lower_base.specs.declared.emit.Out.TheVariants as O
 use Rattle.lower_base.specs.Drafts.{Draft, Made, Makes, then_make}
+use Rattle.lower_base.specs.Kinds.{kind_of}
 use Rattle.lower_expr.specs.Effects.{bits_for, computed_to, moved}
 use Rattle.lower_expr.specs.Operands.{held as held_in, ignores_context, in_place, operand_by, own_of, standing}
 use Rattle.lower_expr.specs.Steps.{put_value, register_word, word_of}
@@ -82,6 +83,7 @@ module _ (g : Setting) (alive : Variable → Type 0) (n : ℕ) where
     pub elem : (type_of e).elem ≡ (type_of operand).elem
     pub no_constant : is_constant e ≡ false
     pub no_word : word_of e ≡ None
+    pub kind : kind_of e ≡ kind_of operand
     pub code : (quiet : Bool) (bits : ℕ) (d : Draft) → operand_by g.typed (layout g) bits (λ after. value_of g.typed (layout g) bits e after) quiet e d ≡ operand_by g.typed (layout g) bits (λ after. value_of g.typed (layout g) bits operand after) quiet operand d
     pub computed : (f : Field) (d : Draft) → computed_to g.typed (layout g) (O.Field f) e d ≡ then_make (operand_by g.typed (layout g) f.len (λ after. value_of g.typed (layout g) f.len operand after) true operand d) (λ v after. put_value (O.Field f) v after)
     pub means : (scope : Scope) (active : Active) (st : State) → evaluated scope e active st ≡ then_do (evaluated scope operand active st) (λ v after. Gives (everywhere v) after)
@@ -101,7 +103,7 @@ module _ (g : Setting) (alive : Variable → Type 0) (n : ℕ) where
       ∙ sym (λ i. elim (also i) as (λ _. Made Out) [ Some r ↦ Makes (O.Scalar r) d | None ↦ elim (if quiet then own_of bits inner else None) as (λ _. Made Out) [ Some x ↦ standing g.typed (layout g) bits x d | None ↦ value_of g.typed (layout g) bits inner d ] ])
 
   pub spread_over : (known : TExpr → Type 0) (set : ℕ) (ty : ValueType) (p : Boxed) (operand : TExpr) → ty.shape ≡ Some set → ty.elem ≡ (type_of operand).elem → constant_of operand ≡ None → known operand → HasItsCode g.typed g.instance alive n (T.Promote' ty p operand) → Spreads known set (T.Promote' ty p operand)
-  unfolding word_of register_word own_of NamesVariables IsShaped IsLowerable value_in scalar_in ScalarsAmong evaluated value_of held_in computed_to moved bits_for is_constant
+  unfolding word_of register_word own_of NamesVariables IsShaped IsLowerable value_in scalar_in ScalarsAmong evaluated value_of held_in computed_to moved bits_for is_constant kind_of
   spread_over known set ty p operand shaped same none is c =
       let no_word : register_word operand ≡ None = ap (λ (o : Option ℕ). then_value o (λ v. Some (converted int_type (type_of operand).elem v))) none in
       let code : (quiet : Bool) (bits : ℕ) (d : Draft) → operand_by g.typed (layout g) bits (λ after. value_of g.typed (layout g) bits operand after) quiet (T.Promote' ty p operand) d ≡ operand_by g.typed (layout g) bits (λ after. value_of g.typed (layout g) bits operand after) quiet operand d =
@@ -113,6 +115,7 @@ module _ (g : Setting) (alive : Variable → Type 0) (n : ℕ) where
         elem = same;
         no_constant = refl;
         no_word = no_word;
+        kind = refl;
         code = code;
         computed = λ f d. ap (λ (m : Made Out). then_make m (λ v after. put_value (O.Field f) v after)) (code true f.len d);
         means = λ scope active st i. then_do (evaluated scope operand active st) (λ v after. Gives (mapped_is scope active ty set (λ w. w) v shaped i) after);
@@ -126,7 +129,7 @@ module _ (g : Setting) (alive : Variable → Type 0) (n : ℕ) where
   brackets_code ty p inner c = record { code = record { shaped = c.code.shaped.1; lowerable = c.code.lowerable; names = c.code.names }; among = c.among }
 
   pub spread_within : (known : TExpr → Type 0) (set : ℕ) (ty : ValueType) (p : Boxed) (inner : TExpr) → ty ≡ type_of inner → Spreads known set inner → Spreads known set (T.Brackets' ty p inner)
-  unfolding word_of own_of value_in evaluated value_of computed_to is_constant
+  unfolding word_of own_of value_in evaluated value_of computed_to is_constant kind_of
   spread_within known set ty p inner same h =
       let shaped : ty.shape ≡ Some set = ap (λ (y : ValueType). y.shape) same ∙ h.shape in
       let fresh : is_constant (T.Brackets' ty p inner) ≡ false = ap (λ (o : Option ℕ). is_none o && ty.elem.bits == (type_of inner).elem.bits && is_constant inner) shaped in
@@ -137,6 +140,7 @@ module _ (g : Setting) (alive : Variable → Type 0) (n : ℕ) where
         elem = ap (λ (y : ValueType). y.elem) same ∙ h.elem;
         no_constant = fresh;
         no_word = h.no_word;
+        kind = h.kind;
         code = λ quiet bits d. operand_same quiet bits (T.Brackets' ty p inner) inner d (not_held (layout g) (T.Brackets' ty p inner) fresh) (not_held (layout g) inner h.no_constant) refl refl ∙ h.code quiet bits d;
         computed = h.computed;
         means = h.means;

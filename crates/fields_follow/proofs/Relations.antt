@@ -63,8 +63,8 @@ use Rattle.fields_follow.proofs.Starts.{starts_entry, Starts}
 -- the two sides of a relation are operands
 pub relation_operands : (set : ℕ) (left right : TExpr) → HaveTheirKinds set left right → AreOperands set left right
 relation_operands set left right (inl (one, inl other)) = inl (one.0, inl other.0)
-relation_operands set left right (inl (one, inr other)) = inl (one.0, inr other.0)
-relation_operands set left right (inr (one, other)) = inr (one.0, other.0)
+relation_operands set left right (inl (one, inr other)) = inl (one.0, inr other)
+relation_operands set left right (inr (one, other)) = inr (one, other.0)
 
 -- how it reads them, at so many bits
 read_as : (op : Op) (left right : TExpr) → relates op ≡ true → reads_signed op left right ≡ (elim (relation_kind left right) as (λ _. Bool) [ None ↦ is_signed (type_of left).elem | Some kind ↦ kind.signed ])

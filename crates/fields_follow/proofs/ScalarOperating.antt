@@ -1,6 +1,7 @@
 -- Assignments with an operator of a scalar that may change variables to a parallel variable.
-use Rattle.std.proofs.Common.{◌≡◌, ◌∙◌, ℕ, ◌<◌, ◌^◌, ◌==◌, true, false, length, Option, Some, None, refl, sym, ap, subst, arith, inr, not, Bool, ◌&&◌, if◌then◌else◌, ◌≤◌, ◌+◌, ◌%◌}
+use Rattle.std.proofs.Common.{◌≡◌, ◌∙◌, ℕ, ◌<◌, ◌^◌, ◌==◌, true, false, length, Option, Some, None, refl, sym, ap, subst, arith, inl, inr, ◌⊎◌, not, Bool, ◌&&◌, if◌then◌else◌, ◌≤◌, ◌+◌, ◌%◌}
 use Rattle.cstar_base.specs.declared.elem.Elem.{Elem}
+use Rattle.cstar_base.specs.declared.faults.RunFault.TheVariants.{DivZero}
 use Rattle.cstar_base.specs.declared.operators.Op.{Op}
 use Rattle.cstar_base.specs.declared.operators.Place.{Place}
 use Rattle.cstar_tree.specs.declared.syntax.AssignOp.{AssignOp}
@@ -35,7 +36,7 @@ use Rattle.source_meaning.specs.Reductions.{updated}
 use Rattle.source_meaning.specs.State as Source
 use Rattle.source_meaning.specs.State.{Gives, Outcome, State, then_do, with_positions}
 use Rattle.source_meaning.specs.Targets.{OfElement, Target, assigned}
-use Rattle.source_meaning.specs.Values.{Parallel, Value, at}
+use Rattle.source_meaning.specs.Values.{Parallel, Scalar, Value, at}
 use Rattle.source_meaning.proofs.ConstantLaws.{Boxed}
 use Rattle.code_follows.specs.Fragment.{IsIn, ScalarsAmong}
 use Rattle.code_follows.proofs.Following.{Follows, HasRegisters, Sim, follows_same, held, then_follows, Extends}
@@ -44,14 +45,16 @@ use Rattle.fields_follow.specs.Fields.{file_number}
 use Rattle.fields_follow.specs.Fragment.{HasOperation, IsChanging, IsChangingAssigned, IsOperation, IsTarget, alone}
 use Rattle.fields_follow.proofs.Assigning.{leaves_value, own_is, variable_is, entry_for}
 use Rattle.fields_follow.proofs.Forms.{HasItsCode}
-use Rattle.fields_follow.proofs.Instructions.{operation_below, whole_keeps}
+use Rattle.fields_follow.proofs.Dividing.{zero_at, zero_there}
+use Rattle.fields_follow.proofs.Instructions.{operation_below, shapes, whole_keeps}
 use Rattle.fields_follow.proofs.Leaving.{Leaves, UpdateLeaves}
-use Rattle.fields_follow.proofs.Lengths.{Keeps, operation_keeps}
+use Rattle.fields_follow.proofs.Lengths.{Keeps, divides_wide, operation_keeps}
+use Rattle.fields_follow.proofs.Outcomes.{Ended, outcome_follows}
 use Rattle.fields_follow.proofs.Places.{HoldsTheFields, PlacesFields}
 use Rattle.fields_follow.proofs.Promoted.{Spreads, changing_stands, everywhere}
 use Rattle.fields_follow.proofs.Scalars.{GivesChanged, changed_follows}
 use Rattle.fields_follow.proofs.Starts.{starts_entry, Starts}
-use Rattle.fields_follow.proofs.Updates.{IsFileTarget, assigned_is, file_target, divides_as, updated_is}
+use Rattle.fields_follow.proofs.Updates.{IsFileTarget, assigned_divides, assigned_is, file_target, divides_as, updated_is}
 use Rattle.fields_follow.proofs.Values.{next_field, with_entry, and_entry, one_more}
 use Rattle.std.proofs.lemmas.Nat.{pow_pos, mod_below}
 use Rattle.cstar_base.proofs.NumberLaws.{kind_bits}
@@ -71,22 +74,16 @@ make_both (Makes x e) f k = refl
 make_both Fails f k = refl
 
 module _ (g : Setting) (has : HasRegisters g) (alive : Variable → Type 0) (n : ℕ) (ready : (d : Draft) → IsReadyButForFields g.typed g.instance (layout g) n d) (places : PlacesFields g) (fields : HoldsTheFields g) where
-  -- what is said of code that is made is said where the source gives this
-  after_follows : {A B : Type 0} (Q : A → State → B → Draft → Type 0) (s : CodeState) (x : A) (u : State) (made : Made B) → After g (λ y e. Q x u y e) made → Follows g Q s (Source.Gives x u) made
-  unfolding After Follows
-  after_follows Q s x u (Makes y e) h = h
-  after_follows Q s x u Fails h = tt
-
-  -- it may be said where the draft before it is within the unit
+  -- what is said of code may be said where the draft before it is within the unit
   after_within : {B : Type 0} (Q : B → Draft → Type 0) (e : Draft) (made : Made B) → Extends g e made → (Within g e → After g Q made) → After g Q made
   unfolding After Extends
   after_within Q e (Makes y f) grows h = λ w. h (earlier g e f grows.0 grows.1 w) w
   after_within Q e Fails grows h = tt
 
-  pub operates : (ty : ValueType) (place : Place) (op : AssignOp) (p q : Boxed) (target value : TExpr) (set : ℕ) (x : Op) → ty ≡ type_of target → assign_op_of op ≡ Some x → divides x ≡ false → HasOperation op ty.elem value → IsOperation x value → (type_of value).elem.bits ≡ 32 → (ty.elem.bits == 1) ≡ false → operation_bits ty.elem.bits x value ≡ ty.elem.bits
+  pub operates : (ty : ValueType) (place : Place) (op : AssignOp) (p q : Boxed) (target value : TExpr) (set : ℕ) (x : Op) → ty ≡ type_of target → assign_op_of op ≡ Some x → HasOperation op ty.elem value → IsOperation x value → (type_of value).elem.bits ≡ 32 → (ty.elem.bits == 1) ≡ false → operation_bits ty.elem.bits x value ≡ ty.elem.bits
       → IsTarget set target → IsChanging set value → NamesVariables g.typed g.instance n target → HasItsCode g.typed g.instance alive n value → (d : Draft) (s : CodeState) (st : State) → Starts g alive s (length d.code) d.regs (length d.fields) → Sim g alive st s → UpdateLeaves g alive fields (T.Assign' ty place op p target q value) d s st
   unfolding effect_of assignment_effect variable_operated field_operated right_by word_taken an_entry evaluated then_do then_make right_given from at passes_from Extends
-  operates ty place op p q target value set x same is_op plain known operation wide no_truth works is_target is names c d s st here sim =
+  operates ty place op p q target value set x same is_op known operation wide no_truth works is_target is names c d s st here sim =
       follows_same g Q s means code
       (then_follows g R Q s s (evaluated fields.scope v.operand fields.active st) k made (λ y after. next y after) (stay g s)
       (changed_follows g has alive n ready fields true bits (length d2.fields) v.operand v.is v.among v.has d2 s st (starts_entry g alive _ _ (starts_entry g alive _ _ here)) sim) grows gives)
@@ -165,20 +162,22 @@ module _ (g : Setting) (has : HasRegisters g) (alive : Variable → Type 0) (n :
 
       gives : (y : Value) (u : State) (out : Out) (e : Draft) → R y u out e → Follows g Q s (k y u) (next out e)
       gives y u out e (w, (is_w, (few, (r, (is_r, word))))) =
-          follows_same g Q s (ap (λ (z : Value). k z u) is_w ∙ assigned_is fields.scope fields.active set h.k place op ty (type_of value) (λ z. w) u (ap (λ (z : ValueType). z.shape) same ∙ h.shape) (λ z. divides_as op x w is_op ∙ ap (λ (b : Bool). b && w == 0) plain)) (ap (λ (o : Out). next o e) is_r)
-          (after_follows Q s (Parallel stored) (with_positions (V.File h.k) 0 (fields.active set) stored u) (right_operated x signed place f f (Rt.Word (K.Reg r)) spare e)
-          (after_within (λ z e3. Leaves g alive d e3 s (with_positions (V.File h.k) 0 (fields.active set) stored u)) e (right_operated x signed place f f (Rt.Word (K.Reg r)) spare e) (operated_extends g x signed place f f spare (Rt.Word (K.Reg r)) e operation.0) (λ within_e.
-          operated_after g has alive n ready places fields bits (length d2.fields) set x signed place f f old (λ z. cw) d1 e e s u operation.0 (λ divided. cc) (λ z. keeps) refl (let one = one_more set bits W.Own d1 in omega (arith, one)) (fields_longer d2 e word.passes.grown.0 word.passes.grown.1)
+          follows_same g Q s (ap (λ (z : Value). k z u) is_w) (ap (λ (o : Out). next o e) is_r)
+          (outcome_follows g s o (Parallel stored) left (λ z e3. Leaves g alive d e3 s left) Q last (λ z e3 said. said)
+          (after_within P e last (operated_extends g x signed place f f spare (Rt.Word (K.Reg r)) e operation.0) (λ within_e.
+          operated_after g has alive n ready places fields bits (length d2.fields) set x signed place f f old (λ z. cw) d1 e e s u operation.0 (λ divided. sym works_there ∙ divides_wide bits x value divided) (λ z. keeps) refl (let one = one_more set bits W.Own d1 in omega (arith, one)) (fields_longer d2 e word.passes.grown.0 word.passes.grown.1)
           (record {
             passes = record { grown = word.passes.grown; t = word.passes.t; go = word.passes.go; at = word.passes.at; registers = word.passes.registers; sim = word.passes.sim; stays = λ used. word.passes.stays tt };
             stands = inr (record { x = V.File h.k; info = h.info; carries = file_carries g alive places fields set h.k h.info f h.is (entry_for g has alive n ready places fields set h.k h.info h.is d s u e (0 + word.passes.grown.0) (extended d1 d2 e 0 word.passes.grown.0 (and_entry set bits W.Own d1) word.passes.grown.1) within_e) refl refl; len = refl; fits = omega arith; same = λ z below. (refl, held_below h.info.elem (u.parallel (V.File h.k) 0 z)) });
           })
           (Rt.Word (K.Reg r)) (λ z same_word. omega arith) (λ imm same_word divided. cc)
-          (inr (K.Reg r, (refl, record { passes = passes_all g alive (length e.fields) e word.passes.t u (Unit {0}) word.passes.at word.passes.sim; small = word.small; same = word.same })))
-          (λ z e3. Leaves g alive d e3 s (with_positions (V.File h.k) 0 (fields.active set) stored u))
-          (λ there never e3 i within p3 puts. leaves_value g has alive n ready places fields set h.k h.info h.is d s u (λ z. outcome x 32 (not signed) (old z) cw) stored ((λ z below small. operated z), λ z. subst (λ (m : ℕ). m < 2 ^ bits) (sym (operated z)) (mod_below (outcome x 32 (not signed) (old z) cw) (2 ^ bits) (pow_pos bits)))
-          e3 i within (passes_from g alive (length d1.fields) d1 d2 e3 s u (Unit {0}) (and_entry set bits W.Own d1) p3) puts)
-          (λ there divided. cc))))
+          (inr (K.Reg r, (refl, record { passes = passes_all g alive (length e.fields) e word.passes.t u (Unit {0}) word.passes.at word.passes.sim; small = word.small; same = word.same }))) P
+          (λ there never e3 i within p3 puts. inl (
+            stores there never,
+            leaves_value g has alive n ready places fields set h.k h.info h.is d s u (λ z. outcome x 32 (not signed) (old z) cw) stored ((λ z below small. operated z), λ z. subst (λ (m : ℕ). m < 2 ^ bits) (sym (operated z)) (mod_below (outcome x 32 (not signed) (old z) cw) (2 ^ bits) (pow_pos bits)))
+                e3 i within (passes_from g alive (length d1.fields) d1 d2 e3 s u (Unit {0}) (and_entry set bits W.Own d1) p3) puts,
+          ))
+          (λ there divided z none finishes y e3. inr (record { early = Source.Fault DivZero place (Some z); state = u; is = divided_so there divided ∙ ap by_zero none; finishes = finishes })))))
         where
           cw : ℕ
           cw = held (type_of v.operand).elem w
@@ -189,6 +188,18 @@ module _ (g : Setting) (has : HasRegisters g) (alive : Variable → Type 0) (n :
           stored : ℕ → ℕ
           stored z = updated op ty.elem (type_of value).elem (u.parallel (V.File h.k) 0 z) w
 
+          left : State
+          left = with_positions (V.File h.k) 0 (fields.active set) stored u
+
+          o : Outcome Value
+          o = k (Scalar w) u
+
+          last : Made Out
+          last = right_operated x signed place f f (Rt.Word (K.Reg r)) spare e
+
+          P : Out → Draft → Type 0
+          P z e3 = ((o ≡ Gives (Parallel stored) left) × Leaves g alive d e3 s left) ⊎ Ended g s o
+
           wide_operand : (type_of v.operand).elem.bits ≡ 32
           wide_operand = ap (λ (e : Elem). e.bits) (sym v.elem) ∙ wide
 
@@ -197,6 +208,25 @@ module _ (g : Setting) (has : HasRegisters g) (alive : Variable → Type 0) (n :
 
           is_cw : cw ≡ w
           is_cw = held_wide (type_of v.operand).elem w wide_operand small_w
+
+          shaped : ty.shape ≡ Some set
+          shaped = ap (λ (z : ValueType). z.shape) same ∙ h.shape
+
+          -- where it divides by 0 at an active position it ends there
+          by_zero : Option ℕ → Outcome Value
+          by_zero zero = elim zero as (λ _. Outcome Value) [ None ↦ Gives (Parallel stored) left | Some z ↦ Source.Ends (Source.Fault DivZero place (Some z)) u ]
+
+          divided_so : set < length (shapes g) → divides x ≡ true → o ≡ by_zero (zero_at g fields set (λ z. cw))
+          divided_so there divided =
+              assigned_divides fields.scope fields.active set h.k place op ty (type_of value) (λ z. w) u shaped (λ z. divides_as op x w is_op ∙ ap (λ (b : Bool). b && w == 0) divided)
+              ∙ ap by_zero (zero_there g fields set (λ z. w) (λ z. cw) there (λ z below. is_cw))
+
+          stores : set < length (shapes g) → (divides x ≡ true → zero_at g fields set (λ z. cw) ≡ None) → o ≡ Gives (Parallel stored) left
+          stores there never = by (divides x) refl
+            where
+              by : (b : Bool) → divides x ≡ b → o ≡ Gives (Parallel stored) left
+              by true divided = divided_so there divided ∙ ap by_zero (never divided)
+              by false plain = assigned_is fields.scope fields.active set h.k place op ty (type_of value) (λ z. w) u shaped (λ z. divides_as op x w is_op ∙ ap (λ (b : Bool). b && w == 0) plain)
 
           keeps : Keeps x signed bits cw
           keeps = subst (λ (m : ℕ). Keeps x signed m cw) works_there (operation_keeps bits x signed value cw most (λ imm is_imm. let wrong = sym v.no_word ∙ is_imm in cc) (whole_keeps x signed cw operation.0))
@@ -219,6 +249,6 @@ module _ (g : Setting) (has : HasRegisters g) (alive : Variable → Type 0) (n :
 
       by : (o : Option Op) → assign_op_of op ≡ o → (elim o as (λ _. Type 0) [ None ↦ (type_of value).elem.bits ≡ ty.elem.bits | Some x ↦ IsOperation x value × ((type_of value).elem.bits ≡ 32) × ((ty.elem.bits == 1) ≡ false) × (operation_bits ty.elem.bits x value ≡ ty.elem.bits) ])
           → (d : Draft) (s : CodeState) (st : State) → Starts g alive s (length d.code) d.regs (length d.fields) → Sim g alive st s → UpdateLeaves g alive fields (T.Assign' ty place op p target q value) d s st
-      by None none long = assigns g has alive n ready places fields ty place op p q target value is.3.0 is.0 none long is.3.1.0 is.3.1.1 c.code.names.0 part
-      by (Some x) some known = operates ty place op p q target value is.3.0 x is.0 some (is.2 x some) is.1 known.0 known.1 known.2 known.3 is.3.1.0 is.3.1.1 c.code.names.0 part
+      by None none long = assigns g has alive n ready places fields ty place op p q target value is.2.0 is.0 none long is.2.1.0 is.2.1.1 c.code.names.0 part
+      by (Some x) some known = operates ty place op p q target value is.2.0 x is.0 some is.1 known.0 known.1 known.2 known.3 is.2.1.0 is.2.1.1 c.code.names.0 part
   changing_leaves _ is c = absurd is

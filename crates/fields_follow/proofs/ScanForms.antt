@@ -1,6 +1,7 @@
 -- What the lowering sees of values with scans in them, and the numbers of their operands.
 use Rattle.std.proofs.Common.{◌≡◌, ◌∙◌, ℕ, ◌==◌, ◌&&◌, not, Bool, true, false, Option, None, Some, refl, ap, ◌⊎◌, inl, inr, if◌then◌else◌}
 use Rattle.std.specs.Prelude.{is_none}
+use Rattle.cstar_base.specs.declared.elem.Elem.{Elem}
 use Rattle.cstar_base.specs.Numbers.{converted}
 use Rattle.cstar_base.specs.Operators.{outcome}
 use Rattle.cstar_tree.specs.declared.typed.TExpr.{TExpr}
@@ -9,6 +10,7 @@ use Rattle.cstar_tree.specs.declared.typed.ValueType.{ValueType}
 use Rattle.cstar_tree.specs.declared.typed.Variable.{Variable}
 use Rattle.cstar_tree.specs.declared.typed.Variable.TheVariants as V
 use Rattle.cstar_tree.specs.Typed.{type_of}
+use Rattle.lower_base.specs.Kinds.{binary_kind, common_kind, converted_kind, is_bitwise, kind_of, narrow, truth_type}
 use Rattle.lower_expr.specs.Kinds.{is_unchanged}
 use Rattle.lower_expr.specs.Operands.{is_quiet, own_of}
 use Rattle.lower_expr.specs.Steps.{is_kept, word_of}
@@ -91,6 +93,36 @@ scan_kept set (T.Unary' ty op p operand) is = ap (λ (o : Option ℕ). is_none o
 scan_kept set (T.Binary' ty place op p left q right) is = ap (λ (o : Option ℕ). is_none o) is.0.0
 scan_kept set _ is = absurd is
 
+-- no narrow type is known of it
+common_none : (a : Option Elem) → common_kind a None ≡ None
+unfolding common_kind
+common_none None = refl
+common_none (Some kind) = refl
+
+none_common : (b : Option Elem) → common_kind None b ≡ None
+unfolding common_kind
+none_common None = refl
+none_common (Some kind) = refl
+
+pub scan_kind : (set : ℕ) (e : TExpr) → IsScan set e → kind_of e ≡ None
+unfolding IsScan kind_of converted_kind narrow binary_kind
+scan_kind set (T.Brackets' ty p inner) is = scan_kind set inner is.1
+scan_kind set (T.Scan' ty p source axis combiner direction mode bit way) is = refl
+scan_kind set (T.Enumerate ty axis direction way mode bit) is = refl
+scan_kind set (T.Convert' ty p operand) is = ap (λ (o : Option Elem). converted_kind ty.elem o) (scan_kind set operand is.1) ∙ ap (λ (bits : ℕ). if bits == 32 then None else Some ty.elem) is.0.1
+scan_kind set (T.Unary' ty op p operand) is = ap (λ (b : Bool). if b then Some truth_type else None) is.1
+scan_kind set (T.Binary' ty place op p left q right) is =
+    ap (λ (b : Bool). if b then Some truth_type else if is_bitwise op then common_kind (kind_of left) (kind_of right) else None) is.1.0 ∙ by (is_bitwise op) (sides is.2 (λ h. scan_kind set left h) (λ h. scan_kind set right h))
+  where
+    sides : (IsScan set left × (IsScan set right ⊎ IsOperand set right)) ⊎ (IsOperand set left × IsScan set right) → (IsScan set left → kind_of left ≡ None) → (IsScan set right → kind_of right ≡ None) → common_kind (kind_of left) (kind_of right) ≡ None
+    sides (inl (one, any)) f h = ap (λ (o : Option Elem). common_kind o (kind_of right)) (f one) ∙ none_common (kind_of right)
+    sides (inr (any, other)) f h = ap (λ (o : Option Elem). common_kind (kind_of left) o) (h other) ∙ common_none (kind_of left)
+
+    by : (b : Bool) → common_kind (kind_of left) (kind_of right) ≡ None → (if b then common_kind (kind_of left) (kind_of right) else None) ≡ None
+    by true none = none
+    by false none = refl
+scan_kind set _ is = absurd is
+
 -- and it changes nothing
 operand_quiet : (set : ℕ) (e : TExpr) → IsOperand set e → is_quiet e ≡ true
 operand_quiet set e (inl pure) = pure_quiet set e pure
@@ -130,6 +162,7 @@ module _ (g : Setting) (alive : Variable → Type 0) (places : PlacesFields g) (
   pure_number (T.Unary' ty op p operand) st q is = ap (λ (w : ℕ). unary_of op w) (pure_number operand st q is.2)
   pure_number (T.LogicalOr' ty p left r right) st q is = refl
   pure_number (T.LogicalAnd' ty p left r right) st q is = refl
+  pure_number (T.Choice' ty p test r first s second) st q is = refl
   pure_number (T.Pcoord ty axis) st q is = refl
   pure_number (T.LeftIndex' ty place p indexes (V.File k) of) st q is = refl
   pure_number _ st q is = absurd is

@@ -36,7 +36,7 @@ module _ (g : Setting) (alive : Variable → Type 0) where
   pub starts_entry : {s : CodeState} {place regs : ℕ} (entries : List Virtual) (v : Virtual) → Starts s place regs (length entries) → Starts s place regs (length (entries ++ v ∷ []))
   starts_entry {s} {place} {regs} entries v here = let one = length-append entries (v ∷ []) in starts_wider s place regs (length entries) (length (entries ++ v ∷ [])) (omega (arith, one)) here
 
-  same_entries : (i : Instr) (d : Draft) → length (with_instr i d).fields ≡ length d.fields
+  pub same_entries : (i : Instr) (d : Draft) → length (with_instr i d).fields ≡ length d.fields
   unfolding with_instr with_step
   same_entries i d = refl
 

@@ -2,11 +2,12 @@
 -- expressions are pure ones, of variables of the file of all types, gets from neighbours round the ends of the grid and by
 -- indexes that are such expressions, own coordinates, truth values of such expressions, and promoted scalars, which are
 -- computed by operators, conversions, casts and `?:`, and change nothing; they fail where a divisor is 0 at an active
--- position, or that of a scalar is, or where an index does not lie within its extent at one, and nowhere else. They are
--- assigned to such variables, as scans of them and of ones with operators on these are, and folded into
--- numbers and onto scalar variables, and they are the conditions of `where`. Folds and scans are of the active positions.
--- Scalars that change variables, by assignments, steps and `getchar`, are assigned to such variables too, also with an
--- operator that does not divide.
+-- position, or that of a scalar is, or where an index does not lie within its extent at one, and nowhere else. The
+-- condition of `?:` may be parallel too: each of the other operands then fails only where it is chosen. They are
+-- assigned to such variables and folded into numbers and onto scalar variables, as scans of them and of ones with
+-- operators on these are, and they are the conditions of `where`. Folds and scans are of the active positions.
+-- Scalars that change variables, by assignments, steps and `getchar`, are assigned to such variables too, also with
+-- operators.
 -- Blocks may have parallel variables without initialisers, which no expression names.
 -- Under `where` and `everywhere` stand the statements of scalar programs with these, also calls, `return` and jumps that
 -- lead out of them.
@@ -33,7 +34,6 @@ use Rattle.lower_comm.specs.declared.news.NewsStep.{NewsStep}
 use Rattle.lower_comm.specs.News.{all_go_by_news, step_of}
 use Rattle.lower_expr.specs.Kinds.{operation_bits, relation_kind}
 use Rattle.lower_expr.specs.Operands.{ignores_context}
-use Rattle.lower_expr.specs.Steps.{word_of}
 use Rattle.source_meaning.specs.Constants.{constant_of}
 use Rattle.source_meaning.specs.Values.{cast_type}
 use Rattle.code_follows.specs.Fragment.{Beside, IsOperand as OperatesOn, IsProgramBeside, IsScalarType, IsWord, IsIn, May}
@@ -122,7 +122,7 @@ AreWrapping set axis end_of-TExpr = Unit {0}
 AreWrapping set axis (more_of-TExpr index rest) = IsWrapping set axis index × AreWrapping set (axis + 1) rest
 
 -- a value whose narrow type is that of a variable or of a conversion, one of truth values, or that of two such values that
--- are joined bit by bit
+-- are joined bit by bit or of which one is chosen
 unfoldable pub IsNarrowed : TExpr → Type 0
 IsNarrowed (T.Variable ty x) = Unit {0}
 IsNarrowed (T.LeftIndex' ty place p indexes x of) = Unit {0}
@@ -132,6 +132,7 @@ IsNarrowed (T.Unary' ty op p operand) = negates op ≡ true
 IsNarrowed (T.LogicalOr' ty p left q right) = Unit {0}
 IsNarrowed (T.LogicalAnd' ty p left q right) = Unit {0}
 IsNarrowed (T.Binary' ty place op p left q right) = (relates op ≡ true) ⊎ ((is_bitwise op ≡ true) × IsNarrowed left × IsNarrowed right)
+IsNarrowed (T.Choice' ty p test q first r second) = IsNarrowed first × IsNarrowed second
 IsNarrowed _ = ⊥
 
 -- one of which no type of fewer than 32 bits is known, or one of such a type
@@ -142,19 +143,16 @@ HasKnownKind e = (kind_of e ≡ None) ⊎ IsNarrowed e
 abbrev pub ReadsSigns : TExpr → TExpr → Type 0
 ReadsSigns left right = elim (relation_kind left right) [ None ↦ Unit {0} | Some kind ↦ kind.signed ≡ true → (type_of left).elem.signed ≡ true ]
 
--- a side of a relation that is a promoted scalar: a constant, or one of which no type of fewer than 32 bits is known
-abbrev pub IsSide : ℕ → TExpr → Type 0
-IsSide set e = IsPromoted set e × (word_of e ≡ None → kind_of e ≡ None)
-
--- a relation of two operands, of which one may be such a scalar
+-- a relation of two operands, of which one may be a promoted scalar
 abbrev pub IsRelation : ℕ → Op → TExpr → TExpr → Type 0
-IsRelation set op left right = (relates op ≡ true) × (HasKnownKind left ⊎ IsSide set left) × (HasKnownKind right ⊎ IsSide set right) × ReadsSigns left right
+IsRelation set op left right = (relates op ≡ true) × (HasKnownKind left ⊎ IsPromoted set left) × (HasKnownKind right ⊎ IsPromoted set right) × ReadsSigns left right
 
 -- A parallel expression that is not promoted; of an operator's two operands one may be. Operators work at 32 bits, to
 -- which narrower values are converted. Truth values are relations, `!`, conversions to `bool`, and two values that are
 -- joined by `&&` or `||`: the right one of these ignores the context: it has no get and no quotient, not even one of constants.
 -- A get goes round the ends of the grid, or its indexes are such expressions, which fail where they do not lie within the
--- extents at an active position.
+-- extents at an active position. `?:` chooses one of two values at each position, which may be promoted, and each is
+-- computed where it is chosen.
 unfoldable mutual
   pub IsPure : ℕ → TExpr → Type 0
   IsPure set (T.Variable ty (V.File k)) = ty.shape ≡ Some set
@@ -164,6 +162,7 @@ unfoldable mutual
   IsPure set (T.LogicalAnd' ty p left q right) = IsWide set ty × (IsPure set left × HasKnownKind left) × (IsPure set right × HasKnownKind right) × (ignores_context right ≡ true)
   IsPure set (T.Binary' ty place op p left q right) =
       IsWide set ty × (IsOperation op right ⊎ IsRelation set op left right) × ((IsPure set left × (IsPure set right ⊎ IsPromoted set right)) ⊎ (IsPromoted set left × IsPure set right)) × IsWide set (type_of left) × IsWide set (type_of right)
+  IsPure set (T.Choice' ty p test q first r second) = IsWide set ty × (IsPure set test × HasKnownKind test) × (IsPure set first ⊎ IsPromoted set first) × (IsPure set second ⊎ IsPromoted set second) × IsWide set (type_of first) × IsWide set (type_of second)
   IsPure set (T.Convert' ty p operand) = (ty.shape ≡ Some set) × (((ty.elem.bits == 1) ≡ false) ⊎ ((ty.elem.bits ≡ 1) × HasKnownKind operand)) × IsPure set operand
   IsPure set (T.Pcoord ty axis) = IsWide set ty
   IsPure set (T.LeftIndex' ty place p indexes (V.File k) of) = (ty.shape ≡ Some set) × (of ≡ set) × (AreWrapping set 0 indexes ⊎ ((all_go_by_news set 0 (items-the_row-TExpr _ indexes) ≡ false) × ArePure set indexes))
@@ -243,14 +242,14 @@ IsChanging set (T.Promote' ty p operand) = (ty.shape ≡ Some set) × (ty.elem �
 IsChanging set (T.Brackets' ty p inner) = (ty ≡ type_of inner) × IsChanging set inner
 IsChanging set _ = ⊥
 
--- it is assigned to a parallel variable of as many bits, or with an operator that does not divide
+-- it is assigned to a parallel variable of as many bits, or with an operator
 unfoldable pub IsChangingAssigned : TExpr → Type 0
-IsChangingAssigned (T.Assign' ty place op p target q value) = (ty ≡ type_of target) × HasOperation op ty.elem value × ((o : Op) → assign_op_of op ≡ Some o → divides o ≡ false) × ((set : ℕ) × (IsTarget set target × IsChanging set value))
+IsChangingAssigned (T.Assign' ty place op p target q value) = (ty ≡ type_of target) × HasOperation op ty.elem value × ((set : ℕ) × (IsTarget set target × IsChanging set value))
 IsChangingAssigned _ = ⊥
 
--- a value of 32 bits that is folded
+-- a value of 32 bits that is folded: a pure one, or one with scans in it
 abbrev pub IsFolded : ℕ → TExpr → Type 0
-IsFolded set e = HasItsKind set e × IsWide set (type_of e)
+IsFolded set e = (HasItsKind set e × IsWide set (type_of e)) ⊎ IsScan set e
 
 -- the numbers of a value at the active positions are folded into one
 unfoldable pub IsFold : TExpr → Type 0

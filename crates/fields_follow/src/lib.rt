@@ -11,14 +11,15 @@ ghost use Rattle.fields_follow.specs.Laws.{ParallelCodeMeansSource};
 /// than a narrow variable has, and stepped, but for those of `bool`, which are assigned alone; and parallel values of
 /// the active positions are folded into numbers by unary reductions, and onto scalar variables by `s += x` and its
 /// like. All of it may stand within `with`, and also under `where` and `everywhere`: there any of these statements may
-/// stand, scalar ones, loops, calls and `printf` too, and `return`, `break` and `continue` that lead out. The
-/// conditions of `where` are parallel values and relations of them, also with `!`, `&&` and `||`. Parallel expressions
-/// are of such variables, of gets from neighbours that wrap around, `[(. + 1) %% dimof(S, 0)]x`, of own coordinates, of
-/// constants and of scalar variables, converted to other types than `bool`, but scalar variables from one type of 32 bits
-/// to another alone, with the operators `+ - * / % %% & | ^ ~ << >> <? >?`, but for a division by the constant 0; where a
-/// divisor is 0 at an active position, both end with that fault at the least such one. Truth values of relations, `!`,
-/// `&&` and `||`, and values converted to `bool`, are assigned, too, to variables of all types; a right operand of `&&` and
-/// `||` has no get and no quotient.
+/// stand, scalar ones, loops, calls and `printf` too, and `return`, `break` and `continue` that lead out.
+///
+/// Parallel expressions are of such variables, of gets from neighbours that wrap around, `[(. + 1) %% dimof(S, 0)]x`, and
+/// by indexes that are parallel expressions, of own coordinates and of promoted scalars, which are computed and change
+/// nothing, converted to any type, with the operators `+ - * / % %% & | ^ ~ << >> <? >?`, but for a division by the
+/// constant 0, and of truth values: relations, `!`, `&&` and `||`, of which a right operand has no get and no quotient.
+/// Where a divisor is 0 at an active position, or an index lies outside its extent there, both end with that fault at the
+/// least such one. The conditions of `where` are such expressions. Scans of them, and operators on scans, are folded, and
+/// assigned to variables other than `bool`; so are promoted scalars that change scalar variables.
 /// What is tested, compared or folded are values of any types, but for bitwise operations on a narrow one and a constant
 /// that is converted to a narrow type; those of `bool` are conditions and operands of `!`, `&&` and `||` as others are.
 pub fn parallel_code_means_source()
