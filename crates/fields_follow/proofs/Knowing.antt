@@ -21,6 +21,7 @@ use Rattle.fields_follow.proofs.Fields.{HoldsFields, HoldsNumbers, fields_held}
 use Rattle.fields_follow.proofs.Instructions.{SameExtents, place, shapes}
 use Rattle.fields_follow.proofs.Leaving.{EndsBelow, under}
 use Rattle.fields_follow.proofs.Places.{IsOwnField, PlacesFields}
+use Rattle.fields_follow.proofs.Locals.{locals_again}
 
 module _ (g : Setting) where
   -- What code leaves that is between these places, where there are so many entries at first: what stands in own entries
@@ -61,12 +62,12 @@ module _ (g : Setting) where
   -- where these positions are active, the memory holds the numbers of the file's variables, and this is kept of it
   abbrev pub held_under : Active → (kept : BitMemory → Type 0) → Held
   held_under a kept = record {
-    holds = λ live at st m. HoldsFields g.typed g.image a st m × kept m;
+    holds = λ live at st m. (fields_held g a).holds live at st m × kept m;
     ends = HoldsNumbers g.typed g.image;
-    finally = λ live at st m h. h.0.numbers;
-    still = λ live at st u m same winner h. ((fields_held g.typed g.image a).still live at st u m same winner h.0, h.1);
-    onward = λ live at to st m behind h. h;
-    fewer = λ more less at st m among h. h;
+    finally = λ live at st m h. h.0.0.numbers;
+    still = λ live at st u m same winner h. ((fields_held g a).still live at st u m same winner h.0, h.1);
+    onward = λ live at to st m behind h. ((fields_held g a).onward live at to st m behind h.0, h.1);
+    fewer = λ more less at st m among h. ((fields_held g a).fewer more less at st m among h.0, h.1);
   }
 
 -- What is known of a unit of such a program, where these positions are active: what is kept of the memory beside the
@@ -80,8 +81,8 @@ pub record KnowsFields (g : Setting) (scope : Scope) (a : Active) : Type 1 where
   pub locals : (info : VarInfo) → g.may.beside.locals info → IsParallelVariable info
   pub kept : BitMemory → Type 0
   pub lasts : Lasts g g.from g.entries g.upto kept
-  pub opens : (live : ℕ → Type 0) (at : ℕ) (st : State) (m : BitMemory) → g.held.holds live at st m → HoldsFields g.typed g.image a st m × kept m
-  pub closes : (live : ℕ → Type 0) (at : ℕ) (st : State) (m : BitMemory) → HoldsFields g.typed g.image a st m → kept m → g.held.holds live at st m
+  pub opens : (live : ℕ → Type 0) (at : ℕ) (st : State) (m : BitMemory) → g.held.holds live at st m → (fields_held g a).holds live at st m × kept m
+  pub closes : (live : ℕ → Type 0) (at : ℕ) (st : State) (m : BitMemory) → (fields_held g a).holds live at st m → kept m → g.held.holds live at st m
   pub ends : (st : State) (m : BitMemory) → HoldsNumbers g.typed g.image st m → g.held.ends st m
 
 module _ (g : Setting) (scope : Scope) (a : Active) (k : KnowsFields g scope a) where
@@ -111,8 +112,8 @@ module _ (g : Setting) (scope : Scope) (a : Active) (k : KnowsFields g scope a) 
       locals = k.locals;
       kept = kept;
       lasts = record { code = lasts.code; calls = lasts.calls };
-      opens = λ live at st m h. h;
-      closes = λ live at st m holds has. (holds, has);
+      opens = λ live at st m h. ((h.0.0, locals_again g live at st m h.0.1), h.1);
+      closes = λ live at st m holds has. ((holds.0, locals_again g live at st m holds.1), has);
       ends = λ st m h. h;
     }
 

@@ -29,6 +29,7 @@ use Rattle.fields_follow.specs.Fields.{IsElement, file_field, file_number}
 use Rattle.fields_follow.proofs.FileFields.{Apart}
 use Rattle.fields_follow.proofs.Instructions.{SameExtents, extents, place, shapes}
 use Rattle.fields_follow.proofs.Named.{NamesFields}
+use Rattle.fields_follow.proofs.Locals.{HoldsLocals}
 
 module _ (g : Setting) where
   -- the field of an element of a variable of the file
@@ -78,7 +79,8 @@ module _ (g : Setting) where
     pub same_extents : SameExtents g scope
     pub active : Active
     pub opens : (live : ℕ → Type 0) (at : ℕ) (st : State) (m : BitMemory) → g.held.holds live at st m → HoldsFields g.typed g.image active st m
-    pub closes : (live : ℕ → Type 0) (at : ℕ) (st : State) (m : BitMemory) → HoldsFields g.typed g.image active st m → g.held.holds live at st m
+    pub locals : (live : ℕ → Type 0) (at : ℕ) (st : State) (m : BitMemory) → g.held.holds live at st m → HoldsLocals g live at st m
+    pub closes : (live : ℕ → Type 0) (at : ℕ) (st : State) (m : BitMemory) → HoldsFields g.typed g.image active st m → HoldsLocals g live at st m → g.held.holds live at st m
     pub ends : (st : State) (m : BitMemory) → HoldsNumbers g.typed g.image st m → g.held.ends st m
 
   -- the instruction that the draft gets next stands in the unit
