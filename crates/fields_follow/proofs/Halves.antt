@@ -45,7 +45,7 @@ half false set v a = among set v a
 half true set v a = others set v a
 
 -- those of other sets are as they were
-half_beside : (second : Bool) (set : ℕ) (v : ℕ → ℕ) (a : Active) (q p : ℕ) → (q ≡ set → ⊥) → a q p ≡ half second set v a q p
+pub half_beside : (second : Bool) (set : ℕ) (v : ℕ → ℕ) (a : Active) (q p : ℕ) → (q ≡ set → ⊥) → a q p ≡ half second set v a q p
 half_beside false set v a q p differ = sym (among_beside set v a q p differ)
 half_beside true set v a q p differ = sym (others_beside set v a q p differ)
 
@@ -60,7 +60,7 @@ module _ (g : Setting) where
   after_delayed Q e Fails grows h = tt
 
   -- what is said where other positions are active
-  after_under : {A : Type 0} (a : Active) (Q : A → Draft → Type 0) (made : Made A) → After (under g a) Q made → After g Q made
+  pub after_under : {A : Type 0} (a : Active) (Q : A → Draft → Type 0) (made : Made A) → After (under g a) Q made → After g Q made
   unfolding After
   after_under a Q (Makes x e) h = λ w. h (within_under g a w)
   after_under a Q Fails h = tt
@@ -71,14 +71,14 @@ module _ (g : Setting) where
       apart_back (place g h) (place g f) (places.owns_apart_at h f first at differ own other exists begins early (λ (span : Span) (used : IsInUse g.unit h.offset W.Own span). let holds = used.named last ends in let high = holds.1 in omega (arith, high, late)) named)
 
   -- what ends early where other positions are active ends so in the unit
-  ended_within : {A : Type 0} (a : Active) (fields : HoldsTheFields g) (s : CodeState) (o : Outcome A) → Ended (under g a) s o → Ended g s o
+  pub ended_within : {A : Type 0} (a : Active) (fields : HoldsTheFields g) (s : CodeState) (o : Outcome A) → Ended (under g a) s o → Ended g s o
   ended_within a fields s o h =
       let f = h.finishes in
       record { early = h.early; state = h.state; is = h.is; finishes = record { t = f.t; ends = record { steps = f.ends.steps; is = f.ends.is }; turns = f.turns; output = f.output; input = f.input; memory = fields.ends h.state f.t.memory f.memory } }
 
 module _ (g : Setting) (alive : Variable → Type 0) (places : PlacesFields g) (fields : HoldsTheFields g) where
   -- an instruction that leaves the fields as they are and has made these positions active
-  record Narrows (b : Active) (e f : Draft) (s : CodeState) (st : State) : Type 0 where
+  pub record Narrows (b : Active) (e f : Draft) (s : CodeState) (st : State) : Type 0 where
     pub more : Extended e 1 f
     pub t : CodeState
     pub go : Reaches g s t
@@ -90,7 +90,7 @@ module _ (g : Setting) (alive : Variable → Type 0) (places : PlacesFields g) (
   narrows_turned : (b : Active) (i : Instr) (e : Draft) (s : CodeState) (st : State) → Turned g places alive fields.active b e i s st → Narrows b e (with_instr i e) s st
   narrows_turned b i e s st h = record { more = and_one g i e; t = h.t; go = h.go; at = h.at; registers = h.registers; sim = h.sim; stays = h.stays }
 
-  narrows : (second : Bool) (set : ℕ) (v : ℕ → ℕ) (e : Draft) (s : CodeState) (st : State) → ((p : ℕ) → p < processors (shapes g) set → fields.active set p ≡ true → is_tested (shapes g) s.memory set p ≡ nonzero (v p)) → Within g (narrowed_by second set e) → At g s (length e.code) → Sim g alive st s
+  pub narrows : (second : Bool) (set : ℕ) (v : ℕ → ℕ) (e : Draft) (s : CodeState) (st : State) → ((p : ℕ) → p < processors (shapes g) set → fields.active set p ≡ true → is_tested (shapes g) s.memory set p ≡ nonzero (v p)) → Within g (narrowed_by second set e) → At g s (length e.code) → Sim g alive st s
       → Narrows (half second set v fields.active) e (narrowed_by second set e) s st
   unfolding narrowed_by
   narrows false set v e s st flags within here sim =
