@@ -1,7 +1,7 @@
 -- The code of `&&` and `||` whose right operand does not ignore the context. A field begins as what a decided left operand
 -- gives; under a context that is saved, the right operand is tested where the left one does not decide, and where it does
 -- not decide either, the field takes the other truth value.
-use Rattle.std.proofs.Common.{◌≡◌, ◌∙◌, ℕ, ◌+◌, ◌<◌, ◌≤◌, ◌%◌, ◌^◌, ◌&&◌, ◌||◌, ◌⊎◌, inl, inr, Bool, true, false, not, List, [], length, slice_index, Option, Some, refl, sym, ap, subst, arith, if◌then◌else◌}
+use Rattle.std.proofs.Common.{◌≡◌, ◌∙◌, ℕ, ◌+◌, ◌<◌, ◌≤◌, ◌%◌, ◌^◌, ◌&&◌, ◌||◌, inl, inr, Bool, true, false, not, List, [], length, slice_index, Option, Some, refl, sym, ap, subst, arith, if◌then◌else◌}
 use Rattle.std.specs.Int.{from_bool}
 use Rattle.cstar_tree.specs.declared.typed.TExpr.{TExpr}
 use Rattle.cstar_tree.specs.declared.typed.ValueType.{ValueType}
@@ -13,7 +13,7 @@ use Rattle.code_lengths.proofs.Agreeing.{lengths_if_made}
 use Rattle.constant_trees.proofs.Words.{from_bool_below}
 use Rattle.lower_base.specs.declared.emit.Out.{Out}
 use Rattle.lower_base.specs.declared.emit.Out.TheVariants as O
-use Rattle.lower_base.specs.Drafts.{Draft, Fails, Made, Makes, a_field, an_entry, step as step_of, then_make, with_instr}
+use Rattle.lower_base.specs.Drafts.{Draft, Fails, Made, Makes, an_entry, step as step_of, then_make, with_instr}
 use Rattle.lower_expr.specs.Operands.{ignores_context}
 use Rattle.lower_expr.specs.Steps.{is_kept}
 use Rattle.lower_expr.specs.Values.{Condition, condition_by, condition_of, decided_by, joined_by, jumped_over, limited_by, logical_by, narrowed_again, narrowed_by, narrowing_by, parallel_logical_by, tested}
@@ -23,12 +23,12 @@ use Rattle.paris_code.specs.declared.operands.Field.{Field}
 use Rattle.paris_code.specs.declared.operands.Konst.TheVariants as K
 use Rattle.paris_code.specs.declared.program.Owner.TheVariants as W
 use Rattle.paris_code.specs.Code.{CodeState}
-use Rattle.paris_code.specs.Memory.{is_active, is_tested, processors}
+use Rattle.paris_code.specs.Memory.{is_active, processors}
 use Rattle.paris_code.specs.Spans.{IsNamedAt}
 use Rattle.source_meaning.specs.Expressions.{evaluated}
 use Rattle.source_meaning.specs.State.{State}
 use Rattle.source_meaning.specs.Values.{Active, nonzero}
-use Rattle.code_follows.proofs.Following.{Extends, Follows, HasRegisters, Keeps, Sim, extends_made, extends_then, keeps_less, keeps_on}
+use Rattle.code_follows.proofs.Following.{Extends, Follows, HasRegisters, Sim, extends_made, extends_then, keeps_less, keeps_on}
 use Rattle.code_follows.proofs.Growing.{Extended, extended}
 use Rattle.code_follows.proofs.Settings.{Reaches, Setting, Within, and_one, code_more, earlier, layout, onto}
 use Rattle.code_follows.proofs.Values.{extends_grown}
@@ -41,10 +41,10 @@ use Rattle.fields_follow.proofs.Forms.{HasItsCode, pure_kept}
 use Rattle.fields_follow.proofs.Halves.{Halved, IsMeantUnder, Keeping, Leads, Narrows, after_delayed, after_under, ended_within, half, half_beside, halved, named_apart, narrowed_more, narrows}
 use Rattle.fields_follow.proofs.Instructions.{Puts, extents, number_in, puts_constant, shapes, word_in}
 use Rattle.fields_follow.proofs.Leaving.{fields_under, keeps_again, places_under, reaches_again, registers_under, starts_again, starts_under, under}
-use Rattle.fields_follow.proofs.Meaning.{value_in, word_at}
+use Rattle.fields_follow.proofs.Meaning.{value_in}
 use Rattle.fields_follow.proofs.Narrowing.{among, among_active, among_inactive, others, others_active, others_inactive}
 use Rattle.fields_follow.proofs.Outcomes.{Ended, Given, Known, after_all, ended_back, follows_known, known_follows, meant, then_known}
-use Rattle.fields_follow.proofs.Passing.{After, Passes, after_same, code_longer, fields_longer, flags_of, made_after, passes_all, then_after}
+use Rattle.fields_follow.proofs.Passing.{After, after_same, code_longer, fields_longer, flags_of, made_after, passes_all, then_after}
 use Rattle.fields_follow.proofs.Places.{HoldsTheFields, IsOwnField, PlacesFields, names_first, stands_here}
 use Rattle.fields_follow.proofs.Sizes.{pure_at}
 use Rattle.fields_follow.proofs.Starts.{Starts, starts_later, starts_next}
