@@ -38,12 +38,14 @@ use Rattle.code_follows.proofs.Following.{Extends, Follows, HasRegisters, Sim, f
 use Rattle.code_follows.proofs.Settings.{Setting, and_one, layout}
 use Rattle.fields_follow.specs.Fragment.{ArePure, HasItsKind, HasKnownKind, IsNarrowed, IsOperation, IsPure, IsRelation, IsWide}
 use Rattle.fields_follow.proofs.Starts.{Starts}
+use Rattle.fields_follow.proofs.Choosing.{choice_valued}
 use Rattle.fields_follow.proofs.Clearing.{joined_more}
 use Rattle.fields_follow.proofs.ConditionCode.{Bit, Truth, bit_not_value, joined_value, operand_at, put_in, relation_value, word_not_value}
 use Rattle.fields_follow.proofs.Conditions.{HaveTheirCode, and_codes, conditions_join, or_codes}
 use Rattle.fields_follow.proofs.Expressions.{Answers, answers_alike, binary_after, convert_after, convert_ended, convert_means, coordinate_after, left_index_after, named, unary_after, unary_ended}
 use Rattle.fields_follow.proofs.Forms.{HasItsCode, IsRead, pure_kept}
 use Rattle.fields_follow.proofs.Instructions.{alike_same, extents, shapes}
+use Rattle.fields_follow.proofs.Leaving.{fields_under, places_under, registers_under, under}
 use Rattle.fields_follow.proofs.Lengths.{operation_most, relates_plainly}
 use Rattle.fields_follow.proofs.Indexing.{AllCoded, AllValued, all_coded}
 use Rattle.fields_follow.proofs.Meaning.{unary_means, value_in, word_at}
@@ -51,7 +53,7 @@ use Rattle.fields_follow.proofs.NarrowKinds.{are_related}
 use Rattle.fields_follow.proofs.Outcomes.{Ended, Given, Known, given_weaker, known_follows, meant}
 use Rattle.fields_follow.proofs.Passing.{After, GivesField, after_same, gives_alike}
 use Rattle.fields_follow.proofs.Places.{HoldsTheFields, PlacesFields}
-use Rattle.fields_follow.proofs.Sizes.{binary_parts, brackets_part, convert_part, pure_at, unary_part, value_small}
+use Rattle.fields_follow.proofs.Sizes.{binary_parts, brackets_part, choice_parts, convert_part, pure_at, unary_part, value_small}
 use Rattle.fields_follow.proofs.TestFlags.{LeavesTests, is_truth, truth_is}
 use Rattle.fields_follow.proofs.Testing.{IsDone, IsGiven, IsValued, Says, and_ended, and_given, brackets_tested, flags_after, kinded_bit, not_truth, or_ended, or_given, pure_tested, relation_truth, truth_tested, variable_tested}
 use Rattle.fields_follow.proofs.TruthFields.{ComesFrom, bit_joined, several_joined, tests_put, turned_put}
@@ -241,64 +243,70 @@ module _ (g : Setting) (has : HasRegisters g) (alive : Variable → Type 0) (n :
   convert_done set ty p inner is shaped pure (inl other) c done = by_value set (T.Convert' ty p inner) is refl c (λ bits some most. convert_after g has alive n ready places fields bits set ty p inner some most other is c done.value)
   convert_done set ty p inner is shaped pure (inr bool) c done = by_value set (T.Convert' ty p inner) is refl c (λ bits some most. bool_valued bits set ty p inner shaped bool.0 (pure, bool.1) (convert_part g alive n places fields ty p inner c) done)
 
-  mutual
-    unfolding IsPure IsNarrowed IsRead has_truth value_of value_in kind_of ArePure AllCoded AllValued
+mutual
+  unfolding IsPure IsNarrowed IsRead has_truth value_of value_in kind_of ArePure AllCoded AllValued
 
-    done : (set : ℕ) (e : TExpr) → IsPure set e → HasItsCode g.typed g.instance alive n e → IsDone g has alive n ready places fields set e
-    done set (T.Variable ty (V.File k)) is c = record {
-      value = λ bits some most. variable_after g has alive n ready places fields bits set (V.File k) ty most tt is (named g has alive n ready places fields ty k c);
-      tests = λ known. truth_tested g has alive n ready places fields set (T.Variable ty (V.File k)) refl (variable_tested g has alive n ready places fields set k ty is (named g has alive n ready places fields ty k c));
-    }
-    done set (T.Brackets' ty p inner) is c =
-        let part = done set inner is.1 (brackets_part g alive n places fields ty p inner c) in
-        record { value = λ bits some most. brackets_valued bits set ty p inner is.0 (part.value bits some most); tests = λ known. brackets_tested g has alive n ready places fields set ty p inner is is.1 (part.tests known) }
-    done set (T.Unary' ty op p operand) is c = unary_done set ty op p operand is is.0.0 is.2 is.1 c (done set operand is.2 (unary_part g alive n places fields ty op p operand c))
-    done set (T.LogicalOr' ty p left q right) is c =
-        let codes = or_codes g.typed g.instance alive n set ty p q left right is.2.0 c in
-        let one = done set left is.1.0 codes.left_code in
-        let two = done set right is.2.0 codes.right_code in
-        by_value set (T.LogicalOr' ty p left q right) is refl c (λ bits some most. logical_valued true bits set ty (T.LogicalOr' ty p left q right) left right some is.0.0 is.1 is.2 is.3 codes one two (λ st q. refl)
-        (λ st given exists. or_given g has alive n ready places fields set ty p q left right st is.1.0 is.2.0 is.3 given exists) (λ s st early. or_ended g has alive n ready places fields ty p q left right s st early))
-    done set (T.LogicalAnd' ty p left q right) is c =
-        let codes = and_codes g.typed g.instance alive n set ty p q left right is.2.0 c in
-        let one = done set left is.1.0 codes.left_code in
-        let two = done set right is.2.0 codes.right_code in
-        by_value set (T.LogicalAnd' ty p left q right) is refl c (λ bits some most. logical_valued false bits set ty (T.LogicalAnd' ty p left q right) left right some is.0.0 is.1 is.2 is.3 codes one two (λ st q. refl)
-        (λ st given exists. and_given g has alive n ready places fields set ty p q left right st is.1.0 is.2.0 is.3 given exists) (λ s st early. and_ended g has alive n ready places fields ty p q left right s st early))
-    done set (T.Binary' ty place op p left q right) is c =
-        let parts = binary_parts g alive n places fields ty place op p q left right c in
-        binary_done set ty place op p q left right is c (λ pure. done set left pure parts.0) (λ pure. done set right pure parts.1)
-    done set (T.Convert' ty p operand) is c = convert_done set ty p operand is is.0 is.2 is.1 c (done set operand is.2 (convert_part g alive n places fields ty p operand c))
-    done set (T.Pcoord ty axis) is c = by_value set (T.Pcoord ty axis) is refl c (λ bits some most. coordinate_after g has alive n ready places fields bits set axis ty is)
-    done set (T.LeftIndex' ty place p indexes (V.File k) of) is c = by_value set (T.LeftIndex' ty place p indexes (V.File k) of) is refl c (λ bits some most. left_index_after g has alive n ready places fields bits set ty place p indexes k of most is.0 is.1 is.2 (λ are. each_after set indexes are (all_coded g has alive n ready places fields ty place p indexes (V.File k) of c)) c)
-    done set _ is c = absurd is
+  done : (g : Setting) (has : HasRegisters g) (alive : Variable → Type 0) (n : ℕ) (ready : (d : Draft) → IsReadyButForFields g.typed g.instance (layout g) n d) (places : PlacesFields g) (fields : HoldsTheFields g) (set : ℕ) (e : TExpr) → IsPure set e → HasItsCode g.typed g.instance alive n e → IsDone g has alive n ready places fields set e
+  done g has alive n ready places fields set (T.Variable ty (V.File k)) is c = record {
+    value = λ bits some most. variable_after g has alive n ready places fields bits set (V.File k) ty most tt is (named g has alive n ready places fields ty k c);
+    tests = λ known. truth_tested g has alive n ready places fields set (T.Variable ty (V.File k)) refl (variable_tested g has alive n ready places fields set k ty is (named g has alive n ready places fields ty k c));
+  }
+  done g has alive n ready places fields set (T.Brackets' ty p inner) is c =
+      let part = done g has alive n ready places fields set inner is.1 (brackets_part g alive n places fields ty p inner c) in
+      record { value = λ bits some most. brackets_valued g has alive n ready places fields bits set ty p inner is.0 (part.value bits some most); tests = λ known. brackets_tested g has alive n ready places fields set ty p inner is is.1 (part.tests known) }
+  done g has alive n ready places fields set (T.Unary' ty op p operand) is c = unary_done g has alive n ready places fields set ty op p operand is is.0.0 is.2 is.1 c (done g has alive n ready places fields set operand is.2 (unary_part g alive n places fields ty op p operand c))
+  done g has alive n ready places fields set (T.LogicalOr' ty p left q right) is c =
+      let codes = or_codes g.typed g.instance alive n set ty p q left right is.2.0 c in
+      let one = done g has alive n ready places fields set left is.1.0 codes.left_code in
+      let two = done g has alive n ready places fields set right is.2.0 codes.right_code in
+      by_value g has alive n ready places fields set (T.LogicalOr' ty p left q right) is refl c (λ bits some most. logical_valued g has alive n ready places fields true bits set ty (T.LogicalOr' ty p left q right) left right some is.0.0 is.1 is.2 is.3 codes one two (λ st q. refl)
+      (λ st given exists. or_given g has alive n ready places fields set ty p q left right st is.1.0 is.2.0 is.3 given exists) (λ s st early. or_ended g has alive n ready places fields ty p q left right s st early))
+  done g has alive n ready places fields set (T.LogicalAnd' ty p left q right) is c =
+      let codes = and_codes g.typed g.instance alive n set ty p q left right is.2.0 c in
+      let one = done g has alive n ready places fields set left is.1.0 codes.left_code in
+      let two = done g has alive n ready places fields set right is.2.0 codes.right_code in
+      by_value g has alive n ready places fields set (T.LogicalAnd' ty p left q right) is refl c (λ bits some most. logical_valued g has alive n ready places fields false bits set ty (T.LogicalAnd' ty p left q right) left right some is.0.0 is.1 is.2 is.3 codes one two (λ st q. refl)
+      (λ st given exists. and_given g has alive n ready places fields set ty p q left right st is.1.0 is.2.0 is.3 given exists) (λ s st early. and_ended g has alive n ready places fields ty p q left right s st early))
+  done g has alive n ready places fields set (T.Binary' ty place op p left q right) is c =
+      let parts = binary_parts g alive n places fields ty place op p q left right c in
+      binary_done g has alive n ready places fields set ty place op p q left right is c (λ pure. done g has alive n ready places fields set left pure parts.0) (λ pure. done g has alive n ready places fields set right pure parts.1)
+  done g has alive n ready places fields set (T.Choice' ty p test q first r second) is c =
+      let parts = choice_parts g alive n places fields ty p q r test first second c in
+      by_value g has alive n ready places fields set (T.Choice' ty p test q first r second) is refl c (λ bits some most. choice_valued g has alive n ready places fields bits set ty p q r test first second most is c (done g has alive n ready places fields set test is.1.0 parts.0).value
+      (λ b pure. (done (under g b) (registers_under g b has) alive n ready (places_under g b places) (fields_under g b fields.scope fields.same_extents) set first pure parts.1).value bits some most)
+      (λ b pure. (done (under g b) (registers_under g b has) alive n ready (places_under g b places) (fields_under g b fields.scope fields.same_extents) set second pure parts.2).value bits some most))
+  done g has alive n ready places fields set (T.Convert' ty p operand) is c = convert_done g has alive n ready places fields set ty p operand is is.0 is.2 is.1 c (done g has alive n ready places fields set operand is.2 (convert_part g alive n places fields ty p operand c))
+  done g has alive n ready places fields set (T.Pcoord ty axis) is c = by_value g has alive n ready places fields set (T.Pcoord ty axis) is refl c (λ bits some most. coordinate_after g has alive n ready places fields bits set axis ty is)
+  done g has alive n ready places fields set (T.LeftIndex' ty place p indexes (V.File k) of) is c = by_value g has alive n ready places fields set (T.LeftIndex' ty place p indexes (V.File k) of) is refl c (λ bits some most. left_index_after g has alive n ready places fields bits set ty place p indexes k of most is.0 is.1 is.2 (λ are. each_after g has alive n ready places fields set indexes are (all_coded g has alive n ready places fields ty place p indexes (V.File k) of c)) c)
+  done g has alive n ready places fields set _ is c = absurd is
 
-    -- and so it is of each of the indexes of a get
-    pub each_after : {k : _} (set : ℕ) (row : Row_of-TExpr k) → ArePure set row → AllCoded g has alive n ready places fields row → AllValued g has alive n ready places fields set row
-    each_after set end_of-TExpr are coded = tt
-    each_after set (more_of-TExpr index rest) are coded = ((done set index are.0 coded.0).value 32 (omega arith) (omega arith), each_after set rest are.1 coded.1)
+  -- and so it is of each of the indexes of a get
+  pub each_after : {k : _} (g : Setting) (has : HasRegisters g) (alive : Variable → Type 0) (n : ℕ) (ready : (d : Draft) → IsReadyButForFields g.typed g.instance (layout g) n d) (places : PlacesFields g) (fields : HoldsTheFields g) (set : ℕ) (row : Row_of-TExpr k) → ArePure set row → AllCoded g has alive n ready places fields row → AllValued g has alive n ready places fields set row
+  each_after g has alive n ready places fields set end_of-TExpr are coded = tt
+  each_after g has alive n ready places fields set (more_of-TExpr index rest) are coded = ((done g has alive n ready places fields set index are.0 coded.0).value 32 (omega arith) (omega arith), each_after g has alive n ready places fields set rest are.1 coded.1)
 
+module _ (g : Setting) (has : HasRegisters g) (alive : Variable → Type 0) (n : ℕ) (ready : (d : Draft) → IsReadyButForFields g.typed g.instance (layout g) n d) (places : PlacesFields g) (fields : HoldsTheFields g) where
   -- the code of so many bits of a pure expression leaves the lowest bits of its words in a field
-  pub pure_after : (bits set : ℕ) (e : TExpr) → 0 < bits → bits ≤ 32 → IsPure set e → HasItsCode g.typed g.instance alive n e → Valued_at bits set e
-  pure_after bits set e some most is c = (done set e is c).value bits some most
+  pub pure_after : (bits set : ℕ) (e : TExpr) → 0 < bits → bits ≤ 32 → IsPure set e → HasItsCode g.typed g.instance alive n e → IsValued g has alive n ready places fields bits set e
+  pure_after bits set e some most is c = (done g has alive n ready places fields set e is c).value bits some most
 
   -- an operand of 32 bits has its numbers
   pub whole_after : (bits set : ℕ) (e : TExpr) (quiet : Bool) → 0 < bits → bits ≤ 32 → IsPure set e → IsWide set (type_of e) → HasItsCode g.typed g.instance alive n e → (d : Draft) (s : CodeState) (st : State) → Starts g alive s (length d.code) d.regs → Sim g alive st s
-      → Follows g (Given g (number set e st) st (λ out f. (h : Field) × ((out ≡ O.Field h) × GivesField g alive bits (length d.fields) d s set st (λ q. value_in (extents g set) st e q) h f))) s (meant g fields e st) (operand bits quiet e d)
+      → Follows g (Given g (λ q. value_in (extents g set) st e q) st (λ out f. (h : Field) × ((out ≡ O.Field h) × GivesField g alive bits (length d.fields) d s set st (λ q. value_in (extents g set) st e q) h f))) s (meant g fields e st) (operand g has alive n ready places fields bits quiet e d)
   whole_after bits set e quiet some most pure wide c d s st here sim =
-      given_weaker g s (meant g fields e st) (number set e st) st (Gave bits set e d s st) (λ out f. (h : Field) × ((out ≡ O.Field h) × GivesField g alive bits (length d.fields) d s set st (λ q. value_in (extents g set) st e q) h f)) (operand bits quiet e d)
+      given_weaker g s (meant g fields e st) (λ q. value_in (extents g set) st e q) st (Gave g has alive n ready places fields bits set e d s st) (λ out f. (h : Field) × ((out ≡ O.Field h) × GivesField g alive bits (length d.fields) d s set st (λ q. value_in (extents g set) st e q) h f)) (operand g has alive n ready places fields bits quiet e d)
       (λ out f (h, (is, (gives, apart))). (h, (is, gives_alike g alive places fields bits (length d.fields) d s set st (λ q. word_at (extents g set) st e q) (λ q. value_in (extents g set) st e q) h f (alike_same g bits set _ _ (λ q below few. sym (pure_at g alive n places fields set e st s sim pure wide c q))) gives)))
       (operand_after g has alive n ready places fields bits set e quiet pure c.code.names (pure_after bits set e some most pure c) d s st here sim)
 
   -- the code of the test of a value
   pub condition_tested : (set : ℕ) (e : TExpr) → HasItsKind set e → HasItsCode g.typed g.instance alive n e → (d : Draft) (s : CodeState) (st : State) → Starts g alive s (length d.code) d.regs → Sim g alive st s
       → Follows g (Given g (λ q. value_in (extents g set) st e q) st (λ _ f. LeavesTests g alive fields d s set st (λ q. value_in (extents g set) st e q) f)) s (meant g fields e st) (tested g.typed (layout g) e d)
-  condition_tested set e is c = (done set e is.0 c).tests is.1
+  condition_tested set e is c = (done g has alive n ready places fields set e is.0 c).tests is.1
 
   -- one of one bit gives it to the next instruction
   pub condition_bit : (set : ℕ) (e : TExpr) → HasItsKind set e → (bits_of (kind_of e) == 1) ≡ true → HasItsCode g.typed g.instance alive n e → (d : Draft) (s : CodeState) (st : State) → Starts g alive s (length d.code) d.regs → Sim g alive st s
       → Follows g (Given g (λ q. value_in (extents g set) st e q) st (Bit g alive places fields d s set st (λ q. value_in (extents g set) st e q))) s (meant g fields e st) (next_of g.typed (layout g) 1 true e d)
-  condition_bit set e is one c = kinded_bit g has alive n ready places fields set e is one c ((done set e is.0 c).value 1 (omega arith) (omega arith))
+  condition_bit set e is one c = kinded_bit g has alive n ready places fields set e is one c ((done g has alive n ready places fields set e is.0 c).value 1 (omega arith) (omega arith))
 
   -- what comes behind two that are put in fields of one bit
   pub both_flagged : (set : ℕ) (left right : TExpr) → HasItsKind set left → HasItsKind set right → ignores_context right ≡ true → HaveTheirCode g.typed g.instance alive n left right → (d : Draft) (s : CodeState) (st : State) → Starts g alive s (length d.code) d.regs → Sim g alive st s
@@ -306,4 +314,4 @@ module _ (g : Setting) (has : HasRegisters g) (alive : Variable → Type 0) (n :
       → (IsGiven g has alive n ready places fields set left st → set < length (shapes g) → (f h : Field) (e1 e2 : Draft) (one : Truth g alive places fields d s set st (λ q. value_in (extents g set) st left q) f e1) → Truth g alive places fields e1 one.passes.t set st (λ q. value_in (extents g set) st right q) h e2 → After g Q (last f h e2))
       → (Ended g s (meant g fields left st) → (x : Out) (e : Draft) → Q x e)
       → After g Q (then_make (flag_of set (condition_of g.typed (layout g) left) d) (λ f between. then_make (flag_of set (condition_of g.typed (layout g) right) between) (λ h after. last f h after)))
-  both_flagged set left right is also free codes = flags_after g has alive n ready places fields set left right is also free codes (done set left is.0 codes.left_code) (done set right also.0 codes.right_code)
+  both_flagged set left right is also free codes = flags_after g has alive n ready places fields set left right is also free codes (done g has alive n ready places fields set left is.0 codes.left_code) (done g has alive n ready places fields set right also.0 codes.right_code)

@@ -25,13 +25,11 @@ use Rattle.lower_expr.specs.Effects.{binary_to, bits_for, cast_to, computed_to, 
 use Rattle.lower_expr.specs.Kinds.{done_as, operand_bits, operation_bits, reads_signed, unary_bits}
 use Rattle.lower_expr.specs.Operands.{are_quiet, is_plus, is_quiet, operand_by}
 use Rattle.lower_expr.specs.Spots.{field_loaded, loaded, variable_spot}
-use Rattle.lower_expr.specs.Steps.{is_kept, put_in_field, put_value, right_operated, word_for, word_put}
-use Rattle.lower_expr.specs.Values.{extended, field_binary_of, fields_by, next_of, read_to, right_by, spot_of, tested, truth_put, value_of}
+use Rattle.lower_expr.specs.Steps.{is_kept, put_value, right_operated, word_for, word_put}
+use Rattle.lower_expr.specs.Values.{arm_by, extended, field_binary_of, fields_by, next_of, read_to, right_by, scalar_choice_of, spot_of, tested, truth_put, value_of}
 use Rattle.paris_code.specs.declared.instr.Instr.{Instr}
 use Rattle.paris_code.specs.declared.instr.Instr.TheVariants as I
 use Rattle.paris_code.specs.declared.operands.Field.{Field}
-use Rattle.paris_code.specs.declared.operands.Konst.{Konst}
-use Rattle.paris_code.specs.declared.operands.Konst.TheVariants as K
 use Rattle.paris_code.specs.declared.program.Owner.{Owner}
 use Rattle.paris_code.specs.declared.program.Owner.TheVariants as W
 use Rattle.paris_code.specs.Code.{CodeState}
@@ -41,11 +39,12 @@ use Rattle.source_meaning.specs.State.{State}
 use Rattle.source_meaning.specs.Values.{Value}
 use Rattle.source_meaning.proofs.ConstantLaws.{Boxed}
 use Rattle.vp_sets.specs.Positions.{coordinate}
-use Rattle.code_follows.proofs.Following.{Extends, Finishes, HasRegisters, Sim, extends_then, held}
+use Rattle.code_follows.proofs.Following.{Finishes, HasRegisters, Sim, extends_then, held}
 use Rattle.code_follows.proofs.Growing.{Extended}
 use Rattle.code_follows.proofs.Words.{held_wide}
 use Rattle.code_follows.proofs.Settings.{Setting, Within, and_one, layout, start}
 use Rattle.fields_follow.specs.Fragment.{ArePure, AreWrapping, HasKnownKind, IsOperand, IsOperation, IsPromoted, IsPure, IsRelation, IsWide}
+use Rattle.fields_follow.proofs.Arms.{PutsLast as Puts_last, field_at, promoted_last, value_last}
 use Rattle.fields_follow.proofs.Extents.{get_names}
 use Rattle.fields_follow.specs.Fields.{IsElement, file_number}
 use Rattle.fields_follow.proofs.Forms.{HasItsCode, HasItsWord, element_is, field_is, pure_kept, pure_word}
@@ -53,21 +52,21 @@ use Rattle.fields_follow.proofs.Dividing.{zero_at}
 use Rattle.fields_follow.proofs.Outcomes.{Ended, ended_back, meant, then_known}
 use Rattle.fields_follow.proofs.Pure.{get_gives}
 use Rattle.fields_follow.proofs.Hops.{puts_same}
-use Rattle.fields_follow.proofs.Instructions.{AreAlike, Puts, alike_same, extents, shapes, puts_alike, puts_constant, puts_coordinate, puts_extended, puts_move, word_in}
+use Rattle.fields_follow.proofs.Instructions.{AreAlike, Puts, alike_same, extents, shapes, puts_alike, puts_coordinate, puts_extended}
 use Rattle.fields_follow.proofs.Lengths.{Keeps, divides_wide}
 use Rattle.fields_follow.proofs.Meaning.{as_shaped, read_is, right_of, unary_means, value_in, word_at}
 use Rattle.lower_comm.specs.News.{all_go_by_news}
 use Rattle.fields_follow.proofs.Indexing.{all_coded}
 use Rattle.fields_follow.proofs.News.{get_last}
 use Rattle.fields_follow.proofs.Router.{routed_last}
-use Rattle.fields_follow.proofs.Operands.{GivesRight, Takes, fields_after, operated_after, operated_extends, right_after, right_extends, constant_given}
+use Rattle.fields_follow.proofs.Operands.{GivesRight, Takes, fields_after, operated_after, operated_extends, right_after, right_extends}
 use Rattle.fields_follow.proofs.Passing.{After, Behind, GivesField, Passes, after_same, fields_longer, made_after, passes_all, passes_from, then_after, names_second}
 use Rattle.fields_follow.proofs.Places.{HoldsTheFields, IsFileField, PlacesFields, stands_here}
-use Rattle.fields_follow.proofs.Promoted.{IsComputed, computed_after, promoted_stands}
+use Rattle.fields_follow.proofs.Promoted.{IsComputed, promoted_stands}
 use Rattle.fields_follow.proofs.Sizes.{binary_parts, brackets_part, convert_part, unary_part}
 use Rattle.fields_follow.proofs.Totals.{held_below}
 use Rattle.fields_follow.proofs.Values.{and_entry, next_field, one_more, operand_of, taken, variable_has, with_entry}
-use Rattle.fields_follow.proofs.Expressions.{IsMeant, binary_at, convert_alike, convert_ended, convert_means, coordinate_means, operand_at, unary_ended, extended_after, from_operand, negated_after, operand_grows, operands_keep, plus_alike, signed_as, unary_at, wide_operands}
+use Rattle.fields_follow.proofs.Expressions.{IsMeant, binary_at, convert_alike, convert_ended, convert_means, coordinate_means, operand_at, unary_ended, extended_after, negated_after, operand_grows, operands_keep, plus_alike, signed_as, unary_at, wide_operands}
 use Rattle.fields_follow.proofs.Computing.{each_after, pure_after}
 use Rattle.fields_follow.proofs.TruthValues.{IsPlain}
 use Rattle.lower_expr.specs.Joined.{is_flag}
@@ -76,7 +75,6 @@ use Rattle.std.proofs.lemmas.Bool.{eqb-true}
 use Rattle.std.proofs.lemmas.Bool.Decides.{nat_tests}
 use Rattle.std.specs.Prelude.{nat_le}
 use Rattle.fields_follow.proofs.Starts.{Starts}
-use Rattle.fields_follow.proofs.Spreading.{GivesWord}
 use Rattle.fields_follow.proofs.Variables.{file_carries}
 use Rattle.paris_code.specs.Spans.{IsNamedAt}
 
@@ -84,25 +82,17 @@ module _ (g : Setting) (has : HasRegisters g) (alive : Variable → Type 0) (n :
   abbrev operand : ℕ → Bool → TExpr → Draft → Made Out
   operand bits quiet e d = operand_of g has alive n ready places fields bits quiet e d
 
-  -- The code puts the lowest bits of the words of an expression in a field by its last instruction: what is said where an
-  -- instruction does, behind code that leaves all as it was, is said of it, and what is said where it ends early.
-  abbrev words_of : ℕ → TExpr → State → ℕ → ℕ
-  words_of set e st q = word_at (extents g set) st e q
-
   -- the expression gives its numbers in the source
   abbrev IsGiven : ℕ → TExpr → State → Type 0
   IsGiven set e st = IsMeant g has alive n ready places fields set e st
 
-  abbrev pub PutsLast : ℕ → Field → TExpr → (Draft → Made Out) → Type 1
-  PutsLast set f e made =
-      (d : Draft) (s : CodeState) (st : State) → Starts g alive s (length d.code) d.regs → Sim g alive st s → (Q : Out → Draft → Type 0)
-      → (IsGiven set e st → (e2 : Draft) (i : Instr) → Within g (with_instr i e2) → (p : Passes g alive (length d.fields) d e2 s st (Unit {0})) → Puts g set i f p.t (words_of set e st) → Q (O.Field f) (with_instr i e2))
-      → (Ended g s (meant g fields e st) → (x : Out) (after : Draft) → Q x after) → After g Q (made d)
+  abbrev PutsLast : ℕ → Field → TExpr → (Draft → Made Out) → Type 1
+  PutsLast set f e made = Puts_last g has alive n ready places fields set f e made
 
-  abbrev field_at : ℕ → ℕ → ℕ → Field
-  field_at set offset bits = record { set = set; offset = offset; len = bits }
+  abbrev words_of : ℕ → TExpr → State → ℕ → ℕ
+  words_of set e st q = word_at (extents g set) st e q
 
-  -- so it is of the code of an expression that becomes the value of the field
+  -- the code of an expression that becomes the value of the field
   abbrev PutsWords : ℕ → ℕ → ℕ → TExpr → Type 1
   PutsWords set offset bits e = PutsLast set (field_at set offset bits) e (λ d. computed_to g.typed (layout g) (O.Field (field_at set offset bits)) e d)
 
@@ -150,18 +140,8 @@ module _ (g : Setting) (has : HasRegisters g) (alive : Variable → Type 0) (n :
 
   -- a value of as many bits that is moved
   moved_last : (set offset bits : ℕ) (e : TExpr) → 0 < bits → bits ≤ 32 → IsPure set e → HasItsCode g.typed g.instance alive n e → PutsLast set (field_at set offset bits) e (λ d. moved g.typed (layout g) (O.Field (field_at set offset bits)) e d)
-  unfolding moved bits_for put_value put_in_field Extends step_of
-  moved_last set offset bits e some most pure c d s st here sim Q last ended =
-      from_operand g has alive n ready places fields bits set e f (λ a. I.Move true f a) (λ v after. put_value (O.Field f) v after) (length d.fields) d s st (words_of set e st) (λ a. refl) (λ a. refl) grows (λ a after. refl)
-      (λ a t numbers sim_there. puts_move g bits set true f a t (words_of set e st) refl numbers) pure c (pure_after g has alive n ready places fields bits set e some most pure c) (omega arith) here sim Q last ended
-    where
-      f : Field
-      f = field_at set offset bits
-
-      grows : (x : Out) (after : Draft) → Extends g after (put_value (O.Field f) x after)
-      grows (O.Scalar r) after = (1, and_one g (I.MoveConstant f (K.Reg r)) after)
-      grows (O.Field h) after = (1, and_one g (I.Move true f h) after)
-      grows O.Nothing after = tt
+  unfolding moved bits_for
+  moved_last set offset bits e some most pure c d s st here sim Q last ended = value_last g has alive n ready places fields set offset bits e pure c (pure_after g has alive n ready places fields bits set e some most pure c) d s st here sim Q last ended
 
   -- a binary operator
   operated_last : (set offset bits : ℕ) (ty : ValueType) (place : Place) (op : Op) (p q : Boxed) (left right : TExpr) → 0 < bits → bits ≤ 32 → IsOperation op right → IsPure set (T.Binary' ty place op p left q right) → HasItsCode g.typed g.instance alive n (T.Binary' ty place op p left q right) → PutsWords set offset bits (T.Binary' ty place op p left q right)
@@ -197,6 +177,19 @@ module _ (g : Setting) (has : HasRegisters g) (alive : Variable → Type 0) (n :
           (λ given e2 i within passes puts. last given e2 i within (passes_from g alive (length d.fields) d (with_entry set bits W.Own d) e2 s st (Unit {0}) (and_entry set bits W.Own d) passes)
           (puts_same g set i f passes.t _ (words_of set whole st) (λ x below. binary_at g has alive n ready places fields set ty place op p q left right st passes.t passes.sim is c x) puts)) ended)
       by false other = after_same g Q (chosen false other) (moved_last set offset bits whole some most is c d s st here sim Q last ended)
+
+  -- `?:`
+  choice_last : (set offset bits : ℕ) (ty : ValueType) (p q r : Boxed) (test first second : TExpr) → 0 < bits → bits ≤ 32 → IsPure set (T.Choice' ty p test q first r second) → IsPure set test → HasItsCode g.typed g.instance alive n (T.Choice' ty p test q first r second) → PutsWords set offset bits (T.Choice' ty p test q first r second)
+  unfolding computed_to
+  choice_last set offset bits ty p q r test first second some most is tests c d s st here sim Q last ended =
+      after_same g Q (ap (λ (b : Bool). if b then scalar_choice_of g.typed (layout g) ty (bits_for (O.Field f)) test first second (O.Field f) d else moved g.typed (layout g) (O.Field f) whole d) (pure_kept set test tests))
+      (moved_last set offset bits whole some most is c d s st here sim Q last ended)
+    where
+      f : Field
+      f = field_at set offset bits
+
+      whole : TExpr
+      whole = T.Choice' ty p test q first r second
 
   -- the own coordinates
   coordinate_last : (set offset bits axis : ℕ) (ty : ValueType) → IsWide set ty → PutsWords set offset bits (T.Pcoord ty axis)
@@ -293,6 +286,7 @@ module _ (g : Setting) (has : HasRegisters g) (alive : Variable → Type 0) (n :
       by : IsOperation op right ⊎ IsRelation set op left right → PutsWords set offset bits (T.Binary' ty place op p left q right)
       by (inl known) = operated_last set offset bits ty place op p q left right some most known is c
       by (inr related) = let wrong = sym plain ∙ related.0 in cc
+  computed_last set offset bits (T.Choice' ty p test q first r second) some most is plain c = choice_last set offset bits ty p q r test first second some most is is.1.0 c
   computed_last set offset bits (T.Convert' ty p inner) some most is plain c = converted_last set offset bits ty p inner most plain.0 is c (λ enough. computed_last set offset bits inner some most is.2 (plain.1 enough) (convert_part g alive n places fields ty p inner c))
   computed_last set offset bits (T.Pcoord ty axis) some most is plain c = coordinate_last set offset bits axis ty is
   computed_last set offset bits (T.LeftIndex' ty place p indexes (V.File k) of) some most is plain c = left_index_computed set offset bits ty place p indexes k of most is.0 is.1 is.2 c
@@ -300,43 +294,30 @@ module _ (g : Setting) (has : HasRegisters g) (alive : Variable → Type 0) (n :
   computed_last set offset bits (T.LogicalAnd' ty p left q right) some most is plain c = absurd plain
   computed_last set offset bits _ some most is plain c = absurd is
 
-  pub value_put : (f : Field) (x : Out) (after : Draft) → Extends g after (put_value (O.Field f) x after)
-  unfolding Extends put_value put_in_field
-  value_put f (O.Scalar r) after = (1, and_one g (I.MoveConstant f (K.Reg r)) after)
-  value_put f (O.Field source) after = (1, and_one g (I.Move true f source) after)
-  value_put f O.Nothing after = tt
-
   -- any operand that is no truth value
   pub put_last : (set offset bits : ℕ) (e : TExpr) → 0 < bits → bits ≤ 32 → (IsPure set e × IsPlain bits e) ⊎ IsPromoted set e → HasItsCode g.typed g.instance alive n e → PutsLast set (field_at set offset bits) e (λ d. put_to g.typed (layout g) (O.Field (field_at set offset bits)) e d)
-  unfolding put_to word_for word_put put_value put_in_field then_make
+  unfolding put_to word_for arm_by
   put_last set offset bits e some most (inl (pure, plain)) c d s st here sim Q last ended =
       let f : Field = field_at set offset bits in
       after_same g Q (ap (λ (o : Option ℕ). elim o as (λ _. Made Out) [ Some word ↦ word_put (O.Field f) word d | None ↦ computed_to g.typed (layout g) (O.Field f) e d ]) (pure_word set e pure))
       (computed_last set offset bits e some most pure plain c d s st here sim Q last ended)
-  put_last set offset bits e some most (inr promoted) c d s st here sim Q last ended = by (promoted_stands g alive n set e promoted c)
+  put_last set offset bits e some most (inr promoted) c d s st here sim Q last ended = after_same g Q (same (promoted_stands g alive n set e promoted c)) (promoted_last g has alive n ready places fields set offset bits e promoted c d s st here sim Q last ended)
     where
       f : Field
       f = field_at set offset bits
 
-      P : Out → Draft → Type 0
-      P out e1 = (r : ℕ) × ((out ≡ O.Scalar r) × GivesWord g alive (length d.fields) d s st (words_of set e st) (K.Reg r) e1)
+      code : Made Out → Option ℕ → Made Out
+      code made o = elim o as (λ _. Made Out) [ Some word ↦ word_put (O.Field f) word d | None ↦ made ]
 
-      code : Option ℕ → Made Out
-      code o = elim o as (λ _. Made Out) [ Some word ↦ word_put (O.Field f) word d | None ↦ computed_to g.typed (layout g) (O.Field f) e d ]
+      put : Made Out
+      put = computed_to g.typed (layout g) (O.Field f) e d
 
-      -- the word of a register, or a constant, goes to the field
-      move : (k : Konst) (e1 : Draft) → IsGiven set e st → (gives : GivesWord g alive (length d.fields) d s st (words_of set e st) k e1) → Within g (with_instr (I.MoveConstant f k) e1) → Q (O.Field f) (with_instr (I.MoveConstant f k) e1)
-      move k e1 is gives within =
-          let same_all : (λ (q : ℕ). word_in g k gives.passes.t) ≡ words_of set e st = λ j q. sym (gives.same q) j in
-          last is e1 (I.MoveConstant f k) within gives.passes (subst (λ (v : ℕ → ℕ). Puts g set (I.MoveConstant f k) f gives.passes.t v) same_all (puts_constant g set f k gives.passes.t gives.small))
+      moves : Made Out
+      moves = then_make (operand bits true e d) (λ v after. put_value (O.Field f) v after)
 
-      by : HasItsWord e ⊎ IsComputed g alive n set e → After g Q (put_to g.typed (layout g) (O.Field f) e d)
-      by (inl h) = after_same g Q (ap code h.is)
-          (made_after g Q (O.Field f) (with_instr (I.MoveConstant f (K.Imm h.word)) d) (λ within. move (K.Imm h.word) d (h.means fields.scope fields.active (extents g set) st) (constant_given g has alive n ready places fields (length d.fields) set e h d s st here sim) within))
-      by (inr h) = after_same g Q (ap code h.no_word ∙ h.computed f d ∙ ap (λ (m : Made Out). then_make m (λ v after. put_value (O.Field f) v after)) (sym (h.code true bits d)))
-          (then_known g s (meant g fields e st) (λ q. value_in (extents g set) st e q) st P Q (operand_of g has alive n ready places fields bits true e d) (λ v after. put_value (O.Field f) v after)
-          (computed_after g alive n has ready fields set bits (length d.fields) true e h d s st here sim) (λ x after. value_put f x after)
-          (λ is x e1 (r, (is_r, gives)). after_same g Q (ap (λ (o : Out). put_value (O.Field f) o e1) is_r) (made_after g Q (O.Field f) (with_instr (I.MoveConstant f (K.Reg r)) e1) (λ within. move (K.Reg r) e1 is gives within))) ended)
+      same : HasItsWord e ⊎ IsComputed g alive n set e → put_to g.typed (layout g) (O.Field f) e d ≡ arm_by (operand bits true e) e (O.Field f) d
+      same (inl h) = ap (code put) h.is ∙ sym (ap (code moves) h.is)
+      same (inr h) = ap (code put) h.no_word ∙ h.computed f d ∙ ap (λ (m : Made Out). then_make m (λ v after. put_value (O.Field f) v after)) (sym (h.code true bits d)) ∙ sym (ap (code moves) h.no_word)
 
   -- An operator on the field of a variable and a value. The field is an entry for the variable wherever the draft is
   -- within the unit.

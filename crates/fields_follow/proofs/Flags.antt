@@ -112,7 +112,8 @@ module _ (g : Setting) (places : PlacesFields g) (alive : Variable → Type 0) (
   -- ---- a field takes flags
 
   -- Behind an instruction by which an own entry takes numbers at some positions: contexts and test flags are as they
-  -- were, and so is what stands in own entries that are named before and behind it, where this one is named behind it too.
+  -- were, and so is what stands apart, and what stands in own entries that are named before and behind it, where this one
+  -- is named behind it too.
   pub record Stored (set : ℕ) (d : Field) (e : Draft) (i : Instr) (s : CodeState) (st : State) (takes : ℕ → Type 0) (v : ℕ → ℕ) : Type 0 where
     pub t : CodeState
     pub go : Reaches g s t
@@ -123,6 +124,7 @@ module _ (g : Setting) (places : PlacesFields g) (alive : Variable → Type 0) (
     pub ends : EndsBelow g d
     pub tests : (q p : ℕ) → is_tested (shapes g) t.memory q p ≡ is_tested (shapes g) s.memory q p
     pub has : (p : ℕ) → p < processors (shapes g) set → takes p → number_in g d t p ≡ v p
+    pub beside : (h : Field) (p : ℕ) → Apart (place g d) (place g h) → number_in g h t p ≡ number_in g h s p
     pub stays : (h : Field) (first last later p : ℕ) → (h.offset ≡ d.offset → ⊥) → IsOwnField g h → IsNamedAt g.unit h.offset first → IsNamedAt g.unit h.offset last → first ≤ length e.code → length e.code < last
         → IsNamedAt g.unit d.offset later → length e.code < later → number_in g h t p ≡ number_in g h s p
 
@@ -172,6 +174,7 @@ module _ (g : Setting) (places : PlacesFields g) (alive : Variable → Type 0) (
       ends = d_ends.1;
       tests = λ q p. tested_apart (shapes g) write s.memory q p d_ends.1;
       has = λ p below takes_it. let both = taken p (active_here p below) takes_it in field_written write s.memory p both.0 ∙ both.1;
+      beside = λ h p apart. elsewhere (place g h) p apart;
       stays = λ h first last later p other is_own before behind low high again after_it.
           elsewhere (place g h) p (apart_back (place g h) (place g d) (places.owns_apart h d first (length e.code) last later other is_own own d_ends.0 before behind low high named_here again after_it));
     }

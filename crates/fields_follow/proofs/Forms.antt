@@ -52,6 +52,7 @@ pure_shape set (T.Unary' ty op p operand) is = is.0.0
 pure_shape set (T.LogicalOr' ty p left q right) is = is.0.0
 pure_shape set (T.LogicalAnd' ty p left q right) is = is.0.0
 pure_shape set (T.Binary' ty place op p left q right) is = is.0.0
+pure_shape set (T.Choice' ty p test q first r second) is = is.0.0
 pure_shape set (T.Convert' ty p operand) is = is.0
 pure_shape set (T.Pcoord ty axis) is = is.0
 pure_shape set (T.LeftIndex' ty place p indexes (V.File k) of) is = is.0
@@ -84,6 +85,7 @@ pure_kept set (T.Unary' ty op p operand) is = shaped ty.shape set is.0.0
 pure_kept set (T.LogicalOr' ty p left q right) is = shaped ty.shape set is.0.0
 pure_kept set (T.LogicalAnd' ty p left q right) is = shaped ty.shape set is.0.0
 pure_kept set (T.Binary' ty place op p left q right) is = shaped ty.shape set is.0.0
+pure_kept set (T.Choice' ty p test q first r second) is = shaped ty.shape set is.0.0
 pure_kept set (T.Convert' ty p operand) is = pure_kept set operand is.2
 pure_kept set (T.Pcoord ty axis) is = shaped ty.shape set is.0
 pure_kept set (T.LeftIndex' ty place p indexes (V.File k) of) is = shaped ty.shape set is.0
@@ -104,6 +106,8 @@ pure_constant set (T.Unary' ty op p operand) is = ap (λ (b : Bool). b && ty.ele
 pure_constant set (T.LogicalOr' ty p left q right) is = ap (λ (b : Bool). b && ty.elem.bits == 32 && is_constant left && is_constant right) (shaped ty.shape set is.0.0)
 pure_constant set (T.LogicalAnd' ty p left q right) is = ap (λ (b : Bool). b && ty.elem.bits == 32 && is_constant left && is_constant right) (shaped ty.shape set is.0.0)
 pure_constant set (T.Binary' ty place op p left q right) is = ap (λ (b : Bool). b && ty.elem.bits == 32 && is_constant left && is_constant right) (shaped ty.shape set is.0.0)
+pure_constant set (T.Choice' ty p test q first r second) is =
+    ap (λ (b : Bool). b && ty.elem.bits == (type_of first).elem.bits && ty.elem.bits == (type_of second).elem.bits && is_constant test && is_constant first && is_constant second) (shaped ty.shape set is.0.0)
 pure_constant set (T.Convert' ty p operand) is = ap (λ (b : Bool). b && is_constant operand) (shaped ty.shape set is.0)
 pure_constant set (T.Pcoord ty axis) is = refl
 pure_constant set (T.LeftIndex' ty place p indexes (V.File k) of) is = refl
@@ -134,6 +138,7 @@ pure_word set (T.Unary' ty op p operand) is = refl
 pure_word set (T.LogicalOr' ty p left q right) is = refl
 pure_word set (T.LogicalAnd' ty p left q right) is = refl
 pure_word set (T.Binary' ty place op p left q right) is = refl
+pure_word set (T.Choice' ty p test q first r second) is = refl
 pure_word set (T.Convert' ty p operand) is = refl
 pure_word set (T.Pcoord ty axis) is = refl
 pure_word set (T.LeftIndex' ty place p indexes (V.File k) of) is = refl
@@ -225,6 +230,7 @@ pure_own t i n bits set (T.Unary' ty op p operand) is v = inr refl
 pure_own t i n bits set (T.LogicalOr' ty p left q right) is v = inr refl
 pure_own t i n bits set (T.LogicalAnd' ty p left q right) is v = inr refl
 pure_own t i n bits set (T.Binary' ty place op p left q right) is v = inr refl
+pure_own t i n bits set (T.Choice' ty p test q first r second) is v = inr refl
 pure_own t i n bits set (T.Convert' ty p operand) is v = by (is_unchanged bits ty.elem (is_kept operand)) refl (pure_own t i n bits set operand is.2 v)
   where
     unchanged : is_unchanged bits ty.elem (is_kept operand) ≡ true → (bits ≤ ty.elem.bits) × ((ty.elem.bits == 1) ≡ false)

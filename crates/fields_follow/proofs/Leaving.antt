@@ -55,7 +55,7 @@ module _ (g : Setting) where
 
   -- what the memory holds of it is the fields' numbers
   abbrev pub fields_under : (a : Active) (scope : Scope) → SameExtents g scope → HoldsTheFields (under a)
-  fields_under a scope same = record { scope = scope; same_extents = same; active = a; opens = λ live at st m h. h; closes = λ live at st m h. h }
+  fields_under a scope same = record { scope = scope; same_extents = same; active = a; opens = λ live at st m h. h; closes = λ live at st m h. h; ends = λ st m h. h }
 
   pub within_under : {d : Draft} (a : Active) → Within g d → Within (under a) d
   within_under a w = record { more = w.more; code = w.code; entries = w.entries; fields = w.fields; homes = w.homes; homes_are = w.homes_are; regs = w.regs; own = w.own; upto = w.upto }

@@ -1,9 +1,11 @@
+pub mod Arms
 pub mod Assigning
 pub mod Besides
 pub mod Bits
 pub mod Calm
 pub mod CalmKinds
 pub mod Checks
+pub mod Choosing
 pub mod Clearing
 pub mod ConditionCode
 pub mod Computing
@@ -25,6 +27,7 @@ pub mod FoldingOnto
 pub mod Folds
 pub mod Forms
 pub mod Gets
+pub mod Halves
 pub mod Hops
 pub mod Indexing
 pub mod Instructions

@@ -35,7 +35,7 @@ use Rattle.fields_follow.proofs.JoinedBits.{bitwise_has}
 use Rattle.fields_follow.proofs.Meaning.{AreOperands, value_in, word_at}
 use Rattle.fields_follow.proofs.KnownKinds.{HasWord, bitwise_plain, common_has, convert_has, joined_kind, narrow_has, not_bit, truth_has}
 use Rattle.fields_follow.proofs.Places.{HoldsTheFields, PlacesFields}
-use Rattle.fields_follow.proofs.Sizes.{binary_parts, brackets_part, convert_part, pure_at, value_small}
+use Rattle.fields_follow.proofs.Sizes.{choice_parts, binary_parts, brackets_part, convert_part, pure_at, value_small}
 use Rattle.fields_follow.proofs.TestFlags.{is_truth}
 use Rattle.fields_follow.proofs.Totals.{held_below}
 
@@ -66,9 +66,12 @@ are_related set op left right is operands wide other = (is.0, kinds operands, wi
     kinds (inl (pure, inr promoted)) = inl (kind_known set left pure is.1, inr promoted)
     kinds (inr (promoted, pure)) = inr (promoted, kind_known set right pure is.2)
 
+narrowed_pure : (set : ℕ) (e : TExpr) → IsPure set e ⊎ IsPromoted set e → IsNarrowed e → IsPure set e
+narrowed_pure set e (inl pure) so = pure
+narrowed_pure set e (inr promoted) so = absurd (not_promoted set e promoted so)
+
 both_pure : (set : ℕ) (left right : TExpr) → (IsPure set left × (IsPure set right ⊎ IsPromoted set right)) ⊎ (IsPromoted set left × IsPure set right) → IsNarrowed left → IsNarrowed right → IsPure set left × IsPure set right
-both_pure set left right (inl (one, inl other)) so also = (one, other)
-both_pure set left right (inl (one, inr promoted)) so also = absurd (not_promoted set right promoted also)
+both_pure set left right (inl (one, other)) so also = (one, narrowed_pure set right other also)
 both_pure set left right (inr (promoted, other)) so also = absurd (not_promoted set left promoted so)
 
 module _ (g : Setting) (alive : Variable → Type 0) (n : ℕ) (places : PlacesFields g) (fields : HoldsTheFields g) where
@@ -123,6 +126,20 @@ module _ (g : Setting) (alive : Variable → Type 0) (n : ℕ) (places : PlacesF
           (sym (ap (λ (b : Bool). if b then Some truth_type else if is_bitwise op then common_kind (kind_of left) (kind_of right) else None) related) ∙ is_kind)
       either (inr joined) one other =
           let pure = both_pure set left right is.2 joined.1 joined.2 in by joined.0 pure (one pure.0 joined.1) (other pure.1 joined.2)
+  kind_has set (T.Choice' ty p test b first r second) st s sim is so c q kind is_kind =
+      let parts = choice_parts g alive n places fields ty p b r test first second c in
+      let one : IsPure set first = narrowed_pure set first is.2 so.0 in
+      let other : IsPure set second = narrowed_pure set second is.3 so.1 in
+      let v : ℕ = value_in (extents g set) st first q in
+      let w : ℕ = value_in (extents g set) st second q in
+      let both : HasWord kind v × HasWord kind w =
+      common_has (kind_of first) (kind_of second) kind v w is_kind (λ k is_k. subst (λ (x : ℕ). HasWord k x) (pure_at g alive n places fields set first st s sim one is.4 parts.1 q) (kind_has set first st s sim one so.0 parts.1 q k is_k))
+      (λ k is_k. subst (λ (x : ℕ). HasWord k x) (pure_at g alive n places fields set second st s sim other is.5 parts.2 q) (kind_has set second st s sim other so.1 parts.2 q k is_k)) in
+      subst (λ (x : ℕ). HasWord kind x) (sym (pure_at g alive n places fields set (T.Choice' ty p test b first r second) st s sim is is.0 c q)) (chosen (nonzero (value_in (extents g set) st test q)) v w both)
+    where
+      chosen : (b : Bool) (v w : ℕ) → HasWord kind v × HasWord kind w → HasWord kind (if b then v else w)
+      chosen true v w both = both.0
+      chosen false v w both = both.1
   kind_has set (T.Variable ty x) st s sim is so c q kind is_kind = absurd is
   kind_has set (T.LeftIndex' ty place p indexes x of) st s sim is so c q kind is_kind = absurd is
   kind_has set _ st s sim is so c q kind is_kind = absurd so

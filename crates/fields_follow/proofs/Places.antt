@@ -22,7 +22,7 @@ use Rattle.paris_code.specs.Spans.{IsInUse, Span, IsNamedAt, StandsAt, entry_of,
 use Rattle.source_meaning.specs.State.{State}
 use Rattle.source_meaning.specs.Values.{Active, Scope}
 use Rattle.code_follows.proofs.Settings.{Setting, StandsBelow, Within, stands_here as stands_so, start}
-use Rattle.fields_follow.proofs.Fields.{HoldsFields}
+use Rattle.fields_follow.proofs.Fields.{HoldsFields, HoldsNumbers}
 use Rattle.vp_sets.specs.Positions.{coordinate, is_geometry, positions_fit}
 use Rattle.fields_follow.proofs.Extents.{extents_in}
 use Rattle.fields_follow.specs.Fields.{IsElement, file_field, file_number}
@@ -79,6 +79,7 @@ module _ (g : Setting) where
     pub active : Active
     pub opens : (live : ℕ → Type 0) (at : ℕ) (st : State) (m : BitMemory) → g.held.holds live at st m → HoldsFields g.typed g.image active st m
     pub closes : (live : ℕ → Type 0) (at : ℕ) (st : State) (m : BitMemory) → HoldsFields g.typed g.image active st m → g.held.holds live at st m
+    pub ends : (st : State) (m : BitMemory) → HoldsNumbers g.typed g.image st m → g.held.ends st m
 
   -- the instruction that the draft gets next stands in the unit
   pub stands_here : (i : Instr) (d : Draft) → Within g (with_instr i d) → step_of i ≡ Plain i → StandsAt g.unit (length d.code) i

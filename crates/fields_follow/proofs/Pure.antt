@@ -1,10 +1,10 @@
 -- What pure parallel expressions mean: a number at each position, with the state as it was.
-use Rattle.std.proofs.Common.{◌≡◌, ◌∙◌, ◌&&◌, ◌||◌, not, Bool, ℕ, true, false, refl, List, Option, Some, sym, ap, subst}
+use Rattle.std.proofs.Common.{◌≡◌, ◌∙◌, ◌&&◌, ◌||◌, if◌then◌else◌, not, Bool, ℕ, true, false, refl, List, Option, Some, sym, ap, subst}
 use Rattle.cstar_base.specs.declared.operators.Op.{Op}
 use Rattle.cstar_base.specs.declared.operators.Place.{Place}
 use Rattle.cstar_base.specs.Operators.{divides}
 use Rattle.std.specs.Int.{from_bool}
-use Rattle.source_meaning.specs.Narrowing.{and_then, or_then, where_nonzero, where_zero}
+use Rattle.source_meaning.specs.Narrowing.{and_then, choose, or_then, where_nonzero, where_zero}
 use Rattle.source_meaning.specs.State as Source
 use Rattle.source_meaning.proofs.ConstantLaws.{Boxed}
 use Rattle.cstar_tree.specs.declared.typed.TExpr.{Row_of-TExpr, TExpr, items-the_row-TExpr}
@@ -72,6 +72,34 @@ and_means scope active set ty p q left right v w st is one other =
     ∙ ap (λ (o : Option ℕ). and_then ty.shape o (Parallel v) (λ a after. evaluated scope right a after) active st) (pure_shape set left is)
     ∙ ap (λ (o : Outcome Value). then_do o (λ y after. Source.Gives (Parallel (λ x. from_bool (nonzero (v x) && nonzero (at y x)))) after)) other
 
+-- three that ignore the context
+all_ignore : (test first second : TExpr) → (ignores_context test && ignores_context first && ignores_context second) ≡ true → (ignores_context test ≡ true) × (ignores_context first ≡ true) × (ignores_context second ≡ true)
+all_ignore test first second free = by (ignores_context test) (ignores_context first) (ignores_context second) free
+  where
+    by : (a b c : Bool) → (a && b && c) ≡ true → (a ≡ true) × (b ≡ true) × (c ≡ true)
+    by true true true h = (refl, refl, refl)
+    by true true false h = cc
+    by true false c h = cc
+    by false b c h = cc
+
+-- what `?:` means behind its condition, and where each gives its numbers
+pub choice_so : (scope : Scope) (active : Active) (set : ℕ) (ty : ValueType) (p q r : Boxed) (test first second : TExpr) (v : ℕ → ℕ) (st : State) → IsPure set test → evaluated scope test active st ≡ Source.Gives (Parallel v) st
+    → evaluated scope (T.Choice' ty p test q first r second) active st
+    ≡ then_do (evaluated scope first (where_nonzero set (Parallel v) active) st) (λ a between. then_do (evaluated scope second (where_zero set (Parallel v) active) between) (λ b after. Source.Gives (Parallel (λ x. if nonzero (v x) then at a x else at b x)) after))
+unfolding evaluated then_do choose at
+choice_so scope active set ty p q r test first second v st is tested =
+    ap (λ (o : Outcome Value). then_do o (λ x after. choose (type_of test).shape x (λ c after. evaluated scope first c after) (λ c after. evaluated scope second c after) active after)) tested
+    ∙ ap (λ (o : Option ℕ). choose o (Parallel v) (λ c after. evaluated scope first c after) (λ c after. evaluated scope second c after) active st) (pure_shape set test is)
+
+pub choice_means : (scope : Scope) (active : Active) (set : ℕ) (ty : ValueType) (p q r : Boxed) (test first second : TExpr) (v a b : ℕ → ℕ) (st : State) → IsPure set test → evaluated scope test active st ≡ Source.Gives (Parallel v) st
+    → evaluated scope first (where_nonzero set (Parallel v) active) st ≡ Source.Gives (Parallel a) st → evaluated scope second (where_zero set (Parallel v) active) st ≡ Source.Gives (Parallel b) st
+    → evaluated scope (T.Choice' ty p test q first r second) active st ≡ Source.Gives (Parallel (λ x. if nonzero (v x) then a x else b x)) st
+unfolding then_do at
+choice_means scope active set ty p q r test first second v a b st is tested one other =
+    choice_so scope active set ty p q r test first second v st is tested
+    ∙ ap (λ (o : Outcome Value). then_do o (λ y between. then_do (evaluated scope second (where_zero set (Parallel v) active) between) (λ z after. Source.Gives (Parallel (λ x. if nonzero (v x) then at y x else at z x)) after))) one
+    ∙ ap (λ (o : Outcome Value). then_do o (λ z after. Source.Gives (Parallel (λ x. if nonzero (v x) then a x else at z x)) after)) other
+
 -- the shape is a grid of few positions, with the extents that are known
 abbrev pub IsGrid : Scope → (ℕ → List ℕ) → ℕ → Type 0
 IsGrid scope extents set = (extents set ≡ scope.extents set) × (positions_fit (scope.extents set) ≡ true)
@@ -99,6 +127,14 @@ module _ (scope : Scope) where
       let parts = both_ignore left right free in
       and_means scope active set ty p q left right (λ x. value_in (scope.extents set) st left x) (λ x. value_in (scope.extents set) st right x) st is.1.0 (pure_means active set left st is.1.0 parts.0)
       (pure_means (where_nonzero set (Parallel (λ q. value_in (scope.extents set) st left q)) active) set right st is.2.0 parts.1)
+  pure_means active set (T.Choice' ty p test q first r second) st is free =
+      let parts = all_ignore test first second free in
+      let v : ℕ → ℕ = λ x. value_in (scope.extents set) st test x in
+      let among : Active = where_nonzero set (Parallel v) active in
+      let others : Active = where_zero set (Parallel v) active in
+      choice_means scope active set ty p q r test first second v (λ x. value_in (scope.extents set) st first x) (λ x. value_in (scope.extents set) st second x) st is.1.0 (pure_means active set test st is.1.0 parts.0)
+      (either (λ h. pure_means among set first st h parts.1) (λ h. promoted_free scope among set (scope.extents set) first st h parts.1) is.2)
+      (either (λ h. pure_means others set second st h parts.2) (λ h. promoted_free scope others set (scope.extents set) second st h parts.2) is.3)
   pure_means active set (T.Convert' ty p operand) st is free =
       ap (λ (o : Outcome Value). then_do o (λ v after. Gives (convert_to ty (type_of operand).elem v) after)) (pure_means active set operand st is.2 free)
       ∙ ap (λ (y : ValueType). Gives (convert_to y (type_of operand).elem (Parallel (λ q. value_in (scope.extents set) st operand q))) st) (as_shaped ty set is.0)

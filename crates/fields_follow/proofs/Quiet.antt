@@ -110,6 +110,8 @@ mutual
   pure_quiet set (T.LogicalAnd' ty p left q right) is = both (is_quiet left) (is_quiet right) (pure_quiet set left is.1.0) (pure_quiet set right is.2.0)
   pure_quiet set (T.Binary' ty place op p left q right) is =
       both (is_quiet left) (is_quiet right) (either (λ h. pure_quiet set left h) (λ h. promoted_quiet set left h) (left_of set left right is.2)) (either (λ h. pure_quiet set right h) (λ h. promoted_quiet set right h) (right_of set left right is.2))
+  pure_quiet set (T.Choice' ty p test q first r second) is =
+      both (is_quiet test && is_quiet first) (is_quiet second) (both (is_quiet test) (is_quiet first) (pure_quiet set test is.1.0) (either (λ h. pure_quiet set first h) (λ h. promoted_quiet set first h) is.2)) (either (λ h. pure_quiet set second h) (λ h. promoted_quiet set second h) is.3)
   pure_quiet set (T.Convert' ty p operand) is = pure_quiet set operand is.2
   pure_quiet set (T.Pcoord ty axis) is = refl
   pure_quiet set (T.LeftIndex' ty place p indexes (V.File k) of) is = either (λ wrapping. wrapping_quiet set 0 indexes wrapping) (λ routed. row_quiet set indexes routed.1) is.2

@@ -42,7 +42,7 @@ use Rattle.code_follows.proofs.Settings.{Setting, Within, layout, stay}
 use Rattle.fields_follow.specs.Fields.{file_number}
 use Rattle.fields_follow.specs.Fragment.{HasOperation, IsChanging, IsOperation, IsTarget, alone}
 use Rattle.fields_follow.proofs.Assigning.{leaves_value, own_is, plainly, variable_is}
-use Rattle.fields_follow.proofs.Effects.{value_put}
+use Rattle.fields_follow.proofs.Arms.{value_put}
 use Rattle.fields_follow.proofs.Forms.{HasItsCode}
 use Rattle.fields_follow.proofs.Instructions.{Puts, puts_constant}
 use Rattle.fields_follow.proofs.Leaving.{Leaves, UpdateLeaves}

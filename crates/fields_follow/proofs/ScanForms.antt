@@ -162,6 +162,7 @@ module _ (g : Setting) (alive : Variable → Type 0) (places : PlacesFields g) (
   pure_number (T.Unary' ty op p operand) st q is = ap (λ (w : ℕ). unary_of op w) (pure_number operand st q is.2)
   pure_number (T.LogicalOr' ty p left r right) st q is = refl
   pure_number (T.LogicalAnd' ty p left r right) st q is = refl
+  pure_number (T.Choice' ty p test r first s second) st q is = refl
   pure_number (T.Pcoord ty axis) st q is = refl
   pure_number (T.LeftIndex' ty place p indexes (V.File k) of) st q is = refl
   pure_number _ st q is = absurd is

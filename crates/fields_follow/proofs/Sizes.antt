@@ -1,5 +1,5 @@
 -- The numbers of parallel values are numbers of their types.
-use Rattle.std.proofs.Common.{◌≡◌, ℕ, ◌<◌, ◌^◌, true, false, not, Option, Some, None, ◌⊎◌, inl, inr, sym, ap, subst}
+use Rattle.std.proofs.Common.{◌≡◌, ℕ, Bool, if◌then◌else◌, ◌<◌, ◌^◌, true, false, not, Option, Some, None, ◌⊎◌, inl, inr, sym, ap, subst}
 use Rattle.cstar_base.specs.declared.elem.Elem.{Elem}
 use Rattle.cstar_base.specs.declared.operators.Op.{Op}
 use Rattle.cstar_base.specs.declared.operators.Place.{Place}
@@ -37,7 +37,7 @@ use Rattle.std.proofs.lemmas.Nat.{pow_pos}
 use Rattle.fields_follow.proofs.Calm.{IsCalmly, calm_gives}
 use Rattle.source_meaning.specs.Constants.{constant_of}
 use Rattle.source_meaning.specs.Expressions.{evaluated}
-use Rattle.source_meaning.specs.Values.{Value, at, unary_of}
+use Rattle.source_meaning.specs.Values.{Value, at, nonzero, unary_of}
 use Rattle.fields_follow.proofs.TestFlags.{is_truth}
 
 -- what is given is a number of the type
@@ -63,6 +63,14 @@ module _ (g : Setting) (alive : Variable → Type 0) (n : ℕ) (places : PlacesF
   pub convert_part : (ty : ValueType) (p : Boxed) (inner : TExpr) → HasItsCode g.typed g.instance alive n (T.Convert' ty p inner) → HasItsCode g.typed g.instance alive n inner
   unfolding IsShaped IsLowerable NamesVariables ScalarsAmong
   convert_part ty p inner h = record { code = record { shaped = h.code.shaped.1; lowerable = h.code.lowerable.1; names = h.code.names }; among = h.among }
+
+  pub choice_parts : (ty : ValueType) (p q r : Boxed) (test first second : TExpr) → HasItsCode g.typed g.instance alive n (T.Choice' ty p test q first r second) → HasItsCode g.typed g.instance alive n test × HasItsCode g.typed g.instance alive n first × HasItsCode g.typed g.instance alive n second
+  unfolding IsShaped IsLowerable NamesVariables ScalarsAmong
+  choice_parts ty p q r test first second h = (
+    record { code = record { shaped = h.code.shaped.0; lowerable = h.code.lowerable.4; names = h.code.names.0 }; among = h.among.0 },
+    record { code = record { shaped = h.code.shaped.1; lowerable = h.code.lowerable.5; names = h.code.names.1 }; among = h.among.1 },
+    record { code = record { shaped = h.code.shaped.2; lowerable = h.code.lowerable.6; names = h.code.names.2 }; among = h.among.2 },
+  )
 
   -- a scalar is one of its type
   pub promoted_small : (set : ℕ) (e : TExpr) (st : State) (s : CodeState) → Sim g alive st s → IsPromoted set e → HasItsCode g.typed g.instance alive n e → (q : ℕ) → value_in (extents g set) st e q < 2 ^ (type_of e).elem.bits
@@ -121,6 +129,17 @@ module _ (g : Setting) (alive : Variable → Type 0) (n : ℕ) (places : PlacesF
       by : IsOperation op right ⊎ IsRelation set op left right → value_in (extents g set) st left q < 2 ^ 32 → value_in (extents g set) st right q < 2 ^ 32 → outcome op 32 (not (type_of left).elem.signed) (value_in (extents g set) st left q) (value_in (extents g set) st right q) < 2 ^ 32
       by (inl h) one other = operation_below op (type_of left).elem.signed (value_in (extents g set) st left q) (value_in (extents g set) st right q) h.0 one other
       by (inr h) one other = subst (λ (w : ℕ). w < 2 ^ 32) (sym (is_truth op 32 (not (type_of left).elem.signed) (value_in (extents g set) st left q) (value_in (extents g set) st right q) h.0)) (from_bool_below _)
+  value_small set (T.Choice' ty p test b first r second) st s sim is c q =
+      let parts = choice_parts ty p b r test first second c in
+      below_bits ty.elem.bits _ is.0.1 (chosen (nonzero (value_in (extents g set) st test q)) _ _ (arm first is.2 is.4 parts.1 (λ pure. value_small set first st s sim pure parts.1 q)) (arm second is.3 is.5 parts.2 (λ pure. value_small set second st s sim pure parts.2 q)))
+    where
+      chosen : (b : Bool) (v w : ℕ) → v < 2 ^ 32 → w < 2 ^ 32 → (if b then v else w) < 2 ^ 32
+      chosen true v w one other = one
+      chosen false v w one other = other
+
+      arm : (e : TExpr) → IsPure set e ⊎ IsPromoted set e → IsWide set (type_of e) → HasItsCode g.typed g.instance alive n e → (IsPure set e → value_in (extents g set) st e q < 2 ^ (type_of e).elem.bits) → value_in (extents g set) st e q < 2 ^ 32
+      arm e (inl pure) wide code small = below_word (type_of e).elem.bits _ wide.1 (small pure)
+      arm e (inr promoted) wide code small = below_word (type_of e).elem.bits _ wide.1 (promoted_small set e st s sim promoted code q)
   value_small set (T.Convert' ty p operand) st s sim is c q = converted_below ty.elem (type_of operand).elem (value_in (extents g set) st operand q)
   value_small set (T.Pcoord ty axis) st s sim is c q = below_bits ty.elem.bits _ is.1 (places.few set axis q)
   value_small set (T.LeftIndex' ty place p indexes (V.File k) of) st s sim is c q =

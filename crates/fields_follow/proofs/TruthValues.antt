@@ -134,6 +134,7 @@ truth_or_plain set bits (T.Binary' ty place op p left q right) is = by is.1
     by : IsOperation op right ⊎ IsRelation set op left right → IsTruth set bits (T.Binary' ty place op p left q right) ⊎ IsPlain bits (T.Binary' ty place op p left q right)
     by (inl operation) = inr operation.0
     by (inr relation) = inl (relation.0, is)
+truth_or_plain set bits (T.Choice' ty p test q first r second) is = inr tt
 truth_or_plain set bits (T.Variable ty x) is = inr tt
 truth_or_plain set bits (T.Pcoord ty axis) is = inr tt
 truth_or_plain set bits (T.LeftIndex' ty place p indexes x of) is = inr tt

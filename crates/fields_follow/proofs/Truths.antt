@@ -56,10 +56,10 @@ joined_bits false false false len = refl
 
 module _ (g : Setting) (alive : Variable → Type 0) (places : PlacesFields g) (fields : HoldsTheFields g) where
   -- what the state is for the fields alone
-  fields_sim : (st : State) (s : CodeState) → Sim g alive st s → Sim (under g fields.active) alive st s
+  pub fields_sim : (st : State) (s : CodeState) → Sim g alive st s → Sim (under g fields.active) alive st s
   fields_sim st s h = sim_saying g alive st s s.at s.memory (fields.opens (OpenAmong g alive) s.at st s.memory h.memory) h
 
-  whole_sim : (st : State) (s : CodeState) → Sim (under g fields.active) alive st s → Sim g alive st s
+  pub whole_sim : (st : State) (s : CodeState) → Sim (under g fields.active) alive st s → Sim g alive st s
   whole_sim st s h = sim_saying g alive st s s.at s.memory (fields.closes (OpenAmong g alive) s.at st s.memory h.memory) h
 
   -- Code of conditions gives a field that is zero where these numbers are, if an instruction behind it names the field.
@@ -90,6 +90,23 @@ module _ (g : Setting) (alive : Variable → Type 0) (places : PlacesFields g) (
   truth_still d e e2 s set st v f used last one two wanted named late q below = one.lasts two.t last two.sim (λ h first p new inside own ends before early there. two.stays wanted h first last p inside own ends before early there late) named
       (let longer = code_longer e e2 two.grown.0 two.grown.1 in omega (arith, longer, late)) (let there = two.at.stands in omega (arith, there, late)) q below
 
+  -- what code gives lasts to where the field is named, where own entries do
+  pub field_lasts : (bits : ℕ) (d : Draft) (s : CodeState) (set : ℕ) (st : State) (v : ℕ → ℕ) (f : Field) (e : Draft) → (h : GivesField g alive bits (length d.fields) d s set st v f e) → (t : CodeState) (last : ℕ) → Sim g alive st t → Stays d e h.passes.t t last → IsNamedAt g.unit f.offset last → length e.code ≤ last → t.at ≤ start g + last
+      → (q : ℕ) → q < processors (shapes g) set → number_in g f t q ≡ number_in g f h.passes.t q
+  field_lasts bits d s set st v f e h t last sim stays named early late q below = by h.stands
+    where
+      of : (f.set ≡ set) × (set < length (shapes g)) × (f.len ≡ bits)
+      of = gives_set g alive places fields bits (length d.fields) d s set st v f e h
+
+      by : Stands g alive bits (length d.fields) e set f h.passes.t st v → number_in g f t q ≡ number_in g f h.passes.t q
+      by (inl own) =
+          first_there g alive places fields set f own.long st t sim of.0 of.1 own.fits own.ends q below
+          ∙ ap (λ (m : ℕ). m % 2 ^ f.len) (stays (record f { len = own.long }) own.somewhere q own.newer own.older own.own own.ends own.named own.before named)
+          ∙ sym (first_there g alive places fields set f own.long st h.passes.t h.passes.sim of.0 of.1 own.fits own.ends q below)
+      by (inr variable) =
+          (in_variable_numbers g alive places fields bits set f st v t variable sim last named late q below).0
+          ∙ sym (in_variable_numbers g alive places fields bits set f st v h.passes.t variable h.passes.sim last named (let there = h.passes.at.stands in omega (arith, there, early)) q below).0
+
   -- a field of one bit of a value that is zero where its lowest bit is, apart from wider variables
   pub field_truth : (d : Draft) (s : CodeState) (set : ℕ) (st : State) (v u : ℕ → ℕ) (f : Field) (e : Draft) → ((q : ℕ) → q < processors (shapes g) set → (v q % 2 ^ 1 == 0) ≡ (u q == 0)) → IsApart g set f → GivesField g alive 1 (length d.fields) d s set st v f e → GivesTruth d s set st u f e
   unfolding tests_passed
@@ -101,7 +118,7 @@ module _ (g : Setting) (alive : Variable → Type 0) (places : PlacesFields g) (
     are = λ behind q below on.
         (gives_numbers g alive places fields 1 (length d.fields) d s set st v f e h behind).are q below (flags_of g alive places fields st h.passes.t set q h.passes.sim of.1 below ∙ on)
         ∙ is_bit (v q % 2 ^ 1) (mod_below (v q) (2 ^ 1) (omega arith)) (u q == 0) (same q below);
-    lasts = λ t last sim stays named early late q below. by h.stands t last sim stays named early late q below;
+    lasts = λ t last sim stays named early late q below. field_lasts 1 d s set st v f e h t last sim stays named early late q below;
     apart = apart;
   }
     where
@@ -111,15 +128,6 @@ module _ (g : Setting) (alive : Variable → Type 0) (places : PlacesFields g) (
       is_bit : (n : ℕ) → n < 2 ^ 1 → (b : Bool) → (n == 0) ≡ b → n ≡ from_bool (not b)
       is_bit n few true e = grind (arith, nat_tests, few, e)
       is_bit n few false e = grind (arith, nat_tests, few, e)
-
-      by : Stands g alive 1 (length d.fields) e set f h.passes.t st v → (t : CodeState) (last : ℕ) → Sim g alive st t → Stays d e h.passes.t t last → IsNamedAt g.unit f.offset last → length e.code ≤ last → t.at ≤ start g + last → (q : ℕ) → q < processors (shapes g) set → number_in g f t q ≡ number_in g f h.passes.t q
-      by (inl own) t last sim stays named early late q below =
-          first_there g alive places fields set f own.long st t sim of.0 of.1 own.fits own.ends q below
-          ∙ ap (λ (m : ℕ). m % 2 ^ f.len) (stays (record f { len = own.long }) own.somewhere q own.newer own.older own.own own.ends own.named own.before named)
-          ∙ sym (first_there g alive places fields set f own.long st h.passes.t h.passes.sim of.0 of.1 own.fits own.ends q below)
-      by (inr variable) t last sim stays named early late q below =
-          (in_variable_numbers g alive places fields 1 set f st v t variable sim last named late q below).0
-          ∙ sym (in_variable_numbers g alive places fields 1 set f st v h.passes.t variable h.passes.sim last named (let there = h.passes.at.stands in omega (arith, there, early)) q below).0
 
   pub truth_told : (d : Draft) (s : CodeState) (set : ℕ) (st : State) (v : ℕ → ℕ) (f : Field) (e : Draft) → GivesTruth d s set st v f e → GivesTold d s set st v f e
   truth_told d s set st v f e h = record {

@@ -2,7 +2,8 @@
 -- expressions are pure ones, of variables of the file of all types, gets from neighbours round the ends of the grid and by
 -- indexes that are such expressions, own coordinates, truth values of such expressions, and promoted scalars, which are
 -- computed by operators, conversions, casts and `?:`, and change nothing; they fail where a divisor is 0 at an active
--- position, or that of a scalar is, or where an index does not lie within its extent at one, and nowhere else. They are
+-- position, or that of a scalar is, or where an index does not lie within its extent at one, and nowhere else. The
+-- condition of `?:` may be parallel too: each of the other operands then fails only where it is chosen. They are
 -- assigned to such variables and folded into numbers and onto scalar variables, as scans of them and of ones with
 -- operators on these are, and they are the conditions of `where`. Folds and scans are of the active positions.
 -- They are sent to such variables at such indexes, without an operator.
@@ -122,7 +123,7 @@ AreWrapping set axis end_of-TExpr = Unit {0}
 AreWrapping set axis (more_of-TExpr index rest) = IsWrapping set axis index × AreWrapping set (axis + 1) rest
 
 -- a value whose narrow type is that of a variable or of a conversion, one of truth values, or that of two such values that
--- are joined bit by bit
+-- are joined bit by bit or of which one is chosen
 unfoldable pub IsNarrowed : TExpr → Type 0
 IsNarrowed (T.Variable ty x) = Unit {0}
 IsNarrowed (T.LeftIndex' ty place p indexes x of) = Unit {0}
@@ -132,6 +133,7 @@ IsNarrowed (T.Unary' ty op p operand) = negates op ≡ true
 IsNarrowed (T.LogicalOr' ty p left q right) = Unit {0}
 IsNarrowed (T.LogicalAnd' ty p left q right) = Unit {0}
 IsNarrowed (T.Binary' ty place op p left q right) = (relates op ≡ true) ⊎ ((is_bitwise op ≡ true) × IsNarrowed left × IsNarrowed right)
+IsNarrowed (T.Choice' ty p test q first r second) = IsNarrowed first × IsNarrowed second
 IsNarrowed _ = ⊥
 
 -- one of which no type of fewer than 32 bits is known, or one of such a type
@@ -150,7 +152,8 @@ IsRelation set op left right = (relates op ≡ true) × (HasKnownKind left ⊎ I
 -- which narrower values are converted. Truth values are relations, `!`, conversions to `bool`, and two values that are
 -- joined by `&&` or `||`: the right one of these ignores the context: it has no get and no quotient, not even one of constants.
 -- A get goes round the ends of the grid, or its indexes are such expressions, which fail where they do not lie within the
--- extents at an active position.
+-- extents at an active position. `?:` chooses one of two values at each position, which may be promoted, and each is
+-- computed where it is chosen.
 unfoldable mutual
   pub IsPure : ℕ → TExpr → Type 0
   IsPure set (T.Variable ty (V.File k)) = ty.shape ≡ Some set
@@ -160,6 +163,7 @@ unfoldable mutual
   IsPure set (T.LogicalAnd' ty p left q right) = IsWide set ty × (IsPure set left × HasKnownKind left) × (IsPure set right × HasKnownKind right) × (ignores_context right ≡ true)
   IsPure set (T.Binary' ty place op p left q right) =
       IsWide set ty × (IsOperation op right ⊎ IsRelation set op left right) × ((IsPure set left × (IsPure set right ⊎ IsPromoted set right)) ⊎ (IsPromoted set left × IsPure set right)) × IsWide set (type_of left) × IsWide set (type_of right)
+  IsPure set (T.Choice' ty p test q first r second) = IsWide set ty × (IsPure set test × HasKnownKind test) × (IsPure set first ⊎ IsPromoted set first) × (IsPure set second ⊎ IsPromoted set second) × IsWide set (type_of first) × IsWide set (type_of second)
   IsPure set (T.Convert' ty p operand) = (ty.shape ≡ Some set) × (((ty.elem.bits == 1) ≡ false) ⊎ ((ty.elem.bits ≡ 1) × HasKnownKind operand)) × IsPure set operand
   IsPure set (T.Pcoord ty axis) = IsWide set ty
   IsPure set (T.LeftIndex' ty place p indexes (V.File k) of) = (ty.shape ≡ Some set) × (of ≡ set) × (AreWrapping set 0 indexes ⊎ ((all_go_by_news set 0 (items-the_row-TExpr _ indexes) ≡ false) × ArePure set indexes))

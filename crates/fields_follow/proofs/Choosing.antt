@@ -1,0 +1,458 @@
+-- The code of `?:` of parallel values leaves the lowest bits of its words in a field: it saves the context, puts the first
+-- operand in the field where the condition holds, and the second one elsewhere.
+use Rattle.std.proofs.Common.{◌≡◌, ◌∙◌, ℕ, ◌+◌, ◌<◌, ◌≤◌, ◌%◌, ◌^◌, ◌==◌, ◌||◌, ◌⊎◌, inl, inr, Bool, true, false, not, List, [], length, slice_index, Option, refl, sym, ap, subst, arith, if◌then◌else◌}
+use Rattle.std.specs.Int.{from_bool}
+use Rattle.cstar_tree.specs.declared.typed.TExpr.{TExpr}
+use Rattle.cstar_tree.specs.declared.typed.TExpr as T
+use Rattle.cstar_tree.specs.declared.typed.ValueType.{ValueType}
+use Rattle.cstar_tree.specs.declared.typed.Variable.{Variable}
+use Rattle.cstar_tree.specs.Typed.{type_of}
+use Rattle.code_lengths.specs.Ready.{IsReadyButForFields}
+use Rattle.lower_base.specs.declared.emit.Out.{Out}
+use Rattle.lower_base.specs.declared.emit.Out.TheVariants as O
+use Rattle.lower_base.specs.Drafts.{Draft, Made, Makes, an_entry, fresh_for, in_field, step as step_of, then_make, with_instr}
+use Rattle.lower_base.specs.Kinds.{bits_of, kind_of}
+use Rattle.lower_expr.specs.Lengths.{arm_length_of}
+use Rattle.lower_expr.specs.Operands.{is_quiet, operand_by}
+use Rattle.lower_expr.specs.Values.{arm_by, choice_by, limited, narrowed_by, parallel_choice_by, turned_over, value_of}
+use Rattle.paris_code.specs.declared.instr.Instr.TheVariants as I
+use Rattle.paris_code.specs.declared.operands.Field.{Field}
+use Rattle.paris_code.specs.declared.program.Owner.TheVariants as W
+use Rattle.paris_code.specs.Code.{CodeState}
+use Rattle.paris_code.specs.Memory.{is_active, processors}
+use Rattle.paris_code.specs.Spans.{IsNamedAt}
+use Rattle.source_meaning.specs.Expressions.{evaluated}
+use Rattle.source_meaning.specs.Narrowing.{choose}
+use Rattle.source_meaning.specs.State as Source
+use Rattle.source_meaning.specs.State.{Outcome, State, then_do}
+use Rattle.source_meaning.specs.Values.{Active, Parallel, Value, at, nonzero}
+use Rattle.source_meaning.proofs.ConstantLaws.{Boxed}
+use Rattle.code_follows.proofs.Following.{Extends, Follows, HasRegisters, Sim, extends_made, extends_then, keeps_less, keeps_on}
+use Rattle.code_follows.proofs.Growing.{Extended, as_it_was, extended}
+use Rattle.code_follows.proofs.Settings.{Reaches, Setting, Within, and_one, code_more, earlier, layout, onto, start}
+use Rattle.fields_follow.specs.Fragment.{HasItsKind, IsPromoted, IsPure, IsWide}
+use Rattle.fields_follow.proofs.Arms.{arm, arm_grows, arm_last, words_of}
+use Rattle.fields_follow.proofs.Expressions.{Answers, IsMeant, IsValued, operand_at}
+use Rattle.fields_follow.proofs.Flags.{Stored, store_context}
+use Rattle.fields_follow.proofs.Forms.{HasItsCode, pure_kept}
+use Rattle.fields_follow.proofs.Halves.{Halved, IsMeantUnder, Ready, after_delayed, half, half_after, named_apart, narrowed_more}
+use Rattle.fields_follow.proofs.Instructions.{extents, number_in, shapes}
+use Rattle.fields_follow.proofs.Leaving.{fields_under, places_under, registers_under, under}
+use Rattle.fields_follow.proofs.Meaning.{value_in, word_at}
+use Rattle.fields_follow.proofs.NarrowKinds.{zero_told}
+use Rattle.fields_follow.proofs.Narrowing.{among, among_active, others, others_active}
+use Rattle.fields_follow.proofs.Outcomes.{Ended, Given, Known, ended_back, ended_on, known_follows, meant, then_known}
+use Rattle.fields_follow.proofs.Passing.{After, GivesField, after_same, code_longer, fields_longer, flags_of, gives_numbers, gives_set, made_after}
+use Rattle.fields_follow.proofs.Places.{HoldsTheFields, IsOwnField, PlacesFields, names_first, stands_here}
+use Rattle.fields_follow.proofs.Pure.{choice_means, choice_so}
+use Rattle.fields_follow.proofs.Relations.{kind_some, relation_most}
+use Rattle.fields_follow.proofs.Sizes.{choice_parts, pure_at}
+use Rattle.fields_follow.proofs.Starts.{Starts, starts_next}
+use Rattle.fields_follow.proofs.TestFlags.{Tells, numbers_tell}
+use Rattle.fields_follow.proofs.Truths.{Stays, field_lasts, fields_sim, whole_sim}
+use Rattle.fields_follow.proofs.Values.{Gives, IsFlag, and_entry, next_field, one_more, operand_after, operand_of, taken, with_entry}
+
+module _ (g : Setting) (has : HasRegisters g) (alive : Variable → Type 0) (n : ℕ) (ready : (d : Draft) → IsReadyButForFields g.typed g.instance (layout g) n d) (places : PlacesFields g) (fields : HoldsTheFields g) where
+  abbrev number : ℕ → TExpr → State → ℕ → ℕ
+  number set e st = λ q. value_in (extents g set) st e q
+
+  -- the code of so many bits of a value where these positions are active
+  abbrev pub IsValuedUnder : ℕ → ℕ → Active → TExpr → Type 0
+  IsValuedUnder bits set b e = IsValued (under g b) (registers_under g b has) alive n ready (places_under g b places) (fields_under g b fields.scope fields.same_extents) bits set e
+
+  nothing_more : (x : Out) (e : Draft) → Extends g e (Makes x e)
+  unfolding Extends
+  nothing_more x e = (0, as_it_was e)
+
+  module _ (bits set : ℕ) (ty : ValueType) (p q r : Boxed) (test first second : TExpr) (is : IsPure set (T.Choice' ty p test q first r second)) (c : HasItsCode g.typed g.instance alive n (T.Choice' ty p test q first r second)) (wide : IsWide set ty) (kinded : HasItsKind set test)
+      (is_first : IsPure set first ⊎ IsPromoted set first) (is_second : IsPure set second ⊎ IsPromoted set second) (wide_first : IsWide set (type_of first)) (wide_second : IsWide set (type_of second)) where
+    abbrev whole : TExpr
+    whole = T.Choice' ty p test q first r second
+
+    parts : HasItsCode g.typed g.instance alive n test × HasItsCode g.typed g.instance alive n first × HasItsCode g.typed g.instance alive n second
+    parts = choice_parts g alive n places fields ty p q r test first second c
+
+    -- its condition is read at the bits that it has
+    abbrev known : ℕ
+    known = bits_of (kind_of test)
+
+    abbrev tested : Draft → Made Out
+    tested e = operand_of g has alive n ready places fields known (is_quiet first) test e
+
+    -- the words are those of the operand that is chosen
+    choice_at : (st : State) (s : CodeState) → Sim g alive st s → (x : ℕ) → word_at (extents g set) st whole x ≡ (if nonzero (value_in (extents g set) st test x) then word_at (extents g set) st first x else word_at (extents g set) st second x)
+    unfolding value_in
+    choice_at st s sim x =
+        pure_at g alive n places fields set whole st s sim is wide c x
+        ∙ ap (λ (m : ℕ). if nonzero (value_in (extents g set) st test x) then m else value_in (extents g set) st second x) (sym (operand_at g has alive n ready places fields set first st s sim is_first wide_first parts.1 x))
+        ∙ ap (λ (m : ℕ). if nonzero (value_in (extents g set) st test x) then word_at (extents g set) st first x else m) (sym (operand_at g has alive n ready places fields set second st s sim is_second wide_second parts.2 x))
+
+    choice_given : (st : State) → IsMeant g has alive n ready places fields set test st → IsMeantUnder g has alive n ready places fields (among set (number set test st) fields.active) set first st → IsMeantUnder g has alive n ready places fields (others set (number set test st) fields.active) set second st
+        → IsMeant g has alive n ready places fields set whole st
+    unfolding value_in
+    choice_given st tests one other = choice_means fields.scope fields.active set ty p q r test first second (number set test st) (number set first st) (number set second st) st kinded.0 tests one other
+
+    -- it ends where its condition does, or an operand where it is chosen
+    test_ended : (s : CodeState) (st : State) → Ended g s (meant g fields test st) → Ended g s (meant g fields whole st)
+    unfolding evaluated
+    test_ended s st early = ended_on g s (meant g fields test st) (λ v after. choose (type_of test).shape v (λ a u. evaluated fields.scope first a u) (λ a u. evaluated fields.scope second a u) fields.active after) early
+
+    first_ended : (s : CodeState) (st : State) → IsMeant g has alive n ready places fields set test st → Ended g s (evaluated fields.scope first (among set (number set test st) fields.active) st) → Ended g s (meant g fields whole st)
+    first_ended s st tests early =
+        subst (λ (o : Outcome Value). Ended g s o) (sym (choice_so fields.scope fields.active set ty p q r test first second (number set test st) st kinded.0 tests))
+        (ended_on g s (evaluated fields.scope first (among set (number set test st) fields.active) st) (λ a between. then_do (evaluated fields.scope second (others set (number set test st) fields.active) between) (λ b after. Source.Gives (Parallel (λ x. if nonzero (number set test st x) then at a x else at b x)) after)) early)
+
+    second_ended : (s : CodeState) (st : State) → IsMeant g has alive n ready places fields set test st → IsMeantUnder g has alive n ready places fields (among set (number set test st) fields.active) set first st → Ended g s (evaluated fields.scope second (others set (number set test st) fields.active) st) → Ended g s (meant g fields whole st)
+    unfolding then_do at
+    second_ended s st tests one early =
+        subst (λ (o : Outcome Value). Ended g s o)
+        (sym (choice_so fields.scope fields.active set ty p q r test first second (number set test st) st kinded.0 tests
+        ∙ ap (λ (o : Outcome Value). then_do o (λ y between. then_do (evaluated fields.scope second (others set (number set test st) fields.active) between) (λ z after. Source.Gives (Parallel (λ x. if nonzero (number set test st x) then at y x else at z x)) after))) one))
+        (ended_on g s (evaluated fields.scope second (others set (number set test st) fields.active) st) (λ z after. Source.Gives (Parallel (λ x. if nonzero (number set test st x) then number set first st x else at z x)) after) early)
+
+    -- ---- what the code is
+
+    abbrev first_code : Field → Draft → Made Out
+    first_code f e = arm g has alive n ready places fields f bits first e
+
+    abbrev second_code : Field → Draft → Made Out
+    second_code f e = arm g has alive n ready places fields f bits second e
+
+    first_grows : (f : Field) (e : Draft) → Extends g e (first_code f e)
+    first_grows f e = arm_grows g has alive n ready places fields f bits first parts.1 e
+
+    second_grows : (f : Field) (e : Draft) → Extends g e (second_code f e)
+    second_grows f e = arm_grows g has alive n ready places fields f bits second parts.2 e
+
+    -- where a half begins
+    abbrev turned : Bool → ℕ → Field → Draft → Draft
+    turned half_is_second of a e = narrowed_by half_is_second of (with_instr (I.NeZero a) e)
+
+    -- the second half, and both
+    abbrev second_half : Field → Field → ℕ → Field → Draft → Made Out
+    second_half f saved of a e = then_make (second_code f (turned true of a e)) (λ _ last. Makes (O.Field f) (with_instr (I.LoadContext saved) last))
+
+    abbrev halves : Field → Field → ℕ → Field → Draft → Made Out
+    halves f saved of a e = then_make (first_code f (turned false of a e)) (λ _ between. second_half f saved of a (with_instr (I.LoadContext saved) between))
+
+    -- what comes behind the condition
+    abbrev behind : Field → Field → Out → Draft → Made Out
+    behind f saved v e =
+        then_make (limited saved v e) (λ a third. then_make (first_code f third) (λ _ fourth. then_make (second_code f (turned_over saved a fourth)) (λ _ last. Makes (O.Field f) (with_instr (I.LoadContext saved) last))))
+
+    behind_is : (f saved a : Field) (e : Draft) → behind f saved (O.Field a) e ≡ halves f saved a.set a (with_instr (I.StoreContext saved) e)
+    unfolding limited in_field then_make turned_over
+    behind_is f saved a e = refl
+
+    second_half_grows : (f saved : Field) (of : ℕ) (a : Field) (e : Draft) → Extends g (with_instr (I.NeZero a) e) (second_half f saved of a e)
+    unfolding Extends
+    second_half_grows f saved of a e =
+        extends_made g (with_instr (I.NeZero a) e) (turned true of a e) 1 (second_half f saved of a e) (narrowed_more g alive places fields true of (with_instr (I.NeZero a) e))
+        (extends_then g (turned true of a e) (second_code f (turned true of a e)) (λ _ last. Makes (O.Field f) (with_instr (I.LoadContext saved) last)) (second_grows f (turned true of a e)) (λ _ last. (1, and_one g (I.LoadContext saved) last)))
+
+    second_grown : (f saved : Field) (of : ℕ) (a : Field) (e : Draft) → Extends g e (second_half f saved of a e)
+    second_grown f saved of a e = extends_made g e (with_instr (I.NeZero a) e) 1 (second_half f saved of a e) (and_one g (I.NeZero a) e) (second_half_grows f saved of a e)
+
+    halves_grow : (f saved : Field) (of : ℕ) (a : Field) (e : Draft) → Extends g (with_instr (I.NeZero a) e) (halves f saved of a e)
+    halves_grow f saved of a e =
+        extends_made g (with_instr (I.NeZero a) e) (turned false of a e) 1 (halves f saved of a e) (narrowed_more g alive places fields false of (with_instr (I.NeZero a) e))
+        (extends_then g (turned false of a e) (first_code f (turned false of a e)) (λ _ between. second_half f saved of a (with_instr (I.LoadContext saved) between)) (first_grows f (turned false of a e))
+        (λ _ between. extends_made g between (with_instr (I.LoadContext saved) between) 1 (second_half f saved of a (with_instr (I.LoadContext saved) between)) (and_one g (I.LoadContext saved) between) (second_grown f saved of a (with_instr (I.LoadContext saved) between))))
+
+    behind_grows : (f saved : Field) (v : Out) (e : Draft) → Extends g e (behind f saved v e)
+    unfolding limited in_field then_make Extends
+    behind_grows f saved (O.Field a) e =
+        subst (λ (m : Made Out). Extends g e m) (sym (behind_is f saved a e))
+        (extends_made g e (with_instr (I.NeZero a) (with_instr (I.StoreContext saved) e)) 2 (halves f saved a.set a (with_instr (I.StoreContext saved) e))
+        (extended e (with_instr (I.StoreContext saved) e) (with_instr (I.NeZero a) (with_instr (I.StoreContext saved) e)) 1 1 (and_one g (I.StoreContext saved) e) (and_one g (I.NeZero a) (with_instr (I.StoreContext saved) e))) (halves_grow f saved a.set a (with_instr (I.StoreContext saved) e)))
+    behind_grows f saved (O.Scalar x) e = tt
+    behind_grows f saved O.Nothing e = tt
+
+    choice_code : (d : Draft) → value_of g.typed (layout g) bits whole d ≡ then_make (tested (with_entry set 1 W.Own (with_entry set bits W.Own d))) (λ v e. behind (next_field set bits d) (next_field set 1 (with_entry set bits W.Own d)) v e)
+    unfolding value_of choice_by fresh_for an_entry then_make parallel_choice_by in_field
+    choice_code d =
+        ap (λ (kept : Bool). choice_by ty bits kept (operand_by g.typed (layout g) known (value_of g.typed (layout g) known test) (kept || is_quiet first) test) (arm_by (operand_by g.typed (layout g) bits (value_of g.typed (layout g) bits first) true first) first)
+        (arm_by (operand_by g.typed (layout g) bits (value_of g.typed (layout g) bits second) true second) second) (arm_length_of g.typed (layout g) ty bits first) (arm_length_of g.typed (layout g) ty bits second) d) (pure_kept set test kinded.0)
+        ∙ ap (λ (o : Option ℕ). then_make (fresh_for o bits d) (λ dest after. parallel_choice_by dest (operand_by g.typed (layout g) known (value_of g.typed (layout g) known test) (is_quiet first) test) (arm_by (operand_by g.typed (layout g) bits (value_of g.typed (layout g) bits first) true first) first)
+        (arm_by (operand_by g.typed (layout g) bits (value_of g.typed (layout g) bits second) true second) second) after)) wide.0
+
+    -- ---- what it does
+
+    module _ (d : Draft) (s : CodeState) (st : State) (here : Starts g alive s (length d.code) d.regs) (sim : Sim g alive st s) where
+      abbrev taken_field : Draft
+      taken_field = with_entry set bits W.Own d
+
+      abbrev begun : Draft
+      begun = with_entry set 1 W.Own taken_field
+
+      abbrev f : Field
+      f = next_field set bits d
+
+      abbrev saved : Field
+      saved = next_field set 1 taken_field
+
+      abbrev v : ℕ → ℕ
+      v = number set test st
+
+      abbrev words : TExpr → ℕ → ℕ
+      words e = words_of g has alive n ready places fields set e st
+
+      abbrev Q : Out → Draft → Type 0
+      Q = Known g s (meant g fields whole st) (number set whole st) st (Answers g has alive n ready places fields (IsFlag whole) bits (length d.fields) d s set st (words whole))
+
+      -- behind the condition
+      module _ (a : Field) (e : Draft) (gives : GivesField g alive known (length begun.fields) begun s set st (words test) a e) (within : Within g (with_instr (I.NeZero a) (with_instr (I.StoreContext saved) e))) where
+        abbrev t : CodeState
+        t = gives.passes.t
+
+        abbrev saves : Draft
+        saves = with_instr (I.StoreContext saved) e
+
+        abbrev tests : Draft
+        tests = with_instr (I.NeZero a) saves
+
+        of : (a.set ≡ set) × (set < length (shapes g)) × (a.len ≡ known)
+        of = gives_set g alive places fields known (length begun.fields) begun s set st (words test) a e gives
+
+        within_saves : Within g saves
+        within_saves = earlier g saves tests 1 (and_one g (I.NeZero a) saves) within
+
+        longer : Extended begun (gives.passes.grown.0 + 2) tests
+        longer = extended begun e tests gives.passes.grown.0 2 gives.passes.grown.1 (extended e saves tests 1 1 (and_one g (I.StoreContext saved) e) (and_one g (I.NeZero a) saves))
+
+        own : IsOwnField g f
+        own = taken g set bits W.Own d tests (0 + (gives.passes.grown.0 + 2)) within (extended taken_field begun tests 0 (gives.passes.grown.0 + 2) (and_entry set 1 W.Own taken_field) longer)
+
+        own_saved : IsOwnField g saved
+        own_saved = taken g set 1 W.Own taken_field tests (gives.passes.grown.0 + 2) within longer
+
+        -- the entries that there are
+        entries : (length taken_field.fields ≡ length d.fields + 1) × (length begun.fields ≡ length d.fields + 1 + 1) × (length begun.fields ≤ length e.fields) × (length e.fields ≤ length saves.fields)
+        entries =
+            let one = one_more set bits W.Own d in
+            let two = one_more set 1 W.Own taken_field in
+            (one, omega (arith, one, two), fields_longer begun e gives.passes.grown.0 gives.passes.grown.1, fields_longer e saves 1 (and_one g (I.StoreContext saved) e))
+
+        saves_more : length saves.code ≡ length e.code + 1
+        saves_more = code_more g (I.StoreContext saved) e
+
+        named_test : IsNamedAt g.unit a.offset (length saves.code)
+        unfolding step_of
+        named_test = names_first g (I.NeZero a) a [] (length saves.code) (stands_here g (I.NeZero a) saves within refl) refl
+
+        named_saved : IsNamedAt g.unit saved.offset (length e.code)
+        unfolding step_of
+        named_saved = names_first g (I.StoreContext saved) saved [] (length e.code) (stands_here g (I.StoreContext saved) e within_saves refl) refl
+
+        stored : Stored g places alive fields.active set saved e (I.StoreContext saved) t st (λ x. Unit {0}) (λ x. from_bool (fields.active set x))
+        stored = store_context g places alive fields.active set saved e t st own_saved refl refl within_saves gives.passes.at.stands (fields_sim g alive places fields st t gives.passes.sim)
+
+        stored_sim : Sim g alive st stored.t
+        stored_sim = whole_sim g alive places fields st stored.t stored.sim
+
+        stored_here : Starts g alive stored.t (length saves.code) saves.regs
+        stored_here = starts_next g alive (I.StoreContext saved) e t stored.t stored.at gives.passes.at
+
+        stored_stays : (h : Field) (one last x : ℕ) → (h.offset ≡ saved.offset → ⊥) → IsOwnField g h → IsNamedAt g.unit h.offset one → one < length e.code → IsNamedAt g.unit h.offset last → length e.code < last → number_in g h stored.t x ≡ number_in g h t x
+        stored_stays h one last x differ own_h named early after late = stored.beside h x (named_apart g places h saved one (length e.code) last differ own_h own_saved of.1 named early after late named_saved)
+
+        -- the field of the condition tells where it holds, as long as it is named
+        told : Tells g set a t v
+        told =
+            let more = saves_more in
+            numbers_tell g known set a t (words test) v (λ x below. zero_told g alive n places fields set test st s sim kinded parts.0 x) (gives_numbers g alive places fields known (length begun.fields) begun s set st (words test) a e gives (length saves.code, (named_test, omega (arith, more))))
+
+        tells_at : (u : CodeState) (last : ℕ) → Sim g alive st u → IsNamedAt g.unit a.offset last → length e.code ≤ last → u.at ≤ start g + last → Stays g alive places fields begun e t u last → Tells g set a u v
+        tells_at u last sim_there named early late stays = (
+          of.0,
+          λ x below on.
+              ap (λ (m : ℕ). m == 0) (field_lasts g alive places fields known begun s set st (words test) a e gives u last sim_there stays named early late x below)
+              ∙ told.1 x below (flags_of g alive places fields st t set x gives.passes.sim of.1 below ∙ sym (flags_of g alive places fields st u set x sim_there of.1 below) ∙ on),
+        )
+
+        ready_first : Ready g has alive n ready places fields false set (length d.fields) bits saved a v first saves stored.t st
+        ready_first =
+            let l = entries in
+            let l0 = l.0 in
+            let l1 = l.1 in
+            let l2 = l.2 in
+            let l3 = l.3 in
+            let more = saves_more in
+            record {
+              here = stored_here;
+              sim = stored_sim;
+              tells = tells_at stored.t (length saves.code) stored_sim named_test (omega (arith, more)) (let at = stored.at in omega (arith, at)) (λ h one x newer older own_h ends named early after. stored_stays h one (length saves.code) x (λ same. omega (arith, same, newer, l0, l1)) own_h named early after (omega (arith, more)));
+              exists = of.1;
+              own = own;
+              inside = omega (arith, l1, l2, l3);
+              of_set = refl;
+              own_saved = own_saved;
+              saved_inside = omega (arith, l0, l1, l2, l3);
+              other = λ same. omega (arith, same, l0);
+              saved_ends = stored.ends;
+              somewhere = length e.code;
+              named = named_saved;
+              before = omega (arith, more);
+              saves = λ x below. stored.has x below tt;
+            }
+
+        -- behind the first half
+        module _ (e1 : Draft) (one : Halved g alive places fields set f saved (half false set v fields.active) (words first) saves e1 stored.t st) where
+          code_longer_so : length saves.code ≤ length e1.code
+          code_longer_so = code_longer saves e1 one.grown.0 one.grown.1
+
+          fields_longer_so : length saves.fields ≤ length e1.fields
+          fields_longer_so = fields_longer saves e1 one.grown.0 one.grown.1
+
+          ready_second : Within g (with_instr (I.NeZero a) e1) → Ready g has alive n ready places fields true set (length d.fields) bits saved a v second e1 one.t st
+          unfolding step_of
+          ready_second within_test =
+              let l = entries in
+              let l0 = l.0 in
+              let l1 = l.1 in
+              let l2 = l.2 in
+              let l3 = l.3 in
+              let more = saves_more in
+              let longer_code = code_longer_so in
+              let longer_fields = fields_longer_so in
+              record {
+                here = one.at;
+                sim = one.sim;
+                tells =
+                    tells_at one.t (length e1.code) one.sim (names_first g (I.NeZero a) a [] (length e1.code) (stands_here g (I.NeZero a) e1 within_test refl) refl) (omega (arith, more, longer_code)) (let at = one.at.stands in omega (arith, at))
+                    (λ h begin x newer older own_h ends named early after.
+                    one.stays h begin (length e1.code) x (omega (arith, older, l3)) (λ same. omega (arith, same, newer, l1)) own_h ends named (omega (arith, early, more)) after (omega arith)
+                    ∙ stored_stays h begin (length e1.code) x (λ same. omega (arith, same, newer, l0, l1)) own_h named early after (omega (arith, more, longer_code)));
+                exists = of.1;
+                own = own;
+                inside = omega (arith, l1, l2, l3, longer_fields);
+                of_set = refl;
+                own_saved = own_saved;
+                saved_inside = omega (arith, l0, l1, l2, l3, longer_fields);
+                other = λ same. omega (arith, same, l0);
+                saved_ends = stored.ends;
+                somewhere = length e.code;
+                named = named_saved;
+                before = omega (arith, more, longer_code);
+                saves = one.saves;
+              }
+
+          -- behind both
+          module _ (e2 : Draft) (two : Halved g alive places fields set f saved (half true set v fields.active) (words second) e1 e2 one.t st) where
+            go : Reaches g s two.t
+            go = onto g s t two.t gives.passes.go (onto g t stored.t two.t stored.go (onto g stored.t one.t two.t one.go two.go))
+
+            -- the field has the words where the positions are active
+            word_there : (x : ℕ) → x < processors (shapes g) set → is_active (shapes g) two.t.memory set x ≡ true → (number_in g f two.t x ≡ words whole x % 2 ^ bits) × (words whole x < 2 ^ 32)
+            word_there x below on = by (nonzero (v x)) refl
+              where
+                active : fields.active set x ≡ true
+                active = sym (flags_of g alive places fields st two.t set x two.sim of.1 below) ∙ on
+
+                is_word : words whole x ≡ (if nonzero (v x) then words first x else words second x)
+                is_word = choice_at st s sim x
+
+                with : (m : ℕ) → words whole x ≡ m → (number_in g f two.t x ≡ m % 2 ^ bits) × (m < 2 ^ 32) → (number_in g f two.t x ≡ words whole x % 2 ^ bits) × (words whole x < 2 ^ 32)
+                with m same h = subst (λ (y : ℕ). (number_in g f two.t x ≡ y % 2 ^ bits) × (y < 2 ^ 32)) (sym same) h
+
+                by : (b : Bool) → nonzero (v x) ≡ b → (number_in g f two.t x ≡ words whole x % 2 ^ bits) × (words whole x < 2 ^ 32)
+                by true holds =
+                    let first_on = one.puts x below (among_active set v fields.active x active ∙ holds) in
+                    with (words first x) (is_word ∙ ap (λ (b : Bool). if b then words first x else words second x) holds)
+                    (two.leaves one.somewhere one.named one.before x below (others_active set v fields.active x active ∙ ap not holds) ∙ first_on.0, first_on.1)
+                by false none = with (words second x) (is_word ∙ ap (λ (b : Bool). if b then words first x else words second x) none) (two.puts x below (others_active set v fields.active x active ∙ ap not none))
+
+            abbrev grown : ℕ
+            grown = gives.passes.grown.0 + (1 + (one.grown.0 + two.grown.0))
+
+            all_grown : Extended d (0 + grown) e2
+            all_grown =
+                extended d begun e2 0 grown (extended d taken_field begun 0 0 (and_entry set bits W.Own d) (and_entry set 1 W.Own taken_field))
+                (extended begun e e2 gives.passes.grown.0 (1 + (one.grown.0 + two.grown.0)) gives.passes.grown.1
+                (extended e saves e2 1 (one.grown.0 + two.grown.0) (and_one g (I.StoreContext saved) e) (extended saves e1 e2 one.grown.0 two.grown.0 one.grown.1 two.grown.1)))
+
+            answers : Answers g has alive n ready places fields (IsFlag whole) bits (length d.fields) d s set st (words whole) (O.Field f) e2
+            answers =
+                let l = entries in
+                let l0 = l.0 in
+                let l1 = l.1 in
+                let l2 = l.2 in
+                let l3 = l.3 in
+                let more = saves_more in
+                let longer_code = code_longer_so in
+                let longer_fields = fields_longer_so in
+                let last_code = code_longer e1 e2 two.grown.0 two.grown.1 in
+                let last_fields = fields_longer e1 e2 two.grown.0 two.grown.1 in
+                let first_code_longer = code_longer begun e gives.passes.grown.0 gives.passes.grown.1 in (
+                  f,
+                  (
+                    refl,
+                    (
+                      record {
+                        passes = record {
+                          grown = (0 + grown, all_grown);
+                          t = two.t;
+                          go = go;
+                          at = two.at;
+                          registers = λ x kept.
+                              keeps_on g d saves (0 + gives.passes.grown.0 + 1) s stored.t two.t (extended d e saves (0 + gives.passes.grown.0) 1 (extended d begun e 0 gives.passes.grown.0 (extended d taken_field begun 0 0 (and_entry set bits W.Own d) (and_entry set 1 W.Own taken_field)) gives.passes.grown.1) (and_one g (I.StoreContext saved) e))
+                              (λ y kept_so. ap (λ (registers : List ℕ). slice_index registers y) stored.registers ∙ keeps_less g d begun s t (omega arith) gives.passes.registers y kept_so) (keeps_on g saves e1 one.grown.0 stored.t one.t two.t one.grown.1 one.registers two.registers) x kept;
+                          sim = two.sim;
+                          stays = λ used h begin last x below own_h ends named early after late.
+                              two.stays h begin last x (omega (arith, below, l1, l2, l3, longer_fields)) (λ same. omega (arith, same, below)) own_h ends named (omega (arith, early, first_code_longer, more, longer_code)) after late
+                              ∙ one.stays h begin last x (omega (arith, below, l1, l2, l3)) (λ same. omega (arith, same, below)) own_h ends named (omega (arith, early, first_code_longer, more)) after (omega (arith, late, last_code))
+                              ∙ stored_stays h begin last x (λ same. omega (arith, same, below, l0)) own_h named (omega (arith, early, first_code_longer)) after (omega (arith, late, last_code, longer_code, more))
+                              ∙ gives.passes.stays (length saves.code, (named_test, omega (arith, more))) h begin last x (omega (arith, below, l1)) own_h ends named early after (omega (arith, late, last_code, longer_code, more));
+                        };
+                        stands = inl (record {
+                          long = bits;
+                          own = own;
+                          fits = omega arith;
+                          ends = two.ends;
+                          newer = omega arith;
+                          older = omega (arith, l1, l2, l3, longer_fields, last_fields);
+                          somewhere = one.somewhere;
+                          named = one.named;
+                          before = (let early = one.before in omega (arith, early, last_code));
+                          has = record { of_set = refl; exists = of.1; len = refl; are = λ x below on. (word_there x below on).0; small = λ x below on. (word_there x below on).1 };
+                        });
+                      },
+                      λ flag k info element wider. places.own_file k 0 set info f element own,
+                    ),
+                  ),
+                )
+
+      -- all of it
+      chosen : IsMeant g has alive n ready places fields set test st → ((b : Active) → IsPure set first → IsValuedUnder bits set b first) → ((b : Active) → IsPure set second → IsValuedUnder bits set b second)
+          → (a : Field) (e : Draft) (gives : GivesField g alive known (length begun.fields) begun s set st (words test) a e) → After g Q (halves f saved set a (with_instr (I.StoreContext saved) e))
+      chosen is_meant first_valued second_valued a e gives =
+          after_delayed g Q (with_instr (I.NeZero a) (with_instr (I.StoreContext saved) e)) (halves f saved set a (with_instr (I.StoreContext saved) e)) (halves_grow f saved set a (with_instr (I.StoreContext saved) e)) (λ within.
+          half_after g has alive n ready places fields false set (length d.fields) bits saved a v first (with_instr (I.StoreContext saved) e) (stored a e gives within).t st (ready_first a e gives within) (λ after. first_code f after) (λ after. first_grows f after)
+          (arm_last (under g (half false set v fields.active)) (registers_under g (half false set v fields.active) has) alive n ready (places_under g (half false set v fields.active) places) (fields_under g (half false set v fields.active) fields.scope fields.same_extents) set (length d.fields) bits first is_first parts.1 (first_valued (half false set v fields.active)))
+          Q (λ after. second_half f saved set a after) (λ after. second_grown f saved set a after)
+          (λ first_meant e1 within_one one.
+          after_delayed g Q (with_instr (I.NeZero a) e1) (second_half f saved set a e1) (second_half_grows f saved set a e1) (λ within_test.
+          half_after g has alive n ready places fields true set (length d.fields) bits saved a v second e1 one.t st (ready_second a e gives within e1 one within_test) (λ after. second_code f after) (λ after. second_grows f after)
+          (arm_last (under g (half true set v fields.active)) (registers_under g (half true set v fields.active) has) alive n ready (places_under g (half true set v fields.active) places) (fields_under g (half true set v fields.active) fields.scope fields.same_extents) set (length d.fields) bits second is_second parts.2 (second_valued (half true set v fields.active)))
+          Q (λ after. Makes (O.Field f) after) (λ after. nothing_more (O.Field f) after)
+          (λ second_meant e2 within_two two. made_after g Q (O.Field f) e2 (λ w. inl (choice_given st is_meant first_meant second_meant, answers a e gives within e1 one e2 two)))
+          (λ early x after. inr (second_ended s st is_meant first_meant (ended_back g s one.t (evaluated fields.scope second (others set v fields.active) st) (onto g s (stored a e gives within).t one.t (onto g s gives.passes.t (stored a e gives within).t gives.passes.go (stored a e gives within).go) one.go) early)))))
+          (λ early x after. inr (first_ended s st is_meant (ended_back g s (stored a e gives within).t (evaluated fields.scope first (among set v fields.active) st) (onto g s gives.passes.t (stored a e gives within).t gives.passes.go (stored a e gives within).go) early))))
+
+      choice_known : IsValued g has alive n ready places fields known set test → ((b : Active) → IsPure set first → IsValuedUnder bits set b first) → ((b : Active) → IsPure set second → IsValuedUnder bits set b second)
+          → Follows g (Given g (number set whole st) st (Answers g has alive n ready places fields (IsFlag whole) bits (length d.fields) d s set st (words whole))) s (meant g fields whole st) (value_of g.typed (layout g) bits whole d)
+      choice_known test_valued first_valued second_valued =
+          known_follows g s (meant g fields whole st) (number set whole st) st (Answers g has alive n ready places fields (IsFlag whole) bits (length d.fields) d s set st (words whole)) (value_of g.typed (layout g) bits whole d)
+          (after_same g Q (choice_code d)
+          (then_known g s (meant g fields test st) v st (Gives g has alive n ready places fields (IsFlag test) known (length begun.fields) begun s set st (words test)) Q (tested begun) (λ x e. behind f saved x e)
+          (operand_after g has alive n ready places fields known set test (is_quiet first) kinded.0 parts.0.code.names test_valued begun s st here sim) (λ x e. behind_grows f saved x e)
+          (λ is_meant x e (a, (is_a, (gives, apart))).
+          after_same g Q (ap (λ (o : Out). behind f saved o e) is_a ∙ behind_is f saved a e ∙ ap (λ (m : ℕ). halves f saved m a (with_instr (I.StoreContext saved) e)) (gives_set g alive places fields known (length begun.fields) begun s set st (words test) a e gives).0)
+          (chosen is_meant first_valued second_valued a e gives))
+          (λ early x e. inr (test_ended s st early))))
+
+  pub choice_valued : (bits set : ℕ) (ty : ValueType) (p q r : Boxed) (test first second : TExpr) → bits ≤ 32 → IsPure set (T.Choice' ty p test q first r second) → HasItsCode g.typed g.instance alive n (T.Choice' ty p test q first r second)
+      → ((k : ℕ) → 0 < k → k ≤ 32 → IsValued g has alive n ready places fields k set test) → ((b : Active) → IsPure set first → IsValuedUnder bits set b first) → ((b : Active) → IsPure set second → IsValuedUnder bits set b second) → IsValued g has alive n ready places fields bits set (T.Choice' ty p test q first r second)
+  unfolding IsPure
+  choice_valued bits set ty p q r test first second most is c tests first_valued second_valued d s st here sim =
+      choice_known bits set ty p q r test first second is c is.0 is.1 is.2 is.3 is.4 is.5 d s st here sim (tests (bits_of (kind_of test)) (kind_some (kind_of test)) (relation_most (kind_of test))) first_valued second_valued
