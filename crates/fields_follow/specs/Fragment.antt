@@ -7,6 +7,7 @@
 -- of `&&` and `||` does where the left one does not decide. They are
 -- assigned to such variables and folded into numbers and onto scalar variables, as scans of them and of ones with
 -- operators on these are, and they are the conditions of `where`. Folds and scans are of the active positions.
+-- They are sent to such variables at such indexes, without an operator.
 -- Scalars that change variables, by assignments, steps and `getchar`, are assigned to such variables too, also with
 -- operators.
 -- Blocks may have parallel variables without initialisers, which no expression names.
@@ -277,9 +278,24 @@ unfoldable pub IsFoldOnto : TExpr → Type 0
 IsFoldOnto (T.Assign' ty place op p target q value) = (ty ≡ type_of target) × IsScalarTarget target × ((reduction : ReduceOp) × ((op ≡ assignment_of reduction) × ((set : ℕ) × IsFolded set value)))
 IsFoldOnto _ = ⊥
 
+-- what is sent to: a variable of the file under a left index, of the current shape
+unfoldable pub IsSendTarget : ℕ → TExpr → Type 0
+IsSendTarget set (T.LeftIndex' ty place p indexes (V.File k) of) = (ty.shape ≡ Some set) × (of ≡ set) × ArePure set indexes
+IsSendTarget set (T.Brackets' ty p inner) = (ty ≡ type_of inner) × IsSendTarget set inner
+IsSendTarget set _ = ⊥
+
+-- without an operator a value of as many bits as the variable has
+abbrev pub IsSent : AssignOp → Elem → TExpr → Type 0
+IsSent op elem value = (op ≡ A.Set) × ((type_of value).elem.bits ≡ elem.bits)
+
+-- it is sent from each active position
+unfoldable pub IsSend : TExpr → Type 0
+IsSend (T.Assign' ty place op p target q value) = (ty ≡ type_of target) × IsSent op ty.elem value × ((set : ℕ) × (IsSendTarget set target × IsPure set value))
+IsSend _ = ⊥
+
 -- a parallel expression whose value is not used
 abbrev pub IsParallelEffect : TExpr → Type 0
-IsParallelEffect e = IsUpdate e ⊎ (IsFoldOnto e ⊎ (IsScanAssigned e ⊎ IsChangingAssigned e))
+IsParallelEffect e = IsUpdate e ⊎ (IsFoldOnto e ⊎ (IsScanAssigned e ⊎ (IsChangingAssigned e ⊎ IsSend e)))
 
 -- a parallel variable, which is no array
 abbrev pub IsParallelVariable : VarInfo → Type 0
