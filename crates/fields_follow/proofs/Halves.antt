@@ -50,9 +50,6 @@ half_beside false set v a q p differ = sym (among_beside set v a q p differ)
 half_beside true set v a q p differ = sym (others_beside set v a q p differ)
 
 module _ (g : Setting) where
-  within_again : (a : Active) (e : Draft) → Within (under g a) e → Within g e
-  within_again a e w = record { more = w.more; code = w.code; entries = w.entries; fields = w.fields; homes = w.homes; homes_are = w.homes_are; regs = w.regs; own = w.own; upto = w.upto }
-
   -- what is said of code holds where the draft before it is within the unit
   pub after_delayed : {A : Type 0} (Q : A → Draft → Type 0) (e : Draft) (made : Made A) → Extends g e made → (Within g e → After g Q made) → After g Q made
   unfolding After Extends

@@ -40,7 +40,7 @@ use Rattle.fields_follow.proofs.Flags.{Stored, store_context}
 use Rattle.fields_follow.proofs.Forms.{HasItsCode, pure_kept}
 use Rattle.fields_follow.proofs.Halves.{Halved, IsMeantUnder, Keeping, Leads, Narrows, after_delayed, after_under, ended_within, half, half_beside, halved, named_apart, narrowed_more, narrows}
 use Rattle.fields_follow.proofs.Instructions.{Puts, extents, number_in, puts_constant, shapes, word_in}
-use Rattle.fields_follow.proofs.Leaving.{fields_under, keeps_again, places_under, reaches_again, registers_under, starts_again, starts_under, under}
+use Rattle.fields_follow.proofs.Leaving.{fields_under, keeps_again, places_under, reaches_again, registers_under, starts_again, starts_under, under, within_under}
 use Rattle.fields_follow.proofs.Meaning.{value_in}
 use Rattle.fields_follow.proofs.Narrowing.{among, among_active, among_inactive, others, others_active, others_inactive}
 use Rattle.fields_follow.proofs.Outcomes.{Ended, Given, Known, after_all, ended_back, follows_known, known_follows, meant, then_known}
@@ -279,10 +279,7 @@ module _ (g : Setting) (has : HasRegisters g) (alive : Variable → Type 0) (n :
               -- it does not decide either
               right_there : Narrows (under g among_left) alive (places_under g among_left places) (fields_under g among_left fields.scope fields.same_extents) among_both after (narrow after) r.leaves.t st
               right_there =
-                  narrows (under g among_left) alive (places_under g among_left places) (fields_under g among_left fields.scope fields.same_extents) is_or set w after r.leaves.t st r.flags (within_there (narrow after) within_after) r.leaves.at.stands r.leaves.sim
-                where
-                  within_there : (x : Draft) → Within g x → Within (under g among_left) x
-                  within_there x h = record { more = h.more; code = h.code; entries = h.entries; fields = h.fields; homes = h.homes; homes_are = h.homes_are; regs = h.regs; own = h.own; upto = h.upto }
+                  narrows (under g among_left) alive (places_under g among_left places) (fields_under g among_left fields.scope fields.same_extents) is_or set w after r.leaves.t st r.flags (within_under g among_left within_after) r.leaves.at.stands r.leaves.sim
 
               leads : Leads g alive places fields among_both saves (narrow after) stored.t st
               leads =

@@ -35,6 +35,7 @@ use Rattle.lower_base.specs.Kinds.{is_bitwise, kind_of}
 use Rattle.lower_comm.specs.declared.news.NewsStep.{NewsStep}
 use Rattle.lower_comm.specs.News.{all_go_by_news, step_of}
 use Rattle.lower_expr.specs.Kinds.{operation_bits, relation_kind}
+use Rattle.lower_expr.specs.Steps.{is_kept, word_of}
 use Rattle.source_meaning.specs.Constants.{constant_of}
 use Rattle.source_meaning.specs.Values.{cast_type}
 use Rattle.code_follows.specs.Fragment.{Beside, IsOperand as OperatesOn, IsProgramBeside, IsScalarType, IsWord, IsIn, May}
@@ -122,8 +123,12 @@ unfoldable pub AreWrapping : {k : _} → ℕ → ℕ → Row_of-TExpr k → Type
 AreWrapping set axis end_of-TExpr = Unit {0}
 AreWrapping set axis (more_of-TExpr index rest) = IsWrapping set axis index × AreWrapping set (axis + 1) rest
 
--- a value whose narrow type is that of a variable or of a conversion, one of truth values, or that of two such values that
--- are joined bit by bit or of which one is chosen
+-- a promoted scalar that is computed
+abbrev pub IsSpread : TExpr → Type 0
+IsSpread e = (is_kept e ≡ true) × (word_of e ≡ None)
+
+-- a value whose narrow type is that of a variable or of a conversion, one of truth values, or that of two such values, or
+-- such scalars, that are joined bit by bit or of which one is chosen
 unfoldable pub IsNarrowed : TExpr → Type 0
 IsNarrowed (T.Variable ty x) = Unit {0}
 IsNarrowed (T.LeftIndex' ty place p indexes x of) = Unit {0}
@@ -132,8 +137,8 @@ IsNarrowed (T.Convert' ty p operand) = (kind_of operand ≡ None) ⊎ IsNarrowed
 IsNarrowed (T.Unary' ty op p operand) = negates op ≡ true
 IsNarrowed (T.LogicalOr' ty p left q right) = Unit {0}
 IsNarrowed (T.LogicalAnd' ty p left q right) = Unit {0}
-IsNarrowed (T.Binary' ty place op p left q right) = (relates op ≡ true) ⊎ ((is_bitwise op ≡ true) × IsNarrowed left × IsNarrowed right)
-IsNarrowed (T.Choice' ty p test q first r second) = IsNarrowed first × IsNarrowed second
+IsNarrowed (T.Binary' ty place op p left q right) = (relates op ≡ true) ⊎ ((is_bitwise op ≡ true) × (IsNarrowed left ⊎ IsSpread left) × (IsNarrowed right ⊎ IsSpread right))
+IsNarrowed (T.Choice' ty p test q first r second) = (IsNarrowed first ⊎ IsSpread first) × (IsNarrowed second ⊎ IsSpread second)
 IsNarrowed _ = ⊥
 
 -- one of which no type of fewer than 32 bits is known, or one of such a type
