@@ -34,6 +34,7 @@ use Rattle.fields_follow.proofs.Places.{HoldsTheFields}
 use Rattle.fields_follow.proofs.Reducing.{GivesNumber, number_to}
 use Rattle.fields_follow.proofs.ScanAssigning.{scans_leave}
 use Rattle.fields_follow.proofs.Reductions.{GivesRegister, fold_type, folds_give}
+use Rattle.fields_follow.proofs.Sends.{sends_leave}
 use Rattle.fields_follow.proofs.Starts.{Starts}
 use Rattle.fields_follow.proofs.ScalarOperating.{changing_leaves}
 
@@ -75,7 +76,7 @@ module _ (g : Setting) (scope : Scope) (active : Active) (known : KnowsFields g 
     abbrev there : HoldsTheFields (under g active)
     there = fields_under g active scope known.same_extents
 
-    -- an update, a fold onto a variable, or a scan or a scalar that is assigned
+    -- an update, a fold onto a variable, a scan or a scalar that is assigned, or a send
     effect_follows : IsParallelEffect e → Follows g (λ v u out f. Ran g alive d s u f) s (evaluated scope e active st) (effect_of g.typed (layout g) e d)
     effect_follows (inl is) =
         follows_so g scope active known (λ v u out f. Leaves (under g active) alive d f s u) (λ v u out f. Ran g alive d s u f) s (evaluated scope e active st) (effect_of g.typed (layout g) e d) (λ v u out f within leaves. leaves_ran f u within leaves)
@@ -83,7 +84,10 @@ module _ (g : Setting) (scope : Scope) (active : Active) (known : KnowsFields g 
     effect_follows (inr (inr (inl is))) =
         follows_so g scope active known (λ v u out f. Leaves (under g active) alive d f s u) (λ v u out f. Ran g alive d s u f) s (evaluated scope e active st) (effect_of g.typed (layout g) e d) (λ v u out f within leaves. leaves_ran f u within leaves)
         (scans_leave (under g active) (registers_under g active has) alive n ready (places_under g active known.places) there e is c d s st here (sim_open g scope active known alive st s sim))
-    effect_follows (inr (inr (inr is))) =
+    effect_follows (inr (inr (inr (inr is)))) =
+        follows_so g scope active known (λ v u out f. Leaves (under g active) alive d f s u) (λ v u out f. Ran g alive d s u f) s (evaluated scope e active st) (effect_of g.typed (layout g) e d) (λ v u out f within leaves. leaves_ran f u within leaves)
+        (sends_leave (under g active) (registers_under g active has) alive n ready (places_under g active known.places) there e is c d s st here (sim_open g scope active known alive st s sim))
+    effect_follows (inr (inr (inr (inl is)))) =
         follows_so g scope active known (λ v u out f. Leaves (under g active) alive d f s u) (λ v u out f. Ran g alive d s u f) s (evaluated scope e active st) (effect_of g.typed (layout g) e d) (λ v u out f within leaves. leaves_ran f u within leaves)
         (changing_leaves (under g active) (registers_under g active has) alive n ready (places_under g active known.places) there e is c d s st here (sim_open g scope active known alive st s sim))
     effect_follows (inr (inl is)) =

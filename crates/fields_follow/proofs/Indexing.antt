@@ -1,4 +1,4 @@
--- The code of the indexes of a get: each stands in a field behind it, where the source gives their values, or both end.
+-- The code of the indexes of a get, or of a send: each stands in a field behind it, where the source gives their values, or both end.
 use Rattle.std.proofs.Common.{◌≡◌, ◌∙◌, ℕ, ◌≤◌, Bool, false, List, [], ◌∷◌, ◌++◌, length, refl, ap, subst, arith, append_assoc, ◌⊎◌, inl, inr}
 use Rattle.cstar_tree.specs.declared.typed.TExpr.{TExpr, Row_of-TExpr, end_of-TExpr, more_of-TExpr}
 use Rattle.cstar_tree.specs.declared.typed.TExpr as T

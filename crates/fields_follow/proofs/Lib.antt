@@ -79,6 +79,10 @@ pub mod ScanForms
 pub mod ScanOperands
 pub mod Scanned
 pub mod Scans
+pub mod SendCode
+pub mod SendMeans
+pub mod Sends
+pub mod SendWrites
 pub mod Sizes
 pub mod Spreading
 pub mod Starts
@@ -89,6 +93,7 @@ pub mod TruthFields
 pub mod TruthPuts
 pub mod TruthValues
 pub mod Truths
+pub mod Undecided
 pub mod Updates
 pub mod Values
 pub mod Variables

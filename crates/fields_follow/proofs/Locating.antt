@@ -1,4 +1,4 @@
--- The indexes of a get are checked, and become the number of the position that they name: both end at the least active
+-- The indexes of a get, or of a send, are checked, and become the number of the position that they name: both end at the least active
 -- position at which one does not lie within its extent.
 use Rattle.std.proofs.Common.{◌≡◌, ◌∙◌, ℕ, zero, suc, ◌%◌, ◌<◌, ◌≤◌, ◌^◌, ◌&&◌, Bool, true, false, not, List, [], ◌∷◌, ◌++◌, Any, length, map, flat_map, Option, Some, None, refl, sym, ap, subst, arith, ◌⊎◌, inl, inr, if◌then◌else◌}
 use Rattle.std.proofs.lemmas.Bool.{cases_lt}

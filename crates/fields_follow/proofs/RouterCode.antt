@@ -39,7 +39,7 @@ unfolding goes_by_news out-TExpr Carrier.out
 routed ty place p indexes k set goes = ap (λ (xs : List TExpr). is_some ty.shape && all_go_by_news set 0 xs) (items_shown-the_row-TExpr-0 p indexes) ∙ right_false (is_some ty.shape) (all_go_by_news set 0 (items-the_row-TExpr _ indexes)) goes
 
 -- no position of a parallel one is known
-unknown : (t : Typed) (ty : ValueType) (place : Place) (p : _) (indexes : Row_of-TExpr _) (k set : ℕ) → ty.shape ≡ Some set → known_position t (T.LeftIndex' ty place p indexes (V.File k) set) ≡ None
+pub unknown : (t : Typed) (ty : ValueType) (place : Place) (p : _) (indexes : Row_of-TExpr _) (k set : ℕ) → ty.shape ≡ Some set → known_position t (T.LeftIndex' ty place p indexes (V.File k) set) ≡ None
 unfolding known_position out-TExpr Carrier.out
 unknown t ty place p indexes k set shaped = ap (λ (xs : List TExpr). if is_none ty.shape then position_in t set xs else None) (items_shown-the_row-TExpr-0 p indexes) ∙ ap (λ (o : Option ℕ). if is_none o then position_in t set (items-the_row-TExpr _ indexes) else None) shaped
 

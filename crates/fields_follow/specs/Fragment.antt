@@ -3,9 +3,11 @@
 -- indexes that are such expressions, own coordinates, truth values of such expressions, and promoted scalars, which are
 -- computed by operators, conversions, casts and `?:`, and change nothing; they fail where a divisor is 0 at an active
 -- position, or that of a scalar is, or where an index does not lie within its extent at one, and nowhere else. The
--- condition of `?:` may be parallel too: each of the other operands then fails only where it is chosen. They are
+-- condition of `?:` may be parallel too: each of the other operands then fails only where it is chosen, as the right one
+-- of `&&` and `||` does where the left one does not decide. They are
 -- assigned to such variables and folded into numbers and onto scalar variables, as scans of them and of ones with
 -- operators on these are, and they are the conditions of `where`. Folds and scans are of the active positions.
+-- They are sent to such variables at such indexes, without an operator.
 -- Scalars that change variables, by assignments, steps and `getchar`, are assigned to such variables too, also with
 -- operators.
 -- Blocks may have parallel variables without initialisers, which no expression names.
@@ -33,7 +35,7 @@ use Rattle.lower_base.specs.Kinds.{is_bitwise, kind_of}
 use Rattle.lower_comm.specs.declared.news.NewsStep.{NewsStep}
 use Rattle.lower_comm.specs.News.{all_go_by_news, step_of}
 use Rattle.lower_expr.specs.Kinds.{operation_bits, relation_kind}
-use Rattle.lower_expr.specs.Operands.{ignores_context}
+use Rattle.lower_expr.specs.Steps.{is_kept, word_of}
 use Rattle.source_meaning.specs.Constants.{constant_of}
 use Rattle.source_meaning.specs.Values.{cast_type}
 use Rattle.code_follows.specs.Fragment.{Beside, IsOperand as OperatesOn, IsProgramBeside, IsScalarType, IsWord, IsIn, May}
@@ -121,8 +123,12 @@ unfoldable pub AreWrapping : {k : _} → ℕ → ℕ → Row_of-TExpr k → Type
 AreWrapping set axis end_of-TExpr = Unit {0}
 AreWrapping set axis (more_of-TExpr index rest) = IsWrapping set axis index × AreWrapping set (axis + 1) rest
 
--- a value whose narrow type is that of a variable or of a conversion, one of truth values, or that of two such values that
--- are joined bit by bit or of which one is chosen
+-- a promoted scalar that is computed
+abbrev pub IsSpread : TExpr → Type 0
+IsSpread e = (is_kept e ≡ true) × (word_of e ≡ None)
+
+-- a value whose narrow type is that of a variable or of a conversion, one of truth values, or that of two such values, or
+-- such scalars, that are joined bit by bit or of which one is chosen
 unfoldable pub IsNarrowed : TExpr → Type 0
 IsNarrowed (T.Variable ty x) = Unit {0}
 IsNarrowed (T.LeftIndex' ty place p indexes x of) = Unit {0}
@@ -131,8 +137,8 @@ IsNarrowed (T.Convert' ty p operand) = (kind_of operand ≡ None) ⊎ IsNarrowed
 IsNarrowed (T.Unary' ty op p operand) = negates op ≡ true
 IsNarrowed (T.LogicalOr' ty p left q right) = Unit {0}
 IsNarrowed (T.LogicalAnd' ty p left q right) = Unit {0}
-IsNarrowed (T.Binary' ty place op p left q right) = (relates op ≡ true) ⊎ ((is_bitwise op ≡ true) × IsNarrowed left × IsNarrowed right)
-IsNarrowed (T.Choice' ty p test q first r second) = IsNarrowed first × IsNarrowed second
+IsNarrowed (T.Binary' ty place op p left q right) = (relates op ≡ true) ⊎ ((is_bitwise op ≡ true) × (IsNarrowed left ⊎ IsSpread left) × (IsNarrowed right ⊎ IsSpread right))
+IsNarrowed (T.Choice' ty p test q first r second) = (IsNarrowed first ⊎ IsSpread first) × (IsNarrowed second ⊎ IsSpread second)
 IsNarrowed _ = ⊥
 
 -- one of which no type of fewer than 32 bits is known, or one of such a type
@@ -149,7 +155,7 @@ IsRelation set op left right = (relates op ≡ true) × (HasKnownKind left ⊎ I
 
 -- A parallel expression that is not promoted; of an operator's two operands one may be. Operators work at 32 bits, to
 -- which narrower values are converted. Truth values are relations, `!`, conversions to `bool`, and two values that are
--- joined by `&&` or `||`: the right one of these ignores the context: it has no get and no quotient, not even one of constants.
+-- joined by `&&` or `||`, of which the right one is computed where the left one does not decide.
 -- A get goes round the ends of the grid, or its indexes are such expressions, which fail where they do not lie within the
 -- extents at an active position. `?:` chooses one of two values at each position, which may be promoted, and each is
 -- computed where it is chosen.
@@ -158,8 +164,8 @@ unfoldable mutual
   IsPure set (T.Variable ty (V.File k)) = ty.shape ≡ Some set
   IsPure set (T.Brackets' ty p inner) = (ty ≡ type_of inner) × IsPure set inner
   IsPure set (T.Unary' ty op p operand) = IsWide set ty × (((negates op ≡ false) × IsWide set (type_of operand)) ⊎ ((negates op ≡ true) × HasKnownKind operand)) × IsPure set operand
-  IsPure set (T.LogicalOr' ty p left q right) = IsWide set ty × (IsPure set left × HasKnownKind left) × (IsPure set right × HasKnownKind right) × (ignores_context right ≡ true)
-  IsPure set (T.LogicalAnd' ty p left q right) = IsWide set ty × (IsPure set left × HasKnownKind left) × (IsPure set right × HasKnownKind right) × (ignores_context right ≡ true)
+  IsPure set (T.LogicalOr' ty p left q right) = IsWide set ty × (IsPure set left × HasKnownKind left) × (IsPure set right × HasKnownKind right)
+  IsPure set (T.LogicalAnd' ty p left q right) = IsWide set ty × (IsPure set left × HasKnownKind left) × (IsPure set right × HasKnownKind right)
   IsPure set (T.Binary' ty place op p left q right) =
       IsWide set ty × (IsOperation op right ⊎ IsRelation set op left right) × ((IsPure set left × (IsPure set right ⊎ IsPromoted set right)) ⊎ (IsPromoted set left × IsPure set right)) × IsWide set (type_of left) × IsWide set (type_of right)
   IsPure set (T.Choice' ty p test q first r second) = IsWide set ty × (IsPure set test × HasKnownKind test) × (IsPure set first ⊎ IsPromoted set first) × (IsPure set second ⊎ IsPromoted set second) × IsWide set (type_of first) × IsWide set (type_of second)
@@ -277,9 +283,24 @@ unfoldable pub IsFoldOnto : TExpr → Type 0
 IsFoldOnto (T.Assign' ty place op p target q value) = (ty ≡ type_of target) × IsScalarTarget target × ((reduction : ReduceOp) × ((op ≡ assignment_of reduction) × ((set : ℕ) × IsFolded set value)))
 IsFoldOnto _ = ⊥
 
+-- what is sent to: a variable of the file under a left index, of the current shape
+unfoldable pub IsSendTarget : ℕ → TExpr → Type 0
+IsSendTarget set (T.LeftIndex' ty place p indexes (V.File k) of) = (ty.shape ≡ Some set) × (of ≡ set) × ArePure set indexes
+IsSendTarget set (T.Brackets' ty p inner) = (ty ≡ type_of inner) × IsSendTarget set inner
+IsSendTarget set _ = ⊥
+
+-- without an operator a value of as many bits as the variable has
+abbrev pub IsSent : AssignOp → Elem → TExpr → Type 0
+IsSent op elem value = (op ≡ A.Set) × ((type_of value).elem.bits ≡ elem.bits)
+
+-- it is sent from each active position
+unfoldable pub IsSend : TExpr → Type 0
+IsSend (T.Assign' ty place op p target q value) = (ty ≡ type_of target) × IsSent op ty.elem value × ((set : ℕ) × (IsSendTarget set target × IsPure set value))
+IsSend _ = ⊥
+
 -- a parallel expression whose value is not used
 abbrev pub IsParallelEffect : TExpr → Type 0
-IsParallelEffect e = IsUpdate e ⊎ (IsFoldOnto e ⊎ (IsScanAssigned e ⊎ IsChangingAssigned e))
+IsParallelEffect e = IsUpdate e ⊎ (IsFoldOnto e ⊎ (IsScanAssigned e ⊎ (IsChangingAssigned e ⊎ IsSend e)))
 
 -- a parallel variable, which is no array
 abbrev pub IsParallelVariable : VarInfo → Type 0

@@ -1,0 +1,163 @@
+-- The code of a send: that of its indexes, their check and the address, that of its value, and the send itself.
+use denote.Hole.Carrier
+use Rattle.std.proofs.Common.{◌≡◌, ◌∙◌, ℕ, Bool, true, false, List, [], map, Option, Some, None, refl, sym, ap, if◌then◌else◌}
+use Rattle.std.specs.Prelude.{is_some, unwrap_or}
+use Rattle.cstar_base.specs.declared.operators.Place.{Place}
+use Rattle.cstar_tree.specs.declared.syntax.AssignOp.{AssignOp}
+use Rattle.cstar_tree.specs.declared.typed.TExpr.{TExpr, Row_of-TExpr, items-the_row-TExpr, items_shown-the_row-TExpr-0, out-TExpr}
+use Rattle.cstar_tree.specs.declared.typed.TExpr as T
+use Rattle.cstar_tree.specs.declared.typed.Typed.{Typed}
+use Rattle.cstar_tree.specs.declared.typed.ValueType.{ValueType}
+use Rattle.cstar_tree.specs.declared.typed.VarInfo.{VarInfo}
+use Rattle.cstar_tree.specs.declared.typed.Variable.{Variable}
+use Rattle.cstar_tree.specs.declared.typed.Variable.TheVariants as V
+use Rattle.cstar_tree.specs.Typed.{type_of}
+use Rattle.lower_base.specs.declared.emit.Out.{Out}
+use Rattle.lower_base.specs.declared.emit.Out.TheVariants as O
+use Rattle.lower_base.specs.Drafts.{Draft, Fails, Made, Makes, an_entry, fresh_for, from, in_field, then_make}
+use Rattle.lower_base.specs.Constants.{word_in}
+use Rattle.lower_base.specs.Layouts.{Layout, field_of}
+use Rattle.lower_base.specs.Operators.{assign_op_of, is_signed}
+use Rattle.lower_comm.specs.Messages.{all_somewhere, assigned, communicated, each_located, index_coordinate, indexed, indexed_field, located, located_at, part_field, sent, sent_to}
+use Rattle.lower_expr.specs.declared.operands.Own.{Own}
+use Rattle.lower_expr.specs.declared.spots.Spot.{Spot}
+use Rattle.lower_expr.specs.declared.spots.Spot.TheVariants as S
+use Rattle.lower_expr.specs.Effects.{assignment_effect, effect_of, variable_assigned, whole_of, writes_itself}
+use Rattle.lower_expr.specs.Lengths.{bare, is_send, is_sent}
+use Rattle.lower_expr.specs.Operands.{are_quiet, own_of}
+use Rattle.lower_expr.specs.Spots.{stored}
+use Rattle.lower_expr.specs.Values.{assign_by, assigned_by, indexed_spot, lowest, sent_by, spot_of, spread_by, taken_bits, value_of, values_of}
+use Rattle.paris_code.specs.declared.operands.Field.{Field}
+use Rattle.paris_code.specs.declared.program.Owner.TheVariants as W
+use Rattle.source_meaning.specs.Expressions.{located as located_in}
+use Rattle.source_meaning.specs.State.{State}
+use Rattle.source_meaning.specs.Values.{Active, Scope}
+use Rattle.source_meaning.proofs.ConstantLaws.{Boxed}
+use Rattle.code_follows.proofs.Settings.{Setting, layout}
+use Rattle.fields_follow.specs.Fields.{IsElement}
+use Rattle.fields_follow.proofs.Forms.{field_is}
+use Rattle.fields_follow.proofs.News.{for_variable}
+use Rattle.fields_follow.proofs.RouterCode.{then_three, unknown}
+use Rattle.fields_follow.proofs.Values.{next_field, with_entry}
+
+-- a target, maybe in brackets, is that of another expression
+pub record IsLike (t : Typed) (l : Layout) (target left : TExpr) : Type 0 where
+  pub type : type_of target ≡ type_of left
+  pub spot : (d : Draft) → spot_of t l target d ≡ spot_of t l left d
+  pub means : (scope : Scope) (active : Active) (st : State) → located_in scope target active st ≡ located_in scope left active st
+  pub indexed : indexed target ≡ indexed left
+  pub sends : is_send target ≡ is_send left
+  pub own : own_of 1 target ≡ own_of 1 left
+
+abbrev pub itself : (t : Typed) (l : Layout) (target : TExpr) → IsLike t l target target
+itself t l target = record { type = refl; spot = λ d. refl; means = λ scope active st. refl; indexed = refl; sends = refl; own = refl }
+
+-- so it is of what stands within brackets
+pub like_inner : (t : Typed) (l : Layout) (target : TExpr) (ty : ValueType) (p : Boxed) (inner : TExpr) → ty ≡ type_of inner → IsLike t l target (T.Brackets' ty p inner) → IsLike t l target inner
+unfolding spot_of located_in indexed is_send own_of bare
+like_inner t l target ty p inner same h = record { type = h.type ∙ same; spot = h.spot; means = h.means; indexed = h.indexed; sends = h.sends; own = h.own }
+
+module _ (g : Setting) where
+  -- the send itself, to this address, behind the value
+  abbrev pub send_at : ℕ → ℕ → VarInfo → ValueType → AssignOp → TExpr → Field → Field → Draft → Made Out
+  send_at set k info ty op value at f d = then_make (sent_to (assign_op_of op) (is_signed (type_of value).elem) ty.elem (next_field set info.elem.bits d) at f (for_variable g set k info d)) (λ _ last. Makes O.Nothing last)
+
+  -- what is sent of a value in a field
+  unfoldable pub sends_out : ℕ → ℕ → VarInfo → ValueType → AssignOp → TExpr → Field → Out → Draft → Made Out
+  sends_out set k info ty op value at (O.Field f) d = send_at set k info ty op value at f d
+  sends_out set k info ty op value at out d = Fails
+
+  -- what follows the address
+  abbrev behind_spot : (Draft → Made Out) → TExpr → Spot → Draft → Made Out
+  behind_spot code e there d = then_make (code d) (λ v after. then_make (stored g.typed (layout g) e there v after) (λ _ last. Makes O.Nothing last))
+
+  abbrev pub spot_at : ℕ → Place → List TExpr → Field → List Out → Draft → Made Spot
+  spot_at set place items at parts d = if all_somewhere parts then Makes (S.Indexed (O.Field at)) (each_located place set items (map index_coordinate parts) at d) else Fails
+
+  -- it is what is stored there
+  stored_is : (ty : ValueType) (place : Place) (op : AssignOp) (p q : Boxed) (target value : TExpr) (k set : ℕ) (info : VarInfo) (at : Field) (out : Out) (d : Draft) → indexed target ≡ Some (V.File k) → ty ≡ type_of target → IsElement g.typed k info set 0
+      → then_make (stored g.typed (layout g) (T.Assign' ty place op p target q value) (S.Indexed (O.Field at)) out d) (λ _ last. Makes O.Nothing last) ≡ sends_out set k info ty op value at out d
+  unfolding stored communicated out-TExpr Carrier.out assigned sent then_make in_field from an_entry indexed_field part_field sends_out
+  stored_is ty place op p q target value k set info at out d of same is =
+      ap (λ (o : Option Variable). then_make (then_make (then_make (from o (λ x. field_of g.typed (layout g) x 0 d)) sending) (λ _ after. Makes out after)) finally) of
+      ∙ ap (λ (m : Made Field). then_make (then_make (then_make m sending) (λ _ after. Makes out after)) finally) (field_is g k 0 set info d is)
+      ∙ by out
+    where
+      signed : Bool
+      signed = is_signed (type_of value).elem
+
+      sending : Field → Draft → Made Out
+      sending dest after = in_field out (λ f. sent_to (assign_op_of op) signed (type_of target).elem dest at f after)
+
+      finally : Out → Draft → Made Out
+      finally _ last = Makes O.Nothing last
+
+      by : (out : Out) → then_make (then_make (in_field out (λ f. sent_to (assign_op_of op) signed (type_of target).elem (next_field set info.elem.bits d) at f (for_variable g set k info d))) (λ _ after. Makes out after)) finally ≡ sends_out set k info ty op value at out d
+      by (O.Field f) =
+          ap (λ (y : ValueType). then_make (then_make (sent_to (assign_op_of op) signed y.elem (next_field set info.elem.bits d) at f (for_variable g set k info d)) (λ _ after. Makes (O.Field f) after)) finally) (sym same)
+          ∙ then_three (sent_to (assign_op_of op) signed ty.elem (next_field set info.elem.bits d) at f (for_variable g set k info d)) (λ _ after. Makes (O.Field f) after) finally
+      by (O.Scalar r) = refl
+      by O.Nothing = refl
+
+  spot_is : (ty : ValueType) (place : Place) (r : _) (indexes : Row_of-TExpr _) (k set : ℕ) (at : Field) (parts : List Out) (d : Draft)
+      → then_make (located (T.LeftIndex' ty place r indexes (V.File k) set) parts (O.Field at) d) (λ out after. Makes (S.Indexed out) after) ≡ spot_at set place (items-the_row-TExpr _ indexes) at parts d
+  unfolding located out-TExpr Carrier.out located_at then_make
+  spot_is ty place r indexes k set at parts d =
+      ap (λ (xs : List TExpr). then_make (located_at place set xs parts (O.Field at) d) (λ out after. Makes (S.Indexed out) after)) (items_shown-the_row-TExpr-0 r indexes)
+      ∙ by (all_somewhere parts)
+    where
+      by : (b : Bool) → then_make (if b then Makes (O.Field at) (each_located place set (items-the_row-TExpr _ indexes) (map index_coordinate parts) at d) else Fails) (λ out after. Makes (S.Indexed out) after) ≡ (if b then Makes (S.Indexed (O.Field at)) (each_located place set (items-the_row-TExpr _ indexes) (map index_coordinate parts) at d) else Fails)
+      by true = refl
+      by false = refl
+
+  -- the code of its value, and then the send
+  abbrev pub value_sent : ℕ → ℕ → ℕ → VarInfo → ValueType → AssignOp → TExpr → Field → Draft → Made Out
+  value_sent bits set k info ty op value at d = then_make (spread_by (λ y. value_of g.typed (layout g) bits value y) value set bits d) (λ out after. sends_out set k info ty op value at out after)
+
+  -- all of it
+  pub send_code : (aty ty : ValueType) (place_of place : Place) (op : AssignOp) (p q : Boxed) (r : _) (indexes : Row_of-TExpr _) (target value : TExpr) (k set bits : ℕ) (info : VarInfo) (d : Draft) → IsLike g.typed (layout g) target (T.LeftIndex' ty place_of r indexes (V.File k) set) → ty.shape ≡ Some set → aty ≡ type_of target
+      → IsElement g.typed k info set 0 → taken_bits aty.elem.bits op target value ≡ bits
+      → effect_of g.typed (layout g) (T.Assign' aty place op p target q value) d
+      ≡ then_make (values_of g.typed (layout g) false (are_quiet indexes) indexes [] (with_entry set 32 W.Own d)) (λ parts between. then_make (spot_at set place_of (items-the_row-TExpr _ indexes) (next_field set 32 d) parts between)
+      (λ _ after. value_sent bits set k info aty op value (next_field set 32 d) after))
+  unfolding effect_of assignment_effect value_of assign_by sent_by spot_of indexed_spot fresh_for an_entry then_make own_of is_send is_sent bare indexed
+  send_code aty ty place_of place op p q r indexes target value k set bits info d like shaped same is taken =
+      ap (λ (o : Option Own). elim (elim o as (λ _. Option Own) [ Some own ↦ if writes_itself own op (type_of target).elem value then Some own else None | None ↦ None ]) as (λ _. Made Out) [ Some own ↦ then_make (whole_of g.typed (layout g) target own d) (λ dest after. variable_assigned g.typed (layout g) op place target value dest after) | None ↦ value_of g.typed (layout g) aty.elem.bits e d ]) like.own
+      ∙ ap (λ (b : Bool). if b then sent_by g.typed (layout g) e (λ y. spot_of g.typed (layout g) target y) (λ x. spread_by (code took) value (unwrap_or (type_of target).shape 0) took x) d else lowest aty.elem.bits (assigned_by g.typed (layout g) e took (assign_op_of op) place target value (type_of target).shape (λ y. spot_of g.typed (layout g) target y) (code took) d)) (like.sends ∙ ap is_some shaped)
+      ∙ ap (λ (y : ValueType). then_make (spot_of g.typed (layout g) target d) (λ there after. behind_spot (λ x. spread_by (code took) value (unwrap_or y.shape 0) took x) e there after)) like.type
+      ∙ ap (λ (o : Option ℕ). then_make (spot_of g.typed (layout g) target d) (λ there after. behind_spot (λ x. spread_by (code took) value (unwrap_or o 0) took x) e there after)) shaped
+      ∙ ap (λ (m : ℕ). then_make (spot_of g.typed (layout g) target d) (λ there after. behind_spot (λ x. spread_by (code m) value set m x) e there after)) taken
+      ∙ ap (λ (m : Made Spot). then_make m next) (like.spot d)
+      ∙ ap (λ (o : Option ℕ). then_make (elim o as (λ _. Made Spot) [ Some position ↦ then_make (word_in (layout g) position d) (λ r after. Makes (S.Indexed (O.Scalar r)) after) | None ↦ then_make (fresh_for ty.shape 32 d) (λ at begun. then_make (codes [] begun) (λ parts between. then_make (located left parts at between) (λ out after. Makes (S.Indexed out) after))) ]) next) (unknown g.typed ty place_of r indexes k set shaped)
+      ∙ ap (λ (o : Option ℕ). then_make (then_make (fresh_for o 32 d) (λ at begun. then_make (codes [] begun) (λ parts between. then_make (located left parts at between) (λ out after. Makes (S.Indexed out) after)))) next) shaped
+      ∙ then_three (codes [] (with_entry set 32 W.Own d)) (λ parts between. then_make (located left parts (O.Field at) between) (λ out after. Makes (S.Indexed out) after)) next
+      ∙ ap (λ (f : List Out → Draft → Made Spot). then_make (codes [] (with_entry set 32 W.Own d)) (λ parts between. then_make (f parts between) next)) (λ j parts between. spot_is ty place_of r indexes k set at parts between j)
+      ∙ ap (λ (f : List Out → Draft → Made Out). then_make (codes [] (with_entry set 32 W.Own d)) f) (λ j parts between. by (all_somewhere parts) (each_located place_of set items (map index_coordinate parts) at between) j)
+    where
+      e : TExpr
+      e = T.Assign' aty place op p target q value
+
+      left : TExpr
+      left = T.LeftIndex' ty place_of r indexes (V.File k) set
+
+      items : List TExpr
+      items = items-the_row-TExpr _ indexes
+
+      at : Field
+      at = next_field set 32 d
+
+      took : ℕ
+      took = taken_bits aty.elem.bits op target value
+
+      code : ℕ → Draft → Made Out
+      code m y = value_of g.typed (layout g) m value y
+
+      codes : List Out → Draft → Made (List Out)
+      codes outs y = values_of g.typed (layout g) false (are_quiet indexes) indexes outs y
+
+      next : Spot → Draft → Made Out
+      next there after = behind_spot (λ x. spread_by (code bits) value set bits x) e there after
+
+      by : (b : Bool) (x : Draft) → then_make (if b then Makes (S.Indexed (O.Field at)) x else Fails) next ≡ then_make (if b then Makes (S.Indexed (O.Field at)) x else Fails) (λ _ after. value_sent bits set k info aty op value at after)
+      by true x = ap (λ (f : Out → Draft → Made Out). then_make (spread_by (code bits) value set bits x) f) (λ j v after. stored_is aty place op p q target value k set info at v after like.indexed same is j)
+      by false x = refl
