@@ -56,7 +56,7 @@ module _ (g : Setting) where
   flags_last places f takes flags first last from entries upto own exists ends inside before low after high = record {
     code = λ m other stays same has p below taken. stays f first last p inside own ends before low after high ∙ has p below taken;
     calls = λ index at stands early late m other same has p below taken.
-        same (place g f) p (places.own_below_called f first at last index own exists ends before (omega (arith, low, early)) after (omega (arith, late, high)) stands) ∙ has p below taken;
+        same (place g f) p (places.own_below_called f first at index own exists ends before (omega (arith, low, early)) (λ span held. let most = (held.named last after).1 in omega (arith, late, high, most)) stands) ∙ has p below taken;
   }
 
   -- where these positions are active, the memory holds the numbers of the file's variables, and this is kept of it

@@ -11,10 +11,10 @@ use Rattle.paris_code.specs.Spans.{IsNamedAt}
 use Rattle.source_meaning.specs.Expressions.{evaluated}
 use Rattle.source_meaning.specs.State.{State}
 use Rattle.source_meaning.specs.Values.{Active, Scope}
-use Rattle.code_follows.proofs.Besides.{registers_under as registers_there}
+use Rattle.code_follows.proofs.Besides.{sim_saying, registers_under as registers_there}
 use Rattle.code_follows.proofs.Following.{Follows, HasRegisters, IsKept, Keeps, Sim}
 use Rattle.code_follows.proofs.Growing.{Extended}
-use Rattle.code_follows.proofs.Settings.{Reaches, Setting, Within, layout}
+use Rattle.code_follows.proofs.Settings.{OpenAmong, Reaches, Setting, Within, layout}
 use Rattle.fields_follow.proofs.Fields.{fields_held}
 use Rattle.fields_follow.proofs.Instructions.{SameExtents, number_in, place, shapes}
 use Rattle.fields_follow.proofs.Places.{HoldsTheFields, IsOwnField, PlacesFields}
@@ -78,3 +78,7 @@ module _ (g : Setting) where
   pub keeps_again : (a : Active) (d : Draft) (s t : CodeState) → Keeps (under a) d s t → Keeps g d s t
   unfolding IsKept
   keeps_again a d s t keeps = keeps
+
+-- what is so under one context and then another is so under the last
+pub sim_last : (g : Setting) (a b : Active) (alive : Variable → Type 0) (st : State) (s : CodeState) → Sim (under (under g a) b) alive st s → Sim (under g b) alive st s
+sim_last g a b alive st s h = sim_saying g alive st s s.at s.memory (h.memory.0, locals_again g (OpenAmong g alive) s.at st s.memory h.memory.1) h

@@ -208,7 +208,7 @@ module _ (g : Setting) where
           by : (place < target) ⊎ (target ≤ place) → start g + place ≤ start g + span.last
           by (inl forward) = omega (arith, forward, ends)
           by (inr back) =
-              lies (is_span.stretches (record { first = target; last = place }) (jump, (stands, (leads, back))) (omega (arith, begins, before, back), omega (arith, ends)))
+              lies (is_span.stretches (record { first = target; last = place }) (jump, stands, leads, back) (omega (arith, begins, before, back), omega (arith, ends)))
             where
               lies : LiesWithin (record { first = target; last = place }) span ⊎ LiesWithin span (record { first = target; last = place }) → start g + place ≤ start g + span.last
               lies (inl within) = let high = within.1 in omega (arith, high)
