@@ -282,18 +282,20 @@ module _ (g : Setting) (has : HasRegisters g) (alive : Variable → Type 0) (n :
               here = stored_here;
               sim = stored_sim;
               tells = tells_at stored.t (length saves.code) stored_sim named_test (omega (arith, more)) (let at = stored.at in omega (arith, at)) (λ h one x newer older own_h ends named early after. stored_stays h one (length saves.code) x (λ same. omega (arith, same, newer, l0, l1)) own_h named early after (omega (arith, more)));
-              exists = of.1;
-              own = own;
-              inside = omega (arith, l1, l2, l3);
-              of_set = refl;
-              own_saved = own_saved;
-              saved_inside = omega (arith, l0, l1, l2, l3);
-              other = λ same. omega (arith, same, l0);
-              saved_ends = stored.ends;
-              somewhere = length e.code;
-              named = named_saved;
-              before = omega (arith, more);
-              saves = λ x below. stored.has x below tt;
+              keeping = record {
+                exists = of.1;
+                own = own;
+                inside = omega (arith, l1, l2, l3);
+                of_set = refl;
+                own_saved = own_saved;
+                saved_inside = omega (arith, l0, l1, l2, l3);
+                other = λ same. omega (arith, same, l0);
+                saved_ends = stored.ends;
+                somewhere = length e.code;
+                named = named_saved;
+                before = omega (arith, more);
+                saves = λ x below. stored.has x below tt;
+              };
             }
 
         -- behind the first half
@@ -323,18 +325,20 @@ module _ (g : Setting) (has : HasRegisters g) (alive : Variable → Type 0) (n :
                     (λ h begin x newer older own_h ends named early after.
                     one.stays h begin (length e1.code) x (omega (arith, older, l3)) (λ same. omega (arith, same, newer, l1)) own_h ends named (omega (arith, early, more)) after (omega arith)
                     ∙ stored_stays h begin (length e1.code) x (λ same. omega (arith, same, newer, l0, l1)) own_h named early after (omega (arith, more, longer_code)));
-                exists = of.1;
-                own = own;
-                inside = omega (arith, l1, l2, l3, longer_fields);
-                of_set = refl;
-                own_saved = own_saved;
-                saved_inside = omega (arith, l0, l1, l2, l3, longer_fields);
-                other = λ same. omega (arith, same, l0);
-                saved_ends = stored.ends;
-                somewhere = length e.code;
-                named = named_saved;
-                before = omega (arith, more, longer_code);
-                saves = one.saves;
+                keeping = record {
+                  exists = of.1;
+                  own = own;
+                  inside = omega (arith, l1, l2, l3, longer_fields);
+                  of_set = refl;
+                  own_saved = own_saved;
+                  saved_inside = omega (arith, l0, l1, l2, l3, longer_fields);
+                  other = λ same. omega (arith, same, l0);
+                  saved_ends = stored.ends;
+                  somewhere = length e.code;
+                  named = named_saved;
+                  before = omega (arith, more, longer_code);
+                  saves = one.saves;
+                };
               }
 
           -- behind both

@@ -53,11 +53,13 @@ use Rattle.fields_follow.proofs.NarrowKinds.{are_related}
 use Rattle.fields_follow.proofs.Outcomes.{Ended, Given, Known, given_weaker, known_follows, meant}
 use Rattle.fields_follow.proofs.Passing.{After, GivesField, after_same, gives_alike}
 use Rattle.fields_follow.proofs.Places.{HoldsTheFields, PlacesFields}
+use Rattle.fields_follow.proofs.Pure.{and_means, or_means}
 use Rattle.fields_follow.proofs.Sizes.{binary_parts, brackets_part, choice_parts, convert_part, pure_at, unary_part, value_small}
 use Rattle.fields_follow.proofs.TestFlags.{LeavesTests, is_truth, truth_is}
-use Rattle.fields_follow.proofs.Testing.{IsDone, IsGiven, IsValued, Says, and_ended, and_given, brackets_tested, flags_after, kinded_bit, not_truth, or_ended, or_given, pure_tested, relation_truth, truth_tested, variable_tested}
+use Rattle.fields_follow.proofs.Testing.{IsDone, IsGiven, IsValued, Says, and_ended, and_given, and_right_ended, brackets_tested, flags_after, kinded_bit, not_truth, or_ended, or_given, or_right_ended, pure_tested, relation_truth, truth_tested, variable_tested}
 use Rattle.fields_follow.proofs.TruthFields.{ComesFrom, bit_joined, several_joined, tests_put, turned_put}
-use Rattle.fields_follow.proofs.TruthValues.{bool_bit, bool_nonzero}
+use Rattle.fields_follow.proofs.TruthValues.{bool_bit, bool_nonzero, by_case}
+use Rattle.fields_follow.proofs.Undecided.{undecided_valued}
 use Rattle.fields_follow.proofs.Truths.{either_or_both}
 use Rattle.fields_follow.proofs.Values.{IsFlag, next_field, operand_after, variable_after, with_entry}
 
@@ -256,17 +258,25 @@ mutual
       record { value = λ bits some most. brackets_valued g has alive n ready places fields bits set ty p inner is.0 (part.value bits some most); tests = λ known. brackets_tested g has alive n ready places fields set ty p inner is is.1 (part.tests known) }
   done g has alive n ready places fields set (T.Unary' ty op p operand) is c = unary_done g has alive n ready places fields set ty op p operand is is.0.0 is.2 is.1 c (done g has alive n ready places fields set operand is.2 (unary_part g alive n places fields ty op p operand c))
   done g has alive n ready places fields set (T.LogicalOr' ty p left q right) is c =
-      let codes = or_codes g.typed g.instance alive n set ty p q left right is.2.0 c in
+      let codes = or_codes g.typed g.instance alive n set ty p q left right is.1.0 is.2.0 c in
       let one = done g has alive n ready places fields set left is.1.0 codes.left_code in
       let two = done g has alive n ready places fields set right is.2.0 codes.right_code in
-      by_value g has alive n ready places fields set (T.LogicalOr' ty p left q right) is refl c (λ bits some most. logical_valued g has alive n ready places fields true bits set ty (T.LogicalOr' ty p left q right) left right some is.0.0 is.1 is.2 is.3 codes one two (λ st q. refl)
-      (λ st given exists. or_given g has alive n ready places fields set ty p q left right st is.1.0 is.2.0 is.3 given exists) (λ s st early. or_ended g has alive n ready places fields ty p q left right s st early))
+      by_value g has alive n ready places fields set (T.LogicalOr' ty p left q right) is refl c (λ bits some most. by_case (ignores_context right)
+      (λ free. logical_valued g has alive n ready places fields true bits set ty (T.LogicalOr' ty p left q right) left right some is.0.0 is.1 is.2 free codes one two (λ st q. refl)
+      (λ st given exists. or_given g has alive n ready places fields set ty p q left right st is.1.0 is.2.0 free given exists) (λ s st early. or_ended g has alive n ready places fields ty p q left right s st early))
+      (λ bound. undecided_valued g has alive n ready places fields true bits set ty (T.LogicalOr' ty p left q right) left right is.0.0 is.1 is.2 bound is is.0 c codes (λ st q. refl) (one.tests is.1.1) (λ b. (done (under g b) (registers_under g b has) alive n ready (places_under g b places) (fields_under g b fields.scope fields.same_extents) set right is.2.0 codes.right_code).tests is.2.1)
+      (λ st given other. or_means fields.scope fields.active set ty p q left right (number g has alive n ready places fields set left st) (number g has alive n ready places fields set right st) st is.1.0 given other) (λ s st early. or_ended g has alive n ready places fields ty p q left right s st early)
+      (λ s st given early. or_right_ended g has alive n ready places fields set ty p q left right s st is.1.0 given early)))
   done g has alive n ready places fields set (T.LogicalAnd' ty p left q right) is c =
-      let codes = and_codes g.typed g.instance alive n set ty p q left right is.2.0 c in
+      let codes = and_codes g.typed g.instance alive n set ty p q left right is.1.0 is.2.0 c in
       let one = done g has alive n ready places fields set left is.1.0 codes.left_code in
       let two = done g has alive n ready places fields set right is.2.0 codes.right_code in
-      by_value g has alive n ready places fields set (T.LogicalAnd' ty p left q right) is refl c (λ bits some most. logical_valued g has alive n ready places fields false bits set ty (T.LogicalAnd' ty p left q right) left right some is.0.0 is.1 is.2 is.3 codes one two (λ st q. refl)
-      (λ st given exists. and_given g has alive n ready places fields set ty p q left right st is.1.0 is.2.0 is.3 given exists) (λ s st early. and_ended g has alive n ready places fields ty p q left right s st early))
+      by_value g has alive n ready places fields set (T.LogicalAnd' ty p left q right) is refl c (λ bits some most. by_case (ignores_context right)
+      (λ free. logical_valued g has alive n ready places fields false bits set ty (T.LogicalAnd' ty p left q right) left right some is.0.0 is.1 is.2 free codes one two (λ st q. refl)
+      (λ st given exists. and_given g has alive n ready places fields set ty p q left right st is.1.0 is.2.0 free given exists) (λ s st early. and_ended g has alive n ready places fields ty p q left right s st early))
+      (λ bound. undecided_valued g has alive n ready places fields false bits set ty (T.LogicalAnd' ty p left q right) left right is.0.0 is.1 is.2 bound is is.0 c codes (λ st q. refl) (one.tests is.1.1) (λ b. (done (under g b) (registers_under g b has) alive n ready (places_under g b places) (fields_under g b fields.scope fields.same_extents) set right is.2.0 codes.right_code).tests is.2.1)
+      (λ st given other. and_means fields.scope fields.active set ty p q left right (number g has alive n ready places fields set left st) (number g has alive n ready places fields set right st) st is.1.0 given other) (λ s st early. and_ended g has alive n ready places fields ty p q left right s st early)
+      (λ s st given early. and_right_ended g has alive n ready places fields set ty p q left right s st is.1.0 given early)))
   done g has alive n ready places fields set (T.Binary' ty place op p left q right) is c =
       let parts = binary_parts g alive n places fields ty place op p q left right c in
       binary_done g has alive n ready places fields set ty place op p q left right is c (λ pure. done g has alive n ready places fields set left pure parts.0) (λ pure. done g has alive n ready places fields set right pure parts.1)

@@ -402,8 +402,8 @@ module _ (g : Setting) where
           chosen U.Plus (inr h) code last ended of_operand = let wrong = h.0 in cc
           chosen U.Minus (inr h) code last ended of_operand = let wrong = h.0 in cc
           chosen U.Complement (inr h) code last ended of_operand = let wrong = h.0 in cc
-      truth_computed (T.LogicalOr' ty p left q right) is c last ended = by_operation true (T.LogicalOr' ty p left q right) left right is.1 is.2 is.3 (or_codes g.typed g.instance alive n set ty p q left right is.2.0 c) refl (λ given exists. or_given g has alive n ready places fields set ty p q left right st is.1.0 is.2.0 is.3 given exists) (λ early. or_ended g has alive n ready places fields ty p q left right s st early) last ended
-      truth_computed (T.LogicalAnd' ty p left q right) is c last ended = by_operation false (T.LogicalAnd' ty p left q right) left right is.1 is.2 is.3 (and_codes g.typed g.instance alive n set ty p q left right is.2.0 c) refl (λ given exists. and_given g has alive n ready places fields set ty p q left right st is.1.0 is.2.0 is.3 given exists) (λ early. and_ended g has alive n ready places fields ty p q left right s st early) last ended
+      truth_computed (T.LogicalOr' ty p left q right) is c last ended = by_operation true (T.LogicalOr' ty p left q right) left right is.0.1 is.0.2 is.1 (or_codes g.typed g.instance alive n set ty p q left right is.0.1.0 is.0.2.0 c) refl (λ given exists. or_given g has alive n ready places fields set ty p q left right st is.0.1.0 is.0.2.0 is.1 given exists) (λ early. or_ended g has alive n ready places fields ty p q left right s st early) last ended
+      truth_computed (T.LogicalAnd' ty p left q right) is c last ended = by_operation false (T.LogicalAnd' ty p left q right) left right is.0.1 is.0.2 is.1 (and_codes g.typed g.instance alive n set ty p q left right is.0.1.0 is.0.2.0 c) refl (λ given exists. and_given g has alive n ready places fields set ty p q left right st is.0.1.0 is.0.2.0 is.1 given exists) (λ early. and_ended g has alive n ready places fields ty p q left right s st early) last ended
       truth_computed (T.Binary' ty place op p left q right) is c last ended =
           by_test (T.Binary' ty place op p left q right) (is.1, inr (inl is.0)) is.0 c (λ x. truth_bit (extents g set) st set bits (T.Binary' ty place op p left q right) x is) (relation_code set offset bits ty place op p q left right d is.1.0.0 is.0 (relates_plainly op is.0)) last ended
       truth_computed _ is c last ended = absurd is

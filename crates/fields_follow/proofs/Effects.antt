@@ -21,12 +21,12 @@ use Rattle.lower_base.specs.declared.emit.Out.{Out}
 use Rattle.lower_base.specs.declared.emit.Out.TheVariants as O
 use Rattle.lower_base.specs.Drafts.{Draft, Fails, Made, Makes, a_field, an_entry, in_field, step as step_of, then_make, with_instr}
 use Rattle.lower_base.specs.Operators.{negates}
-use Rattle.lower_expr.specs.Effects.{binary_to, bits_for, cast_to, computed_to, converted_to, field_binary_to, field_operated, fits_field, goes_unchanged, gone_to, keeps_bits, moved, put_to}
+use Rattle.lower_expr.specs.Effects.{binary_to, bits_for, cast_to, computed_to, converted_to, field_binary_to, field_operated, fits_field, goes_unchanged, gone_to, keeps_bits, logical_to, moved, put_to}
 use Rattle.lower_expr.specs.Kinds.{done_as, operand_bits, operation_bits, reads_signed, unary_bits}
-use Rattle.lower_expr.specs.Operands.{are_quiet, is_plus, is_quiet, operand_by}
+use Rattle.lower_expr.specs.Operands.{are_quiet, ignores_context, is_plus, is_quiet, operand_by}
 use Rattle.lower_expr.specs.Spots.{field_loaded, loaded, variable_spot}
 use Rattle.lower_expr.specs.Steps.{is_kept, put_value, right_operated, word_for, word_put}
-use Rattle.lower_expr.specs.Values.{arm_by, extended, field_binary_of, fields_by, next_of, read_to, right_by, scalar_choice_of, spot_of, tested, truth_put, value_of}
+use Rattle.lower_expr.specs.Values.{arm_by, extended, field_binary_of, fields_by, joined_of, next_of, read_to, right_by, scalar_choice_of, spot_of, tested, truth_put, value_of}
 use Rattle.paris_code.specs.declared.instr.Instr.{Instr}
 use Rattle.paris_code.specs.declared.instr.Instr.TheVariants as I
 use Rattle.paris_code.specs.declared.operands.Field.{Field}
@@ -68,6 +68,7 @@ use Rattle.fields_follow.proofs.Totals.{held_below}
 use Rattle.fields_follow.proofs.Values.{and_entry, next_field, one_more, operand_of, taken, variable_has, with_entry}
 use Rattle.fields_follow.proofs.Expressions.{IsMeant, binary_at, convert_alike, convert_ended, convert_means, coordinate_means, operand_at, unary_ended, extended_after, negated_after, operand_grows, operands_keep, plus_alike, signed_as, unary_at, wide_operands}
 use Rattle.fields_follow.proofs.Computing.{each_after, pure_after}
+use Rattle.fields_follow.proofs.Conditions.{none_join}
 use Rattle.fields_follow.proofs.TruthValues.{IsPlain}
 use Rattle.lower_expr.specs.Joined.{is_flag}
 use Rattle.cstar_base.proofs.NumberLaws.{kind_bits}
@@ -177,6 +178,15 @@ module _ (g : Setting) (has : HasRegisters g) (alive : Variable → Type 0) (n :
           (λ given e2 i within passes puts. last given e2 i within (passes_from g alive (length d.fields) d (with_entry set bits W.Own d) e2 s st (Unit {0}) (and_entry set bits W.Own d) passes)
           (puts_same g set i f passes.t _ (words_of set whole st) (λ x below. binary_at g has alive n ready places fields set ty place op p q left right st passes.t passes.sim is c x) puts)) ended)
       by false other = after_same g Q (chosen false other) (moved_last set offset bits whole some most is c d s st here sim Q last ended)
+
+  -- `&&` and `||` of which the right operand does not ignore the context
+  logical_last : (set offset bits : ℕ) (is_or : Bool) (e left right : TExpr) → 0 < bits → bits ≤ 32 → IsPure set e → ignores_context right ≡ false → HasItsCode g.typed g.instance alive n e → PutsLast set (field_at set offset bits) e (λ d. logical_to g.typed (layout g) (O.Field (field_at set offset bits)) e is_or left right d)
+  unfolding logical_to
+  logical_last set offset bits is_or e left right some most is bound c d s st here sim Q last ended =
+      after_same g Q (ap (λ (b : Bool). if b then joined_of g.typed (layout g) is_or f left right d else moved g.typed (layout g) (O.Field f) e d) (none_join left right bound)) (moved_last set offset bits e some most is c d s st here sim Q last ended)
+    where
+      f : Field
+      f = field_at set offset bits
 
   -- `?:`
   choice_last : (set offset bits : ℕ) (ty : ValueType) (p q r : Boxed) (test first second : TExpr) → 0 < bits → bits ≤ 32 → IsPure set (T.Choice' ty p test q first r second) → IsPure set test → HasItsCode g.typed g.instance alive n (T.Choice' ty p test q first r second) → PutsWords set offset bits (T.Choice' ty p test q first r second)
@@ -290,8 +300,8 @@ module _ (g : Setting) (has : HasRegisters g) (alive : Variable → Type 0) (n :
   computed_last set offset bits (T.Convert' ty p inner) some most is plain c = converted_last set offset bits ty p inner most plain.0 is c (λ enough. computed_last set offset bits inner some most is.2 (plain.1 enough) (convert_part g alive n places fields ty p inner c))
   computed_last set offset bits (T.Pcoord ty axis) some most is plain c = coordinate_last set offset bits axis ty is
   computed_last set offset bits (T.LeftIndex' ty place p indexes (V.File k) of) some most is plain c = left_index_computed set offset bits ty place p indexes k of most is.0 is.1 is.2 c
-  computed_last set offset bits (T.LogicalOr' ty p left q right) some most is plain c = absurd plain
-  computed_last set offset bits (T.LogicalAnd' ty p left q right) some most is plain c = absurd plain
+  computed_last set offset bits (T.LogicalOr' ty p left q right) some most is plain c = logical_last set offset bits true (T.LogicalOr' ty p left q right) left right some most is plain c
+  computed_last set offset bits (T.LogicalAnd' ty p left q right) some most is plain c = logical_last set offset bits false (T.LogicalAnd' ty p left q right) left right some most is plain c
   computed_last set offset bits _ some most is plain c = absurd is
 
   -- any operand that is no truth value

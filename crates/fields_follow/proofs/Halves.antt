@@ -45,14 +45,11 @@ half false set v a = among set v a
 half true set v a = others set v a
 
 -- those of other sets are as they were
-half_beside : (second : Bool) (set : ℕ) (v : ℕ → ℕ) (a : Active) (q p : ℕ) → (q ≡ set → ⊥) → a q p ≡ half second set v a q p
+pub half_beside : (second : Bool) (set : ℕ) (v : ℕ → ℕ) (a : Active) (q p : ℕ) → (q ≡ set → ⊥) → a q p ≡ half second set v a q p
 half_beside false set v a q p differ = sym (among_beside set v a q p differ)
 half_beside true set v a q p differ = sym (others_beside set v a q p differ)
 
 module _ (g : Setting) where
-  within_again : (a : Active) (e : Draft) → Within (under g a) e → Within g e
-  within_again a e w = record { more = w.more; code = w.code; entries = w.entries; fields = w.fields; homes = w.homes; homes_are = w.homes_are; regs = w.regs; own = w.own; upto = w.upto }
-
   -- what is said of code holds where the draft before it is within the unit
   pub after_delayed : {A : Type 0} (Q : A → Draft → Type 0) (e : Draft) (made : Made A) → Extends g e made → (Within g e → After g Q made) → After g Q made
   unfolding After Extends
@@ -60,7 +57,7 @@ module _ (g : Setting) where
   after_delayed Q e Fails grows h = tt
 
   -- what is said where other positions are active
-  after_under : {A : Type 0} (a : Active) (Q : A → Draft → Type 0) (made : Made A) → After (under g a) Q made → After g Q made
+  pub after_under : {A : Type 0} (a : Active) (Q : A → Draft → Type 0) (made : Made A) → After (under g a) Q made → After g Q made
   unfolding After
   after_under a Q (Makes x e) h = λ w. h (within_under g a w)
   after_under a Q Fails h = tt
@@ -71,14 +68,14 @@ module _ (g : Setting) where
       apart_back (place g h) (place g f) (places.owns_apart_at h f first at differ own other exists begins early (λ (span : Span) (used : IsInUse g.unit h.offset W.Own span). let holds = used.named last ends in let high = holds.1 in omega (arith, high, late)) named)
 
   -- what ends early where other positions are active ends so in the unit
-  ended_within : {A : Type 0} (a : Active) (fields : HoldsTheFields g) (s : CodeState) (o : Outcome A) → Ended (under g a) s o → Ended g s o
+  pub ended_within : {A : Type 0} (a : Active) (fields : HoldsTheFields g) (s : CodeState) (o : Outcome A) → Ended (under g a) s o → Ended g s o
   ended_within a fields s o h =
       let f = h.finishes in
       record { early = h.early; state = h.state; is = h.is; finishes = record { t = f.t; ends = record { steps = f.ends.steps; is = f.ends.is }; turns = f.turns; output = f.output; input = f.input; memory = fields.ends h.state f.t.memory f.memory } }
 
 module _ (g : Setting) (alive : Variable → Type 0) (places : PlacesFields g) (fields : HoldsTheFields g) where
   -- an instruction that leaves the fields as they are and has made these positions active
-  record Narrows (b : Active) (e f : Draft) (s : CodeState) (st : State) : Type 0 where
+  pub record Narrows (b : Active) (e f : Draft) (s : CodeState) (st : State) : Type 0 where
     pub more : Extended e 1 f
     pub t : CodeState
     pub go : Reaches g s t
@@ -90,7 +87,7 @@ module _ (g : Setting) (alive : Variable → Type 0) (places : PlacesFields g) (
   narrows_turned : (b : Active) (i : Instr) (e : Draft) (s : CodeState) (st : State) → Turned g places alive fields.active b e i s st → Narrows b e (with_instr i e) s st
   narrows_turned b i e s st h = record { more = and_one g i e; t = h.t; go = h.go; at = h.at; registers = h.registers; sim = h.sim; stays = h.stays }
 
-  narrows : (second : Bool) (set : ℕ) (v : ℕ → ℕ) (e : Draft) (s : CodeState) (st : State) → ((p : ℕ) → p < processors (shapes g) set → fields.active set p ≡ true → is_tested (shapes g) s.memory set p ≡ nonzero (v p)) → Within g (narrowed_by second set e) → At g s (length e.code) → Sim g alive st s
+  pub narrows : (second : Bool) (set : ℕ) (v : ℕ → ℕ) (e : Draft) (s : CodeState) (st : State) → ((p : ℕ) → p < processors (shapes g) set → fields.active set p ≡ true → is_tested (shapes g) s.memory set p ≡ nonzero (v p)) → Within g (narrowed_by second set e) → At g s (length e.code) → Sim g alive st s
       → Narrows (half second set v fields.active) e (narrowed_by second set e) s st
   unfolding narrowed_by
   narrows false set v e s st flags within here sim =
@@ -130,29 +127,22 @@ module _ (g : Setting) (alive : Variable → Type 0) (places : PlacesFields g) (
     pub leaves : (first : ℕ) → IsNamedAt g.unit f.offset first → first < length d.code → (p : ℕ) → p < processors (shapes g) set → b set p ≡ false → number_in g f t p ≡ number_in g f s p
     pub saves : (p : ℕ) → p < processors (shapes g) set → number_in g saved t p ≡ from_bool (fields.active set p)
 
-module _ (g : Setting) (has : HasRegisters g) (alive : Variable → Type 0) (n : ℕ) (ready : (d : Draft) → IsReadyButForFields g.typed g.instance (layout g) n d) (places : PlacesFields g) (fields : HoldsTheFields g) where
-  -- an operand, as it is put where these positions are active
-  abbrev pub PutsUnder : Active → ℕ → Field → TExpr → (Draft → Made Out) → Type 1
-  PutsUnder b set f e made = PutsLast (under g b) (registers_under g b has) alive n ready (places_under g b places) (fields_under g b fields.scope fields.same_extents) set f e made
+  -- Code has led to a state where these positions are active.
+  pub record Leads (b : Active) (d e : Draft) (s : CodeState) (st : State) : Type 0 where
+    pub grown : (n : ℕ) × Extended d n e
+    pub t : CodeState
+    pub go : Reaches g s t
+    pub at : Starts (under g b) alive t (length e.code) e.regs
+    pub registers : Keeps g d s t
+    pub sim : Sim (under g b) alive st t
+    pub stays : (h : Field) (first last p : ℕ) → h.offset < length d.fields → IsOwnField g h → EndsBelow g h → IsNamedAt g.unit h.offset first → first < length d.code → IsNamedAt g.unit h.offset last → length e.code ≤ last → number_in g h t p ≡ number_in g h s p
 
-  abbrev pub IsMeantUnder : Active → ℕ → TExpr → State → Type 0
-  IsMeantUnder b set e st = IsMeant (under g b) (registers_under g b has) alive n ready (places_under g b places) (fields_under g b fields.scope fields.same_extents) set e st
-
-  module _ (second : Bool) (set offset bits : ℕ) (saved a : Field) (v : ℕ → ℕ) (operand : TExpr) (d : Draft) (s : CodeState) (st : State) where
+  module _ (set offset bits : ℕ) (saved : Field) where
     abbrev f : Field
     f = record { set = set; offset = offset; len = bits }
 
-    abbrev b : Active
-    b = half second set v fields.active
-
-    abbrev w : ℕ → ℕ
-    w = words_of g has alive n ready places fields set operand st
-
-    -- what a half finds: its field and that of the old context, and a field that tells where the condition holds
-    pub record Ready : Type 0 where
-      pub here : Starts g alive s (length d.code) d.regs
-      pub sim : Sim g alive st s
-      pub tells : Tells g set a s v
+    -- a field of the set, and one that has the old context, which is named already
+    pub record Keeping (d : Draft) (s : CodeState) : Type 0 where
       pub exists : set < length (shapes g)
       pub own : IsOwnField g f
       pub inside : offset < length d.fields
@@ -165,6 +155,132 @@ module _ (g : Setting) (has : HasRegisters g) (alive : Variable → Type 0) (n :
       pub named : IsNamedAt g.unit saved.offset somewhere
       pub before : somewhere < length d.code
       pub saves : (p : ℕ) → p < processors (shapes g) set → number_in g saved s p ≡ from_bool (fields.active set p)
+
+    -- an instruction puts words in the field where these positions are active, and behind it the old context is loaded
+    module _ (b : Active) (beside : (q p : ℕ) → (q ≡ set → ⊥) → fields.active q p ≡ b q p) (w : ℕ → ℕ) (d narrow : Draft) (s : CodeState) (st : State) (r : Keeping d s) (x : Leads b d narrow s st) (e : Draft) (i : Instr) (p : Passes (under g b) alive (length narrow.fields) narrow e x.t st (Unit {0})) (puts : Puts (under g b) set i f p.t w) where
+      abbrev put_draft : Draft
+      put_draft = with_instr i e
+
+      abbrev pub last_draft : Draft
+      last_draft = with_instr (I.LoadContext saved) put_draft
+
+      module _ (within_last : Within g last_draft) where
+        within_put : Within g put_draft
+        within_put = earlier g put_draft last_draft 1 (and_one g (I.LoadContext saved) put_draft) within_last
+
+        there : StandsAt g.unit (length e.code) i
+        there = stands_here g i e within_put puts.plain
+
+        named_here : IsNamedAt g.unit offset (length e.code)
+        named_here = names_first g i f puts.others (length e.code) there puts.names
+
+        ends_here : (set < length (shapes g)) × EndsBelow g f
+        ends_here = places.ends (length e.code) i f puts.others there puts.plain puts.simple puts.names
+
+        loads_named : IsNamedAt g.unit saved.offset (length put_draft.code)
+        unfolding step_of
+        loads_named = names_first g (I.LoadContext saved) saved [] (length put_draft.code) (stands_here g (I.LoadContext saved) put_draft within_last refl) refl
+
+        put_more : length put_draft.code ≡ length e.code + 1
+        put_more = code_more g i e
+
+        longer : (length d.code ≤ length narrow.code) × (length d.fields ≤ length narrow.fields) × (length narrow.code ≤ length e.code)
+        longer = (code_longer d narrow x.grown.0 x.grown.1, fields_longer d narrow x.grown.0 x.grown.1, code_longer narrow e p.grown.0 p.grown.1)
+
+        taken : TakesBehind (under g b) set f e put_draft p.t w
+        taken = instr_takes (under g b) set i f e p.t w (λ h below. places.own_and_below f h r.own below) (within_under g b within_put) p.at.stands puts
+
+        abbrev put_state : CodeState
+        put_state = record p.t { at = taken.place; memory = written taken.takes.write p.t.memory }
+
+        put_sim : Sim (under g b) alive st put_state
+        put_sim = own_sim (under g b) (places_under g b places) (fields_under g b fields.scope fields.same_extents) alive set f p.t st w p.sim refl ends_here.0 ends_here.1 taken.takes taken.place r.own
+
+        put_has : HasNumbers (under g b) bits set f put_state w
+        put_has = own_has (under g b) (places_under g b places) (fields_under g b fields.scope fields.same_extents) alive set f p.t st w p.sim refl ends_here.0 ends_here.1 taken.takes taken.place
+
+        -- other own entries stay that are named before and behind
+        others_stay : (h : Field) (first last q : ℕ) → h.offset < length d.fields → (h.offset ≡ offset → ⊥) → IsOwnField g h → EndsBelow g h → IsNamedAt g.unit h.offset first → first < length d.code → IsNamedAt g.unit h.offset last → length put_draft.code ≤ last → number_in g h put_state q ≡ number_in g h s q
+        others_stay h first last q inside differ own ends named early after late =
+            let l = longer in
+            let one = l.0 in
+            let two = l.1 in
+            let three = l.2 in
+            let more = put_more in
+            elsewhere (under g b) (places_under g b places) (fields_under g b fields.scope fields.same_extents) alive set f p.t st w p.sim refl ends_here.0 ends_here.1 taken.takes (place g h) q
+            (named_apart g places h f first (length e.code) last differ own r.own ends_here.0 named (omega (arith, early, one, three)) after (omega (arith, late, more)) named_here)
+            ∙ p.stays tt h first last q (omega (arith, inside, two)) own ends named (omega (arith, early, one)) after (omega (arith, late, more))
+            ∙ x.stays h first last q inside own ends named early after (omega (arith, late, three, more))
+
+        saved_still : (q : ℕ) → q < processors (shapes g) set → number_in g saved put_state q ≡ from_bool (fields.active set q)
+        saved_still q below = others_stay saved r.somewhere (length put_draft.code) q r.saved_inside r.other r.own_saved r.saved_ends r.named r.before loads_named (omega arith) ∙ r.saves q below
+
+        -- the old context
+        loaded : Turned g places alive b fields.active put_draft (I.LoadContext saved) put_state st
+        loaded = load_context g places alive b set saved put_draft put_state st fields.active r.of_set saved_still beside within_last taken.at put_sim
+
+        -- the field where these positions are not active
+        left_there : (first : ℕ) → IsNamedAt g.unit offset first → first < length d.code → (q : ℕ) → q < processors (shapes g) set → b set q ≡ false → number_in g f put_state q ≡ number_in g f s q
+        left_there first named early q below off =
+            let l = longer in
+            let one = l.0 in
+            let two = l.1 in
+            let three = l.2 in
+            let inside = r.inside in
+            field_kept taken.takes.write p.t.memory (place g f) q (taken.takes.writes q ∙ p.sim.memory.flags set q r.exists below ∙ off)
+            ∙ p.stays tt f first (length e.code) q (omega (arith, inside, two)) r.own ends_here.1 named (omega (arith, early, one)) named_here (omega arith)
+            ∙ x.stays f first (length e.code) q inside r.own ends_here.1 named early named_here (omega (arith, three))
+
+        put_there : (q : ℕ) → q < processors (shapes g) set → b set q ≡ true → (number_in g f put_state q ≡ w q % 2 ^ bits) × (w q < 2 ^ 32)
+        put_there q below on = let now : is_active (shapes g) put_state.memory set q ≡ true = put_sim.memory.flags set q r.exists below ∙ on in (put_has.are q below now, put_has.small q below now)
+
+        pub halved : Halved set f saved b w d last_draft s st
+        halved = record {
+          grown = (x.grown.0 + (p.grown.0 + 2), extended d narrow last_draft x.grown.0 (p.grown.0 + 2) x.grown.1 (extended narrow e last_draft p.grown.0 2 p.grown.1 (extended e put_draft last_draft 1 1 (and_one g i e) (and_one g (I.LoadContext saved) put_draft))));
+          t = loaded.t;
+          go = onto g s x.t loaded.t x.go (onto g x.t p.t loaded.t (reaches_again g b p.go) (onto g p.t put_state loaded.t (reaches_again g b taken.go) loaded.go));
+          at =
+              let one = put_more in
+              let two = code_more g (I.LoadContext saved) put_draft in
+              let three = regs_more g i e in
+              let four = regs_more g (I.LoadContext saved) put_draft in
+              starts_later g alive p.t loaded.t (length e.code) e.regs (length last_draft.code) last_draft.regs (omega (arith, one, two)) (omega (arith, three, four)) loaded.at (starts_again g b alive p.t (length e.code) e.regs p.at);
+          registers = λ y kept. ap (λ (registers : List ℕ). slice_index registers y) loaded.registers ∙ keeps_on g d narrow x.grown.0 s x.t p.t x.grown.1 x.registers (keeps_again g b narrow x.t p.t p.registers) y kept;
+          sim = whole_sim g alive places fields st loaded.t loaded.sim;
+          ends = ends_here.1;
+          somewhere = length e.code;
+          named = named_here;
+          before = let one = put_more in let two = code_more g (I.LoadContext saved) put_draft in omega (arith, one, two);
+          stays = λ h first last q inside differ own ends named early after late. loaded.stays h q ends ∙ others_stay h first last q inside differ own ends named early after (let two = code_more g (I.LoadContext saved) put_draft in omega (arith, late, two));
+          puts = λ q below on. (loaded.stays f q ends_here.1 ∙ (put_there q below on).0, (put_there q below on).1);
+          leaves = λ first named early q below off. loaded.stays f q ends_here.1 ∙ left_there first named early q below off;
+          saves = λ q below. loaded.stays saved q r.saved_ends ∙ saved_still q below;
+        }
+
+module _ (g : Setting) (has : HasRegisters g) (alive : Variable → Type 0) (n : ℕ) (ready : (d : Draft) → IsReadyButForFields g.typed g.instance (layout g) n d) (places : PlacesFields g) (fields : HoldsTheFields g) where
+  -- an operand, as it is put where these positions are active
+  abbrev pub PutsUnder : Active → ℕ → Field → TExpr → (Draft → Made Out) → Type 1
+  PutsUnder b set f e made = PutsLast (under g b) (registers_under g b has) alive n ready (places_under g b places) (fields_under g b fields.scope fields.same_extents) set f e made
+
+  abbrev pub IsMeantUnder : Active → ℕ → TExpr → State → Type 0
+  IsMeantUnder b set e st = IsMeant (under g b) (registers_under g b has) alive n ready (places_under g b places) (fields_under g b fields.scope fields.same_extents) set e st
+
+  module _ (second : Bool) (set offset bits : ℕ) (saved a : Field) (v : ℕ → ℕ) (operand : TExpr) (d : Draft) (s : CodeState) (st : State) where
+    abbrev here_field : Field
+    here_field = record { set = set; offset = offset; len = bits }
+
+    abbrev b : Active
+    b = half second set v fields.active
+
+    abbrev w : ℕ → ℕ
+    w = words_of g has alive n ready places fields set operand st
+
+    -- what a half finds beside: a field that tells where the condition holds
+    pub record Ready : Type 0 where
+      pub here : Starts g alive s (length d.code) d.regs
+      pub sim : Sim g alive st s
+      pub tells : Tells g set a s v
+      pub keeping : Keeping g alive places fields set offset bits saved d s
 
     abbrev tested_draft : Draft
     tested_draft = with_instr (I.NeZero a) d
@@ -179,148 +295,30 @@ module _ (g : Setting) (has : HasRegisters g) (alive : Variable → Type 0) (n :
       -- behind the test
       tests : LeavesTests g alive fields d s set st v tested_draft
       unfolding tests_passed
-      tests = tested_behind g alive fields places set d d (I.NeZero a) s st v (Unit {0}) (tests_passed g alive (length d.fields) d d s st (Unit {0}) (omega arith) (passes_all g alive (length d.fields) d s st (Unit {0}) r.here r.sim)) tt r.exists within_tested (puts_nonzero g set a s v r.tells)
+      tests =
+          tested_behind g alive fields places set d d (I.NeZero a) s st v (Unit {0}) (tests_passed g alive (length d.fields) d d s st (Unit {0}) (omega arith) (passes_all g alive (length d.fields) d s st (Unit {0}) r.here r.sim)) tt r.keeping.exists within_tested
+          (puts_nonzero g set a s v r.tells)
 
       -- and where the half is active
-      narrowed_there : Narrows g alive places fields b tested_draft narrow tests.leaves.t st
-      narrowed_there = narrows g alive places fields second set v tested_draft tests.leaves.t st tests.flags within tests.leaves.at.stands tests.leaves.sim
-
-      abbrev begins : CodeState
-      begins = narrowed_there.t
-
-      longer : (length d.code + 1 ≡ length tested_draft.code) × (length tested_draft.code ≤ length narrow.code) × (length d.fields ≤ length narrow.fields) × (d.regs ≤ narrow.regs)
-      longer =
+      begins : Leads g alive places fields b d narrow s st
+      begins =
+          let turned = narrows g alive places fields second set v tested_draft tests.leaves.t st tests.flags within tests.leaves.at.stands tests.leaves.sim in
           let one = code_more g (I.NeZero a) d in
-          let two = code_longer tested_draft narrow 1 narrowed_there.more in
-          let three = fields_longer tested_draft narrow 1 narrowed_there.more in
-          let four = fields_longer d tested_draft 1 (and_one g (I.NeZero a) d) in
-          let five = narrowed_there.more.regs in
-          let six = regs_more g (I.NeZero a) d in
-          (sym one, two, omega (arith, three, four), omega (arith, five, six))
-
-      begins_there : Starts (under g b) alive begins (length narrow.code) narrow.regs
-      begins_there = let l = longer in let one = l.0 in let two = l.1 in starts_under g b alive begins (length narrow.code) narrow.regs (starts_later g alive s begins (length d.code) d.regs (length narrow.code) narrow.regs (omega (arith, one, two)) l.3 narrowed_there.at r.here)
-
-      -- what stands in fields is as it was
-      stays_there : (h : Field) (first last p : ℕ) → h.offset < length d.fields → IsOwnField g h → EndsBelow g h → IsNamedAt g.unit h.offset first → first < length d.code → IsNamedAt g.unit h.offset last → length narrow.code ≤ last → number_in g h begins p ≡ number_in g h s p
-      stays_there h first last p inside own ends named early after late =
-          let l = longer in
-          let two = l.1 in
-          narrowed_there.stays h p ends ∙ tests.leaves.stays tt h first last p inside own ends named early after (omega (arith, late, two))
-
-      -- ---- behind the operand
-
-      module _ (e : Draft) (i : Instr) (p : Passes (under g b) alive (length narrow.fields) narrow e begins st (Unit {0})) (puts : Puts (under g b) set i f p.t w) where
-        abbrev put_draft : Draft
-        put_draft = with_instr i e
-
-        abbrev last_draft : Draft
-        last_draft = with_instr (I.LoadContext saved) put_draft
-
-        module _ (within_last : Within g last_draft) where
-          within_put : Within g put_draft
-          within_put = earlier g put_draft last_draft 1 (and_one g (I.LoadContext saved) put_draft) within_last
-
-          there : StandsAt g.unit (length e.code) i
-          there = stands_here g i e within_put puts.plain
-
-          named_here : IsNamedAt g.unit offset (length e.code)
-          named_here = names_first g i f puts.others (length e.code) there puts.names
-
-          ends_here : (set < length (shapes g)) × EndsBelow g f
-          ends_here = places.ends (length e.code) i f puts.others there puts.plain puts.simple puts.names
-
-          loads_named : IsNamedAt g.unit saved.offset (length put_draft.code)
-          unfolding step_of
-          loads_named = names_first g (I.LoadContext saved) saved [] (length put_draft.code) (stands_here g (I.LoadContext saved) put_draft within_last refl) refl
-
-          put_more : length put_draft.code ≡ length e.code + 1
-          put_more = code_more g i e
-
-          narrow_longer : length narrow.code ≤ length e.code
-          narrow_longer = code_longer narrow e p.grown.0 p.grown.1
-
-          taken : TakesBehind (under g b) set f e put_draft p.t w
-          taken = instr_takes (under g b) set i f e p.t w (λ h below. places.own_and_below f h r.own below) (within_under g b within_put) p.at.stands puts
-
-          abbrev put_state : CodeState
-          put_state = record p.t { at = taken.place; memory = written taken.takes.write p.t.memory }
-
-          put_sim : Sim (under g b) alive st put_state
-          put_sim = own_sim (under g b) (places_under g b places) (fields_under g b fields.scope fields.same_extents) alive set f p.t st w p.sim refl ends_here.0 ends_here.1 taken.takes taken.place r.own
-
-          put_has : HasNumbers (under g b) bits set f put_state w
-          put_has = own_has (under g b) (places_under g b places) (fields_under g b fields.scope fields.same_extents) alive set f p.t st w p.sim refl ends_here.0 ends_here.1 taken.takes taken.place
-
-          -- other own entries stay that are named before and behind
-          others_stay : (h : Field) (first last q : ℕ) → h.offset < length d.fields → (h.offset ≡ offset → ⊥) → IsOwnField g h → EndsBelow g h → IsNamedAt g.unit h.offset first → first < length d.code → IsNamedAt g.unit h.offset last → length put_draft.code ≤ last → number_in g h put_state q ≡ number_in g h s q
-          others_stay h first last q inside differ own ends named early after late =
-              let l = longer in
-              let one = l.0 in
-              let two = l.1 in
-              let three = l.2 in
-              let four = narrow_longer in
-              let five = put_more in
-              elsewhere (under g b) (places_under g b places) (fields_under g b fields.scope fields.same_extents) alive set f p.t st w p.sim refl ends_here.0 ends_here.1 taken.takes (place g h) q
-              (named_apart g places h f first (length e.code) last differ own r.own ends_here.0 named (omega (arith, early, one, two, four)) after (omega (arith, late, five)) named_here)
-              ∙ p.stays tt h first last q (omega (arith, inside, three)) own ends named (omega (arith, early, one, two)) after (omega (arith, late, five))
-              ∙ stays_there h first last q inside own ends named early after (omega (arith, late, four, five))
-
-          saved_still : (q : ℕ) → q < processors (shapes g) set → number_in g saved put_state q ≡ from_bool (fields.active set q)
-          saved_still q below = others_stay saved r.somewhere (length put_draft.code) q r.saved_inside r.other r.own_saved r.saved_ends r.named r.before loads_named (omega arith) ∙ r.saves q below
-
-          -- the old context
-          loaded : Turned g places alive b fields.active put_draft (I.LoadContext saved) put_state st
-          loaded = load_context g places alive b set saved put_draft put_state st fields.active r.of_set saved_still (λ q x differ. half_beside second set v fields.active q x differ) within_last taken.at put_sim
-
-          -- the field where the half is not active
-          left_there : (first : ℕ) → IsNamedAt g.unit offset first → first < length d.code → (q : ℕ) → q < processors (shapes g) set → b set q ≡ false → number_in g f put_state q ≡ number_in g f s q
-          left_there first named early q below off =
-              let l = longer in
-              let one = l.0 in
-              let two = l.1 in
-              let three = l.2 in
-              let four = narrow_longer in
-              let inside = r.inside in
-              field_kept taken.takes.write p.t.memory (place g f) q (taken.takes.writes q ∙ p.sim.memory.flags set q r.exists below ∙ off)
-              ∙ p.stays tt f first (length e.code) q (omega (arith, inside, three)) r.own ends_here.1 named (omega (arith, early, one, two)) named_here (omega arith)
-              ∙ stays_there f first (length e.code) q inside r.own ends_here.1 named early named_here (omega (arith, four))
-
-          put_there : (q : ℕ) → q < processors (shapes g) set → b set q ≡ true → (number_in g f put_state q ≡ w q % 2 ^ bits) × (w q < 2 ^ 32)
-          put_there q below on = let now : is_active (shapes g) put_state.memory set q ≡ true = put_sim.memory.flags set q r.exists below ∙ on in (put_has.are q below now, put_has.small q below now)
-
-          halved : Halved g alive places fields set f saved b w d last_draft s st
-          halved = record {
-            grown = (
-              2 + (p.grown.0 + 2),
-              extended d narrow last_draft 2 (p.grown.0 + 2) (extended d tested_draft narrow 1 1 (and_one g (I.NeZero a) d) narrowed_there.more)
-                  (extended narrow e last_draft p.grown.0 2 p.grown.1 (extended e put_draft last_draft 1 1 (and_one g i e) (and_one g (I.LoadContext saved) put_draft))),
-            );
-            t = loaded.t;
-            go = onto g s tests.leaves.t loaded.t tests.leaves.go (onto g tests.leaves.t begins loaded.t narrowed_there.go (onto g begins p.t loaded.t (reaches_again g b p.go) (onto g p.t put_state loaded.t (reaches_again g b taken.go) loaded.go)));
-            at =
-                let five = put_more in
-                let six = code_more g (I.LoadContext saved) put_draft in
-                let seven = regs_more g i e in
-                let eight = regs_more g (I.LoadContext saved) put_draft in
-                starts_later g alive p.t loaded.t (length e.code) e.regs (length last_draft.code) last_draft.regs (omega (arith, five, six)) (omega (arith, seven, eight)) loaded.at (starts_again g b alive p.t (length e.code) e.regs p.at);
-            registers = λ x kept.
-                ap (λ (registers : List ℕ). slice_index registers x) loaded.registers
-                ∙ keeps_on g d narrow 2 s begins p.t (extended d tested_draft narrow 1 1 (and_one g (I.NeZero a) d) narrowed_there.more) (λ y kept_so. ap (λ (registers : List ℕ). slice_index registers y) narrowed_there.registers ∙ tests.leaves.registers y kept_so) (keeps_again g b narrow begins p.t p.registers) x kept;
-            sim = whole_sim g alive places fields st loaded.t loaded.sim;
-            ends = ends_here.1;
-            somewhere = length e.code;
-            named = named_here;
-            before = let five = put_more in let six = code_more g (I.LoadContext saved) put_draft in omega (arith, five, six);
-            stays = λ h first last q inside differ own ends named early after late. loaded.stays h q ends ∙ others_stay h first last q inside differ own ends named early after (let six = code_more g (I.LoadContext saved) put_draft in omega (arith, late, six));
-            puts = λ q below on. (loaded.stays f q ends_here.1 ∙ (put_there q below on).0, (put_there q below on).1);
-            leaves = λ first named early q below off. loaded.stays f q ends_here.1 ∙ left_there first named early q below off;
-            saves = λ q below. loaded.stays saved q r.saved_ends ∙ saved_still q below;
+          let two = code_longer tested_draft narrow 1 turned.more in
+          let more : Extended d (1 + 1) narrow = extended d tested_draft narrow 1 1 (and_one g (I.NeZero a) d) turned.more in
+          record {
+            grown = (1 + 1, more);
+            t = turned.t;
+            go = onto g s tests.leaves.t turned.t tests.leaves.go turned.go;
+            at = starts_under g b alive turned.t (length narrow.code) narrow.regs (starts_later g alive s turned.t (length d.code) d.regs (length narrow.code) narrow.regs (omega (arith, one, two)) more.regs turned.at r.here);
+            registers = λ y kept. ap (λ (registers : List ℕ). slice_index registers y) turned.registers ∙ tests.leaves.registers y kept;
+            sim = turned.sim;
+            stays = λ h first last p inside own ends named early after late. turned.stays h p ends ∙ tests.leaves.stays tt h first last p inside own ends named early after (omega (arith, late, two));
           }
 
       -- what ends early behind it
-      back : {A : Type 0} (o : Outcome A) → Ended (under g b) begins o → Ended g s o
-      back o early = ended_back g s begins o (onto g s tests.leaves.t begins tests.leaves.go narrowed_there.go) (ended_within g b fields begins o early)
+      back : {A : Type 0} (o : Outcome A) → Ended (under g b) begins.t o → Ended g s o
+      back o early = ended_back g s begins.t o begins.go (ended_within g b fields begins.t o early)
 
       -- what is known behind the operand
       record Done (x : Out) (e2 : Draft) : Type 0 where
@@ -328,19 +326,19 @@ module _ (g : Setting) (has : HasRegisters g) (alive : Variable → Type 0) (n :
         pub e : Draft
         pub i : Instr
         pub is : e2 ≡ with_instr i e
-        pub passes : Passes (under g b) alive (length narrow.fields) narrow e begins st (Unit {0})
-        pub puts : Puts (under g b) set i f passes.t w
+        pub passes : Passes (under g b) alive (length narrow.fields) narrow e begins.t st (Unit {0})
+        pub puts : Puts (under g b) set i here_field passes.t w
 
     -- so what is said behind a half is said of code that begins with it
-    pub half_after : Ready → (made : Draft → Made Out) → ((after : Draft) → Extends g after (made after)) → PutsUnder b set f operand made → (Q : Out → Draft → Type 0) (rest : Draft → Made Out) → ((after : Draft) → Extends g after (rest after))
-        → (IsMeantUnder b set operand st → (e : Draft) → Within g e → Halved g alive places fields set f saved b w d e s st → After g Q (rest e))
+    pub half_after : Ready → (made : Draft → Made Out) → ((after : Draft) → Extends g after (made after)) → PutsUnder b set here_field operand made → (Q : Out → Draft → Type 0) (rest : Draft → Made Out) → ((after : Draft) → Extends g after (rest after))
+        → (IsMeantUnder b set operand st → (e : Draft) → Within g e → Halved g alive places fields set here_field saved b w d e s st → After g Q (rest e))
         → (Ended g s (evaluated fields.scope operand b st) → (x : Out) (e : Draft) → Q x e)
         → After g Q (then_make (made narrow) (λ _ after. rest (with_instr (I.LoadContext saved) after)))
     half_after r made grows puts Q rest rest_grows next ended =
         after_delayed g Q narrow (then_make (made narrow) (λ _ after. behind after)) (extends_then g narrow (made narrow) (λ _ after. behind after) (grows narrow) (λ _ after. behind_grows after)) (λ within.
         then_after g (λ x e. Done r within x e ⊎ Ended g s (evaluated fields.scope operand b st)) Q (made narrow) (λ _ after. behind after)
         (after_under g b (λ x e. Done r within x e ⊎ Ended g s (evaluated fields.scope operand b st)) (made narrow)
-        (puts narrow (begins r within) st (begins_there r within) (narrowed_there r within).sim (λ x e. Done r within x e ⊎ Ended g s (evaluated fields.scope operand b st))
+        (puts narrow (begins r within).t st (begins r within).at (begins r within).sim (λ x e. Done r within x e ⊎ Ended g s (evaluated fields.scope operand b st))
         (λ meant e i inner passes put. inl (record { meant = meant; e = e; i = i; is = refl; passes = passes; puts = put })) (λ early x after. inr (back r within (evaluated fields.scope operand b st) early))))
         (λ _ after. behind_grows after) (λ x e known. by within x e known))
       where
@@ -354,5 +352,5 @@ module _ (g : Setting) (has : HasRegisters g) (alive : Variable → Type 0) (n :
         by within x e (inr early) = after_all g Q (behind e) (λ y f. ended early y f)
         by within x e (inl done) =
             subst (λ (e2 : Draft). After g Q (behind e2)) (sym done.is)
-            (after_delayed g Q (last_draft r within done.e done.i done.passes done.puts) (behind (with_instr done.i done.e)) (rest_grows (last_draft r within done.e done.i done.passes done.puts))
-            (λ within_last. next done.meant (last_draft r within done.e done.i done.passes done.puts) within_last (halved r within done.e done.i done.passes done.puts within_last)))
+            (after_delayed g Q (with_instr (I.LoadContext saved) (with_instr done.i done.e)) (behind (with_instr done.i done.e)) (rest_grows (with_instr (I.LoadContext saved) (with_instr done.i done.e)))
+            (λ within_last. next done.meant (with_instr (I.LoadContext saved) (with_instr done.i done.e)) within_last (halved g alive places fields set offset bits saved b (λ q x differ. half_beside second set v fields.active q x differ) w d narrow s st r.keeping (begins r within) done.e done.i done.passes done.puts within_last)))

@@ -95,6 +95,7 @@ pub mod TruthFields
 pub mod TruthPuts
 pub mod TruthValues
 pub mod Truths
+pub mod Undecided
 pub mod Updates
 pub mod Values
 pub mod Variables

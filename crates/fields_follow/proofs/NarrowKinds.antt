@@ -27,19 +27,20 @@ use Rattle.code_follows.proofs.Following.{Sim, held}
 use Rattle.code_follows.proofs.Numbers.{held_zero}
 use Rattle.code_follows.proofs.Settings.{Setting}
 use Rattle.code_follows.proofs.Standing.{some_same}
-use Rattle.fields_follow.specs.Fragment.{HasItsKind, HasKnownKind, IsNarrowed, IsPromoted, IsPure, IsRelation, IsWide, ReadsSigns}
+use Rattle.code_follows.proofs.Words.{below_word, held_wide}
+use Rattle.fields_follow.specs.Fragment.{HasItsKind, HasKnownKind, IsNarrowed, IsPromoted, IsPure, IsRelation, IsWide, ReadsSigns, IsSpread}
 use Rattle.fields_follow.proofs.CalmKinds.{promoted_has}
 use Rattle.fields_follow.proofs.Forms.{HasItsCode, promoted_kept, pure_kept, pure_word}
 use Rattle.fields_follow.proofs.Instructions.{extents, shapes}
 use Rattle.fields_follow.proofs.JoinedBits.{bitwise_has}
-use Rattle.fields_follow.proofs.Meaning.{AreOperands, value_in, word_at}
+use Rattle.fields_follow.proofs.Meaning.{AreOperands, value_in, word_at, left_of, right_of}
 use Rattle.fields_follow.proofs.KnownKinds.{HasWord, bitwise_plain, common_has, convert_has, joined_kind, narrow_has, not_bit, truth_has}
 use Rattle.fields_follow.proofs.Places.{HoldsTheFields, PlacesFields}
-use Rattle.fields_follow.proofs.Sizes.{choice_parts, binary_parts, brackets_part, convert_part, pure_at, value_small}
+use Rattle.fields_follow.proofs.Sizes.{choice_parts, binary_parts, brackets_part, convert_part, pure_at, value_small, promoted_small}
 use Rattle.fields_follow.proofs.TestFlags.{is_truth}
 use Rattle.fields_follow.proofs.Totals.{held_below}
 
--- neither of them is promoted
+-- such a value is not promoted
 not_promoted : (set : ℕ) (e : TExpr) → IsPromoted set e → IsNarrowed e → ⊥
 unfolding IsPromoted IsNarrowed
 not_promoted set (T.Promote' ty p operand) is so = so
@@ -66,15 +67,17 @@ are_related set op left right is operands wide other = (is.0, kinds operands, wi
     kinds (inl (pure, inr promoted)) = inl (kind_known set left pure is.1, inr promoted)
     kinds (inr (promoted, pure)) = inr (promoted, kind_known set right pure is.2)
 
-narrowed_pure : (set : ℕ) (e : TExpr) → IsPure set e ⊎ IsPromoted set e → IsNarrowed e → IsPure set e
-narrowed_pure set e (inl pure) so = pure
-narrowed_pure set e (inr promoted) so = absurd (not_promoted set e promoted so)
-
-both_pure : (set : ℕ) (left right : TExpr) → (IsPure set left × (IsPure set right ⊎ IsPromoted set right)) ⊎ (IsPromoted set left × IsPure set right) → IsNarrowed left → IsNarrowed right → IsPure set left × IsPure set right
-both_pure set left right (inl (one, other)) so also = (one, narrowed_pure set right other also)
-both_pure set left right (inr (promoted, other)) so also = absurd (not_promoted set left promoted so)
-
 module _ (g : Setting) (alive : Variable → Type 0) (n : ℕ) (places : PlacesFields g) (fields : HoldsTheFields g) where
+  -- the number of one of two values that are brought together
+  part_has : (set : ℕ) (e : TExpr) (st : State) (s : CodeState) → Sim g alive st s → IsPure set e ⊎ IsPromoted set e → IsNarrowed e ⊎ IsSpread e → IsWide set (type_of e) → HasItsCode g.typed g.instance alive n e → (q : ℕ)
+      → (IsPure set e → IsNarrowed e → (kind : Elem) → kind_of e ≡ Some kind → HasWord kind (word_at (extents g set) st e q)) → (kind : Elem) → kind_of e ≡ Some kind → HasWord kind (value_in (extents g set) st e q)
+  part_has set e st s sim (inl pure) (inl narrowed) wide c q has kind is = subst (λ (x : ℕ). HasWord kind x) (pure_at g alive n places fields set e st s sim pure wide c q) (has pure narrowed kind is)
+  part_has set e st s sim (inl pure) (inr spread) wide c q has kind is = let wrong = sym (pure_kept set e pure) ∙ spread.0 in cc
+  part_has set e st s sim (inr promoted) (inl narrowed) wide c q has kind is = absurd (not_promoted set e promoted narrowed)
+  part_has set e st s sim (inr promoted) (inr spread) wide c q has kind is =
+      subst (λ (x : ℕ). HasWord kind x) (held_wide (type_of e).elem (value_in (extents g set) st e q) wide.1 (below_word (type_of e).elem.bits _ wide.1 (promoted_small g alive n places fields set e st s sim promoted c q)))
+      (promoted_has g alive n set e st s sim promoted c spread.1 q kind is)
+
   pub kind_has : (set : ℕ) (e : TExpr) (st : State) (s : CodeState) → Sim g alive st s → IsPure set e → IsNarrowed e → HasItsCode g.typed g.instance alive n e → (q : ℕ) → (kind : Elem) → kind_of e ≡ Some kind → HasWord kind (word_at (extents g set) st e q)
   unfolding IsPure IsNarrowed kind_of value_in binary_kind
   kind_has set (T.Variable ty (V.File k)) st s sim is so c q kind is_kind = narrow_has ty.elem kind _ (value_small g alive n places fields set (T.Variable ty (V.File k)) st s sim is c q) is_kind
@@ -107,34 +110,26 @@ module _ (g : Setting) (alive : Variable → Type 0) (n : ℕ) (places : PlacesF
       parts : HasItsCode g.typed g.instance alive n left × HasItsCode g.typed g.instance alive n right
       parts = binary_parts g alive n places fields ty place op p r left right c
 
-      by : (is_bitwise op ≡ true) → IsPure set left × IsPure set right → ((k : Elem) → kind_of left ≡ Some k → HasWord k (word_at (extents g set) st left q)) → ((k : Elem) → kind_of right ≡ Some k → HasWord k (word_at (extents g set) st right q))
-          → HasWord kind (held ty.elem (outcome op 32 (not (type_of left).elem.signed) v w))
-      by bitwise pure one other =
-          let both : HasWord kind v × HasWord kind w =
-          common_has (kind_of left) (kind_of right) kind v w (joined_kind op (kind_of left) (kind_of right) kind (bitwise_plain op bitwise) bitwise is_kind)
-          (λ k is_k. subst (λ (x : ℕ). HasWord k x) (pure_at g alive n places fields set left st s sim pure.0 is.3 parts.0 q) (one k is_k))
-          (λ k is_k. subst (λ (x : ℕ). HasWord k x) (pure_at g alive n places fields set right st s sim pure.1 is.4 parts.1 q) (other k is_k)) in
-          subst (λ (x : ℕ). HasWord kind x) (sym (pure_at g alive n places fields set (T.Binary' ty place op p left r right) st s sim is is.0 c q))
-          (bitwise_has op kind (not (type_of left).elem.signed) v w bitwise both.0.1 both.0.0 both.1.0, both.0.1)
-
       Before : TExpr → Type 0
       Before e = IsPure set e → IsNarrowed e → (k : Elem) → kind_of e ≡ Some k → HasWord k (word_at (extents g set) st e q)
 
-      either : (relates op ≡ true) ⊎ ((is_bitwise op ≡ true) × IsNarrowed left × IsNarrowed right) → Before left → Before right → HasWord kind (held ty.elem (outcome op 32 (not (type_of left).elem.signed) v w))
+      either : (relates op ≡ true) ⊎ ((is_bitwise op ≡ true) × (IsNarrowed left ⊎ IsSpread left) × (IsNarrowed right ⊎ IsSpread right)) → Before left → Before right → HasWord kind (held ty.elem (outcome op 32 (not (type_of left).elem.signed) v w))
       either (inl related) one other =
           truth_has ty.elem kind _ (nonzero (outcome op 32 (not (type_of left).elem.signed) v w)) (is_truth op 32 (not (type_of left).elem.signed) v w related) is.0.1
           (sym (ap (λ (b : Bool). if b then Some truth_type else if is_bitwise op then common_kind (kind_of left) (kind_of right) else None) related) ∙ is_kind)
       either (inr joined) one other =
-          let pure = both_pure set left right is.2 joined.1 joined.2 in by joined.0 pure (one pure.0 joined.1) (other pure.1 joined.2)
+          let both : HasWord kind v × HasWord kind w =
+          common_has (kind_of left) (kind_of right) kind v w (joined_kind op (kind_of left) (kind_of right) kind (bitwise_plain op joined.0) joined.0 is_kind) (part_has set left st s sim (left_of set left right is.2) joined.1 is.3 parts.0 q one)
+          (part_has set right st s sim (right_of set left right is.2) joined.2 is.4 parts.1 q other) in
+          subst (λ (x : ℕ). HasWord kind x) (sym (pure_at g alive n places fields set (T.Binary' ty place op p left r right) st s sim is is.0 c q))
+          (bitwise_has op kind (not (type_of left).elem.signed) v w joined.0 both.0.1 both.0.0 both.1.0, both.0.1)
   kind_has set (T.Choice' ty p test b first r second) st s sim is so c q kind is_kind =
       let parts = choice_parts g alive n places fields ty p b r test first second c in
-      let one : IsPure set first = narrowed_pure set first is.2 so.0 in
-      let other : IsPure set second = narrowed_pure set second is.3 so.1 in
       let v : ℕ = value_in (extents g set) st first q in
       let w : ℕ = value_in (extents g set) st second q in
       let both : HasWord kind v × HasWord kind w =
-      common_has (kind_of first) (kind_of second) kind v w is_kind (λ k is_k. subst (λ (x : ℕ). HasWord k x) (pure_at g alive n places fields set first st s sim one is.4 parts.1 q) (kind_has set first st s sim one so.0 parts.1 q k is_k))
-      (λ k is_k. subst (λ (x : ℕ). HasWord k x) (pure_at g alive n places fields set second st s sim other is.5 parts.2 q) (kind_has set second st s sim other so.1 parts.2 q k is_k)) in
+      common_has (kind_of first) (kind_of second) kind v w is_kind (part_has set first st s sim is.2 so.0 is.4 parts.1 q (λ pure narrowed k is_k. kind_has set first st s sim pure narrowed parts.1 q k is_k))
+      (part_has set second st s sim is.3 so.1 is.5 parts.2 q (λ pure narrowed k is_k. kind_has set second st s sim pure narrowed parts.2 q k is_k)) in
       subst (λ (x : ℕ). HasWord kind x) (sym (pure_at g alive n places fields set (T.Choice' ty p test b first r second) st s sim is is.0 c q)) (chosen (nonzero (value_in (extents g set) st test q)) v w both)
     where
       chosen : (b : Bool) (v w : ℕ) → HasWord kind v × HasWord kind w → HasWord kind (if b then v else w)

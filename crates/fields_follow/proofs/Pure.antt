@@ -55,22 +55,32 @@ both_ignore left right free = by (ignores_context left) (ignores_context right) 
     by true false h = cc
     by false r h = cc
 
--- what two mean that are joined, where each gives its numbers
-pub or_means : (scope : Scope) (active : Active) (set : ℕ) (ty : ValueType) (p q : Boxed) (left right : TExpr) (v w : ℕ → ℕ) (st : State) → IsPure set left → evaluated scope left active st ≡ Source.Gives (Parallel v) st → evaluated scope right (where_zero set (Parallel v) active) st ≡ Source.Gives (Parallel w) st
-    → evaluated scope (T.LogicalOr' ty p left q right) active st ≡ Source.Gives (Parallel (λ x. from_bool (nonzero (v x) || nonzero (w x)))) st
+-- what two mean that are joined, behind the left one, and where each gives its numbers
+pub or_so : (scope : Scope) (active : Active) (set : ℕ) (ty : ValueType) (p q : Boxed) (left right : TExpr) (v : ℕ → ℕ) (st : State) → IsPure set left → evaluated scope left active st ≡ Source.Gives (Parallel v) st
+    → evaluated scope (T.LogicalOr' ty p left q right) active st ≡ then_do (evaluated scope right (where_zero set (Parallel v) active) st) (λ y after. Source.Gives (Parallel (λ x. from_bool (nonzero (v x) || nonzero (at y x)))) after)
 unfolding evaluated then_do or_then at
-or_means scope active set ty p q left right v w st is one other =
+or_so scope active set ty p q left right v st is one =
     ap (λ (o : Outcome Value). then_do o (λ x after. or_then ty.shape (type_of left).shape x (λ a after. evaluated scope right a after) active after)) one
     ∙ ap (λ (o : Option ℕ). or_then ty.shape o (Parallel v) (λ a after. evaluated scope right a after) active st) (pure_shape set left is)
-    ∙ ap (λ (o : Outcome Value). then_do o (λ y after. Source.Gives (Parallel (λ x. from_bool (nonzero (v x) || nonzero (at y x)))) after)) other
+
+pub or_means : (scope : Scope) (active : Active) (set : ℕ) (ty : ValueType) (p q : Boxed) (left right : TExpr) (v w : ℕ → ℕ) (st : State) → IsPure set left → evaluated scope left active st ≡ Source.Gives (Parallel v) st → evaluated scope right (where_zero set (Parallel v) active) st ≡ Source.Gives (Parallel w) st
+    → evaluated scope (T.LogicalOr' ty p left q right) active st ≡ Source.Gives (Parallel (λ x. from_bool (nonzero (v x) || nonzero (w x)))) st
+unfolding then_do at
+or_means scope active set ty p q left right v w st is one other =
+    or_so scope active set ty p q left right v st is one ∙ ap (λ (o : Outcome Value). then_do o (λ y after. Source.Gives (Parallel (λ x. from_bool (nonzero (v x) || nonzero (at y x)))) after)) other
+
+pub and_so : (scope : Scope) (active : Active) (set : ℕ) (ty : ValueType) (p q : Boxed) (left right : TExpr) (v : ℕ → ℕ) (st : State) → IsPure set left → evaluated scope left active st ≡ Source.Gives (Parallel v) st
+    → evaluated scope (T.LogicalAnd' ty p left q right) active st ≡ then_do (evaluated scope right (where_nonzero set (Parallel v) active) st) (λ y after. Source.Gives (Parallel (λ x. from_bool (nonzero (v x) && nonzero (at y x)))) after)
+unfolding evaluated then_do and_then at
+and_so scope active set ty p q left right v st is one =
+    ap (λ (o : Outcome Value). then_do o (λ x after. and_then ty.shape (type_of left).shape x (λ a after. evaluated scope right a after) active after)) one
+    ∙ ap (λ (o : Option ℕ). and_then ty.shape o (Parallel v) (λ a after. evaluated scope right a after) active st) (pure_shape set left is)
 
 pub and_means : (scope : Scope) (active : Active) (set : ℕ) (ty : ValueType) (p q : Boxed) (left right : TExpr) (v w : ℕ → ℕ) (st : State) → IsPure set left → evaluated scope left active st ≡ Source.Gives (Parallel v) st → evaluated scope right (where_nonzero set (Parallel v) active) st ≡ Source.Gives (Parallel w) st
     → evaluated scope (T.LogicalAnd' ty p left q right) active st ≡ Source.Gives (Parallel (λ x. from_bool (nonzero (v x) && nonzero (w x)))) st
-unfolding evaluated then_do and_then at
+unfolding then_do at
 and_means scope active set ty p q left right v w st is one other =
-    ap (λ (o : Outcome Value). then_do o (λ x after. and_then ty.shape (type_of left).shape x (λ a after. evaluated scope right a after) active after)) one
-    ∙ ap (λ (o : Option ℕ). and_then ty.shape o (Parallel v) (λ a after. evaluated scope right a after) active st) (pure_shape set left is)
-    ∙ ap (λ (o : Outcome Value). then_do o (λ y after. Source.Gives (Parallel (λ x. from_bool (nonzero (v x) && nonzero (at y x)))) after)) other
+    and_so scope active set ty p q left right v st is one ∙ ap (λ (o : Outcome Value). then_do o (λ y after. Source.Gives (Parallel (λ x. from_bool (nonzero (v x) && nonzero (at y x)))) after)) other
 
 -- three that ignore the context
 all_ignore : (test first second : TExpr) → (ignores_context test && ignores_context first && ignores_context second) ≡ true → (ignores_context test ≡ true) × (ignores_context first ≡ true) × (ignores_context second ≡ true)

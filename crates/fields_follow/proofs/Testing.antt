@@ -1,5 +1,5 @@
 -- The code of a condition leaves the test flags.
-use Rattle.std.proofs.Common.{[], ◌+◌, ◌%◌, ◌≡◌, ◌∙◌, ℕ, ◌<◌, ◌≤◌, ◌^◌, ◌==◌, Bool, true, false, List, length, Option, Some, None, refl, sym, ap, arith, if◌then◌else◌}
+use Rattle.std.proofs.Common.{[], ◌&&◌, ◌||◌, subst, ◌+◌, ◌%◌, ◌≡◌, ◌∙◌, ℕ, ◌<◌, ◌≤◌, ◌^◌, ◌==◌, Bool, true, false, List, length, Option, Some, None, refl, sym, ap, arith, if◌then◌else◌}
 use Rattle.cstar_base.specs.declared.operators.Op.{Op}
 use Rattle.cstar_base.specs.declared.operators.Place.{Place}
 use Rattle.cstar_tree.specs.declared.typed.TExpr.{TExpr}
@@ -33,9 +33,10 @@ use Rattle.source_meaning.specs.Expressions.{evaluated}
 use Rattle.source_meaning.specs.Narrowing.{and_then, or_then, where_nonzero, where_zero}
 use Rattle.source_meaning.specs.State as Source
 use Rattle.source_meaning.specs.State.{Outcome, State, then_do}
-use Rattle.source_meaning.specs.Values.{Active, Parallel, Value, unary_of}
+use Rattle.source_meaning.specs.Values.{Active, Parallel, Value, at, nonzero, unary_of}
 use Rattle.source_meaning.proofs.ConstantLaws.{Boxed}
 use Rattle.std.proofs.Math.Nat.{mod-eq_of_lt}
+use Rattle.std.specs.Int.{from_bool}
 use Rattle.std.proofs.lemmas.Bool.{eqb-true}
 use Rattle.code_follows.proofs.Following.{Extends, Follows, HasRegisters, Sim, extends_then, follows_same, held}
 use Rattle.code_follows.proofs.Values.{extends_grown}
@@ -56,7 +57,7 @@ use Rattle.fields_follow.proofs.Passing.{After, after_same, made_after, passes_a
 use Rattle.fields_follow.proofs.Places.{HoldsTheFields, PlacesFields, names_first, stands_here}
 use Rattle.fields_follow.proofs.Variables.{Carries, file_carries}
 use Rattle.paris_code.specs.Spans.{IsNamedAt}
-use Rattle.fields_follow.proofs.Pure.{and_means, or_means, pure_means}
+use Rattle.fields_follow.proofs.Pure.{and_means, and_so, or_means, or_so, pure_means}
 use Rattle.fields_follow.proofs.NarrowKinds.{AreRelated, zero_told}
 use Rattle.fields_follow.proofs.Sizes.{binary_parts}
 use Rattle.fields_follow.proofs.Values.{Gives, IsFlag, Valued, and_entry, code_of, next_field, operand_after, operand_of, taken, variable_has, with_entry}
@@ -278,3 +279,14 @@ module _ (g : Setting) (has : HasRegisters g) (alive : Variable → Type 0) (n :
   pub and_ended : (ty : ValueType) (p q : Boxed) (left right : TExpr) (s : CodeState) (st : State) → Ended g s (meant g fields left st) → Ended g s (meant g fields (T.LogicalAnd' ty p left q right) st)
   unfolding evaluated
   and_ended ty p q left right s st early = ended_on g s (meant g fields left st) (λ x after. and_then ty.shape (type_of left).shape x (λ a after. evaluated fields.scope right a after) fields.active after) early
+
+  -- and where the right one does, where the left one does not decide
+  pub or_right_ended : (set : ℕ) (ty : ValueType) (p q : Boxed) (left right : TExpr) (s : CodeState) (st : State) → IsPure set left → IsGiven set left st → Ended g s (evaluated fields.scope right (where_zero set (Parallel (numbers_of set left st)) fields.active) st) → Ended g s (meant g fields (T.LogicalOr' ty p left q right) st)
+  or_right_ended set ty p q left right s st is given early =
+      subst (λ (o : Outcome Value). Ended g s o) (sym (or_so fields.scope fields.active set ty p q left right (numbers_of set left st) st is given))
+      (ended_on g s (evaluated fields.scope right (where_zero set (Parallel (numbers_of set left st)) fields.active) st) (λ y after. Source.Gives (Parallel (λ x. from_bool (nonzero (numbers_of set left st x) || nonzero (at y x)))) after) early)
+
+  pub and_right_ended : (set : ℕ) (ty : ValueType) (p q : Boxed) (left right : TExpr) (s : CodeState) (st : State) → IsPure set left → IsGiven set left st → Ended g s (evaluated fields.scope right (where_nonzero set (Parallel (numbers_of set left st)) fields.active) st) → Ended g s (meant g fields (T.LogicalAnd' ty p left q right) st)
+  and_right_ended set ty p q left right s st is given early =
+      subst (λ (o : Outcome Value). Ended g s o) (sym (and_so fields.scope fields.active set ty p q left right (numbers_of set left st) st is given))
+      (ended_on g s (evaluated fields.scope right (where_nonzero set (Parallel (numbers_of set left st)) fields.active) st) (λ y after. Source.Gives (Parallel (λ x. from_bool (nonzero (numbers_of set left st x) && nonzero (at y x)))) after) early)

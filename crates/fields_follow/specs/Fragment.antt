@@ -3,7 +3,8 @@
 -- indexes that are such expressions, own coordinates, truth values of such expressions, and promoted scalars, which are
 -- computed by operators, conversions, casts and `?:`, and change nothing; they fail where a divisor is 0 at an active
 -- position, or that of a scalar is, or where an index does not lie within its extent at one, and nowhere else. The
--- condition of `?:` may be parallel too: each of the other operands then fails only where it is chosen. They are
+-- condition of `?:` may be parallel too: each of the other operands then fails only where it is chosen, as the right one
+-- of `&&` and `||` does where the left one does not decide. They are
 -- assigned to such variables and folded into numbers and onto scalar variables, as scans of them and of ones with
 -- operators on these are, and they are the conditions of `where`. Folds and scans are of the active positions.
 -- They are sent to such variables by such indexes, also with an operator that folds.
@@ -35,7 +36,7 @@ use Rattle.lower_base.specs.Kinds.{is_bitwise, kind_of}
 use Rattle.lower_comm.specs.declared.news.NewsStep.{NewsStep}
 use Rattle.lower_comm.specs.News.{all_go_by_news, step_of}
 use Rattle.lower_expr.specs.Kinds.{operation_bits, relation_kind}
-use Rattle.lower_expr.specs.Operands.{ignores_context}
+use Rattle.lower_expr.specs.Steps.{is_kept, word_of}
 use Rattle.source_meaning.specs.Constants.{constant_of}
 use Rattle.source_meaning.specs.Values.{cast_type}
 use Rattle.code_follows.specs.Fragment.{Beside, IsOperand as OperatesOn, IsProgramBeside, IsScalarType, IsWord, IsIn, May}
@@ -123,8 +124,12 @@ unfoldable pub AreWrapping : {k : _} → ℕ → ℕ → Row_of-TExpr k → Type
 AreWrapping set axis end_of-TExpr = Unit {0}
 AreWrapping set axis (more_of-TExpr index rest) = IsWrapping set axis index × AreWrapping set (axis + 1) rest
 
--- a value whose narrow type is that of a variable or of a conversion, one of truth values, or that of two such values that
--- are joined bit by bit or of which one is chosen
+-- a promoted scalar that is computed
+abbrev pub IsSpread : TExpr → Type 0
+IsSpread e = (is_kept e ≡ true) × (word_of e ≡ None)
+
+-- a value whose narrow type is that of a variable or of a conversion, one of truth values, or that of two such values, or
+-- such scalars, that are joined bit by bit or of which one is chosen
 unfoldable pub IsNarrowed : TExpr → Type 0
 IsNarrowed (T.Variable ty x) = Unit {0}
 IsNarrowed (T.LeftIndex' ty place p indexes x of) = Unit {0}
@@ -133,8 +138,8 @@ IsNarrowed (T.Convert' ty p operand) = (kind_of operand ≡ None) ⊎ IsNarrowed
 IsNarrowed (T.Unary' ty op p operand) = negates op ≡ true
 IsNarrowed (T.LogicalOr' ty p left q right) = Unit {0}
 IsNarrowed (T.LogicalAnd' ty p left q right) = Unit {0}
-IsNarrowed (T.Binary' ty place op p left q right) = (relates op ≡ true) ⊎ ((is_bitwise op ≡ true) × IsNarrowed left × IsNarrowed right)
-IsNarrowed (T.Choice' ty p test q first r second) = IsNarrowed first × IsNarrowed second
+IsNarrowed (T.Binary' ty place op p left q right) = (relates op ≡ true) ⊎ ((is_bitwise op ≡ true) × (IsNarrowed left ⊎ IsSpread left) × (IsNarrowed right ⊎ IsSpread right))
+IsNarrowed (T.Choice' ty p test q first r second) = (IsNarrowed first ⊎ IsSpread first) × (IsNarrowed second ⊎ IsSpread second)
 IsNarrowed _ = ⊥
 
 -- one of which no type of fewer than 32 bits is known, or one of such a type
@@ -151,7 +156,7 @@ IsRelation set op left right = (relates op ≡ true) × (HasKnownKind left ⊎ I
 
 -- A parallel expression that is not promoted; of an operator's two operands one may be. Operators work at 32 bits, to
 -- which narrower values are converted. Truth values are relations, `!`, conversions to `bool`, and two values that are
--- joined by `&&` or `||`: the right one of these ignores the context: it has no get and no quotient, not even one of constants.
+-- joined by `&&` or `||`, of which the right one is computed where the left one does not decide.
 -- A get goes round the ends of the grid, or its indexes are such expressions, which fail where they do not lie within the
 -- extents at an active position. `?:` chooses one of two values at each position, which may be promoted, and each is
 -- computed where it is chosen.
@@ -160,8 +165,8 @@ unfoldable mutual
   IsPure set (T.Variable ty (V.File k)) = ty.shape ≡ Some set
   IsPure set (T.Brackets' ty p inner) = (ty ≡ type_of inner) × IsPure set inner
   IsPure set (T.Unary' ty op p operand) = IsWide set ty × (((negates op ≡ false) × IsWide set (type_of operand)) ⊎ ((negates op ≡ true) × HasKnownKind operand)) × IsPure set operand
-  IsPure set (T.LogicalOr' ty p left q right) = IsWide set ty × (IsPure set left × HasKnownKind left) × (IsPure set right × HasKnownKind right) × (ignores_context right ≡ true)
-  IsPure set (T.LogicalAnd' ty p left q right) = IsWide set ty × (IsPure set left × HasKnownKind left) × (IsPure set right × HasKnownKind right) × (ignores_context right ≡ true)
+  IsPure set (T.LogicalOr' ty p left q right) = IsWide set ty × (IsPure set left × HasKnownKind left) × (IsPure set right × HasKnownKind right)
+  IsPure set (T.LogicalAnd' ty p left q right) = IsWide set ty × (IsPure set left × HasKnownKind left) × (IsPure set right × HasKnownKind right)
   IsPure set (T.Binary' ty place op p left q right) =
       IsWide set ty × (IsOperation op right ⊎ IsRelation set op left right) × ((IsPure set left × (IsPure set right ⊎ IsPromoted set right)) ⊎ (IsPromoted set left × IsPure set right)) × IsWide set (type_of left) × IsWide set (type_of right)
   IsPure set (T.Choice' ty p test q first r second) = IsWide set ty × (IsPure set test × HasKnownKind test) × (IsPure set first ⊎ IsPromoted set first) × (IsPure set second ⊎ IsPromoted set second) × IsWide set (type_of first) × IsWide set (type_of second)

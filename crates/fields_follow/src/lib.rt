@@ -16,10 +16,11 @@ ghost use Rattle.fields_follow.specs.Laws.{ParallelCodeMeansSource};
 /// Parallel expressions are of such variables, of gets from neighbours that wrap around, `[(. + 1) %% dimof(S, 0)]x`, and
 /// by indexes that are parallel expressions, of own coordinates and of promoted scalars, which are computed and change
 /// nothing, converted to any type, with the operators `+ - * / % %% & | ^ ~ << >> <? >?`, but for a division by the
-/// constant 0, and of truth values: relations, `!`, `&&` and `||`, of which a right operand has no get and no quotient.
+/// constant 0, of truth values: relations, `!`, `&&` and `||`, and of `?:`.
 /// Where a divisor is 0 at an active position, or an index lies outside its extent there, both end with that fault at the
 /// least such one. The conditions of `where` are such expressions. Scans of them, and operators on scans, are folded, and
-/// assigned to variables other than `bool`; so are promoted scalars that change scalar variables.
+/// assigned to variables other than `bool`; so are promoted scalars that change scalar variables. Parallel expressions are
+/// sent, too, to such variables at parallel indexes, without an operator.
 /// What is tested, compared or folded are values of any types, but for bitwise operations on a narrow one and a constant
 /// that is converted to a narrow type; those of `bool` are conditions and operands of `!`, `&&` and `||` as others are.
 pub fn parallel_code_means_source()

@@ -1,0 +1,477 @@
+-- The code of `&&` and `||` whose right operand does not ignore the context. A field begins as what a decided left operand
+-- gives; under a context that is saved, the right operand is tested where the left one does not decide, and where it does
+-- not decide either, the field takes the other truth value.
+use Rattle.std.proofs.Common.{◌≡◌, ◌∙◌, ℕ, ◌+◌, ◌<◌, ◌≤◌, ◌%◌, ◌^◌, ◌&&◌, ◌||◌, inl, inr, Bool, true, false, not, List, [], length, slice_index, Option, Some, refl, sym, ap, subst, arith, if◌then◌else◌}
+use Rattle.std.specs.Int.{from_bool}
+use Rattle.cstar_tree.specs.declared.typed.TExpr.{TExpr}
+use Rattle.cstar_tree.specs.declared.typed.ValueType.{ValueType}
+use Rattle.cstar_tree.specs.declared.typed.Variable.{Variable}
+use Rattle.cstar_tree.specs.Typed.{type_of}
+use Rattle.code_lengths.specs.Lowerable.{InField}
+use Rattle.code_lengths.specs.Ready.{IsReadyButForFields}
+use Rattle.code_lengths.proofs.Agreeing.{lengths_if_made}
+use Rattle.constant_trees.proofs.Words.{from_bool_below}
+use Rattle.lower_base.specs.declared.emit.Out.{Out}
+use Rattle.lower_base.specs.declared.emit.Out.TheVariants as O
+use Rattle.lower_base.specs.Drafts.{Draft, Fails, Made, Makes, an_entry, step as step_of, then_make, with_instr}
+use Rattle.lower_expr.specs.Operands.{ignores_context}
+use Rattle.lower_expr.specs.Steps.{is_kept}
+use Rattle.lower_expr.specs.Values.{Condition, condition_by, condition_of, decided_by, joined_by, jumped_over, limited_by, logical_by, narrowed_again, narrowed_by, narrowing_by, parallel_logical_by, tested}
+use Rattle.paris_code.specs.declared.instr.Instr.{Instr}
+use Rattle.paris_code.specs.declared.instr.Instr.TheVariants as I
+use Rattle.paris_code.specs.declared.operands.Field.{Field}
+use Rattle.paris_code.specs.declared.operands.Konst.TheVariants as K
+use Rattle.paris_code.specs.declared.program.Owner.TheVariants as W
+use Rattle.paris_code.specs.Code.{CodeState}
+use Rattle.paris_code.specs.Memory.{is_active, processors}
+use Rattle.paris_code.specs.Spans.{IsNamedAt}
+use Rattle.source_meaning.specs.Expressions.{evaluated}
+use Rattle.source_meaning.specs.State.{State}
+use Rattle.source_meaning.specs.Values.{Active, nonzero}
+use Rattle.code_follows.proofs.Following.{Extends, Follows, HasRegisters, Sim, extends_made, extends_then, keeps_less, keeps_on}
+use Rattle.code_follows.proofs.Growing.{Extended, extended}
+use Rattle.code_follows.proofs.Settings.{Reaches, Setting, Within, and_one, code_more, earlier, layout, onto}
+use Rattle.code_follows.proofs.Values.{extends_grown}
+use Rattle.fields_follow.specs.Fragment.{HasItsKind, IsPure, IsWide}
+use Rattle.fields_follow.proofs.Arms.{words_of}
+use Rattle.fields_follow.proofs.Conditions.{HaveTheirCode, none_join}
+use Rattle.fields_follow.proofs.Expressions.{Answers, IsMeant}
+use Rattle.fields_follow.proofs.Flags.{Stored, store_context}
+use Rattle.fields_follow.proofs.Forms.{HasItsCode, pure_kept}
+use Rattle.fields_follow.proofs.Halves.{Halved, IsMeantUnder, Keeping, Leads, Narrows, after_delayed, after_under, ended_within, half, half_beside, halved, named_apart, narrowed_more, narrows}
+use Rattle.fields_follow.proofs.Instructions.{Puts, extents, number_in, puts_constant, shapes, word_in}
+use Rattle.fields_follow.proofs.Leaving.{fields_under, keeps_again, places_under, reaches_again, registers_under, starts_again, starts_under, under, within_under}
+use Rattle.fields_follow.proofs.Meaning.{value_in}
+use Rattle.fields_follow.proofs.Narrowing.{among, among_active, among_inactive, others, others_active, others_inactive}
+use Rattle.fields_follow.proofs.Outcomes.{Ended, Given, Known, after_all, ended_back, follows_known, known_follows, meant, then_known}
+use Rattle.fields_follow.proofs.Passing.{After, after_same, code_longer, fields_longer, flags_of, made_after, passes_all, then_after}
+use Rattle.fields_follow.proofs.Places.{HoldsTheFields, IsOwnField, PlacesFields, names_first, stands_here}
+use Rattle.fields_follow.proofs.Sizes.{pure_at}
+use Rattle.fields_follow.proofs.Starts.{Starts, starts_later, starts_next}
+use Rattle.fields_follow.proofs.TestFlags.{LeavesTests}
+use Rattle.fields_follow.proofs.Testing.{IsTested}
+use Rattle.fields_follow.proofs.Truths.{either_or_both, fields_sim, whole_sim}
+use Rattle.fields_follow.proofs.Values.{IsFlag, and_entry, next_field, one_more, taken, with_entry}
+use Rattle.fields_follow.proofs.Writing.{Written, own_written}
+
+-- neither operand decides where both halves are active
+undecided : (is_or : Bool) (set : ℕ) (v w : ℕ → ℕ) (a : Active) (x : ℕ) → a set x ≡ true → (c : Bool) → half is_or set w (half is_or set v a) set x ≡ c → either_or_both is_or (nonzero (v x)) (nonzero (w x)) ≡ (if c then not is_or else is_or)
+undecided false set v w a x on c is = by (nonzero (v x)) refl
+  where
+    plain : (c : Bool) → c ≡ (if c then true else false)
+    plain true = refl
+    plain false = refl
+
+    by : (b : Bool) → nonzero (v x) ≡ b → (nonzero (v x) && nonzero (w x)) ≡ (if c then true else false)
+    by true some = ap (λ (t : Bool). t && nonzero (w x)) some ∙ sym (among_active set w (among set v a) x (among_active set v a x on ∙ some)) ∙ is ∙ plain c
+    by false none =
+        ap (λ (t : Bool). t && nonzero (w x)) none
+        ∙ ap (λ (t : Bool). if t then true else false) (sym (among_inactive set w (among set v a) x (among_active set v a x on ∙ none)) ∙ is)
+undecided true set v w a x on c is = by (nonzero (v x)) refl
+  where
+    turned : (b c : Bool) → not b ≡ c → b ≡ (if c then false else true)
+    turned true true e = cc
+    turned true false e = refl
+    turned false true e = refl
+    turned false false e = cc
+
+    by : (b : Bool) → nonzero (v x) ≡ b → (nonzero (v x) || nonzero (w x)) ≡ (if c then false else true)
+    by true some =
+        ap (λ (t : Bool). t || nonzero (w x)) some
+        ∙ ap (λ (t : Bool). if t then false else true) (sym (others_inactive set w (others set v a) x (others_active set v a x on ∙ ap not some)) ∙ is)
+    by false none = ap (λ (t : Bool). t || nonzero (w x)) none ∙ turned (nonzero (w x)) c (sym (others_active set w (others set v a) x (others_active set v a x on ∙ ap not none)) ∙ is)
+
+-- what is made behind a piece that only goes on
+abbrev goes_on : (Draft → Draft) → Unit {0} → Draft → Made (Unit {0})
+goes_on step _ e = Makes tt (step e)
+
+made_behind : (m : Made (Unit {0})) (step : Draft → Draft) (next : Draft → Made Out) → then_make (then_make m (goes_on step)) (λ _ e. next e) ≡ then_make m (λ _ e. next (step e))
+unfolding then_make
+made_behind (Makes x e) step next = refl
+made_behind Fails step next = refl
+
+module _ (g : Setting) (has : HasRegisters g) (alive : Variable → Type 0) (n : ℕ) (ready : (d : Draft) → IsReadyButForFields g.typed g.instance (layout g) n d) (places : PlacesFields g) (fields : HoldsTheFields g) where
+  abbrev number : ℕ → TExpr → State → ℕ → ℕ
+  number set e st = λ q. value_in (extents g set) st e q
+
+  -- the code of the test of a value, where these positions are active
+  abbrev pub IsTestedUnder : ℕ → Active → TExpr → Type 0
+  IsTestedUnder set b e = IsTested (under g b) (registers_under g b has) alive n ready (places_under g b places) (fields_under g b fields.scope fields.same_extents) set e
+
+  module _ (is_or : Bool) (bits set : ℕ) (ty : ValueType) (whole left right : TExpr) (shaped : ty.shape ≡ Some set) (kinded : HasItsKind set left) (also : HasItsKind set right) (bound : ignores_context right ≡ false) (is : IsPure set whole) (wide : IsWide set (type_of whole)) (c : HasItsCode g.typed g.instance alive n whole)
+      (codes : HaveTheirCode g.typed g.instance alive n left right) (value : (st : State) (x : ℕ) → from_bool (either_or_both is_or (nonzero (value_in (extents g set) st left x)) (nonzero (value_in (extents g set) st right x))) ≡ value_in (extents g set) st whole x) where
+    abbrev test_of : TExpr → Draft → Made (Unit {0})
+    test_of e d = tested g.typed (layout g) e d
+
+    test_grows : (e : TExpr) → HasItsCode g.typed g.instance alive n e → InField g.typed e → (d : Draft) → Extends g d (test_of e d)
+    test_grows e code field d = extends_grown g has alive _ d _ _ ((lengths_if_made g.typed g.instance (layout g)).test n e d code.code field (ready d))
+
+    -- ---- what the code is
+
+    abbrev sets : Field → Bool → Instr
+    sets f b = I.MoveConstant f (K.Imm (from_bool b))
+
+    abbrev narrow : Draft → Draft
+    narrow e = narrowed_by is_or set e
+
+    abbrev last : Field → Field → Draft → Draft
+    last f saved e = with_instr (I.LoadContext saved) (with_instr (sets f (not is_or)) e)
+
+    abbrev behind : Field → Field → Draft → Made Out
+    behind f saved e = then_make (test_of right (narrow (with_instr (I.StoreContext saved) e))) (λ _ after. Makes (O.Field f) (last f saved (narrow after)))
+
+    narrow_more : (e : Draft) → Extended e 1 (narrow e)
+    narrow_more e = narrowed_more g alive places fields is_or set e
+
+    end_grows : (f saved : Field) (after : Draft) → Extends g after (Makes (O.Field f) (last f saved (narrow after)))
+    unfolding Extends
+    end_grows f saved after =
+        (1 + (1 + 1), extended after (narrow after) (last f saved (narrow after)) 1 (1 + 1) (narrow_more after) (extended (narrow after) (with_instr (sets f (not is_or)) (narrow after)) (last f saved (narrow after)) 1 1 (and_one g (sets f (not is_or)) (narrow after)) (and_one g (I.LoadContext saved) (with_instr (sets f (not is_or)) (narrow after)))))
+
+    narrow_grows : (f saved : Field) (e : Draft) → Extends g (narrow (with_instr (I.StoreContext saved) e)) (behind f saved e)
+    narrow_grows f saved e =
+        extends_then g (narrow (with_instr (I.StoreContext saved) e)) (test_of right (narrow (with_instr (I.StoreContext saved) e))) (λ _ after. Makes (O.Field f) (last f saved (narrow after))) (test_grows right codes.right_code codes.right_field (narrow (with_instr (I.StoreContext saved) e))) (λ _ after. end_grows f saved after)
+
+    behind_grows : (f saved : Field) (e : Draft) → Extends g e (behind f saved e)
+    behind_grows f saved e =
+        extends_made g e (narrow (with_instr (I.StoreContext saved) e)) (1 + 1) (behind f saved e) (extended e (with_instr (I.StoreContext saved) e) (narrow (with_instr (I.StoreContext saved) e)) 1 1 (and_one g (I.StoreContext saved) e) (narrow_more (with_instr (I.StoreContext saved) e))) (narrow_grows f saved e)
+
+    -- the draft where the left operand is tested
+    abbrev begun : Draft → Draft
+    begun d = with_entry set 1 W.Own (with_entry set bits W.Own d)
+
+    abbrev tests_from : Draft → Draft
+    tests_from d = with_instr (sets (next_field set bits d) is_or) (begun d)
+
+    logical_code : (d : Draft) → logical_by is_or ty.shape bits (condition_of g.typed (layout g) left) (condition_of g.typed (layout g) right) d ≡ then_make (test_of left (tests_from d)) (λ _ e. behind (next_field set bits d) (next_field set 1 (with_entry set bits W.Own d)) e)
+    unfolding logical_by an_entry then_make parallel_logical_by narrowing_by limited_by narrowed_again condition_by
+    logical_code d =
+        ap (λ (o : Option ℕ). logical_by is_or o bits one two d) shaped ∙ ap (λ (b : Bool). if b then joined_by is_or f one two taken_field else narrowing_by is_or f one two taken_field) (none_join left right bound)
+        ∙ ap (λ (b : Bool). if b then decided_by is_or f one.code two.test two.tested_long (tests_from d) else limited_by is_or f saved one.test (if is_kept right then jumped_over is_or two.code else narrowed_again is_or set two.test) (tests_from d)) (pure_kept set left kinded.0)
+        ∙ ap (λ (b : Bool). limited_by is_or f saved one.test (if b then jumped_over is_or two.code else narrowed_again is_or set two.test) (tests_from d)) (pure_kept set right also.0)
+        ∙ (λ i. then_make (test_of left (tests_from d)) (λ _ e. made_behind (test_of right (narrow (with_instr (I.StoreContext saved) e))) (λ after. narrow after) (λ after. Makes (O.Field f) (last f saved after)) i))
+      where
+        one : Condition
+        one = condition_of g.typed (layout g) left
+
+        two : Condition
+        two = condition_of g.typed (layout g) right
+
+        taken_field : Draft
+        taken_field = with_entry set bits W.Own d
+
+        f : Field
+        f = next_field set bits d
+
+        saved : Field
+        saved = next_field set 1 taken_field
+
+    -- ---- what it does
+
+    module _ (d : Draft) (s : CodeState) (st : State) (here : Starts g alive s (length d.code) d.regs) (sim : Sim g alive st s) where
+      abbrev taken_field : Draft
+      taken_field = with_entry set bits W.Own d
+
+      abbrev f : Field
+      f = next_field set bits d
+
+      abbrev saved : Field
+      saved = next_field set 1 taken_field
+
+      abbrev v : ℕ → ℕ
+      v = number set left st
+
+      abbrev w : ℕ → ℕ
+      w = number set right st
+
+      -- where the left operand does not decide, and where neither does
+      abbrev among_left : Active
+      among_left = half is_or set v fields.active
+
+      abbrev among_both : Active
+      among_both = half is_or set w among_left
+
+      abbrev words : ℕ → ℕ
+      words = words_of g has alive n ready places fields set whole st
+
+      abbrev Q : Out → Draft → Type 0
+      Q = Known g s (meant g fields whole st) (number set whole st) st (Answers g has alive n ready places fields (IsFlag whole) bits (length d.fields) d s set st words)
+
+      module _ (within : Within g (tests_from d)) where
+        own : IsOwnField g f
+        own = taken g set bits W.Own d (tests_from d) (0 + 1) within (extended taken_field (begun d) (tests_from d) 0 1 (and_entry set 1 W.Own taken_field) (and_one g (sets f is_or) (begun d)))
+
+        own_saved : IsOwnField g saved
+        own_saved = taken g set 1 W.Own taken_field (tests_from d) 1 within (and_one g (sets f is_or) (begun d))
+
+        abbrev Again : Type 0
+        Again = (later : ℕ) × (IsNamedAt g.unit f.offset later × (length (begun d).code < later))
+
+        -- the field begins as what a decided left operand gives
+        first : Written g places fields alive set f (begun d) (sets f is_or) s st (λ x. from_bool is_or) Again
+        unfolding word_in
+        first = own_written g places fields alive set (sets f is_or) f (begun d) s st (λ x. from_bool is_or) within here.stands sim refl (puts_constant g set f (K.Imm (from_bool is_or)) s (from_bool_below is_or)) own
+
+        first_here : Starts g alive first.t (length (tests_from d).code) (tests_from d).regs
+        first_here = starts_next g alive (sets f is_or) (begun d) s first.t first.at here
+
+        first_named : IsNamedAt g.unit f.offset (length (begun d).code)
+        unfolding step_of
+        first_named = names_first g (sets f is_or) f [] (length (begun d).code) (stands_here g (sets f is_or) (begun d) within refl) refl
+
+        first_more : length (tests_from d).code ≡ length d.code + 1
+        first_more = code_more g (sets f is_or) (begun d)
+
+        -- behind the left operand
+        module _ (e : Draft) (l : LeavesTests g alive fields (tests_from d) first.t set st v e) where
+          abbrev saves : Draft
+          saves = with_instr (I.StoreContext saved) e
+
+          entries : (length taken_field.fields ≡ length d.fields + 1) × (length (begun d).fields ≡ length d.fields + 1 + 1) × (length (begun d).fields ≤ length (tests_from d).fields) × (length (tests_from d).fields ≤ length e.fields) × (length e.fields ≤ length saves.fields)
+          entries =
+              let one = one_more set bits W.Own d in
+              let two = one_more set 1 W.Own taken_field in
+              (one, omega (arith, one, two), fields_longer (begun d) (tests_from d) 1 (and_one g (sets f is_or) (begun d)), fields_longer (tests_from d) e l.leaves.grown.0 l.leaves.grown.1, fields_longer e saves 1 (and_one g (I.StoreContext saved) e))
+
+          saves_more : length saves.code ≡ length e.code + 1
+          saves_more = code_more g (I.StoreContext saved) e
+
+          left_longer : length (tests_from d).code ≤ length e.code
+          left_longer = code_longer (tests_from d) e l.leaves.grown.0 l.leaves.grown.1
+
+          module _ (within_narrow : Within g (narrow saves)) where
+            within_saves : Within g saves
+            within_saves = earlier g saves (narrow saves) 1 (narrow_more saves) within_narrow
+
+            stored : Stored g places alive fields.active set saved e (I.StoreContext saved) l.leaves.t st (λ x. Unit {0}) (λ x. from_bool (fields.active set x))
+            stored = store_context g places alive fields.active set saved e l.leaves.t st own_saved refl refl within_saves l.leaves.at.stands (fields_sim g alive places fields st l.leaves.t l.leaves.sim)
+
+            named_saved : IsNamedAt g.unit saved.offset (length e.code)
+            unfolding step_of
+            named_saved = names_first g (I.StoreContext saved) saved [] (length e.code) (stands_here g (I.StoreContext saved) e within_saves refl) refl
+
+            stored_stays : (h : Field) (one later x : ℕ) → (h.offset ≡ saved.offset → ⊥) → IsOwnField g h → IsNamedAt g.unit h.offset one → one < length e.code → IsNamedAt g.unit h.offset later → length e.code < later → number_in g h stored.t x ≡ number_in g h l.leaves.t x
+            stored_stays h one later x differ own_h named early after late = stored.beside h x (named_apart g places h saved one (length e.code) later differ own_h own_saved stored.exists named early after late named_saved)
+
+            -- the left operand does not decide
+            left_there : Narrows g alive places fields among_left saves (narrow saves) stored.t st
+            left_there = narrows g alive places fields is_or set v saves stored.t st (λ x below on. stored.tests set x ∙ l.flags x below on) within_narrow stored.at (whole_sim g alive places fields st stored.t stored.sim)
+
+            left_here : Starts (under g among_left) alive left_there.t (length (narrow saves).code) (narrow saves).regs
+            left_here =
+                let more = saves_more in
+                let two = code_longer saves (narrow saves) 1 left_there.more in
+                starts_under g among_left alive left_there.t (length (narrow saves).code) (narrow saves).regs
+                (starts_later g alive l.leaves.t left_there.t (length e.code) e.regs (length (narrow saves).code) (narrow saves).regs (omega (arith, more, two)) (extended e saves (narrow saves) 1 1 (and_one g (I.StoreContext saved) e) left_there.more).regs left_there.at l.leaves.at)
+
+            left_go : Reaches g s left_there.t
+            left_go = onto g s first.t left_there.t first.go (onto g first.t l.leaves.t left_there.t l.leaves.go (onto g l.leaves.t stored.t left_there.t stored.go left_there.go))
+
+            -- behind the right operand
+            module _ (after : Draft) (r : LeavesTests (under g among_left) alive (fields_under g among_left fields.scope fields.same_extents) (narrow saves) left_there.t set st w after) (within_last : Within g (last f saved (narrow after))) where
+              within_put : Within g (with_instr (sets f (not is_or)) (narrow after))
+              within_put = earlier g (with_instr (sets f (not is_or)) (narrow after)) (last f saved (narrow after)) 1 (and_one g (I.LoadContext saved) (with_instr (sets f (not is_or)) (narrow after))) within_last
+
+              within_after : Within g (narrow after)
+              within_after = earlier g (narrow after) (with_instr (sets f (not is_or)) (narrow after)) 1 (and_one g (sets f (not is_or)) (narrow after)) within_put
+
+              -- it does not decide either
+              right_there : Narrows (under g among_left) alive (places_under g among_left places) (fields_under g among_left fields.scope fields.same_extents) among_both after (narrow after) r.leaves.t st
+              right_there =
+                  narrows (under g among_left) alive (places_under g among_left places) (fields_under g among_left fields.scope fields.same_extents) is_or set w after r.leaves.t st r.flags (within_under g among_left within_after) r.leaves.at.stands r.leaves.sim
+
+              leads : Leads g alive places fields among_both saves (narrow after) stored.t st
+              leads =
+                  let all : Extended saves (1 + (r.leaves.grown.0 + 1)) (narrow after) = extended saves (narrow saves) (narrow after) 1 (r.leaves.grown.0 + 1) left_there.more (extended (narrow saves) after (narrow after) r.leaves.grown.0 1 r.leaves.grown.1 right_there.more) in
+                  let one = code_longer saves (narrow saves) 1 left_there.more in
+                  let two = code_longer after (narrow after) 1 right_there.more in
+                  let three = fields_longer saves (narrow saves) 1 left_there.more in
+                  record {
+                    grown = (1 + (r.leaves.grown.0 + 1), all);
+                    t = right_there.t;
+                    go = onto g stored.t left_there.t right_there.t left_there.go (onto g left_there.t r.leaves.t right_there.t (reaches_again g among_left r.leaves.go) (reaches_again g among_left right_there.go));
+                    at = starts_under g among_both alive right_there.t (length (narrow after).code) (narrow after).regs
+                        (starts_later g alive r.leaves.t right_there.t (length after.code) after.regs (length (narrow after).code) (narrow after).regs two right_there.more.regs right_there.at (starts_again g among_left alive r.leaves.t (length after.code) after.regs r.leaves.at));
+                    registers = λ y kept.
+                        ap (λ (registers : List ℕ). slice_index registers y) right_there.registers
+                        ∙ keeps_on g saves (narrow saves) 1 stored.t left_there.t r.leaves.t left_there.more (λ z kept_so. ap (λ (registers : List ℕ). slice_index registers z) left_there.registers) (keeps_again g among_left (narrow saves) left_there.t r.leaves.t r.leaves.registers) y kept;
+                    sim = right_there.sim;
+                    stays = λ h begin later x inside own_h ends named early behind late.
+                        right_there.stays h x ends
+                        ∙ r.leaves.stays tt h begin later x (omega (arith, inside, three)) own_h ends named (omega (arith, early, one)) behind (omega (arith, late, two)) ∙ left_there.stays h x ends;
+                  }
+
+              keeping : Keeping g alive places fields set (length d.fields) bits saved saves stored.t
+              keeping =
+                  let l0 = entries.0 in
+                  let l1 = entries.1 in
+                  let l2 = entries.2 in
+                  let l3 = entries.3 in
+                  let l4 = entries.4 in
+                  let more = saves_more in
+                  record {
+                    exists = stored.exists;
+                    own = own;
+                    inside = omega (arith, l1, l2, l3, l4);
+                    of_set = refl;
+                    own_saved = own_saved;
+                    saved_inside = omega (arith, l0, l1, l2, l3, l4);
+                    other = λ same. omega (arith, same, l0);
+                    saved_ends = stored.ends;
+                    somewhere = length e.code;
+                    named = named_saved;
+                    before = omega (arith, more);
+                    saves = λ x below. stored.has x below tt;
+                  }
+
+              beside : (q x : ℕ) → (q ≡ set → ⊥) → fields.active q x ≡ among_both q x
+              beside q x differ = half_beside is_or set v fields.active q x differ ∙ half_beside is_or set w among_left q x differ
+
+              put : Puts (under g among_both) set (sets f (not is_or)) f leads.t (λ x. from_bool (not is_or))
+              unfolding word_in
+              put = puts_constant (under g among_both) set f (K.Imm (from_bool (not is_or))) leads.t (from_bool_below (not is_or))
+
+              ended : Halved g alive places fields set f saved among_both (λ x. from_bool (not is_or)) saves (last f saved (narrow after)) stored.t st
+              ended =
+                  halved g alive places fields set (length d.fields) bits saved among_both beside (λ x. from_bool (not is_or)) saves (narrow after) stored.t st keeping leads (narrow after) (sets f (not is_or))
+                  (passes_all (under g among_both) alive (length (narrow after).fields) (narrow after) leads.t st (Unit {0}) leads.at leads.sim) put within_last
+
+              put_named : IsNamedAt g.unit f.offset (length (narrow after).code)
+              unfolding step_of
+              put_named = names_first g (sets f (not is_or)) f [] (length (narrow after).code) (stands_here g (sets f (not is_or)) (narrow after) within_put refl) refl
+
+              longer : length saves.code ≤ length (narrow after).code
+              longer = code_longer saves (narrow after) leads.grown.0 leads.grown.1
+
+              -- what stood in the field
+              was : (x : ℕ) → x < processors (shapes g) set → fields.active set x ≡ true → number_in g f stored.t x ≡ from_bool is_or % 2 ^ bits
+              was x below on =
+                  let l0 = entries.0 in
+                  let l1 = entries.1 in
+                  let l2 = entries.2 in
+                  let more = saves_more in
+                  let begin_more = first_more in
+                  let left_more = left_longer in
+                  let behind_all = longer in
+                  stored_stays f (length (begun d).code) (length (narrow after).code) x (λ same. omega (arith, same, l0)) own first_named (omega (arith, begin_more, left_more)) put_named (omega (arith, more, behind_all))
+                  ∙ l.leaves.stays tt f (length (begun d).code) (length (narrow after).code) x (omega (arith, l1, l2)) own ended.ends first_named (omega (arith, begin_more)) put_named (omega (arith, more, behind_all))
+                  ∙ first.has.are x below (flags_of g alive places fields st first.t set x first.sim stored.exists below ∙ on)
+
+              word_there : (x : ℕ) → x < processors (shapes g) set → is_active (shapes g) ended.t.memory set x ≡ true → (number_in g f ended.t x ≡ words x % 2 ^ bits) × (words x < 2 ^ 32)
+              word_there x below on = by (among_both set x) refl
+                where
+                  active : fields.active set x ≡ true
+                  active = sym (flags_of g alive places fields st ended.t set x ended.sim stored.exists below) ∙ on
+
+                  begin : ℕ
+                  begin = length (begun d).code
+
+                  is_word : (b : Bool) → among_both set x ≡ b → words x ≡ from_bool (if b then not is_or else is_or)
+                  is_word b there = pure_at g alive n places fields set whole st s sim is wide c x ∙ sym (value st x) ∙ ap from_bool (undecided is_or set v w fields.active x active b there)
+
+                  with : (b : Bool) → words x ≡ from_bool b → number_in g f ended.t x ≡ from_bool b % 2 ^ bits → (number_in g f ended.t x ≡ words x % 2 ^ bits) × (words x < 2 ^ 32)
+                  with b same h = (h ∙ ap (λ (m : ℕ). m % 2 ^ bits) (sym same), subst (λ (m : ℕ). m < 2 ^ 32) (sym same) (from_bool_below b))
+
+                  by : (b : Bool) → among_both set x ≡ b → (number_in g f ended.t x ≡ words x % 2 ^ bits) × (words x < 2 ^ 32)
+                  by true there = with (not is_or) (is_word true there) (ended.puts x below there).0
+                  by false there =
+                      let more = saves_more in
+                      let begin_more = first_more in
+                      let left_more = left_longer in
+                      with is_or (is_word false there) (ended.leaves begin first_named (omega (arith, more, begin_more, left_more)) x below there ∙ was x below active)
+
+              answers : Answers g has alive n ready places fields (IsFlag whole) bits (length d.fields) d s set st words (O.Field f) (last f saved (narrow after))
+              answers =
+                  let l0 = entries.0 in
+                  let l1 = entries.1 in
+                  let l2 = entries.2 in
+                  let l3 = entries.3 in
+                  let l4 = entries.4 in
+                  let more = saves_more in
+                  let begin_more = first_more in
+                  let left_more = left_longer in
+                  let behind_all = longer in
+                  let end_more = code_longer saves (last f saved (narrow after)) ended.grown.0 ended.grown.1 in
+                  let end_fields = fields_longer saves (last f saved (narrow after)) ended.grown.0 ended.grown.1 in
+                  let begins : Extended d (0 + 1) (tests_from d) = extended d (begun d) (tests_from d) 0 1 (extended d taken_field (begun d) 0 0 (and_entry set bits W.Own d) (and_entry set 1 W.Own taken_field)) (and_one g (sets f is_or) (begun d)) in
+                  let to_saves : Extended d (0 + 1 + (l.leaves.grown.0 + 1)) saves = extended d (tests_from d) saves (0 + 1) (l.leaves.grown.0 + 1) begins (extended (tests_from d) e saves l.leaves.grown.0 1 l.leaves.grown.1 (and_one g (I.StoreContext saved) e)) in (
+                    f,
+                    (
+                      refl,
+                      (
+                        record {
+                          passes = record {
+                            grown = (0 + 1 + (l.leaves.grown.0 + 1) + ended.grown.0, extended d saves (last f saved (narrow after)) (0 + 1 + (l.leaves.grown.0 + 1)) ended.grown.0 to_saves ended.grown.1);
+                            t = ended.t;
+                            go = onto g s stored.t ended.t (onto g s first.t stored.t first.go (onto g first.t l.leaves.t stored.t l.leaves.go stored.go)) ended.go;
+                            at = ended.at;
+                            registers = λ y kept.
+                                keeps_on g d saves (0 + 1 + (l.leaves.grown.0 + 1)) s stored.t ended.t to_saves
+                                (λ z kept_so. ap (λ (registers : List ℕ). slice_index registers z) stored.registers ∙ keeps_less g d (tests_from d) first.t l.leaves.t begins.regs l.leaves.registers z kept_so ∙ ap (λ (registers : List ℕ). slice_index registers z) first.registers) ended.registers y kept;
+                            sim = ended.sim;
+                            stays = λ used h begin later x below own_h ends named early behind late.
+                                ended.stays h begin later x (omega (arith, below, l1, l2, l3, l4)) (λ same. omega (arith, same, below)) own_h ends named (omega (arith, early, begin_more, left_more, more)) behind late
+                                ∙ stored_stays h begin later x (λ same. omega (arith, same, below, l0)) own_h named (omega (arith, early, begin_more, left_more)) behind (omega (arith, late, end_more, more))
+                                ∙ l.leaves.stays tt h begin later x (omega (arith, below, l1, l2)) own_h ends named (omega (arith, early, begin_more)) behind (omega (arith, late, end_more, more))
+                                ∙ first.stays (length (narrow after).code, (put_named, omega (arith, behind_all, more, left_more, begin_more))) h begin later x (λ same. omega (arith, same, below)) own_h named behind (omega (arith, early)) (omega (arith, late, end_more, more, left_more, begin_more));
+                          };
+                          stands = inl (record {
+                            long = bits;
+                            own = own;
+                            fits = omega arith;
+                            ends = ended.ends;
+                            newer = omega arith;
+                            older = omega (arith, l1, l2, l3, l4, end_fields);
+                            somewhere = ended.somewhere;
+                            named = ended.named;
+                            before = ended.before;
+                            has = record { of_set = refl; exists = stored.exists; len = refl; are = λ x below on. (word_there x below on).0; small = λ x below on. (word_there x below on).1 };
+                          });
+                        },
+                        λ flag k info element wider. places.own_file k 0 set info f element own,
+                      ),
+                    ),
+                  )
+
+      -- all of it
+      logical_known : IsTested g has alive n ready places fields set left → ((b : Active) → IsTestedUnder set b right) → (IsMeant g has alive n ready places fields set left st → IsMeantUnder g has alive n ready places fields among_left set right st → IsMeant g has alive n ready places fields set whole st)
+          → (Ended g s (meant g fields left st) → Ended g s (meant g fields whole st)) → (IsMeant g has alive n ready places fields set left st → Ended g s (evaluated fields.scope right among_left st) → Ended g s (meant g fields whole st))
+          → Follows g (Given g (number set whole st) st (Answers g has alive n ready places fields (IsFlag whole) bits (length d.fields) d s set st words)) s (meant g fields whole st) (logical_by is_or ty.shape bits (condition_of g.typed (layout g) left) (condition_of g.typed (layout g) right) d)
+      logical_known left_tested right_tested means left_ends right_ends =
+          known_follows g s (meant g fields whole st) (number set whole st) st (Answers g has alive n ready places fields (IsFlag whole) bits (length d.fields) d s set st words) (logical_by is_or ty.shape bits (condition_of g.typed (layout g) left) (condition_of g.typed (layout g) right) d)
+          (after_same g Q (logical_code d)
+          (after_delayed g Q (tests_from d) (then_make (test_of left (tests_from d)) (λ _ e. behind f saved e)) (extends_then g (tests_from d) (test_of left (tests_from d)) (λ _ e. behind f saved e) (test_grows left codes.left_code codes.left_field (tests_from d)) (λ _ e. behind_grows f saved e)) (λ within.
+          then_known g (first within).t (meant g fields left st) v st (λ _ e. LeavesTests g alive fields (tests_from d) (first within).t set st v e) Q (test_of left (tests_from d)) (λ _ e. behind f saved e) (left_tested (tests_from d) (first within).t st (first_here within) (first within).sim) (λ _ e. behind_grows f saved e)
+          (λ is_left _ e l. right_after within e l is_left) (λ early x e. inr (left_ends (ended_back g s (first within).t (meant g fields left st) (first within).go early))))))
+        where
+          Right : (within : Within g (tests_from d)) (e : Draft) (l : LeavesTests g alive fields (tests_from d) (first within).t set st v e) (within_narrow : Within g (narrow (with_instr (I.StoreContext saved) e))) → Unit {0} → Draft → Type 0
+          Right within e l within_narrow u after =
+              Known (under g among_left) (left_there within e l within_narrow).t (meant (under g among_left) (fields_under g among_left fields.scope fields.same_extents) right st) w st
+              (λ _ x. LeavesTests (under g among_left) alive (fields_under g among_left fields.scope fields.same_extents) (narrow (with_instr (I.StoreContext saved) e)) (left_there within e l within_narrow).t set st w x) u after
+
+          right_after : (within : Within g (tests_from d)) (e : Draft) → LeavesTests g alive fields (tests_from d) (first within).t set st v e → IsMeant g has alive n ready places fields set left st → After g Q (behind f saved e)
+          right_after within e l is_left =
+              after_delayed g Q (narrow (with_instr (I.StoreContext saved) e)) (behind f saved e) (narrow_grows f saved e) (λ within_narrow.
+              then_after g (λ u after. Right within e l within_narrow u after) Q (test_of right (narrow (with_instr (I.StoreContext saved) e))) (λ _ after. Makes (O.Field f) (last f saved (narrow after)))
+              (after_under g among_left (λ u after. Right within e l within_narrow u after) (test_of right (narrow (with_instr (I.StoreContext saved) e)))
+              (follows_known (under g among_left) (left_there within e l within_narrow).t (meant (under g among_left) (fields_under g among_left fields.scope fields.same_extents) right st) w st
+              (λ _ x. LeavesTests (under g among_left) alive (fields_under g among_left fields.scope fields.same_extents) (narrow (with_instr (I.StoreContext saved) e)) (left_there within e l within_narrow).t set st w x) (test_of right (narrow (with_instr (I.StoreContext saved) e)))
+              (right_tested among_left (narrow (with_instr (I.StoreContext saved) e)) (left_there within e l within_narrow).t st (left_here within e l within_narrow) (left_there within e l within_narrow).sim)))
+              (λ _ after. end_grows f saved after) (λ u after known. by within_narrow u after known))
+            where
+              by : (within_narrow : Within g (narrow (with_instr (I.StoreContext saved) e))) (u : Unit {0}) (after : Draft) → Right within e l within_narrow u after → After g Q (Makes (O.Field f) (last f saved (narrow after)))
+              by within_narrow u after (inl (is_right, r)) = made_after g Q (O.Field f) (last f saved (narrow after)) (λ within_last. inl (means is_left is_right, answers within e l within_narrow after r within_last))
+              by within_narrow u after (inr early) =
+                  after_all g Q (Makes (O.Field f) (last f saved (narrow after))) (λ y x. inr (right_ends is_left
+                  (ended_back g s (left_there within e l within_narrow).t (evaluated fields.scope right among_left st) (left_go within e l within_narrow) (ended_within g among_left fields (left_there within e l within_narrow).t (evaluated fields.scope right among_left st) early))))
+
+  pub undecided_valued : (is_or : Bool) (bits set : ℕ) (ty : ValueType) (whole left right : TExpr) → ty.shape ≡ Some set → HasItsKind set left → HasItsKind set right → ignores_context right ≡ false → IsPure set whole → IsWide set (type_of whole) → HasItsCode g.typed g.instance alive n whole → HaveTheirCode g.typed g.instance alive n left right
+      → ((st : State) (x : ℕ) → from_bool (either_or_both is_or (nonzero (value_in (extents g set) st left x)) (nonzero (value_in (extents g set) st right x))) ≡ value_in (extents g set) st whole x)
+      → IsTested g has alive n ready places fields set left → ((b : Active) → IsTestedUnder set b right)
+      → ((st : State) → IsMeant g has alive n ready places fields set left st → IsMeantUnder g has alive n ready places fields (half is_or set (number set left st) fields.active) set right st → IsMeant g has alive n ready places fields set whole st)
+      → ((s : CodeState) (st : State) → Ended g s (meant g fields left st) → Ended g s (meant g fields whole st))
+      → ((s : CodeState) (st : State) → IsMeant g has alive n ready places fields set left st → Ended g s (evaluated fields.scope right (half is_or set (number set left st) fields.active) st) → Ended g s (meant g fields whole st))
+      → (d : Draft) (s : CodeState) (st : State) → Starts g alive s (length d.code) d.regs → Sim g alive st s
+      → Follows g (Given g (number set whole st) st (Answers g has alive n ready places fields (IsFlag whole) bits (length d.fields) d s set st (words_of g has alive n ready places fields set whole st))) s (meant g fields whole st) (logical_by is_or ty.shape bits (condition_of g.typed (layout g) left) (condition_of g.typed (layout g) right) d)
+  undecided_valued is_or bits set ty whole left right shaped kinded also bound is wide c codes value left_tested right_tested means left_ends right_ends d s st here sim =
+      logical_known is_or bits set ty whole left right shaped kinded also bound is wide c codes value d s st here sim left_tested right_tested (means st) (left_ends s st) (right_ends s st)
