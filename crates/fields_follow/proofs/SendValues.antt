@@ -48,7 +48,7 @@ module _ (g : Setting) (has : HasRegisters g) (alive : Variable → Type 0) (n :
   -- it gives the lowest bits of its words
   abbrev pub IsSpread : ℕ → ℕ → TExpr → Type 0
   IsSpread bits set e =
-      (d : Draft) (s : CodeState) (st : State) → Starts g alive s (length d.code) d.regs → Sim g alive st s
+      (d : Draft) (s : CodeState) (st : State) → Starts g alive s (length d.code) d.regs (length d.fields) → Sim g alive st s
       → Follows g (Given g (λ q. value_in (extents g set) st e q) st (GivesSpread bits d s set st e)) s (meant g fields e st) (spread_of bits set e d)
 
   abbrev spread_if : Bool → ℕ → ℕ → TExpr → Draft → Made Out

@@ -21,7 +21,7 @@ use Rattle.paris_code.specs.Sending.{combining, overwriting}
 use Rattle.paris_code.specs.Spans.{fields_of}
 use Rattle.paris_code.specs.Writes.{Write, written}
 use Rattle.source_meaning.specs.State.{with_positions, State}
-use Rattle.code_follows.proofs.Settings.{placed_instr, Setting, Within, and_one}
+use Rattle.code_follows.proofs.Settings.{OpenAmong, placed_instr, Setting, Within, and_one}
 use Rattle.fields_follow.proofs.Instructions.{puts_negate, wrote, HasNumbers, has_words, place, shapes}
 use Rattle.fields_follow.proofs.Passing.{Stands, gives_on, puts_own, Behind, GivesField, code_longer, Passes, fields_longer, flags_of, gives_numbers, names_second, names_third, passes_all, passes_from, passes_on, small_there, still_numbers}
 use Rattle.cstar_tree.specs.declared.syntax.AssignOp.{AssignOp}
@@ -38,7 +38,7 @@ use Rattle.paris_code.specs.Memory.{field_number, processors}
 use Rattle.source_meaning.specs.Reductions.{divides_by_zero}
 use Rattle.source_meaning.specs.Sends.{Send, is_sent_to, received, sent}
 use Rattle.vp_sets.specs.Positions.{position_count}
-use Rattle.code_follows.proofs.Following.{OpenAmong}
+use Rattle.code_follows.proofs.Following.{}
 use Rattle.code_follows.proofs.Growing.{Extended, extended}
 use Rattle.fields_follow.specs.Fields.{IsElement}
 use Rattle.fields_follow.proofs.Fields.{HoldsFields}
@@ -47,6 +47,7 @@ use Rattle.fields_follow.proofs.News.{for_variable, owner_of}
 use Rattle.fields_follow.proofs.Places.{HoldsTheFields, IsFileField, PlacesFields, stands_here}
 use Rattle.fields_follow.proofs.SendMeans.{sent_from, set_few}
 use Rattle.fields_follow.proofs.SendWrites.{sent_leaves}
+use Rattle.fields_follow.proofs.Starts.{starts_entry}
 use Rattle.fields_follow.proofs.Values.{and_entry, next_field, one_more, taken, with_entry}
 use Rattle.fields_follow.proofs.Writing.{entry_place}
 
@@ -120,7 +121,7 @@ module _ (g : Setting) (alive : Variable → Type 0) (places : PlacesFields g) (
     address = b.address;
     value = record {
       passes = passes_on g alive (length b.x.fields) (length b.x.fields) b.x e e2 b.address.passes.t st (Behind g a e) (Unit {0}) (Behind g a e2) (omega arith) b.value.passes
-          (passes_from g alive (length b.x.fields) e e2 e2 b.value.passes.t st (Unit {0}) (and_entry other len owner e) (passes_all g alive (length b.x.fields) e2 b.value.passes.t st (Unit {0}) b.value.passes.at b.value.passes.sim)) (λ later. later) (λ later. tt);
+          (passes_from g alive (length b.x.fields) e e2 e2 b.value.passes.t st (Unit {0}) (and_entry other len owner e) (passes_all g alive (length b.x.fields) e2 b.value.passes.t st (Unit {0}) (starts_entry g alive _ _ b.value.passes.at) b.value.passes.sim)) (λ later. later) (λ later. tt);
       stands = by b.value.stands;
     };
   }
@@ -241,4 +242,4 @@ module _ (g : Setting) (alive : Variable → Type 0) (places : PlacesFields g) (
 
       before : Passes g alive (length b.x.fields) b.x e2 b.address.passes.t st (Unit {0})
       before = passes_on g alive (length b.x.fields) (length b.x.fields) b.x e e2 b.address.passes.t st (Behind g a e) (Unit {0}) (Unit {0}) (omega arith) b.value.passes
-          (passes_from g alive (length b.x.fields) e e2 e2 b.value.passes.t st (Unit {0}) (and_entry set 32 W.Own e) (passes_all g alive (length b.x.fields) e2 b.value.passes.t st (Unit {0}) b.value.passes.at b.value.passes.sim)) (λ u. a_behind) (λ u. tt)
+          (passes_from g alive (length b.x.fields) e e2 e2 b.value.passes.t st (Unit {0}) (and_entry set 32 W.Own e) (passes_all g alive (length b.x.fields) e2 b.value.passes.t st (Unit {0}) (starts_entry g alive _ _ b.value.passes.at) b.value.passes.sim)) (λ u. a_behind) (λ u. tt)

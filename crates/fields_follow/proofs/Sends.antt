@@ -79,7 +79,7 @@ use Rattle.fields_follow.proofs.Parts.{AllBehind, AllStand, AreFields, PartsStan
 use Rattle.fields_follow.proofs.Places.{HoldsTheFields, PlacesFields}
 use Rattle.fields_follow.proofs.Routing.{indexes_at, outside_at, target_of}
 use Rattle.fields_follow.proofs.SendMeans.{send_means, sent_from, target_ends, targets_fault, targets_given, targets_of, value_ends}
-use Rattle.fields_follow.proofs.Starts.{Starts}
+use Rattle.fields_follow.proofs.Starts.{Starts, starts_entry}
 use Rattle.fields_follow.proofs.Updates.{divides_never}
 use Rattle.fields_follow.proofs.Values.{and_entry, next_field, one_more, taken, with_entry}
 
@@ -95,7 +95,7 @@ module _ (g : Setting) (has : HasRegisters g) (alive : Variable → Type 0) (n :
   sends_by : (aty ty : ValueType) (place_of sending : Place) (op : AssignOp) (p q : Boxed) (r : _) (indexes : Row_of-TExpr _) (target value : TExpr) (k set bits : ℕ) (info : VarInfo) (is : IsElement g.typed k info set 0) → IsLike g.typed (layout g) target (T.LeftIndex' ty place_of r indexes (V.File k) set) → ty.shape ≡ Some set → aty ≡ type_of target
       → ArePure set indexes → AllCoded g has alive n ready places fields indexes → HasAxes g.typed set (length (items-the_row-TExpr _ indexes)) → taken_bits aty.elem.bits op target value ≡ bits → ((x : ℕ) → divides_by_zero op x ≡ false)
       → IsSpread g has alive n ready places fields bits set value → HasItsCode g.typed g.instance alive n value
-      → (d : Draft) (s : CodeState) (st : State) → Starts g alive s (length d.code) d.regs → Sim g alive st s
+      → (d : Draft) (s : CodeState) (st : State) → Starts g alive s (length d.code) d.regs (length d.fields) → Sim g alive st s
       → ((a : Field) (e : Draft) → BothStand g alive places fields set k info is d st (λ x. target_of (extents g set) st indexes x) (λ x. value_in (extents g set) st value x) bits (λ x. word_at (extents g set) st value x) s a e
       → After g (λ out f. Leaves g alive d f s (sent op aty.elem (type_of value).elem (V.File k) (sent_from fields.scope fields.active set (λ x. target_of (extents g set) st indexes x) (λ x. value_in (extents g set) st value x)) st)) (send_at g set k info aty op value (next_field set 32 d) a e))
       → UpdateLeaves g alive fields (T.Assign' aty sending op p target q value) d s st
@@ -165,7 +165,7 @@ module _ (g : Setting) (has : HasRegisters g) (alive : Variable → Type 0) (n :
       many = axes.2 ∙ ap length (sym (own_extents g.typed set axes.0 axes.1) ∙ (places.grids set exists).0)
 
       start : PartsStand g alive bound first_draft s set st [] [] first_draft
-      start = record { shaped = tt; passes = passes_all g alive bound first_draft s st (AllBehind g [] first_draft) here sim; stand = λ b. tt }
+      start = record { shaped = tt; passes = passes_all g alive bound first_draft s st (AllBehind g [] first_draft) (starts_entry g alive _ _ here) sim; stand = λ b. tt }
 
       checked : List Out → Draft → Draft
       checked parts between = with_step (ChecksTarget set place_of (signed_coordinates items (map index_coordinate parts))) between
@@ -245,7 +245,7 @@ module _ (g : Setting) (has : HasRegisters g) (alive : Variable → Type 0) (n :
   abbrev Sends : (aty ty : ValueType) (place_of sending : Place) (op : AssignOp) (p q : Boxed) (target value left : TExpr) (set : ℕ) → Type 0
   Sends aty ty place_of sending op p q target value left set =
       IsLike g.typed (layout g) target left → ty.shape ≡ Some set → aty ≡ type_of target → HasItsCode g.typed g.instance alive n left → IsOperand set value → HasItsCode g.typed g.instance alive n value
-      → (d : Draft) (s : CodeState) (st : State) → Starts g alive s (length d.code) d.regs → Sim g alive st s → UpdateLeaves g alive fields (T.Assign' aty sending op p target q value) d s st
+      → (d : Draft) (s : CodeState) (st : State) → Starts g alive s (length d.code) d.regs (length d.fields) → Sim g alive st s → UpdateLeaves g alive fields (T.Assign' aty sending op p target q value) d s st
 
   sets : (aty ty : ValueType) (place_of sending : Place) (p q : Boxed) (r : _) (indexes : Row_of-TExpr _) (target value : TExpr) (k set : ℕ) → ArePure set indexes → (type_of value).elem.bits ≡ aty.elem.bits → Sends aty ty place_of sending A.Set p q target value (T.LeftIndex' ty place_of r indexes (V.File k) set) set
   unfolding NamesVariables is_send is_sent bare sent_to assign_op_of then_make
@@ -379,7 +379,7 @@ module _ (g : Setting) (has : HasRegisters g) (alive : Variable → Type 0) (n :
 
   -- either of these, to what stands within brackets
   sends_to : (aty : ValueType) (sending : Place) (op : AssignOp) (p q : Boxed) (target left value : TExpr) (set : ℕ) → IsLike g.typed (layout g) target left → IsSendTarget set left → aty ≡ type_of target → HasItsCode g.typed g.instance alive n left → IsSent op aty.elem value → IsOperand set value → HasItsCode g.typed g.instance alive n value
-      → (d : Draft) (s : CodeState) (st : State) → Starts g alive s (length d.code) d.regs → Sim g alive st s → UpdateLeaves g alive fields (T.Assign' aty sending op p target q value) d s st
+      → (d : Draft) (s : CodeState) (st : State) → Starts g alive s (length d.code) d.regs (length d.fields) → Sim g alive st s → UpdateLeaves g alive fields (T.Assign' aty sending op p target q value) d s st
   unfolding IsSendTarget
   sends_to aty sending op p q target (T.LeftIndex' ty place_of r indexes (V.File k) of) value set like is same c is_sent operand own d s st here sim =
       subst (λ (m : ℕ). IsLike g.typed (layout g) target (T.LeftIndex' ty place_of r indexes (V.File k) m) → HasItsCode g.typed g.instance alive n (T.LeftIndex' ty place_of r indexes (V.File k) m) → UpdateLeaves g alive fields (T.Assign' aty sending op p target q value) d s st) (sym is.1)
@@ -392,7 +392,7 @@ module _ (g : Setting) (has : HasRegisters g) (alive : Variable → Type 0) (n :
       sends_to aty sending op p q target inner value set (like_inner g.typed (layout g) target ty r inner is.0 like) is.1 same (brackets_part g alive n places fields ty r inner c) is_sent operand own d s st here sim
   sends_to aty sending op p q target _ value set like is same c is_sent operand own d s st here sim = absurd is
 
-  pub sends_leave : (e : TExpr) → IsSend e → HasItsCode g.typed g.instance alive n e → (d : Draft) (s : CodeState) (st : State) → Starts g alive s (length d.code) d.regs → Sim g alive st s → UpdateLeaves g alive fields e d s st
+  pub sends_leave : (e : TExpr) → IsSend e → HasItsCode g.typed g.instance alive n e → (d : Draft) (s : CodeState) (st : State) → Starts g alive s (length d.code) d.regs (length d.fields) → Sim g alive st s → UpdateLeaves g alive fields e d s st
   unfolding IsSend NamesVariables IsShaped IsLowerable ScalarsAmong
   sends_leave (T.Assign' ty sending op p target q value) is c d s st here sim =
       sends_to ty sending op p q target target value is.2.0 (itself g.typed (layout g) target) is.2.1.0 is.0 (record { code = record { shaped = target_shaped is.2.0 target is.2.1.0 c.code.shaped.2; lowerable = c.code.lowerable.2; names = c.code.names.0 }; among = c.among.0 })
