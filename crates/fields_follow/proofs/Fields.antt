@@ -1,5 +1,5 @@
 -- What a memory holds of a state: in the fields of the file the numbers of its parallel variables.
-use Rattle.std.proofs.Common.{◌≤◌, arith, refl, ◌≡◌, ◌∙◌, ℕ, ◌<◌, ◌^◌, length, subst, sym}
+use Rattle.std.proofs.Common.{arith, refl, ◌≡◌, ◌∙◌, ℕ, ◌<◌, ◌^◌, length, subst, sym}
 use Rattle.cstar_tree.specs.declared.typed.Typed.{Typed}
 use Rattle.cstar_tree.specs.declared.typed.VarInfo.{VarInfo}
 use Rattle.cstar_tree.specs.declared.typed.Variable.TheVariants as V

@@ -165,14 +165,16 @@ module _ (g : Setting) (places : PlacesFields g) (alive : Variable → Type 0) (
       go = one_writes g s (wrote g write s) (begins_here g i e s within plain here ∙ goes) (λ f p there. elsewhere f p (places.own_and_below d f own there));
       at = at_next g i e s (s.at + 1) here refl;
       registers = refl;
-      sim = sim_saying g alive st s (s.at + 1) (written write s.memory) (record {
-        numbers = λ k element q p info is below. elsewhere (of_file g k element) p (places.own_file k element q info d is own) ∙ sim.memory.0.numbers k element q p info is below;
-        small = sim.memory.0.small;
-        flags = λ q p within_sets below. active_apart (shapes g) write s.memory q p d_ends.1 ∙ sim.memory.0.flags q p within_sets below;
-        winner = winner_still;
-        bits = bits_written (shapes g) write s.memory sim.memory.0.bits;
-      },
-      behind_own_at g places (OpenAmong g alive) (length e.code) s.at (s.at + 1) d st s.memory (written write s.memory) here (omega arith) own d_ends.0 named_here none elsewhere sim.memory.1) sim;
+      sim = sim_saying g alive st s (s.at + 1) (written write s.memory) (
+        record {
+          numbers = λ k element q p info is below. elsewhere (of_file g k element) p (places.own_file k element q info d is own) ∙ sim.memory.0.numbers k element q p info is below;
+          small = sim.memory.0.small;
+          flags = λ q p within_sets below. active_apart (shapes g) write s.memory q p d_ends.1 ∙ sim.memory.0.flags q p within_sets below;
+          winner = winner_still;
+          bits = bits_written (shapes g) write s.memory sim.memory.0.bits;
+        },
+        behind_own_at g places (OpenAmong g alive) (length e.code) s.at (s.at + 1) d st s.memory (written write s.memory) here (omega arith) own d_ends.0 named_here none elsewhere sim.memory.1,
+      ) sim;
       exists = set_exists;
       ends = d_ends.1;
       tests = λ q p. tested_apart (shapes g) write s.memory q p d_ends.1;
@@ -238,14 +240,16 @@ module _ (g : Setting) (places : PlacesFields g) (alive : Variable → Type 0) (
       go = one_writes g s (wrote g flag s) (begins_here g i e s within plain here ∙ goes) (λ f p there. field_still f p there.ends);
       at = at_next g i e s (s.at + 1) here refl;
       registers = refl;
-      sim = sim_saying g alive st s (s.at + 1) (written flag s.memory) (record {
-        numbers = λ k element q p info is below. field_still (of_file g k element) p (places.files_end k element q info is) ∙ sim.memory.0.numbers k element q p info is below;
-        small = sim.memory.0.small;
-        flags = flags;
-        winner = same_winner;
-        bits = bits_written (shapes g) flag s.memory sim.memory.0.bits;
-      },
-      behind_flags g places (OpenAmong g alive) s.at (s.at + 1) st s.memory (written flag s.memory) (omega arith) field_still sim.memory.1) sim;
+      sim = sim_saying g alive st s (s.at + 1) (written flag s.memory) (
+        record {
+          numbers = λ k element q p info is below. field_still (of_file g k element) p (places.files_end k element q info is) ∙ sim.memory.0.numbers k element q p info is below;
+          small = sim.memory.0.small;
+          flags = flags;
+          winner = same_winner;
+          bits = bits_written (shapes g) flag s.memory sim.memory.0.bits;
+        },
+        behind_flags g places (OpenAmong g alive) s.at (s.at + 1) st s.memory (written flag s.memory) (omega arith) field_still sim.memory.1,
+      ) sim;
       stays = λ h p ends. field_still (place g h) p ends;
     }
 

@@ -17,7 +17,7 @@ use Rattle.code_follows.proofs.Besides.{sim_saying, under_held}
 use Rattle.code_follows.proofs.Following.{Finishes, IsKept, Sim}
 use Rattle.code_follows.proofs.Settings.{OpenAmong, Held, SameBelow, Setting, Within}
 use Rattle.fields_follow.specs.Fragment.{IsCondition, IsParallelVariable, IsFold, IsParallelEffect}
-use Rattle.fields_follow.proofs.Fields.{HoldsFields, HoldsNumbers, fields_held}
+use Rattle.fields_follow.proofs.Fields.{HoldsNumbers, fields_held}
 use Rattle.fields_follow.proofs.Instructions.{SameExtents, place, shapes}
 use Rattle.fields_follow.proofs.Leaving.{EndsBelow, under}
 use Rattle.fields_follow.proofs.Places.{IsOwnField, PlacesFields}

@@ -221,6 +221,7 @@ module _ (g : Setting) (scope : Scope) (active : Active) (known : KnowsFields g 
         locals_on g Others (s.at + 1) (s.at + 1) st (zeroed n 1 st) (written write s.memory) (written write s.memory) (omega arith) (λ k of f living is holds used p low. refl) (λ k living p. same_parallel k p living.1)
         (behind_own_at g places Others (length taken_for.code) s.at (s.at + 1) dest st s.memory (written write s.memory) here (omega arith) own ends.0 (there within)
         (λ k entry living home same. behind_homes g (OpenAmong g before) (length d.code) (length d.fields) dest.offset free.opened (let equal = fields_same in omega (arith, equal)) k entry living.0 home same) still (locals_fewer g (OpenAmong g before) Others s.at st s.memory (λ k living. living.0) h))
+
     -- and it is 0 in its own
     zero_there : (p : ℕ) → (zeroed n 1 st).parallel (V.Local n) 0 p ≡ 0
     unfolding zeroed is_among

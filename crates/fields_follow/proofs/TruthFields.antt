@@ -41,7 +41,6 @@ use Rattle.fields_follow.proofs.TruthPuts.{at_once, bit_moved, flag_stored, puts
 use Rattle.fields_follow.proofs.TruthValues.{bit_converted}
 use Rattle.fields_follow.proofs.Truths.{either_or_both, truth_still}
 use Rattle.fields_follow.proofs.Values.{IsFlag, next_field, one_more, taken, with_entry}
-use Rattle.fields_follow.proofs.Starts.{no_home}
 use Rattle.fields_follow.proofs.Locals.{IsNoHome}
 
 -- it is its own word
