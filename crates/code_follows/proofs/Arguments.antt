@@ -84,7 +84,7 @@ module _ (g : Setting) (has : HasRegisters g) (alive : Variable → Type 0) (sco
   unfolding are_quiet
   first_quiet quiet e rest calm is = Quiet.both (is_quiet e) (are_quiet rest) (calm is)
 
-  pub arguments_follow : {k : Count} (own quiet : Bool) (row : Row_of-TExpr k) → (quiet ≡ true → are_quiet row ≡ true) → AreDone own quiet row → (outs : List Out) (d : Draft) (s : CodeState) (st : State) → Begun g d → At g s (length d.code) → Sim g alive st s
+  pub arguments_follow : {k : Count} (own quiet : Bool) (row : Row_of-TExpr k) → (quiet ≡ true → are_quiet row ≡ true) → AreDone own quiet row → (outs : List Out) (d : Draft) (s : CodeState) (st : State) → Begun g alive d → At g s (length d.code) → Sim g alive st s
       → Follows g (Given quiet (elems_of row) d s st outs) s (operands scope row active st) (values_of g.typed (layout g) own quiet row outs d)
   unfolding AreDone operands values_of Follows AreHeld state_behind
   arguments_follow own quiet end_of-TExpr calm c outs d s st free here sim = λ within. record {
@@ -107,12 +107,12 @@ module _ (g : Setting) (has : HasRegisters g) (alive : Variable → Type 0) (sco
       (λ v u out after both. first v u out after both (λ f regs. arguments_follow own quiet rest (λ is. (first_quiet quiet e rest calm is).1) c.1 (outs ++ out ∷ []) after f u regs))
     where
       first : (v : Value) (u : State) (out : Out) (after : Draft) → (both : (evaluated scope e active st ≡ Source.Gives v u) × Arrives g alive (type_of e).elem quiet d s v u out after)
-          → ((t : CodeState) → Begun g after → At g t (length after.code) → Sim g alive u t → Follows g (Given quiet (elems_of rest) after t u (outs ++ out ∷ [])) t (operands scope rest active u) (values_of g.typed (layout g) own quiet rest (outs ++ out ∷ []) after))
+          → ((t : CodeState) → Begun g alive after → At g t (length after.code) → Sim g alive u t → Follows g (Given quiet (elems_of rest) after t u (outs ++ out ∷ [])) t (operands scope rest active u) (values_of g.typed (layout g) own quiet rest (outs ++ out ∷ []) after))
           → Follows g (Given quiet (elems_of (more_of-TExpr e rest)) d s st outs) s (then_do (operands scope rest active u) (λ given later. Source.Gives (record { elem = (type_of e).elem; value = v } ∷ given) later)) (values_of g.typed (layout g) own quiet rest (outs ++ out ∷ []) after)
       first v u out after both others =
           let arr = both.1 in
           let still : quiet ≡ true → u ≡ st = λ is. sym (ap (λ (o : Outcome Value). state_behind o) both.0) ∙ Quiet.expression scope e active st (first_quiet quiet e rest calm is).0 in
-          moved (Given quiet (elems_of rest) after arr.t u (outs ++ out ∷ [])) (Given quiet (elems_of (more_of-TExpr e rest)) d s st outs) s arr.t (operands scope rest active u) (λ given. record { elem = (type_of e).elem; value = v } ∷ given) _ arr.go (others arr.t (begun_later g d after arr.extended.0 arr.extended.1 free) arr.at arr.sim)
+          moved (Given quiet (elems_of rest) after arr.t u (outs ++ out ∷ [])) (Given quiet (elems_of (more_of-TExpr e rest)) d s st outs) s arr.t (operands scope rest active u) (λ given. record { elem = (type_of e).elem; value = v } ∷ given) _ arr.go (others arr.t (begun_later g alive d after arr.extended.0 arr.extended.1 free) arr.at arr.sim)
           (λ given w all later r. record {
             grown = (arr.extended.0 + r.grown.0, extended d after later arr.extended.0 r.grown.0 arr.extended.1 r.grown.1);
             t = r.t;

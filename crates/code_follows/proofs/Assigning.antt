@@ -60,7 +60,7 @@ use Rattle.code_follows.proofs.Putting.{Put, put_follows}
 use Rattle.code_follows.proofs.Settings.{At, Begun, Setting, layout, stay, begun_later}
 use Rattle.code_follows.proofs.Standing.{some_same}
 use Rattle.code_follows.proofs.Targets.{TargetIs, assign_means, step_means, target_type, variable_in}
-use Rattle.code_follows.proofs.Values.{fresh_dest, with_reg, Value_of, HasWord, extends_in_register, word_follows}
+use Rattle.code_follows.proofs.Values.{and_register, fresh_dest, with_reg, Value_of, HasWord, extends_in_register, word_follows}
 use Rattle.code_follows.proofs.Words.{below_word, held_wide, kept, scalar_of}
 use Rattle.code_follows.proofs.Numbers.{takes_fits, takes_same}
 use Rattle.code_follows.proofs.Settling.{extends_settled, settled, settles}
@@ -75,7 +75,7 @@ module _ (g : Setting) (has : HasRegisters g) (alive : Variable → Type 0) (n :
 
   -- what a part does, whatever it gives
   abbrev Does_so : (State → Outcome Value) → (Draft → Made Out) → Type 0
-  Does_so part code = (d : Draft) (s : CodeState) (st : State) → Begun g d → At g s (length d.code) → Sim g alive st s → Follows g (λ v u out e. Ran g alive d s u e) s (part st) (code d)
+  Does_so part code = (d : Draft) (s : CodeState) (st : State) → Begun g alive d → At g s (length d.code) → Sim g alive st s → Follows g (λ v u out e. Ran g alive d s u e) s (part st) (code d)
 
   -- without an operator the value is put in the variable
   set_follows : (place : Place) (ty : ValueType) (value : TExpr) → ty.shape ≡ None → Takes info.elem (type_of value).elem → (IsIn (naming g.may alive)) value → HasCode g.typed g.instance n value
@@ -102,7 +102,7 @@ module _ (g : Setting) (has : HasRegisters g) (alive : Variable → Type 0) (n :
     abbrev behind_value : ℕ → Draft → Made Out
     behind_value b between = settled g has alive scope active x info living scalar at_type at_wide place o signed b between
 
-    with_value : (d : Draft) (s : CodeState) (v : Value) (u : State) (out : Out) (e : Draft) → Begun g d → Arrives g alive (type_of value).elem true d s v u out e
+    with_value : (d : Draft) (s : CodeState) (v : Value) (u : State) (out : Out) (e : Draft) → Begun g alive d → Arrives g alive (type_of value).elem true d s v u out e
         → Follows g (λ v u out e. Ran g alive d s u e) s (assigned scope active place op (scalar_type info.elem) (type_of value) (OfScalar x) v u) (in_register out (λ b. behind_value b e))
     unfolding in_register
     with_value d s v u out e free arr =
@@ -140,7 +140,7 @@ module _ (g : Setting) (has : HasRegisters g) (alive : Variable → Type 0) (n :
         by Sp.Increment is_signed = refl
         by Sp.Decrement is_signed = refl
 
-    with_one : (order : StepOrder) (d : Draft) (s : CodeState) (st : State) (q : ℕ) (e : Draft) → Begun g d → HasWord g has alive 1 d e s st q
+    with_one : (order : StepOrder) (d : Draft) (s : CodeState) (st : State) (q : ℕ) (e : Draft) → Begun g alive d → HasWord g has alive 1 d e s st q
         → Follows g (λ v u out e. Ran g alive d s u e) s (stepped scope active op order (scalar_type info.elem) (OfScalar x) st) (behind_one q e)
     with_one order d s st q e free h =
         subst (λ (made : Made Out). Follows g (λ v u out e. Ran g alive d s u e) s (stepped scope active op order (scalar_type info.elem) (OfScalar x) st) made) (sym (stepped_so q e))
@@ -161,7 +161,7 @@ module _ (g : Setting) (has : HasRegisters g) (alive : Variable → Type 0) (n :
 
 module _ (g : Setting) (has : HasRegisters g) (alive : Variable → Type 0) (n : ℕ) (files : (k : ℕ) → alive (V.File k)) (ready : (d : Draft) → IsReadyButForFields g.typed g.instance (layout g) n d) (scope : Scope) (active : Active) (calls_follow : CallsFollow g scope active) where
   abbrev pub Runs : (State → Outcome Value) → (Draft → Made Out) → Type 0
-  Runs part code = (d : Draft) (s : CodeState) (st : State) → Begun g d → At g s (length d.code) → Sim g alive st s → Follows g (λ v u out e. Ran g alive d s u e) s (part st) (code d)
+  Runs part code = (d : Draft) (s : CodeState) (st : State) → Begun g alive d → At g s (length d.code) → Sim g alive st s → Follows g (λ v u out e. Ran g alive d s u e) s (part st) (code d)
 
   -- the target, where it is written so
   abbrev chosen : Variable → Bool → Option Own
@@ -282,7 +282,7 @@ module _ (g : Setting) (has : HasRegisters g) (alive : Variable → Type 0) (n :
           let regs = x.regs in
           let same : length begun.code ≡ length d.code = let more = length-append d.code x.more in let none = x.long in omega (arith, ap length x.code, more, none) in
           follows_other g (λ v u out e. Ran g alive begun s u e) (λ v u out e. Ran g alive d s u e) s (evaluated scope (T.Call' ty index p row) active st) (code dest begun)
-          (call_runs g has alive files scope active calls_follow m row done known.1 is dest begun s st (begun_later g d begun 0 x free) (let there = here in omega (arith, there, same)) sim)
+          (call_runs g has alive files scope active calls_follow m row done known.1 is dest begun s st (begun_later g alive d begun 0 x free) (let there = here in omega (arith, there, same)) sim)
           (λ v u out e r. record { grown = (0 + r.grown.0, extended d begun e 0 r.grown.0 x r.grown.1); t = r.t; go = r.go; at = r.at; sim = r.sim; keeps = keeps_less g d begun s r.t regs r.keeps })
 
       no_shape : (info : VarInfo) → m.callee.callee.result ≡ Some info → ty.shape ≡ None
@@ -297,7 +297,7 @@ module _ (g : Setting) (has : HasRegisters g) (alive : Variable → Type 0) (n :
       by (Some info) is =
           subst (λ (o : Option ℕ). Follows g (λ v u out e. Ran g alive d s u e) s (evaluated scope (T.Call' ty index p row) active st) (then_make (fresh_for o ty.elem.bits d) (λ dest begun. code dest begun))) (sym (no_shape info is))
           (follows_other g (Value_of g has alive info.elem true d s) (λ v u out e. Ran g alive d s u e) s (evaluated scope (T.Call' ty index p row) active st) (code (O.Scalar d.regs) (with_reg d))
-          (call_follows g has alive files scope active calls_follow m row done known.1 info is info.elem (inl refl) (with_reg d) s st (Value_of g has alive info.elem true d s) d.regs (omega (arith, free)) here sim (fresh_dest g has alive info.elem true d s free))
+          (call_follows g has alive files scope active calls_follow m row done known.1 info is info.elem (inl refl) (with_reg d) s st (Value_of g has alive info.elem true d s) d.regs (begun_later g alive d (with_reg d) 0 (and_register d) free) here sim (fresh_dest g has alive info.elem true d s free))
           (λ v u out f arr. record { grown = arr.extended; t = arr.t; go = arr.go; at = arr.at; sim = arr.sim; keeps = arr.keeps }))
 
   -- what has a value of the fragment

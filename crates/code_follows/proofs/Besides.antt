@@ -7,7 +7,7 @@ use Rattle.cstar_tree.specs.declared.typed.Variable.{Variable}
 use Rattle.cstar_tree.specs.declared.typed.Variable.TheVariants as V
 use Rattle.cstar_tree.specs.Typed.{type_of}
 use Rattle.code_lengths.specs.Naming.{variable_named}
-use Rattle.code_lengths.specs.Ready.{HasCode, IsReadyButForFields}
+use Rattle.code_lengths.specs.Ready.{HasCode, HasDeclared, IsReadyButForFields, NumbersVariables}
 use Rattle.lower_base.specs.declared.emit.Out.{Out}
 use Rattle.lower_base.specs.declared.emit.Out.TheVariants as O
 use Rattle.lower_base.specs.Drafts.{Draft, Makes}
@@ -19,9 +19,9 @@ use Rattle.source_meaning.specs.Expressions.{evaluated}
 use Rattle.source_meaning.specs.State.{State, zeroed}
 use Rattle.source_meaning.specs.Values.{Active, Scope, Value}
 use Rattle.code_follows.specs.Fragment.{ScalarsAmong}
-use Rattle.code_follows.proofs.Following.{Follows, HasRegisters, OpenAmong, Ran, Sim}
+use Rattle.code_follows.proofs.Following.{Follows, HasRegisters, Ran, Sim}
 use Rattle.code_follows.proofs.Growing.{Extended}
-use Rattle.code_follows.proofs.Settings.{At, Begun, Held, Setting, Within, layout}
+use Rattle.code_follows.proofs.Settings.{OpenAmong, At, Begun, Held, IsOpenIn, Setting, Within, layout}
 use Rattle.code_follows.proofs.Values.{Dest}
 
 module _ (g : Setting) (has : HasRegisters g) (scope : Scope) (active : Active) where
@@ -30,26 +30,27 @@ module _ (g : Setting) (has : HasRegisters g) (scope : Scope) (active : Active) 
   pub record ExpressionsFollow : Type 1 where
     pub effects : (alive : Variable → Type 0) → ((k : ℕ) → alive (V.File k)) → (n : ℕ) → ((d : Draft) → IsReadyButForFields g.typed g.instance (layout g) n d)
         → (e : TExpr) → g.may.beside.effects e → ScalarsAmong alive e → HasCode g.typed g.instance n e
-        → (d : Draft) (s : CodeState) (st : State) → Begun g d → At g s (length d.code) → Sim g alive st s
+        → (d : Draft) (s : CodeState) (st : State) → Begun g alive d → At g s (length d.code) → Sim g alive st s
         → Follows g (λ v u out f. Ran g alive d s u f) s (evaluated scope e active st) (effect_of g.typed (layout g) e d)
     pub folds : (alive : Variable → Type 0) → ((k : ℕ) → alive (V.File k)) → (n : ℕ) → ((d : Draft) → IsReadyButForFields g.typed g.instance (layout g) n d)
         → (e : TExpr) → g.may.beside.folds e → ScalarsAmong alive e → HasCode g.typed g.instance n e
-        → (d : Draft) (s : CodeState) (st : State) (R : Value → State → Out → Draft → Type 0) (r : ℕ) → Begun g d → At g s (length d.code) → Sim g alive st s
+        → (d : Draft) (s : CodeState) (st : State) (R : Value → State → Out → Draft → Type 0) (r : ℕ) → Begun g alive d → At g s (length d.code) → Sim g alive st s
         → Dest g has alive (type_of e).elem d s R r → Follows g R s (evaluated scope e active st) (computed_to g.typed (layout g) (O.Scalar r) e d)
 
 module _ (g : Setting) where
-  -- The code that clears a parallel variable of a block is made, and that variable is 0 behind it.
+  -- The code that clears a parallel variable of a block is made, and that variable has its entry and is 0 behind it.
   pub record ClearsOne (at_start : Bool) (local : LocalVar) (n : ℕ) (d : Draft) : Type 1 where
     pub e : Draft
     pub is : cleared (layout g) at_start local n d ≡ Makes tt e
     pub count : ℕ
     pub grown : Extended d count e
-    pub runs : (before : Variable → Type 0) (s : CodeState) (st : State) → Begun g d → At g s (length d.code) → Sim g before st s → Within g e → Ran g (λ x. before x ⊎ (x ≡ V.Local n)) d s (zeroed n 1 st) e
+    pub opened : Within g e → IsOpenIn g n e
+    pub runs : (before : Variable → Type 0) (s : CodeState) (st : State) → Begun g before d → At g s (length d.code) → Sim g before st s → Within g e → Ran g (λ x. before x ⊎ (x ≡ V.Local n)) d s (zeroed n 1 st) e
 
   -- so it is of each that the program may have
   abbrev pub LocalsClear : Type 1
   LocalsClear =
-      (at_start : Bool) (local : LocalVar) (n : ℕ) (d : Draft) → g.may.beside.locals local.info → variable_named g.typed g.instance (V.Local n) ≡ Some local.info → ClearsOne at_start local n d
+      (at_start : Bool) (local : LocalVar) (n : ℕ) (d : Draft) → g.may.beside.locals local.info → variable_named g.typed g.instance (V.Local n) ≡ Some local.info → NumbersVariables g.instance (layout g) → HasDeclared g.typed g.instance (layout g) n d → ClearsOne at_start local n d
 
 -- the same unit, where this is held of the memory and what is said of the code holds between these places, with so many
 -- entries at the first

@@ -40,8 +40,9 @@ use Rattle.code_follows.proofs.Following.{Extends, Follows, follows_other, HasRe
 use Rattle.code_follows.proofs.Growing.{Extended, as_it_was, extended}
 use Rattle.code_follows.proofs.Jumping.{jumps, moved_to, sim_landed}
 use Rattle.code_follows.proofs.Restoring.{Restores}
-use Rattle.code_follows.proofs.Settings.{At, Begun, Held, LastsTo, Setting, Within, and_one, begun_later, earlier, holding, layout, onto, stands_here, start, stay}
-use Rattle.code_follows.proofs.Starting.{AreCoded, AreSettled, DeclaredBy, Now, clears_declare, coded, go_after, initials_declared, initials_follow, initials_grow}
+use Rattle.code_follows.proofs.Settings.{OpenAmong, begun_fewer, At, Begun, Held, LastsTo, Setting, Within, and_one, begun_later, earlier, holding, layout, onto, stands_here, start, stay}
+use Rattle.code_follows.proofs.Declared.{clears_declare}
+use Rattle.code_follows.proofs.Starting.{AreCoded, AreSettled, DeclaredBy, Now, coded, go_after, initials_declared, initials_follow, initials_grow}
 use Rattle.code_follows.proofs.Statements.{StandsHere, StandsIn, expression_code, statement_made}
 
 module _ (g : Setting) (has : HasRegisters g) (alive : Variable → Type 0) (files : (k : ℕ) → alive (V.File k)) (numbers : NumbersVariables g.instance (layout g)) (ready : (n : ℕ) (d : Draft) → IsReadyButForFields g.typed g.instance (layout g) n d)
@@ -57,7 +58,7 @@ module _ (g : Setting) (has : HasRegisters g) (alive : Variable → Type 0) (fil
   effect_statement f n d s0 (Source.Ends early u) Fails h = tt
 
   -- contexts are loaded, and a jump out of a loop leads to where this is held
-  jumps_out : (held : Held) (lives : Variable → Type 0) → ((x : Variable) → lives x → alive x) → (newest place : ℕ) (d : Draft) (s0 : CodeState) (st : State) → Restores g held contexts newest → LastsTo g held place → Begun g d → At g s0 (length d.code) → Sim g alive st s0 → Within g (with_instr (I.FrontJump place) (restored contexts newest d)) → Jumped g lives held d s0 st place
+  jumps_out : (held : Held) (lives : Variable → Type 0) → ((x : Variable) → lives x → alive x) → (newest place : ℕ) (d : Draft) (s0 : CodeState) (st : State) → Restores g held contexts newest → LastsTo g (OpenAmong g lives) held place → Begun g alive d → At g s0 (length d.code) → Sim g alive st s0 → Within g (with_instr (I.FrontJump place) (restored contexts newest d)) → Jumped g lives held d s0 st place
   unfolding step_of
   jumps_out held lives among newest place d s0 st restores lasts free at sim within =
       let loaded : Draft = restored contexts newest d in
@@ -102,17 +103,17 @@ module _ (g : Setting) (has : HasRegisters g) (alive : Variable → Type 0) (fil
   unfolding Follows LeftSo
   stays_here f n d s0 st at sim = λ within. record { grown = (0, as_it_was d); t = s0; go = stay g s0; at = at; sim = sim; keeps = keeps_all g d s0 }
 
-  pub expression_follows : (e : TExpr) → (IsEffect (naming g.may alive)) e → (f : Exits) (n : ℕ) (d : Draft) (s0 : CodeState) (st : State) → Begun g d → At g s0 (length d.code) → Sim g alive st s0 → HasStatementCode g.typed g.instance n (S.Expression e)
+  pub expression_follows : (e : TExpr) → (IsEffect (naming g.may alive)) e → (f : Exits) (n : ℕ) (d : Draft) (s0 : CodeState) (st : State) → Begun g alive d → At g s0 (length d.code) → Sim g alive st s0 → HasStatementCode g.typed g.instance n (S.Expression e)
       → Follows g (Left g alive f d s0) s0 (done scope active (Some e) st) (then_make (part_of g.typed (layout g) (Some e) d) (λ u after. Makes n after))
   unfolding done part_of
   expression_follows e h f n d s0 st free at sim c =
       effect_statement f n d s0 _ _ (effect_follows g has alive n files (ready n) scope active calls_follow e h (expression_code g numbers n e c) d s0 st free at sim)
 
-  pub breaks : (f : Exits) (n : ℕ) (d : Draft) (s0 : CodeState) (st : State) → StandsHere g alive f contexts → Begun g d → At g s0 (length d.code) → Sim g alive st s0 → Follows g (Left g alive f d s0) s0 (Source.Gives Broke st) (Makes n (with_instr (I.FrontJump f.frame.after) (restored contexts f.frame.saved.in_loop d)))
+  pub breaks : (f : Exits) (n : ℕ) (d : Draft) (s0 : CodeState) (st : State) → StandsHere g alive f contexts → Begun g alive d → At g s0 (length d.code) → Sim g alive st s0 → Follows g (Left g alive f d s0) s0 (Source.Gives Broke st) (Makes n (with_instr (I.FrontJump f.frame.after) (restored contexts f.frame.saved.in_loop d)))
   unfolding Follows LeftSo
   breaks f n d s0 st stands free at sim = λ within. jumps_out f.loop f.lives stands.lives f.frame.saved.in_loop f.frame.after d s0 st stands.loop stands.after free at sim within
 
-  pub continues : (f : Exits) (n : ℕ) (d : Draft) (s0 : CodeState) (st : State) → StandsHere g alive f contexts → Begun g d → At g s0 (length d.code) → Sim g alive st s0 → Follows g (Left g alive f d s0) s0 (Source.Gives Continued st) (Makes n (with_instr (I.FrontJump f.frame.next) (restored contexts f.frame.saved.in_loop d)))
+  pub continues : (f : Exits) (n : ℕ) (d : Draft) (s0 : CodeState) (st : State) → StandsHere g alive f contexts → Begun g alive d → At g s0 (length d.code) → Sim g alive st s0 → Follows g (Left g alive f d s0) s0 (Source.Gives Continued st) (Makes n (with_instr (I.FrontJump f.frame.next) (restored contexts f.frame.saved.in_loop d)))
   unfolding Follows LeftSo
   continues f n d s0 st stands free at sim = λ within. jumps_out f.loop f.lives stands.lives f.frame.saved.in_loop f.frame.next d s0 st stands.loop stands.next free at sim within
 
@@ -144,8 +145,8 @@ module _ (g : Setting) (has : HasRegisters g) (alive : Variable → Type 0) (fil
           extends_made g d e grows.0 (statements_of g.typed (layout g) row f.frame contexts (n + length locals) e) grows.1 (row_grows row f.frame (n + length locals) e framed among (subst (λ (m : Made (Unit {0})). DeclaredBy g (n + length locals) m) is (initials_declared g has alive files ready scope active calls_follow locals n (n + length locals) d isin settled initial known)) code)
 
   pub begun_follows : {k : Count} (locals : List LocalVar) (row : Row_of-TStmt k) (f : Exits) (n : ℕ) (d : Draft) (s0 : CodeState) (st : State) → All (IsBlockLocal g.may.beside) locals → StandFrom (variables_of g.instance.body) n (map info_of locals) → AreSettled g has alive files ready scope active calls_follow n locals → AreCoded g has alive files ready scope active calls_follow n locals → RowCode (n + length locals) row
-      → StandsIn g f.frame → StandsAmong f.frame contexts → HasDeclared g.typed g.instance (layout g) (n + length locals) d → Begun g d → At g s0 (length d.code) → Sim g (λ z. Now g has alive files ready scope active calls_follow locals n z) st s0
-      → ((e : Draft) (t : CodeState) (u : State) → HasDeclared g.typed g.instance (layout g) (n + length locals) e → Begun g e → At g t (length e.code) → Sim g alive u t → Follows g (Left g alive f e t) t (all_executed scope row (n + length locals) active u) (statements_of g.typed (layout g) row f.frame contexts (n + length locals) e))
+      → StandsIn g f.frame → StandsAmong f.frame contexts → HasDeclared g.typed g.instance (layout g) (n + length locals) d → Begun g alive d → At g s0 (length d.code) → Sim g (λ z. Now g has alive files ready scope active calls_follow locals n z) st s0
+      → ((e : Draft) (t : CodeState) (u : State) → HasDeclared g.typed g.instance (layout g) (n + length locals) e → Begun g alive e → At g t (length e.code) → Sim g alive u t → Follows g (Left g alive f e t) t (all_executed scope row (n + length locals) active u) (statements_of g.typed (layout g) row f.frame contexts (n + length locals) e))
       → Follows g (Left g alive f d s0) s0 (then_go (initialised scope active n locals st) (all_executed scope row (n + length locals) active)) (begun_code locals row f n d)
   unfolding then_make Extends DeclaredBy
   begun_follows locals row f n d s0 st isin stand settled initial code framed among known free at sim next = by (all_initialised g.typed (layout g) locals n d) refl
@@ -161,16 +162,16 @@ module _ (g : Setting) (has : HasRegisters g) (alive : Variable → Type 0) (fil
           let made : Made ℕ = statements_of g.typed (layout g) row f.frame contexts (n + length locals) e in
           go_after g has alive files ready scope active calls_follow d s0 (Left g alive f d s0) (initialised scope active n locals st) (all_executed scope row (n + length locals) active) u e made
           (subst (λ (m : Made (Unit {0})). Follows g (RanOn g alive d s0) s0 (initialised scope active n locals st) m) is (initials_follow g has alive files ready scope active calls_follow locals n d s0 st isin stand settled initial free at sim)) (row_grows row f.frame (n + length locals) e framed among known_e code)
-          (λ v one. follows_from g alive f d e grows.0 s0 one.t (all_executed scope row (n + length locals) active v) made grows.1 one.go one.keeps (next e one.t v known_e (begun_later g d e grows.0 grows.1 free) one.at one.sim))
+          (λ v one. follows_from g alive f d e grows.0 s0 one.t (all_executed scope row (n + length locals) active v) made grows.1 one.go one.keeps (next e one.t v known_e (begun_later g alive d e grows.0 grows.1 free) one.at one.sim))
 
   -- a block: its variables, and then its statements
   pub block_follows : {k : Count} → LocalsClear g → (before : Variable → Type 0) (locals : List LocalVar) (row : Row_of-TStmt k) (f : Exits) (n : ℕ) (d : Draft) (s0 : CodeState) (st : State) → All (IsBlockLocal g.may.beside) locals → StandFrom (variables_of g.instance.body) n (map info_of locals) → AreSettled g has alive files ready scope active calls_follow n locals → AreCoded g has alive files ready scope active calls_follow n locals → RowCode (n + length locals) row
-      → StandsIn g f.frame → StandsAmong f.frame contexts → HasDeclared g.typed g.instance (layout g) n d → Begun g d → At g s0 (length d.code) → Sim g before st s0 → ((x : Variable) → alive x → OrAmong before n (length locals) x)
-      → ((e : Draft) (t : CodeState) (u : State) → HasDeclared g.typed g.instance (layout g) (n + length locals) e → Begun g e → At g t (length e.code) → Sim g alive u t → Follows g (Left g alive f e t) t (all_executed scope row (n + length locals) active u) (statements_of g.typed (layout g) row f.frame contexts (n + length locals) e))
+      → StandsIn g f.frame → StandsAmong f.frame contexts → HasDeclared g.typed g.instance (layout g) n d → Begun g before d → At g s0 (length d.code) → Sim g before st s0 → ((x : Variable) → alive x → OrAmong before n (length locals) x)
+      → ((e : Draft) (t : CodeState) (u : State) → HasDeclared g.typed g.instance (layout g) (n + length locals) e → Begun g alive e → At g t (length e.code) → Sim g alive u t → Follows g (Left g alive f e t) t (all_executed scope row (n + length locals) active u) (statements_of g.typed (layout g) row f.frame contexts (n + length locals) e))
       → Follows g (Left g alive f d s0) s0 (then_go (initialised scope active n locals (zeroed n (length locals) st)) (all_executed scope row (n + length locals) active)) (then_make (declared_in g.typed (layout g) false locals n d) (λ m after. statements_of g.typed (layout g) row f.frame contexts m after))
   unfolding declared_in then_make
   block_follows parallels before locals row f n d s0 st isin stand settled initial code framed among known free at sim covers next =
-      let c = clears g has parallels before locals n d isin stand in
+      let c = clears g has parallels numbers before locals n d isin stand known in
       let after_zero : State = zeroed n (length locals) st in
       let whole : Outcome Leaving = then_go (initialised scope active n locals after_zero) (all_executed scope row (n + length locals) active) in
       let known_e : HasDeclared g.typed g.instance (layout g) (n + length locals) c.e = clears_declare g false locals n d c.e c.is stand numbers known in
@@ -179,16 +180,16 @@ module _ (g : Setting) (has : HasRegisters g) (alive : Variable → Type 0) (fil
       let ran = c.runs s0 st free at sim within in
       let started : Sim g (λ z. Now g has alive files ready scope active calls_follow locals n z) after_zero ran.t = sim_fewer g (λ x. Alive before locals n x) (λ z. Now g has alive files ready scope active calls_follow locals n z) after_zero ran.t (λ x info named h. (covers x h.0, h.1)) ran.sim in
       follows_from g alive f d c.e c.count s0 ran.t whole (begun_code locals row f n c.e) c.grown ran.go ran.keeps
-      (begun_follows locals row f n c.e ran.t after_zero isin stand settled initial code framed among known_e (begun_later g d c.e c.count c.grown free) ran.at started next)))
+      (begun_follows locals row f n c.e ran.t after_zero isin stand settled initial code framed among known_e (begun_fewer g (λ x. OrAmong before n (length locals) x) alive c.e covers (c.opened within free)) ran.at started next)))
 
   -- what has code of a block's initialisers
   pub block_initials : (n : ℕ) (locals : Vec LocalVar Global) (p : Vec (Unit {0}) Global) (row : _) → HasStatementCode g.typed g.instance n (S.Block' locals p row) → AreCoded g has alive files ready scope active calls_follow n locals.items
   unfolding IsShapedStatement IsLowerableStatement StatementNamesVariables
   block_initials n locals p row c = coded g has alive files ready scope active calls_follow n locals.items c.shaped.0 c.lowerable.0 c.names.0
 
-  pub row_onward : {k : Count} (s : TStmt) (rest : Row_of-TStmt k) (f : Exits) (n : ℕ) (d : Draft) (s0 : CodeState) (st : State) → StandsIn g f.frame → StandsAmong f.frame contexts → HasDeclared g.typed g.instance (layout g) n d → Begun g d → RowCode n (more_of-TStmt s rest)
+  pub row_onward : {k : Count} (s : TStmt) (rest : Row_of-TStmt k) (f : Exits) (n : ℕ) (d : Draft) (s0 : CodeState) (st : State) → StandsIn g f.frame → StandsAmong f.frame contexts → HasDeclared g.typed g.instance (layout g) n d → Begun g alive d → RowCode n (more_of-TStmt s rest)
       → Follows g (Left g alive f d s0) s0 (executed scope s n active st) (statement_of g.typed (layout g) s f.frame contexts n d)
-      → ((e : Draft) (t : CodeState) (u : State) → HasDeclared g.typed g.instance (layout g) (behind n s) e → Begun g e → At g t (length e.code) → Sim g alive u t → Follows g (Left g alive f e t) t (all_executed scope rest (n + declared s) active u) (statements_of g.typed (layout g) rest f.frame contexts (n + declared s) e))
+      → ((e : Draft) (t : CodeState) (u : State) → HasDeclared g.typed g.instance (layout g) (behind n s) e → Begun g alive e → At g t (length e.code) → Sim g alive u t → Follows g (Left g alive f e t) t (all_executed scope rest (n + declared s) active u) (statements_of g.typed (layout g) rest f.frame contexts (n + declared s) e))
       → Follows g (Left g alive f d s0) s0 (then_go (executed scope s n active st) (all_executed scope rest (n + declared s) active)) (then_make (statement_of g.typed (layout g) s f.frame contexts n d) (λ m after. statements_of g.typed (layout g) rest f.frame contexts m after))
   unfolding then_make declared
   row_onward s rest f n d s0 st framed among known free c first next =
@@ -197,7 +198,7 @@ module _ (g : Setting) (has : HasRegisters g) (alive : Variable → Type 0) (fil
       (go_on g alive (λ u h. Ran g alive d s0 u h) f d s0 (executed scope s n active st) (all_executed scope rest (n + declared s) active) (behind n s) made.e (statements_of g.typed (layout g) rest f.frame contexts (behind n s) made.e)
       (subst (λ (m : Made ℕ). Follows g (Left g alive f d s0) s0 (executed scope s n active st) m) made.is first) (row_grows rest f.frame (behind n s) made.e framed among made.declared (row_rest n s rest c))
       (λ u ran. follows_from g alive f d made.e ran.grown.0 s0 ran.t (all_executed scope rest (n + declared s) active u) (statements_of g.typed (layout g) rest f.frame contexts (behind n s) made.e) ran.grown.1 ran.go ran.keeps
-      (next made.e ran.t u made.declared (begun_later g d made.e ran.grown.0 ran.grown.1 free) ran.at ran.sim)))
+      (next made.e ran.t u made.declared (begun_later g alive d made.e ran.grown.0 ran.grown.1 free) ran.at ran.sim)))
 
 -- what is said of more variables is said of fewer where a statement is left
 module _ (g : Setting) (wide alive : Variable → Type 0) (among : (x : Variable) → alive x → wide x) where

@@ -17,9 +17,9 @@ use Rattle.source_meaning.specs.State as Source
 use Rattle.source_meaning.specs.State.{Outcome, State}
 use Rattle.source_meaning.specs.Values.{Scalar, Value}
 use Rattle.code_follows.specs.Agreement.{AreBytes, mark_of}
-use Rattle.code_follows.proofs.Following.{Follows, HasRegisters, IsScalar, Sim, arrives_fresh, held, register_is, register_kept, register_set, variable_kept, OpenAmong}
+use Rattle.code_follows.proofs.Following.{Follows, HasRegisters, IsScalar, Sim, arrives_fresh, held, register_is, register_kept, register_set, variable_kept}
 use Rattle.code_follows.proofs.Growing.{extended}
-use Rattle.code_follows.proofs.Settings.{At, Begun, Reaches, Setting, Within, and_one, at_next, begins_here, ends_now, layout, one, placed_instr, regs_more}
+use Rattle.code_follows.proofs.Settings.{OpenAmong, At, Begun, Reaches, Setting, Within, and_one, at_next, begins_here, ends_now, layout, one, placed_instr, regs_more}
 use Rattle.code_follows.proofs.Stores.{IsPut, below_free, sim_begun}
 use Rattle.code_follows.proofs.Values.{Does, Value_of, and_register, with_reg}
 use Rattle.constant_trees.proofs.Words.{converted_below}
@@ -108,7 +108,7 @@ module _ (g : Setting) (has : HasRegisters g) (alive : Variable → Type 0) wher
     abbrev own : ℕ
     own = register_of (layout g) x
 
-    pub byte_put : (elem : Elem) → elem.bits ≡ 32 → Fits info.elem elem → (d : Draft) (s : CodeState) (st : State) → Begun g d → At g s (length d.code) → Sim g alive st s
+    pub byte_put : (elem : Elem) → elem.bits ≡ 32 → Fits info.elem elem → (d : Draft) (s : CodeState) (st : State) → Begun g alive d → At g s (length d.code) → Sim g alive st s
         → Follows g (λ v u out e. IsPut g has alive x info living scalar elem d s v u out e) s (next_byte st) (Makes (O.Scalar own) (with_instr (I.FrontGetByte own) d))
     byte_put elem wide fits d s st free here sim =
         reads own d s st (λ v u out e. IsPut g has alive x info living scalar elem d s v u out e) here sim (λ w rest v few later within go.

@@ -21,8 +21,8 @@ use Rattle.code_follows.proofs.Arguments.{AreDone}
 use Rattle.code_follows.proofs.Passing.{call_follows, fresh_called}
 use Rattle.code_follows.proofs.Callees.{CallsFollow}
 use Rattle.code_follows.proofs.Following.{Extends, Follows, HasRegisters}
-use Rattle.code_follows.proofs.Settings.{Setting, layout}
-use Rattle.code_follows.proofs.Values.{Does, Value_of, extends_grown, fresh_dest, with_reg}
+use Rattle.code_follows.proofs.Settings.{begun_later, Setting, layout}
+use Rattle.code_follows.proofs.Values.{and_register, Does, Value_of, extends_grown, fresh_dest, with_reg}
 use Rattle.code_follows.proofs.Fresh.{IsFresh}
 
 module _ (g : Setting) (has : HasRegisters g) (alive : Variable → Type 0) (n : ℕ) (files : (k : ℕ) → alive (V.File k)) (ready : (d : Draft) → IsReadyButForFields g.typed g.instance (layout g) n d) (scope : Scope) (active : Active) (calls_follow : CallsFollow g scope active) where
@@ -51,4 +51,4 @@ module _ (g : Setting) (has : HasRegisters g) (alive : Variable → Type 0) (n :
       let known = calls_follow.value ty.elem index (elems_of row) may in
       let result = known.1.1 in
       subst (λ (o : Option ℕ). Follows g (Value_of g has alive ty.elem quiet d s) s (evaluated scope (T.Call' ty index p row) active st) (then_make (fresh_for o bits d) (λ dest begun. call_to g.typed (layout g) index (values_of g.typed (layout g) true (are_quiet row) row) dest begun))) (sym plain)
-      (call_follows g has alive files scope active calls_follow known.0.0 row done known.0.1 result.0 result.1.0 ty.elem result.1.1 (with_reg d) s st (Value_of g has alive ty.elem quiet d s) d.regs (omega (arith, free)) here sim (fresh_dest g has alive ty.elem quiet d s free))
+      (call_follows g has alive files scope active calls_follow known.0.0 row done known.0.1 result.0 result.1.0 ty.elem result.1.1 (with_reg d) s st (Value_of g has alive ty.elem quiet d s) d.regs (begun_later g alive d (with_reg d) 0 (and_register d) free) here sim (fresh_dest g has alive ty.elem quiet d s free))

@@ -20,7 +20,7 @@ use Rattle.code_follows.specs.Agreement.{AreBytes}
 use Rattle.code_follows.specs.Fragment.{AreTaken, IsResult, IsScalarVariable, Takes}
 use Rattle.code_follows.proofs.Besides.{ExpressionsFollow}
 use Rattle.code_follows.proofs.Following.{Finishes, HasNumber, HasRegisters, held, input_of}
-use Rattle.code_follows.proofs.Settings.{CallStands, LastsTo, Reaches, Setting, layout}
+use Rattle.code_follows.proofs.Settings.{AreNamedBefore, start, CallStands, LastsTo, Reaches, Setting, layout}
 
 module _ (g : Setting) where
   -- A function with scalar parameters, and a scalar result or none. Its code, and that of what it calls, may
@@ -84,16 +84,16 @@ module _ (g : Setting) where
       pub words : (k : ℕ) (info : VarInfo) → slice_get c.callee.params.items k ≡ Some info → slice_index s.registers (c.base + k) ≡ held info.elem (number (slice_index_or arguments k Nothing))
       pub few : (k : ℕ) (info : VarInfo) → slice_get c.callee.params.items k ≡ Some info → number (slice_index_or arguments k Nothing) < 2 ^ info.elem.bits
 
-    -- the code of its body from its first instruction on, where so many turns are left at most
-    unfoldable pub Enters : ℕ → Active → Type 1
-    Enters m active =
-        (live : ℕ → Type 0) (arguments : List Value) (st : State) (s : CodeState) (back : ℕ) → s.at ≡ start_at g.image index → s.returns ≡ g.returns ++ back ∷ [] → Shared live back st s → st.turns ≤ m → AreGiven arguments s → ((info : VarInfo) → c.callee.result ≡ Some info → slice_index s.registers given_in ≡ 0)
+    -- the code of its body from its first instruction on, where it is called at a place and so many turns are left at most
+    unfoldable pub Enters : ℕ → Active → ℕ → Type 1
+    Enters m active at =
+        (live : ℕ → Type 0) (arguments : List Value) (st : State) (s : CodeState) (back : ℕ) → back ≡ start g + at + 1 → s.at ≡ start_at g.image index → s.returns ≡ g.returns ++ back ∷ [] → Shared live back st s → st.turns ≤ m → AreGiven arguments s → ((info : VarInfo) → c.callee.result ≡ Some info → slice_index s.registers given_in ≡ 0)
         → RunsBody live back s st (run_body g.typed (calls g.typed m) (Some c.callee) arguments active st)
 
   -- each function that may be called runs so wherever it is called, with one turn fewer left
   pub record MayCall (active : Active) (index : ℕ) : Type 1 where
     pub callee : Callee index
-    pub enters : (m : ℕ) → g.most ≡ suc m → CallStands g index → Enters callee m active
+    pub enters : (m : ℕ) → g.most ≡ suc m → (stands : CallStands g index) → Enters callee m active stands.at
 
   -- one whose parameters take arguments of these types
   abbrev pub TakesThese : Active → ℕ → List Elem → Type 1
@@ -107,4 +107,4 @@ module _ (g : Setting) where
     pub effect : (index : ℕ) (given : List Elem) → g.may.calls None index given → TakesThese active index given
     pub returns : (elem : Elem) → g.may.returns elem → (info : VarInfo) → g.instance.result ≡ Some info → Takes info.elem elem
     pub beside : (has : HasRegisters g) → ExpressionsFollow g has scope active
-    pub lasts : (target : ℕ) → g.from ≤ target → LastsTo g g.held target
+    pub lasts : (live : ℕ → Type 0) (target : ℕ) → g.from ≤ target → AreNamedBefore g live target → LastsTo g live g.held target

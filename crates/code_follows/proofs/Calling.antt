@@ -19,10 +19,10 @@ use Rattle.source_meaning.specs.State as Source
 use Rattle.source_meaning.specs.State.{Outcome, State, spend_turn}
 use Rattle.source_meaning.specs.Values.{Active, Scope, Value}
 use Rattle.code_follows.proofs.Callees.{AreGiven, Callee, CallsFollow, ComesBack, Enters, MayCall, RunsBody, Shared}
-use Rattle.code_follows.proofs.Following.{Follows, HasNumber, HasRegisters, IsKept, IsScalar, Keeps, Sim, apart_set, at_once, finishes_later, held, OpenAmong}
+use Rattle.code_follows.proofs.Following.{Follows, HasNumber, HasRegisters, IsKept, IsScalar, Keeps, Sim, apart_set, at_once, finishes_later, held}
 use Rattle.code_follows.proofs.Growing.{Extended, extended}
 use Rattle.code_follows.proofs.Jumping.{behind_turn, sim_spent, spends, stops}
-use Rattle.code_follows.proofs.Settings.{At, Begun, CallStands, Reaches, Setting, Within, and_one, at_next, begins_here, begun_later, code_more, earlier, layout, one, onto, regs_more, stands_here}
+use Rattle.code_follows.proofs.Settings.{OpenAmong, At, Begun, CallStands, Reaches, Setting, Within, and_one, at_next, begins_here, begun_later, code_more, earlier, layout, one, onto, regs_more, stands_here}
 
 module _ (g : Setting) (has : HasRegisters g) (alive : Variable → Type 0) (files_live : (k : ℕ) → alive (V.File k)) (scope : Scope) (active : Active) (calls_follow : CallsFollow g scope active) where
   -- what the registers share with what is called, and what is held behind the place
@@ -126,7 +126,7 @@ module _ (g : Setting) (has : HasRegisters g) (alive : Variable → Type 0) (fil
         small (V.Local k) info known scalar = subst (λ (w : ℕ). w < 2 ^ info.elem.bits) (sym (b.locals_kept k)) (sim.small (V.Local k) info known scalar)
 
     -- a turn is spent, and the body runs
-    module _ (d : Draft) (free : Begun g d) (s0 : CodeState) (a : Draft) (n : ℕ) (s : CodeState) (st : State) (arguments : List Value) (grown : Extended d n a) (go : Reaches g s0 s) (here : At g s (length a.code)) (sim : Sim g alive st s) (keeps : Keeps g d s0 s) (given : AreGiven g c arguments s)
+    module _ (d : Draft) (free : Begun g alive d) (s0 : CodeState) (a : Draft) (n : ℕ) (s : CodeState) (st : State) (arguments : List Value) (grown : Extended d n a) (go : Reaches g s0 s) (here : At g s (length a.code)) (sim : Sim g alive st s) (keeps : Keeps g d s0 s) (given : AreGiven g c arguments s)
         (none : (info : VarInfo) → c.callee.result ≡ Some info → slice_index s.registers source ≡ 0) where
       abbrev turn : Draft
       turn = with_instr I.FrontTurn a
@@ -147,7 +147,7 @@ module _ (g : Setting) (has : HasRegisters g) (alive : Variable → Type 0) (fil
       body_follows k left most some within =
           subst (λ (o : Option Instance). Follows g (CameBack d s0) s (run_body g.typed (calls g.typed k) o arguments active begun_body) (Makes tt behind)) (sym c.is)
           (after (run_body g.typed (calls g.typed k) (Some c.callee) arguments active begun_body)
-          (m.enters k most stands (OpenAmong g alive) arguments begun_body (enters_in left) (spent.at + 1) refl (ap (λ (list : List ℕ). list ++ (spent.at + 1) ∷ []) sim_turned.returns) shared fewer (record { words = given.words; few = given.few }) none))
+          (m.enters k most stands (OpenAmong g alive) arguments begun_body (enters_in left) (spent.at + 1) (let here = there in omega (arith, here)) refl (ap (λ (list : List ℕ). list ++ (spent.at + 1) ∷ []) sim_turned.returns) shared fewer (record { words = given.words; few = given.few }) none))
         where
           begun_body : State
           begun_body = record st { turns = left }
@@ -163,7 +163,7 @@ module _ (g : Setting) (has : HasRegisters g) (alive : Variable → Type 0) (fil
 
           stands : CallStands g index
           stands =
-              let begun : Begun g turn = begun_later g d turn (n + 1) (extended d a turn n 1 grown (and_one g I.FrontTurn a)) free in
+              let begun : Begun g alive turn = begun_later g alive d turn (n + 1) (extended d a turn n 1 grown (and_one g I.FrontTurn a)) free in
               record { at = length turn.code; stands = stands_here g (I.FrontCall index) turn within refl; low = begun.code; high = let up = within.upto in let more = code_more g (I.FrontCall index) turn in omega (arith, up, more) }
 
           fewer : left ≤ k

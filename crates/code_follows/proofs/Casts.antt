@@ -31,7 +31,7 @@ module _ (g : Setting) (has : HasRegisters g) (alive : Variable → Type 0) wher
   casts_grow (kind ∷ inner) r e =
       let rest = casts_grow inner r e in (rest.0 + 1, extended e (casts_put inner r e) _ rest.0 1 rest.1 (and_one g (I.FrontConvert r r kind) (casts_put inner r e)))
 
-  casts_run : (kinds : List Elem) (from : Elem) (w : ℕ) (d e : Draft) (r : ℕ) (s : CodeState) (u : State) → w < 2 ^ from.bits → Begun g d → d.regs ≤ r → r < e.regs → HasWord g has alive (held from w) d e s u r → Within g (casts_put kinds r e)
+  casts_run : (kinds : List Elem) (from : Elem) (w : ℕ) (d e : Draft) (r : ℕ) (s : CodeState) (u : State) → w < 2 ^ from.bits → Begun g alive d → d.regs ≤ r → r < e.regs → HasWord g has alive (held from w) d e s u r → Within g (casts_put kinds r e)
       → HasWord g has alive (held (cast_type kinds from) (cast_through kinds from w)) d (casts_put kinds r e) s u r
   unfolding casts_put cast_type cast_through begun step_of
   casts_run [] from w d e r s u few free low high h within = h
@@ -52,7 +52,7 @@ module _ (g : Setting) (has : HasRegisters g) (alive : Variable → Type 0) wher
     unfolding Extends
     grows_cast v e = extends_in_register g has alive e v _ (λ r. casts_grow kinds r e)
 
-    pub with_operand : (d : Draft) (s : CodeState) (v : Value) (u : State) (out : Out) (e : Draft) → Begun g d → IsFresh d (Makes out e) → Arrives g alive from false d s v u out e
+    pub with_operand : (d : Draft) (s : CodeState) (v : Value) (u : State) (out : Out) (e : Draft) → Begun g alive d → IsFresh d (Makes out e) → Arrives g alive from false d s v u out e
         → Follows g (Value_of g has alive ty.elem quiet d s) s (Source.Gives (mapped ty (λ w. cast_through kinds from w) v) u) (behind_operand out e)
     unfolding Follows in_register value_at IsFresh
     with_operand d s v u out e free fresh arr =

@@ -33,7 +33,7 @@ module _ (g : Setting) (has : HasRegisters g) (alive : Variable → Type 0) (fil
   -- the code of a statement follows it
   abbrev pub Agrees : ℕ → TStmt → Type 1
   Agrees n s =
-      (f : Exits) (d : Draft) (s0 : CodeState) (st : State) → StandsIn g f.frame → StandsHere g alive f contexts → HasDeclared g.typed g.instance (layout g) n d → Begun g d → At g s0 (length d.code) → Sim g alive st s0 → HasStatementCode g.typed g.instance n s
+      (f : Exits) (d : Draft) (s0 : CodeState) (st : State) → StandsIn g f.frame → StandsHere g alive f contexts → HasDeclared g.typed g.instance (layout g) n d → Begun g alive d → At g s0 (length d.code) → Sim g alive st s0 → HasStatementCode g.typed g.instance n s
       → Follows g (Left g alive f d s0) s0 (executed scope s n active st) (statement_of g.typed (layout g) s f.frame contexts n d)
 
   -- code that is left at its end jumps over more code
@@ -65,7 +65,7 @@ module _ (g : Setting) (has : HasRegisters g) (alive : Variable → Type 0) (fil
       by (Source.Ends early st) h1 = λ w. h1 (within_e w)
 
   module _ (n : ℕ) (test : TExpr) (p : Boxed) (first : TStmt) (second : Held-TStmt-If-2) (isin : (IsIn (naming g.may alive)) test) (first_agrees : Agrees n first) where
-    module _ (f : Exits) (d : Draft) (s0 : CodeState) (st : State) (framed : StandsIn g f.frame) (among : StandsHere g alive f contexts) (known : HasDeclared g.typed g.instance (layout g) n d) (free : Begun g d) (at : At g s0 (length d.code)) (sim : Sim g alive st s0)
+    module _ (f : Exits) (d : Draft) (s0 : CodeState) (st : State) (framed : StandsIn g f.frame) (among : StandsHere g alive f contexts) (known : HasDeclared g.typed g.instance (layout g) n d) (free : Begun g alive d) (at : At g s0 (length d.code)) (sim : Sim g alive st s0)
         (c : HasStatementCode g.typed g.instance n (S.If' test p first second)) where
       abbrev long : ℕ
       long = statement_length_of g.typed (layout g) (has_result f.frame) f.frame.saved first
@@ -109,7 +109,7 @@ module _ (g : Setting) (has : HasRegisters g) (alive : Variable → Type 0) (fil
           let grown : Extended d (r.grown.0 + 1) jump = extended d tests.e jump r.grown.0 1 r.grown.1 (and_one g (I.FrontJumpZero tests.r place) tests.e) in
           follows_from g alive f d jump (r.grown.0 + 1) s0 t (executed scope first n active st1) (Makes (behind n first) made_first.e) grown go r.keeps
           (subst (λ (made : Made ℕ). Follows g (Left g alive f jump t) t (executed scope first n active st1) made) made_first.is
-          (first_agrees f jump t st1 framed among jump_known (begun_later g d jump (r.grown.0 + 1) grown free) there (sim_moved g alive st1 r.t (r.t.at + 1) (omega arith) r.sim) (if_first g numbers n test p first second c)))
+          (first_agrees f jump t st1 framed among jump_known (begun_later g alive d jump (r.grown.0 + 1) grown free) there (sim_moved g alive st1 r.t (r.t.at + 1) (omega arith) r.sim) (if_first g numbers n test p first second c)))
 
       -- else the code jumps over it
       over : (st1 : State) (r : Tested g alive d s0 false st1 tests.r tests.e) → Within g jump → Reaches g s0 (moved_to g alive (place + start g) r.t)
@@ -149,7 +149,7 @@ module _ (g : Setting) (has : HasRegisters g) (alive : Variable → Type 0) (fil
           }
 
   module _ (n : ℕ) (test : TExpr) (p : Boxed) (first : TStmt) (q : Boxed) (second : TStmt) (isin : (IsIn (naming g.may alive)) test) (first_agrees : Agrees n first) (second_agrees : Agrees (behind n first) second) where
-    module _ (f : Exits) (d : Draft) (s0 : CodeState) (st : State) (framed : StandsIn g f.frame) (among : StandsHere g alive f contexts) (known : HasDeclared g.typed g.instance (layout g) n d) (free : Begun g d) (at : At g s0 (length d.code)) (sim : Sim g alive st s0)
+    module _ (f : Exits) (d : Draft) (s0 : CodeState) (st : State) (framed : StandsIn g f.frame) (among : StandsHere g alive f contexts) (known : HasDeclared g.typed g.instance (layout g) n d) (free : Begun g alive d) (at : At g s0 (length d.code)) (sim : Sim g alive st s0)
         (c : HasStatementCode g.typed g.instance n (S.If' test p first (Some' q second))) where
       abbrev condition : TestMade g alive has files n (ready n) scope active calls_follow test d n
       condition = tests n test p first (Some' q second) isin first_agrees f d s0 st framed among known free at sim c
@@ -191,7 +191,7 @@ module _ (g : Setting) (has : HasRegisters g) (alive : Variable → Type 0) (fil
           extended d condition.e leap r.grown.0 (1 + (long n test p first (Some' q second) isin first_agrees f d s0 st framed among known free at sim c + 1)) r.grown.1 to_leap in
           follows_from g alive f d leap (r.grown.0 + (1 + (long n test p first (Some' q second) isin first_agrees f d s0 st framed among known free at sim c + 1))) s0 t (executed scope second (n + declared first) active st1) (Makes (behind (behind n first) second) made_second.e) grown (over n test p first (Some' q second) isin first_agrees f d s0 st framed among known free at sim c st1 r within) r.keeps
           (subst (λ (made : Made ℕ). Follows g (Left g alive f leap t) t (executed scope second (n + declared first) active st1) made) made_second.is
-          (second_agrees f leap t st1 framed among leap_known (begun_later g d leap (r.grown.0 + (1 + (long n test p first (Some' q second) isin first_agrees f d s0 st framed among known free at sim c + 1))) grown free) there (sim_moved g alive st1 r.t (place n test p first (Some' q second) isin first_agrees f d s0 st framed among known free at sim c + start g) (ahead g condition.e leap (1 + (long n test p first (Some' q second) isin first_agrees f d s0 st framed among known free at sim c + 1)) r.t (place n test p first (Some' q second) isin first_agrees f d s0 st framed among known free at sim c + start g) to_leap r.at (omega (arith, landed))) r.sim) (if_second g numbers n test p first q second c)))
+          (second_agrees f leap t st1 framed among leap_known (begun_later g alive d leap (r.grown.0 + (1 + (long n test p first (Some' q second) isin first_agrees f d s0 st framed among known free at sim c + 1))) grown free) there (sim_moved g alive st1 r.t (place n test p first (Some' q second) isin first_agrees f d s0 st framed among known free at sim c + start g) (ahead g condition.e leap (1 + (long n test p first (Some' q second) isin first_agrees f d s0 st framed among known free at sim c + 1)) r.t (place n test p first (Some' q second) isin first_agrees f d s0 st framed among known free at sim c + start g) to_leap r.at (omega (arith, landed))) r.sim) (if_second g numbers n test p first q second c)))
 
     pub if_else : Agrees n (S.If' test p first (Some' q second))
     unfolding executed else_executed else_of Extends

@@ -134,7 +134,7 @@ module _ (g : Setting) (has : HasRegisters g) (alive : Variable → Type 0) wher
   -- what the code of an arm does, whatever is said of its last instruction
   abbrev pub Arm_does : Elem → (State → Outcome Value) → Arm → Type 1
   Arm_does elem part arm =
-      (d e : Draft) (n : ℕ) (s0 s : CodeState) (st : State) (R : Value → State → Out → Draft → Type 0) (r : ℕ) → Begun g d → Dest g has alive elem d s0 R r → Reaches g s0 s → At g s (length e.code) → Sim g alive st s → Extended d n e → Keeps g d s0 s
+      (d e : Draft) (n : ℕ) (s0 s : CodeState) (st : State) (R : Value → State → Out → Draft → Type 0) (r : ℕ) → Begun g alive d → Dest g has alive elem d s0 R r → Reaches g s0 s → At g s (length e.code) → Sim g alive st s → Extended d n e → Keeps g d s0 s
       → Follows g R s0 (part st) (arm (O.Scalar r) e)
 
   pub arm_follows : (elem from : Elem) (long : ℕ) (e : TExpr) (code : Code) (part : State → Outcome Value) → elem.bits ≡ 32 → from.bits ≡ 32 → Does g has alive from true part code → ((d : Draft) → IsMadeWord long d (code d) ⊎ (code d ≡ Fails)) → ((w : ℕ) → register_word e ≡ Some w → IsNumber part w)
@@ -161,12 +161,12 @@ module _ (g : Setting) (has : HasRegisters g) (alive : Variable → Type 0) wher
       by None is (inl computed) =
           subst (λ (mk : Made Out). Follows g R s0 (part st) (then_make mk (λ v after. put_value (O.Scalar r) v after))) (sym computed.is)
           (goes_on g alive (Value_of g has alive from true before s) R s0 s (part st) (O.Scalar computed.register) computed.behind (O.Scalar r) (with_instr (I.FrontMove r computed.register) computed.behind) 1 go
-          (subst (λ (mk : Made Out). Follows g (Value_of g has alive from true before s) s (part st) mk) computed.is (does before s st (begun_later g d before n grows free) place sim)) (and_one g (I.FrontMove r computed.register) computed.behind) (moves computed))
+          (subst (λ (mk : Made Out). Follows g (Value_of g has alive from true before s) s (part st) mk) computed.is (does before s st (begun_later g alive d before n grows free) place sim)) (and_one g (I.FrontMove r computed.register) computed.behind) (moves computed))
 
   module _ (elem from : Elem) (long_test long more : ℕ) (test : Code) (first second : Arm) (condition one other : State → Outcome Value) (next : Value → State → Outcome Value) (test_does : Does g has alive from true condition test)
       (first_does : Arm_does elem one first) (second_does : Arm_does elem other second) (test_made : (d : Draft) → IsMadeWord long_test d (test d) ⊎ (test d ≡ Fails)) (first_made : (r : ℕ) (d : Draft) → IsMadeTo r long d (first (O.Scalar r) d) ⊎ (first (O.Scalar r) d ≡ Fails)) (second_made : (r : ℕ) (d : Draft) → IsMadeTo r more d (second (O.Scalar r) d) ⊎ (second (O.Scalar r) d ≡ Fails))
       (next_is : (v : Value) (st : State) → next v st ≡ (if nonzero (number v) then one st else other st)) where
-    module _ (d : Draft) (s : CodeState) (st : State) (R : Value → State → Out → Draft → Type 0) (r : ℕ) (free : Begun g d) (there : At g s (length d.code)) (sim : Sim g alive st s) (dest : Dest g has alive elem d s R r) (lands : Lands r R) where
+    module _ (d : Draft) (s : CodeState) (st : State) (R : Value → State → Out → Draft → Type 0) (r : ℕ) (free : Begun g alive d) (there : At g s (length d.code)) (sim : Sim g alive st s) (dest : Dest g has alive elem d s R r) (lands : Lands r R) where
       -- where the code of the condition and of both arms is made
       module _ (tests : IsMadeWord long_test d (test d)) where
         -- the drafts, one behind another

@@ -9,20 +9,22 @@ use Rattle.cstar_tree.specs.declared.typed.Variable.TheVariants as V
 use Rattle.cstar_tree.specs.Variables.{variables_of}
 use Rattle.code_lengths.specs.Naming.{variable_named}
 use Rattle.code_lengths.specs.NamingStatements.{StandFrom}
-use Rattle.code_lengths.proofs.Declaring.{info_of}
+use Rattle.code_lengths.specs.Ready.{HasDeclared, NumbersVariables}
+use Rattle.code_lengths.proofs.Declaring.{first_part, info_of}
 use Rattle.lower_base.specs.Drafts.{Draft, Made, Makes, then_make}
 use Rattle.lower_base.specs.Layouts.{entries_of}
 use Rattle.lower_stmt.specs.Variables.{all_cleared, cleared, cleared_fields, with_home}
 use Rattle.paris_code.specs.Code.{CodeState}
 use Rattle.source_meaning.specs.State.{State, is_among, zeroed}
-use Rattle.code_follows.specs.Fragment.{IsBlockLocal, IsScalarLocal}
+use Rattle.code_follows.specs.Fragment.{IsBlockLocal, IsScalarLocal, OrAmong}
 use Rattle.code_follows.proofs.Besides.{ClearsOne, LocalsClear}
-use Rattle.code_follows.proofs.Declaring.{first_is_named, first_or_later, is_now, none_among, nothing_zeroed, others_stand, ran_fewer, same_zeroed_at, sim_fewer, sim_same, zeroed_both, zeroed_files, zeroed_twice, zeroed_others, zeroed_all, none_zeroed, other_one}
+use Rattle.code_follows.proofs.Declared.{clears_declare}
+use Rattle.code_follows.proofs.Declaring.{begun_parallel, first_is_named, first_or_later, is_now, none_among, nothing_zeroed, others_stand, ran_fewer, same_zeroed_at, sim_fewer, sim_same, zeroed_both, zeroed_files, zeroed_twice, zeroed_others, zeroed_all, none_zeroed, other_one}
 use Rattle.code_follows.proofs.Executing.{ran_from}
 use Rattle.code_follows.proofs.Following.{IsScalar, Ran, Sim, keeps_all}
 use Rattle.code_follows.proofs.Growing.{Extended, as_it_was, extended}
 use Rattle.code_follows.proofs.Lists.{all_first, all_rest}
-use Rattle.code_follows.proofs.Settings.{At, Begun, Setting, Within, begun_later, earlier, layout, stay}
+use Rattle.code_follows.proofs.Settings.{At, Begun, Setting, Within, begun_fewer, earlier, layout, stay}
 
 -- one of two that are 0
 either_way : (b : Bool) (z : ℕ) → z ≡ 0 → (if b then 0 else z) ≡ 0
@@ -51,7 +53,8 @@ module _ (g : Setting) where
     pub is : all_cleared (layout g) true locals n d ≡ Makes tt e
     pub count : ℕ
     pub grown : Extended d count e
-    pub runs : (s : CodeState) (st : State) → AreZero st → Begun g d → At g s (length d.code) → Sim g before st s → Within g e → Ran g (λ x. before x ⊎ (is_among n (length locals) x ≡ true)) d s (zeroed n (length locals) st) e
+    pub opened : Within g e → Begun g before d → Begun g (λ x. OrAmong before n (length locals) x) e
+    pub runs : (s : CodeState) (st : State) → AreZero st → Begun g before d → At g s (length d.code) → Sim g before st s → Within g e → Ran g (λ x. before x ⊎ (is_among n (length locals) x ≡ true)) d s (zeroed n (length locals) st) e
 
   kept_so : {A : Type 0} (local : LocalVar) → IsScalarLocal local → (n : ℕ) (d : Draft) (next : Draft → Made A) → then_make (cleared (layout g) true local n d) (λ u after. next after) ≡ next d
   unfolding cleared then_make
@@ -69,6 +72,7 @@ module _ (g : Setting) where
     is = kept_so local scalar.1 n d (λ after. all_cleared (layout g) true locals (n + 1) after) ∙ rest.is;
     count = rest.count;
     grown = rest.grown;
+    opened = λ within free. begun_fewer g (λ x. OrAmong before (n + 1) (length locals) x) (λ x. OrAmong before n (suc (length locals)) x) rest.e (λ x h. was_alive x (first_or_later before n (length locals) x h)) (rest.opened within free);
     runs = λ s st zeros free at sim within.
         ran_fewer g (λ x. before x ⊎ (is_among (n + 1) (length locals) x ≡ true)) (λ x. before x ⊎ (is_among n (suc (length locals)) x ≡ true)) d s (zeroed (n + 1) (length locals) st) (zeroed n (suc (length locals)) st) rest.e
         (λ x h. was_alive x (first_or_later before n (length locals) x h)) (zero_anyway n (suc (length locals)) (n + 1) (length locals) st zeros) ((λ k e p. same_zeroed_at g n (suc (length locals)) (n + 1) (length locals) st k e p), (λ k is_open e p. zeroed_others n (length locals) st st (λ j f q. refl) k (other_one g n local.info scalar (λ x. before x ⊎ (is_among n (suc (length locals)) x ≡ true)) k is_open) e p)) refl refl refl refl (rest.runs s st zeros free at sim within);
@@ -86,22 +90,26 @@ module _ (g : Setting) where
     is = ap (λ (m : Made (Unit {0})). then_make m (λ u after. all_cleared (layout g) true locals (n + 1) after)) one.is ∙ rest.is;
     count = one.count + rest.count;
     grown = extended d one.e rest.e one.count rest.count one.grown rest.grown;
+    opened = λ within free. begun_fewer g (λ x. OrAmong (λ y. before y ⊎ (y ≡ V.Local n)) (n + 1) (length locals) x) (λ x. OrAmong before n (suc (length locals)) x) rest.e (λ x h. is_now before n (length locals) x (first_or_later before n (length locals) x h))
+        (rest.opened within (begun_parallel g before n d one.e one.count one.grown (one.opened (earlier g one.e rest.e rest.count rest.grown within)) free));
     runs = λ s st zeros free at sim within.
         let now : Variable → Type 0 = λ x. before x ⊎ (x ≡ V.Local n) in
-        let first = one.runs before s st free at sim (earlier g one.e rest.e rest.count rest.grown within) in
-        let ran = rest.runs first.t (zeroed n 1 st) (zero_too n 1 st zeros) (begun_later g d one.e one.count one.grown free) first.at first.sim within in
+        let first_within : Within g one.e = earlier g one.e rest.e rest.count rest.grown within in
+        let first = one.runs before s st free at sim first_within in
+        let ran = rest.runs first.t (zeroed n 1 st) (zero_too n 1 st zeros) (begun_parallel g before n d one.e one.count one.grown (one.opened first_within) free) first.at first.sim within in
         let all = ran_from g (λ x. now x ⊎ (is_among (n + 1) (length locals) x ≡ true)) d one.e one.count s first.t (zeroed (n + 1) (length locals) (zeroed n 1 st)) rest.e one.grown first.go first.keeps ran in
         ran_fewer g (λ x. now x ⊎ (is_among (n + 1) (length locals) x ≡ true)) (λ x. before x ⊎ (is_among n (suc (length locals)) x ≡ true)) d s (zeroed (n + 1) (length locals) (zeroed n 1 st)) (zeroed n (suc (length locals)) st) rest.e
         (λ x h. is_now before n (length locals) x (first_or_later before n (length locals) x h)) (zeroed_both n (length locals) st) ((λ k e p. zeroed_twice g n (suc (length locals)) (n + 1) (length locals) st k e p), (λ k is_open e p. zeroed_all n (length locals) st k e p)) refl refl refl refl all;
   }
 
-  pub clears_first : LocalsClear g → (before : Variable → Type 0) → ((x : Variable) (info : VarInfo) → IsScalar g x info → before x) → (locals : List LocalVar) (n : ℕ) (d : Draft) → All (IsBlockLocal g.may.beside) locals → StandFrom (variables_of g.instance.body) n (map info_of locals) → ClearsFirst before locals n d
-  unfolding all_cleared zeroed
-  clears_first parallels before plain [] n d isin stand = record {
+  pub clears_first : LocalsClear g → NumbersVariables g.instance (layout g) → (before : Variable → Type 0) → ((x : Variable) (info : VarInfo) → IsScalar g x info → before x) → (locals : List LocalVar) (n : ℕ) (d : Draft) → All (IsBlockLocal g.may.beside) locals → StandFrom (variables_of g.instance.body) n (map info_of locals) → HasDeclared g.typed g.instance (layout g) n d → ClearsFirst before locals n d
+  unfolding all_cleared then_make zeroed
+  clears_first parallels numbers before plain [] n d isin stand known = record {
     e = d;
     is = refl;
     count = 0;
     grown = as_it_was d;
+    opened = λ within free. begun_fewer g before (λ x. OrAmong before n 0 x) d nothing_more free;
     runs = λ s st zeros free at sim within. record {
       grown = (0, as_it_was d);
       t = s;
@@ -115,14 +123,18 @@ module _ (g : Setting) where
       nothing_more : (x : Variable) → before x ⊎ (is_among n 0 x ≡ true) → before x
       nothing_more x (inl h) = h
       nothing_more x (inr h) = absurd (none_among n x h)
-  clears_first parallels before plain (local ∷ locals) n d isin stand =
-      either (all_first (IsBlockLocal g.may.beside) local locals isin) (λ more so e. clears_first parallels more so locals (n + 1) e (all_rest (IsBlockLocal g.may.beside) local locals isin) (others_stand g n local.info (map info_of locals) stand))
+  clears_first parallels numbers before plain (local ∷ locals) n d isin stand known =
+      either (all_first (IsBlockLocal g.may.beside) local locals isin) (λ more so e known_e. clears_first parallels numbers more so locals (n + 1) e (all_rest (IsBlockLocal g.may.beside) local locals isin) (others_stand g n local.info (map info_of locals) stand) known_e)
     where
       named : variable_named g.typed g.instance (V.Local n) ≡ Some local.info
       named = first_is_named g n local.info (map info_of locals) stand
 
-      either : IsBlockLocal g.may.beside local → ((more : Variable → Type 0) → ((x : Variable) (info : VarInfo) → IsScalar g x info → more x) → (e : Draft) → ClearsFirst more locals (n + 1) e) → ClearsFirst before (local ∷ locals) n d
-      either (inl scalar) rest = keeps_one before local locals n d (named, scalar) (plain (V.Local n) local.info (named, scalar)) (rest before plain d)
+      -- it is declared behind its code
+      declared : (e : Draft) → all_cleared (layout g) true (local ∷ []) n d ≡ Makes tt e → HasDeclared g.typed g.instance (layout g) (n + 1) e
+      declared e is = clears_declare g true (local ∷ []) n d e is (first_part (local.info ∷ []) (map info_of locals) stand) numbers known
+
+      either : IsBlockLocal g.may.beside local → ((more : Variable → Type 0) → ((x : Variable) (info : VarInfo) → IsScalar g x info → more x) → (e : Draft) → HasDeclared g.typed g.instance (layout g) (n + 1) e → ClearsFirst more locals (n + 1) e) → ClearsFirst before (local ∷ locals) n d
+      either (inl scalar) rest = keeps_one before local locals n d (named, scalar) (plain (V.Local n) local.info (named, scalar)) (rest before plain d (declared d (kept_so local scalar n d (λ after. Makes tt after))))
       either (inr parallel) rest =
-          let one = parallels true local n d parallel.0 named in
-          clears_it before local locals n d one (rest (λ x. before x ⊎ (x ≡ V.Local n)) (λ x info h. inl (plain x info h)) one.e)
+          let one = parallels true local n d parallel.0 named numbers known in
+          clears_it before local locals n d one (rest (λ x. before x ⊎ (x ≡ V.Local n)) (λ x info h. inl (plain x info h)) one.e (declared one.e (ap (λ (m : Made (Unit {0})). then_make m (λ u after. Makes (tt {0}) after)) one.is)))

@@ -88,7 +88,7 @@ module _ (g : Setting) (has : HasRegisters g) (alive : Variable → Type 0) wher
 
   -- a conversion in a fresh register, or none
   module _ (ty : ValueType) (quiet : Bool) (from : Elem) (plain : ty.shape ≡ None) where
-    converts_to : (d : Draft) (s : CodeState) (v : Value) (u : State) (out : Out) (e : Draft) → Begun g d → IsFresh d (Makes out e) → Arrives g alive from false d s v u out e
+    converts_to : (d : Draft) (s : CodeState) (v : Value) (u : State) (out : Out) (e : Draft) → Begun g alive d → IsFresh d (Makes out e) → Arrives g alive from false d s v u out e
         → Follows g (Value_of g has alive ty.elem quiet d s) s (Source.Gives (convert_to ty from v) u) (converted_in_place out ty.elem e)
     unfolding Follows in_register casts_put mapped convert_to cast_through cast_type at
     converts_to d s v u out e free fresh arr =

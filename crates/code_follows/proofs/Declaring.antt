@@ -11,7 +11,8 @@ use Rattle.cstar_tree.specs.declared.typed.Variable.TheVariants as V
 use Rattle.cstar_tree.specs.Variables.{variables_of}
 use Rattle.code_lengths.specs.Naming.{IsDeclared, variable_named}
 use Rattle.code_lengths.specs.NamingStatements.{StandFrom}
-use Rattle.code_lengths.proofs.Declaring.{at_length, info_of, second_part}
+use Rattle.code_lengths.specs.Ready.{HasDeclared, NumbersVariables}
+use Rattle.code_lengths.proofs.Declaring.{at_length, first_part, info_of, second_part}
 use Rattle.lower_base.specs.Drafts.{Draft, Made, Makes, step as step_of, then_make, with_instr}
 use Rattle.lower_base.specs.Layouts.{entries_of, register_of}
 use Rattle.lower_expr.specs.Steps.{has_word}
@@ -23,10 +24,11 @@ use Rattle.source_meaning.specs.State.{State, is_among, is_same, with_scalar, ze
 use Rattle.code_follows.specs.Fragment.{IsBlockLocal, IsScalarLocal, OrAmong}
 use Rattle.code_follows.specs.Agreement.{AreBytes}
 use Rattle.code_follows.proofs.Besides.{ClearsOne, LocalsClear}
+use Rattle.code_follows.proofs.Declared.{clears_declare}
 use Rattle.code_follows.proofs.Executing.{ran_from}
-use Rattle.code_follows.proofs.Following.{HasRegisters, IsScalar, Keeps, Ran, Sim, held, input_of, keeps_all, variable_kept, OpenAmong}
+use Rattle.code_follows.proofs.Following.{HasRegisters, IsScalar, Keeps, Ran, Sim, held, input_of, keeps_all, variable_kept}
 use Rattle.code_follows.proofs.Growing.{Extended, as_it_was, extended}
-use Rattle.code_follows.proofs.Settings.{At, Begun, Setting, Within, and_one, at_next, begins_here, begun_later, earlier, layout, one, regs_more, stay, SameFields}
+use Rattle.code_follows.proofs.Settings.{IsOpenIn, IsParallelLocal, OpenAmong, At, Begun, begun_fewer, Setting, Within, and_one, at_next, begins_here, begun_later, earlier, layout, one, regs_more, stay, SameFields}
 use Rattle.code_follows.proofs.Standing.{some_same}
 use Rattle.code_follows.proofs.Stores.{below_free, same_is, sim_begun, same_itself}
 use Rattle.std.proofs.lemmas.Nat.{pow_pos}
@@ -251,6 +253,34 @@ none_among n (V.File k) h = cc
 none_among n (V.Param k) h = cc
 none_among n (V.Local k) h = let none : (nat_le n k && nat_lt k (n + 0)) ≡ false = grind (arith, nat_tests) in cc
 
+module _ (g : Setting) where
+  -- one variable more is alive
+  begun_more : (before : Variable → Type 0) (n : ℕ) (d e : Draft) (m : ℕ) → Extended d m e → ((k : ℕ) → OpenAmong g (λ x. x ≡ V.Local n) k → IsOpenIn g k e) → Begun g before d → Begun g (λ x. before x ⊎ (x ≡ V.Local n)) e
+  begun_more before n d e m x new b = record { regs = later.regs; code = later.code; fields = later.fields; opened = λ k is_open. by k is_open.0 is_open.1 }
+    where
+      later : Begun g before e
+      later = begun_later g before d e m x b
+
+      by : (k : ℕ) → before (V.Local k) ⊎ (V.Local k ≡ V.Local n) → IsParallelLocal g k → IsOpenIn g k e
+      by k (inl h) is = later.opened k (h, is)
+      by k (inr same) is = new k (same, is)
+
+  -- a scalar one has no entry, and a parallel one has its own
+  pub begun_scalar : (before : Variable → Type 0) (n : ℕ) (info : VarInfo) → IsScalar g (V.Local n) info → (d e : Draft) (m : ℕ) → Extended d m e → Begun g before d → Begun g (λ x. before x ⊎ (x ≡ V.Local n)) e
+  begun_scalar before n info scalar d e m x b = begun_more before n d e m x (λ k is_open. absurd (other_one g n info scalar (λ y. y ≡ V.Local n) k is_open (local_same k n is_open.0))) b
+
+  pub begun_parallel : (before : Variable → Type 0) (n : ℕ) (d e : Draft) (m : ℕ) → Extended d m e → IsOpenIn g n e → Begun g before d → Begun g (λ x. before x ⊎ (x ≡ V.Local n)) e
+  begun_parallel before n d e m x opened b = begun_more before n d e m x (λ k is_open. subst (λ (j : ℕ). IsOpenIn g j e) (sym (local_same k n is_open.0)) opened) b
+
+  -- where the first of a block's variables is a scalar one, the others are open
+  pub begun_others : (before now : Variable → Type 0) (n len : ℕ) (info : VarInfo) → IsScalar g (V.Local n) info → (e : Draft) → ((x : Variable) → (x ≡ V.Local n → ⊥) → (before x ⊎ (is_among (n + 1) len x ≡ true)) ⊎ (x ≡ V.Local n) → now x) → Begun g now e → Begun g (λ x. OrAmong before n (suc len) x) e
+  begun_others before now n len info scalar e among b = record {
+    regs = b.regs;
+    code = b.code;
+    fields = b.fields;
+    opened = λ k is_open. b.opened k (among (V.Local k) (λ same. other_one g n info scalar (λ x. OrAmong before n (suc len) x) k is_open (local_same k n same)) (first_or_later before n len (V.Local k) is_open.0), is_open.1);
+  }
+
 module _ (g : Setting) (has : HasRegisters g) where
   -- The variables of a block become 0, but for the registers of those that begin as constants. Those that are
   -- cleared are alive from then on, beside those that were.
@@ -259,7 +289,8 @@ module _ (g : Setting) (has : HasRegisters g) where
     pub is : all_cleared (layout g) false locals n d ≡ Makes tt e
     pub count : ℕ
     pub grown : Extended d count e
-    pub runs : (s : CodeState) (st : State) → Begun g d → At g s (length d.code) → Sim g before st s → Within g e
+    pub opened : Within g e → Begun g before d → Begun g (λ x. OrAmong before n (length locals) x) e
+    pub runs : (s : CodeState) (st : State) → Begun g before d → At g s (length d.code) → Sim g before st s → Within g e
         → Ran g (λ x. Alive before locals n x) d s (zeroed n (length locals) st) e
 
   cleared_so : (local : LocalVar) → local.info.shape ≡ None → (n : ℕ) (d : Draft) (b : Bool) → begins_constant local ≡ b → (next : Draft → Made (Unit {0}))
@@ -284,11 +315,12 @@ module _ (g : Setting) (has : HasRegisters g) where
     is = cleared_so local scalar.1 n d true begins (λ after. all_cleared (layout g) false locals (n + 1) after) ∙ rest.is;
     count = rest.count;
     grown = rest.grown;
+    opened = λ within free. begun_others g before (λ x. OrAmong (λ y. before y × (y ≡ V.Local n → ⊥)) (n + 1) (length locals) x) n (length locals) local.info scalar rest.e waiting_still (rest.opened within (begun_fewer g before (λ x. before x × (x ≡ V.Local n → ⊥)) d (λ x h. h.0) free));
     runs = λ s st free at sim within.
         let others : Variable → Type 0 = λ x. before x × (x ≡ V.Local n → ⊥) in
         let st1 : State = with_scalar (V.Local n) 0 st in
         let sim1 : Sim g others st1 s = waiting before st s sim in
-        let ran = rest.runs s st1 free at sim1 within in
+        let ran = rest.runs s st1 (begun_fewer g before others d (λ x h. h.0) free) at sim1 within in
         ran_fewer g (λ x. Alive others locals (n + 1) x) (λ x. Alive before (local ∷ locals) n x) d s (zeroed (n + 1) (length locals) st1) (zeroed n (suc (length locals)) st) rest.e
         (λ x h. (waiting_still x (h.1.0 begins) (first_or_later before n (length locals) x h.0), h.1.1)) (zeroed_more n (length locals) st) ((λ k e p. same_zeroed g n (suc (length locals)) (n + 1) (length locals) n 0 st k e p), (λ k is_open e p. zeroed_others n (length locals) st st1 (λ j f q. refl) k (other_one g n local.info scalar (λ x. Alive before (local ∷ locals) n x) k is_open) e p)) refl refl refl refl ran;
   }
@@ -333,6 +365,8 @@ module _ (g : Setting) (has : HasRegisters g) where
         is = cleared_so local isin n d false begins (λ after. all_cleared (layout g) false locals (n + 1) after) ∙ rest.is;
         count = 1 + rest.count;
         grown = extended d between rest.e 1 rest.count (and_one g (I.FrontConst r 0) d) rest.grown;
+        opened = λ within free. begun_fewer g (λ x. OrAmong (λ y. before y ⊎ (y ≡ V.Local n)) (n + 1) (length locals) x) (λ x. OrAmong before n (suc (length locals)) x) rest.e (λ x h. is_now before n (length locals) x (first_or_later before n (length locals) x h))
+            (rest.opened within (begun_scalar g before n local.info scalar d between 1 (and_one g (I.FrontConst r 0) d) free));
         runs = λ s st free at sim within.
             let now : Variable → Type 0 = λ x. before x ⊎ (x ≡ V.Local n) in
             let s1 : CodeState = with_register r 0 s in
@@ -343,7 +377,7 @@ module _ (g : Setting) (has : HasRegisters g) where
             let inside : r < length s.registers = omega (arith, low, free.regs, first_within.regs, more, sim.registers) in
             let sim1 : Sim g now st1 s1 = subst (λ (w : ℕ). Sim g now st1 (with_register r w s)) zero_held (sim_begun g has (V.Local n) local.info scalar before now (λ y living other. was_alive y living other) st s 0 (pow_pos local.info.elem.bits) inside sim) in
             let kept : Keeps g d s s1 = variable_kept g d s (V.Local n) local.info 0 has scalar.0 in
-            let ran = rest.runs s1 st1 (begun_later g d between 1 (and_one g (I.FrontConst r 0) d) free) (at_next g (I.FrontConst r 0) d s (s.at + 1) at refl) sim1 within in
+            let ran = rest.runs s1 st1 (begun_scalar g before n local.info scalar d between 1 (and_one g (I.FrontConst r 0) d) free) (at_next g (I.FrontConst r 0) d s (s.at + 1) at refl) sim1 within in
             let all = ran_from g (λ x. Alive now locals (n + 1) x) d between 1 s s1 (zeroed (n + 1) (length locals) st1) rest.e (and_one g (I.FrontConst r 0) d) (one g s s1 (begins_here g (I.FrontConst r 0) d s first_within refl at) refl) kept ran in
             ran_fewer g (λ x. Alive now locals (n + 1) x) (λ x. Alive before (local ∷ locals) n x) d s (zeroed (n + 1) (length locals) st1) (zeroed n (suc (length locals)) st) rest.e
             (λ x h. (is_now before n (length locals) x (first_or_later before n (length locals) x h.0), h.1.1)) (zeroed_more n (length locals) st) ((λ k e p. same_zeroed g n (suc (length locals)) (n + 1) (length locals) n 0 st k e p), (λ k is_open e p. zeroed_others n (length locals) st st1 (λ j f q. refl) k (other_one g n local.info scalar (λ x. Alive before (local ∷ locals) n x) k is_open) e p)) refl refl refl refl all;
@@ -361,23 +395,27 @@ module _ (g : Setting) (has : HasRegisters g) where
     is = ap (λ (m : Made (Unit {0})). then_make m (λ u after. all_cleared (layout g) false locals (n + 1) after)) one.is ∙ rest.is;
     count = one.count + rest.count;
     grown = extended d one.e rest.e one.count rest.count one.grown rest.grown;
+    opened = λ within free. begun_fewer g (λ x. OrAmong (λ y. before y ⊎ (y ≡ V.Local n)) (n + 1) (length locals) x) (λ x. OrAmong before n (suc (length locals)) x) rest.e (λ x h. is_now before n (length locals) x (first_or_later before n (length locals) x h))
+        (rest.opened within (begun_parallel g before n d one.e one.count one.grown (one.opened (earlier g one.e rest.e rest.count rest.grown within)) free));
     runs = λ s st free at sim within.
         let now : Variable → Type 0 = λ x. before x ⊎ (x ≡ V.Local n) in
         let st1 : State = zeroed n 1 st in
-        let first = one.runs before s st free at sim (earlier g one.e rest.e rest.count rest.grown within) in
-        let ran = rest.runs first.t st1 (begun_later g d one.e one.count one.grown free) first.at first.sim within in
+        let first_within : Within g one.e = earlier g one.e rest.e rest.count rest.grown within in
+        let first = one.runs before s st free at sim first_within in
+        let ran = rest.runs first.t st1 (begun_parallel g before n d one.e one.count one.grown (one.opened first_within) free) first.at first.sim within in
         let all = ran_from g (λ x. Alive now locals (n + 1) x) d one.e one.count s first.t (zeroed (n + 1) (length locals) st1) rest.e one.grown first.go first.keeps ran in
         ran_fewer g (λ x. Alive now locals (n + 1) x) (λ x. Alive before (local ∷ locals) n x) d s (zeroed (n + 1) (length locals) st1) (zeroed n (suc (length locals)) st) rest.e
         (λ x h. (is_now before n (length locals) x (first_or_later before n (length locals) x h.0), h.1.1)) (zeroed_both n (length locals) st) ((λ k e p. zeroed_twice g n (suc (length locals)) (n + 1) (length locals) st k e p), (λ k is_open e p. zeroed_all n (length locals) st k e p)) refl refl refl refl all;
   }
 
-  pub clears : LocalsClear g → (before : Variable → Type 0) (locals : List LocalVar) (n : ℕ) (d : Draft) → All (IsBlockLocal g.may.beside) locals → StandFrom (variables_of g.instance.body) n (map info_of locals) → Clears before locals n d
-  unfolding all_cleared zeroed Started
-  clears parallels before [] n d isin stand = record {
+  pub clears : LocalsClear g → NumbersVariables g.instance (layout g) → (before : Variable → Type 0) (locals : List LocalVar) (n : ℕ) (d : Draft) → All (IsBlockLocal g.may.beside) locals → StandFrom (variables_of g.instance.body) n (map info_of locals) → HasDeclared g.typed g.instance (layout g) n d → Clears before locals n d
+  unfolding all_cleared then_make zeroed Started
+  clears parallels numbers before [] n d isin stand known = record {
     e = d;
     is = refl;
     count = 0;
     grown = as_it_was d;
+    opened = λ within free. begun_fewer g before (λ x. OrAmong before n 0 x) d nothing_more free;
     runs = λ s st free at sim within. record {
       grown = (0, as_it_was d);
       t = s;
@@ -391,15 +429,22 @@ module _ (g : Setting) (has : HasRegisters g) where
       nothing_more : (x : Variable) → before x ⊎ (is_among n 0 x ≡ true) → before x
       nothing_more x (inl h) = h
       nothing_more x (inr h) = absurd (none_among n x h)
-  clears parallels before (local ∷ locals) n d isin stand =
-      either (all_first (IsBlockLocal g.may.beside) local locals isin) (λ more e. clears parallels more locals (n + 1) e (all_rest (IsBlockLocal g.may.beside) local locals isin) (others_stand g n local.info (map info_of locals) stand))
+  clears parallels numbers before (local ∷ locals) n d isin stand known =
+      either (all_first (IsBlockLocal g.may.beside) local locals isin) (λ more e known_e. clears parallels numbers more locals (n + 1) e (all_rest (IsBlockLocal g.may.beside) local locals isin) (others_stand g n local.info (map info_of locals) stand) known_e)
     where
-      scalar_cleared : IsScalarLocal local → (b : Bool) → begins_constant local ≡ b → Clears (λ x. before x × (x ≡ V.Local n → ⊥)) locals (n + 1) d → Clears (λ x. before x ⊎ (x ≡ V.Local n)) locals (n + 1) (with_instr (I.FrontConst (register_of (layout g) (V.Local n)) 0) d) → Clears before (local ∷ locals) n d
-      scalar_cleared scalar true is waiting done = waits before local locals n d (first_is_named g n local.info (map info_of locals) stand, scalar) is waiting
-      scalar_cleared scalar false is waiting done = clears_one before local locals n d scalar is stand done
+      -- it is declared behind its code
+      declared : (e : Draft) → all_cleared (layout g) false (local ∷ []) n d ≡ Makes tt e → HasDeclared g.typed g.instance (layout g) (n + 1) e
+      declared e is = clears_declare g false (local ∷ []) n d e is (first_part (local.info ∷ []) (map info_of locals) stand) numbers known
 
-      either : IsBlockLocal g.may.beside local → ((more : Variable → Type 0) (e : Draft) → Clears more locals (n + 1) e) → Clears before (local ∷ locals) n d
-      either (inl scalar) rest = scalar_cleared scalar (begins_constant local) refl (rest (λ x. before x × (x ≡ V.Local n → ⊥)) d) (rest (λ x. before x ⊎ (x ≡ V.Local n)) (with_instr (I.FrontConst (register_of (layout g) (V.Local n)) 0) d))
+      scalar_cleared : IsScalarLocal local → (b : Bool) → begins_constant local ≡ b → ((more : Variable → Type 0) (e : Draft) → HasDeclared g.typed g.instance (layout g) (n + 1) e → Clears more locals (n + 1) e) → Clears before (local ∷ locals) n d
+      scalar_cleared scalar true is rest =
+          waits before local locals n d (first_is_named g n local.info (map info_of locals) stand, scalar) is (rest (λ x. before x × (x ≡ V.Local n → ⊥)) d (declared d (cleared_so local scalar n d true is (λ after. Makes tt after))))
+      scalar_cleared scalar false is rest =
+          let between : Draft = with_instr (I.FrontConst (register_of (layout g) (V.Local n)) 0) d in
+          clears_one before local locals n d scalar is stand (rest (λ x. before x ⊎ (x ≡ V.Local n)) between (declared between (cleared_so local scalar n d false is (λ after. Makes tt after))))
+
+      either : IsBlockLocal g.may.beside local → ((more : Variable → Type 0) (e : Draft) → HasDeclared g.typed g.instance (layout g) (n + 1) e → Clears more locals (n + 1) e) → Clears before (local ∷ locals) n d
+      either (inl scalar) rest = scalar_cleared scalar (begins_constant local) refl rest
       either (inr parallel) rest =
-          let one = parallels false local n d parallel.0 (first_is_named g n local.info (map info_of locals) stand) in
-          clears_parallel before local locals n d one (never_begins local parallel.1) (rest (λ x. before x ⊎ (x ≡ V.Local n)) one.e)
+          let one = parallels false local n d parallel.0 (first_is_named g n local.info (map info_of locals) stand) numbers known in
+          clears_parallel before local locals n d one (never_begins local parallel.1) (rest (λ x. before x ⊎ (x ≡ V.Local n)) one.e (declared one.e (ap (λ (m : Made (Unit {0})). then_make m (λ u after. Makes (tt {0}) after)) one.is)))

@@ -42,14 +42,14 @@ use Rattle.code_follows.proofs.Callees.{AreGiven, Callee, CallsFollow, ComesBack
 use Rattle.code_follows.proofs.Closed.{NoJump, begins_closed, closed_row, go_closed}
 use Rattle.code_follows.proofs.Endings.{NeverOnward, body_never, never_second}
 use Rattle.code_follows.proofs.Executing.{Exits, IsGiven, Left, Returns}
-use Rattle.code_follows.proofs.Following.{Finishes, Follows, HasNumber, HasRegisters, IsScalar, Sim, held, OpenAmong}
+use Rattle.code_follows.proofs.Following.{Finishes, Follows, HasNumber, HasRegisters, IsScalar, Sim, held}
 use Rattle.code_follows.proofs.Functions.{RunsFunction, body_made, declares, ends_by, exits, falls, frame, framed, given_back, has, numbered, ready, runs_function, scope, stands_here}
 use Rattle.std.specs.Option.{is_some}
 use Rattle.std.proofs.lemmas.Nat.{pow_pos}
 use Rattle.source_meaning.specs.Reductions.{int_type}
 use Rattle.code_follows.proofs.Numbers.{zero_converted}
 use Rattle.code_follows.proofs.Regions.{result_is, same_constants, same_end}
-use Rattle.code_follows.proofs.Settings.{At, CallStands, Held, LastsTo, Setting, called_below, one, onto, start}
+use Rattle.code_follows.proofs.Settings.{AreNamedBefore, OpenAmong, At, CallStands, Held, LastsTo, Setting, called_below, one, onto, start}
 use Rattle.code_follows.proofs.Standing.{start_in, unit_there}
 use Rattle.code_follows.proofs.Units.{blank_homes, blank_regs, not_main, other_is, unit_at}
 
@@ -137,9 +137,9 @@ module _ (t : Typed) (image : Image) {beside : Beside} (p : IsProgramBeside besi
   pub record AllBeside (Known : Setting → Scope → Active → Type 1) : Type 1 where
     pub follows : (g : Setting) (scope : Scope) (a : Active) → Known g scope a → (has : HasRegisters g) → BesideFollows Known g has scope a
     pub called : (held : Held) (from entries upto : ℕ) (a : Active) (me : ℕ) (i : Instance) (is_me : slice_get t.instances.items me ≡ Some i) (opens : List ℕ) (most : ℕ) → Known (running held from entries upto me i is_me opens most) (scope_of t i (calls t most)) a
-        → (number : ℕ) (b : Instance) (is : slice_get t.instances.items number ≡ Some b) (back : List ℕ) (m : ℕ) → CallStands (running held from entries upto me i is_me opens most) number
-        → (live : ℕ → Type 0) (place : ℕ) (st : State) → (inside : Held) × (Opens held inside live place st × Known (activation t image p codable compiled inside number b is back m) (scope_of t b (calls t m)) a)
-    pub lasts : (g : Setting) (scope : Scope) (a : Active) → Known g scope a → (target : ℕ) → g.from ≤ target → LastsTo g g.held target
+        → (number : ℕ) (b : Instance) (is : slice_get t.instances.items number ≡ Some b) (back : List ℕ) (m : ℕ) → (here : CallStands (running held from entries upto me i is_me opens most) number)
+        → (live : ℕ → Type 0) (place : ℕ) (st : State) → place ≡ start (running held from entries upto me i is_me opens most) + here.at + 1 → (inside : Held) × (Opens held inside live place st × Known (activation t image p codable compiled inside number b is back m) (scope_of t b (calls t m)) a)
+    pub lasts : (g : Setting) (scope : Scope) (a : Active) → Known g scope a → (live : ℕ → Type 0) (target : ℕ) → g.from ≤ target → AreNamedBefore g live target → LastsTo g live g.held target
 
 module _ (t : Typed) (image : Image) {beside : Beside} (p : IsProgramBeside beside t) (codable : IsCodable t) (compiled : IsCompiled t image) (holding : Held) (from entries upto : ℕ) (me : ℕ) (a : Instance) (is_me : slice_get t.instances.items me ≡ Some a) (back_to : List ℕ) (number : ℕ) (b : Instance) (is : slice_get t.instances.items number ≡ Some b)
     (some : 0 < number) (called : Contains (calls_within a.body) number) (m : ℕ) where
@@ -285,7 +285,7 @@ module _ (t : Typed) (image : Image) {beside : Beside} (p : IsProgramBeside besi
           let runs : Follows inner (Left inner OfFileOrParam out begin s) s (executed where_it_is body 0 active opening_state) (body_of t (layout_of t (words t image p codable compiled) number) f body begin) =
           subst (λ (made : Made ℕ). Follows inner (Left inner OfFileOrParam out begin s) s (executed where_it_is body 0 active opening_state) made) (sym (as_block locals q row))
           (statement_follows where_it_is (λ g. besides.follows g where_it_is) inner active around [] OfFileOrParam (λ k. tt) 0 before_all body isin.0 out begin s opening_state
-          (framed t image p codable compiled inside number b is open_calls m) (stands_here t image p codable compiled inside number b is open_calls m ((calls_follow inside inner.from inner.entries inner.upto active known).lasts 0 (omega arith))) (declares t image p codable compiled inside number b is open_calls m begin (blank_homes t image (scalars t image p codable compiled) codable compiled number b)) (record { regs = let regs = blank_regs t image (scalars t image p codable compiled) codable compiled number b in omega (arith, regs); code = omega arith; fields = omega arith }) stands sim c) in
+          (framed t image p codable compiled inside number b is open_calls m) (stands_here t image p codable compiled inside number b is open_calls m ((calls_follow inside inner.from inner.entries inner.upto active known).lasts (OpenAmong inner OfFileOrParam) 0 (omega arith) (λ k is_open. absurd is_open.0))) (declares t image p codable compiled inside number b is open_calls m begin (blank_homes t image (scalars t image p codable compiled) codable compiled number b)) (record { regs = let regs = blank_regs t image (scalars t image p codable compiled) codable compiled number b in omega (arith, regs); code = omega arith; fields = omega arith; opened = λ k is_open. absurd is_open.0 }) stands sim c) in
           let made = body_made t image p codable compiled inside number b is open_calls m (body_of t (layout_of t (words t image p codable compiled) number) f body begin) (made_so body body_is) in
           let never : ends_in_return b.body ≡ true → NeverOnward (executed where_it_is body 0 active opening_state) =
           λ ends. never_second (initialised where_it_is active 0 locals.items _) _ (λ u. body_never where_it_is active locals q row (sym (ap (λ (x : TStmt). ends_in_return x) body_is) ∙ ends) (0 + length locals.items) u) in
@@ -309,8 +309,8 @@ module _ (t : Typed) (image : Image) {beside : Beside} (p : IsProgramBeside besi
   -- a function that an instance calls enters its code as the source does, wherever it is called
   abbrev pub EntersThere : (number : ℕ) (i : Instance) → slice_get t.instances.items number ≡ Some i → List ℕ → ℕ → (index : ℕ) (c : Instance) → slice_get t.instances.items index ≡ Some c → Contains (calls_within i.body) index → ℕ → Type 1
   EntersThere number i is opens most index c is_c called m =
-      (held : Held) (from entries upto : ℕ) (a : Active) → Known (running t image p codable compiled held from entries upto number i is opens most) (scope_of t i (calls t most)) a → CallStands (running t image p codable compiled held from entries upto number i is opens most) index
-      → Enters (running t image p codable compiled held from entries upto number i is opens most) (callee_known t image p codable compiled number i is opens most index c is_c called held from entries upto) m a
+      (held : Held) (from entries upto : ℕ) (a : Active) → Known (running t image p codable compiled held from entries upto number i is opens most) (scope_of t i (calls t most)) a → (here : CallStands (running t image p codable compiled held from entries upto number i is opens most) index)
+      → Enters (running t image p codable compiled held from entries upto number i is opens most) (callee_known t image p codable compiled number i is opens most index c is_c called held from entries upto) m a here.at
 
   -- the calls in a function follow, where those with one turn fewer do
   pub calls_so : (most number : ℕ) (i : Instance) (is : slice_get t.instances.items number ≡ Some i) (opens : List ℕ)
@@ -335,12 +335,12 @@ module _ (t : Typed) (image : Image) {beside : Beside} (p : IsProgramBeside besi
 
   pub enters_so : (m me : ℕ) (a : Instance) (is_me : slice_get t.instances.items me ≡ Some a) (back_to : List ℕ) (number : ℕ) (b : Instance) (is : slice_get t.instances.items number ≡ Some b) → 0 < number → (called : Contains (calls_within a.body) number) → EntersThere me a is_me back_to (suc m) number b is called m
   unfolding callee_known Enters
-  enters_so zero me a is_me back_to number b is some called held from entries upto active known here live arguments st s back starts stacked shared few given zero_there =
-      let inside = besides.called held from entries upto active me a is_me back_to (suc zero) known number b is (back_to ++ back ∷ []) zero here live back st in
+  enters_so zero me a is_me back_to number b is some called held from entries upto active known here live arguments st s back back_is starts stacked shared few given zero_there =
+      let inside = besides.called held from entries upto active me a is_me back_to (suc zero) known number b is (back_to ++ back ∷ []) zero here live back st back_is in
       body_follows t image p codable compiled held from entries upto me a is_me back_to number b is some called zero here active arguments st s back inside.0 live inside.1.0 starts stacked shared few given zero_there besides inside.1.1
       (calls_so zero number b is (back_to ++ back ∷ []) (λ index c is_c some_c called_c m e. absurd (omega (arith, e)))) b.body refl (p.each number b is).body
-  enters_so (suc m) me a is_me back_to number b is some called held from entries upto active known here live arguments st s back starts stacked shared few given zero_there =
-      let inside = besides.called held from entries upto active me a is_me back_to (suc (suc m)) known number b is (back_to ++ back ∷ []) (suc m) here live back st in
+  enters_so (suc m) me a is_me back_to number b is some called held from entries upto active known here live arguments st s back back_is starts stacked shared few given zero_there =
+      let inside = besides.called held from entries upto active me a is_me back_to (suc (suc m)) known number b is (back_to ++ back ∷ []) (suc m) here live back st back_is in
       body_follows t image p codable compiled held from entries upto me a is_me back_to number b is some called (suc m) here active arguments st s back inside.0 live inside.1.0 starts stacked shared few given zero_there besides inside.1.1
       (calls_so (suc m) number b is (back_to ++ back ∷ []) (λ index c is_c some_c called_c k e.
       subst (λ (n : ℕ). EntersThere number b is (back_to ++ back ∷ []) (suc m) index c is_c called_c n) (fewer m k e) (enters_so m number b is (back_to ++ back ∷ []) index c is_c some_c called_c)))

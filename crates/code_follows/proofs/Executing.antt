@@ -195,7 +195,7 @@ module _ (g : Setting) (alive : Variable → Type 0) where
     pub is : nonzero (slice_index t.registers r) ≡ b
 
   module _ (has : HasRegisters g) (files : (k : ℕ) → alive (V.File k)) (n : ℕ) (ready : (d : Draft) → IsReadyButForFields g.typed g.instance (layout g) n d) (scope : Scope) (active : Active) (calls_follow : CallsFollow g scope active) where
-    pub test_follows : (test : TExpr) → (IsIn (naming g.may alive)) test → HasCode g.typed g.instance n test → (d : Draft) (s : CodeState) (st : State) → Begun g d → At g s (length d.code) → Sim g alive st s
+    pub test_follows : (test : TExpr) → (IsIn (naming g.may alive)) test → HasCode g.typed g.instance n test → (d : Draft) (s : CodeState) (st : State) → Begun g alive d → At g s (length d.code) → Sim g alive st s
         → Follows g (Tested d s) s (passes scope active test st) (condition_of g.typed (layout g) test d)
     unfolding passes condition_of Extends Follows in_register number
     test_follows test isin c d s st free here sim =

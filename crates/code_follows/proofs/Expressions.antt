@@ -63,8 +63,8 @@ use Rattle.code_follows.proofs.Callees.{CallsFollow}
 use Rattle.code_follows.proofs.Following.{Arrives, Extends, Follows, HasRegisters, IsScalar, Sim, follows_same, held, keeps_all, then_gives}
 use Rattle.code_follows.proofs.Growing.{as_it_was}
 use Rattle.code_follows.proofs.Logical.{and_is, joined, logical_follows, or_is}
-use Rattle.code_follows.proofs.Settings.{At, Begun, Setting, layout, stay}
-use Rattle.code_follows.proofs.Values.{Dest, Does, Value_of, binary_follows, constant_follows, conversion_is, extends_grown, fresh_dest, mapped_is, read_is, rewrapped, unary_follows, variable_follows, with_reg}
+use Rattle.code_follows.proofs.Settings.{begun_later, At, Begun, Setting, layout, stay}
+use Rattle.code_follows.proofs.Values.{and_register, Dest, Does, Value_of, binary_follows, constant_follows, conversion_is, extends_grown, fresh_dest, mapped_is, read_is, rewrapped, unary_follows, variable_follows, with_reg}
 use Rattle.code_follows.proofs.Bytes.{byte_follows}
 use Rattle.code_follows.proofs.Casts.{casts_follow, fresh_casts}
 use Rattle.std.specs.Int.{from_bool}
@@ -429,7 +429,7 @@ module _ (g : Setting) (has : HasRegisters g) (alive : Variable → Type 0) (n :
   fold_value : (quiet : Bool) (bits : ℕ) (ty : ValueType) (op : ReduceOp) (p : Boxed) (operand : TExpr) → ty.shape ≡ None → g.may.beside.folds (T.Reduce' ty op p operand) → ScalarsAmong alive (T.Reduce' ty op p operand) → HasCode g.typed g.instance n (T.Reduce' ty op p operand) → Agrees quiet bits (T.Reduce' ty op p operand)
   fold_value quiet bits ty op p operand scalar folds among c d s st free here sim =
       subst (λ (made : Made Out). Follows g (Value_of g has alive ty.elem quiet d s) s (evaluated scope (T.Reduce' ty op p operand) active st) made) (sym (fold_code ty op p operand bits scalar d))
-      ((calls_follow.beside has).folds alive files n ready (T.Reduce' ty op p operand) folds among c (with_reg d) s st (Value_of g has alive ty.elem quiet d s) d.regs (omega (arith, free)) here sim (fresh_dest g has alive ty.elem quiet d s free))
+      ((calls_follow.beside has).folds alive files n ready (T.Reduce' ty op p operand) folds among c (with_reg d) s st (Value_of g has alive ty.elem quiet d s) d.regs (begun_later g alive d (with_reg d) 0 (and_register d) free) here sim (fresh_dest g has alive ty.elem quiet d s free))
 
   fresh_value : (bits : ℕ) (e : TExpr) → (IsIn (naming g.may alive)) e → HasCode g.typed g.instance n e → (d : Draft) → IsFresh d (value_of g.typed (layout g) bits e d)
   unfolding value_of IsIn
@@ -506,7 +506,7 @@ module _ (g : Setting) (has : HasRegisters g) (alive : Variable → Type 0) (n :
 
   -- `?:` into the register of which something is said
   pub choice_goes : (ty : ValueType) (bits : ℕ) (test first second : TExpr) → IsWord ty → (IsIn (naming g.may alive)) test → (IsIn (naming g.may alive)) first → (IsIn (naming g.may alive)) second → IsWord (type_of first) → IsWord (type_of second) → AreChosen test first second → Agrees true (bits_of (kind_of test)) test → Agrees true bits first → Agrees true bits second
-      → (d : Draft) (s : CodeState) (st : State) (R : Value → State → Out → Draft → Type 0) (r : ℕ) → Begun g d → At g s (length d.code) → Sim g alive st s → Dest g has alive ty.elem d s R r → Lands g has alive r R
+      → (d : Draft) (s : CodeState) (st : State) (R : Value → State → Out → Draft → Type 0) (r : ℕ) → Begun g alive d → At g s (length d.code) → Sim g alive st s → Dest g has alive ty.elem d s R r → Lands g has alive r R
       → Follows g R s (then_do (evaluated scope test active st) (λ v after. choose (type_of test).shape v (evaluated scope first) (evaluated scope second) active after)) (scalar_choice_of g.typed (layout g) ty bits test first second (O.Scalar r) d)
   unfolding scalar_choice_of
   choice_goes ty bits test first second word h k m a b c tests one other d s st R r free here sim dest lands =
@@ -525,7 +525,7 @@ module _ (g : Setting) (has : HasRegisters g) (alive : Variable → Type 0) (n :
       (arm_length_of g.typed (layout g) ty bits first) (arm_length_of g.typed (layout g) ty bits second) d) (kept (naming g.may alive) test h)
       ∙ choice_is ty bits (is_kept test) (next_of g.typed (layout g) (bits_of (kind_of test)) true test) (arm_of g.typed (layout g) bits first) (arm_of g.typed (layout g) bits second)
       (arm_length_of g.typed (layout g) ty bits first) (arm_length_of g.typed (layout g) ty bits second) d word.0 (kept (naming g.may alive) test h)))
-      (choice_goes ty bits test first second word h k m a b c tests one other (with_reg d) s st (Value_of g has alive ty.elem quiet d s) d.regs (omega (arith, free)) here sim (fresh_dest g has alive ty.elem quiet d s free) (fresh_lands g has alive ty.elem quiet d s d.regs))
+      (choice_goes ty bits test first second word h k m a b c tests one other (with_reg d) s st (Value_of g has alive ty.elem quiet d s) d.regs (begun_later g alive d (with_reg d) 0 (and_register d) free) here sim (fresh_dest g has alive ty.elem quiet d s free) (fresh_lands g has alive ty.elem quiet d s d.regs))
 
   assign_value : (quiet : Bool) (bits : ℕ) (ty : ValueType) (place : Place) (op : AssignOp) (p q : Boxed) (target value : TExpr) → TargetIs g alive n target → NamesVariables g.typed g.instance n target → ty ≡ type_of target → (IsIn (naming g.may alive)) value → IsGiven op (type_of target) (type_of value) → HasCode g.typed g.instance n value
       → ((m : ℕ) (d : Draft) → IsFresh d (value_of g.typed (layout g) m value d)) → ((calm : Bool) (m : ℕ) → Agrees calm m value) → Agrees quiet bits (T.Assign' ty place op p target q value)

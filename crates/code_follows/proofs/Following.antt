@@ -6,7 +6,6 @@ use Rattle.cstar_base.specs.declared.elem.Elem.{Elem}
 use Rattle.cstar_base.specs.Numbers.{converted}
 use Rattle.cstar_tree.specs.declared.typed.VarInfo.{VarInfo}
 use Rattle.cstar_tree.specs.declared.typed.Variable.{Variable}
-use Rattle.cstar_tree.specs.declared.typed.Variable.TheVariants as V
 use Rattle.code_lengths.specs.Naming.{variable_named}
 use Rattle.lower_base.specs.declared.emit.Out.{Out}
 use Rattle.lower_base.specs.declared.emit.Out.TheVariants as O
@@ -22,7 +21,7 @@ use Rattle.source_meaning.specs.Values.{Scalar, Value}
 use Rattle.code_follows.specs.Agreement.{AreBytes, end_of, mark_of}
 use Rattle.code_follows.proofs.ConstantRegisters.{below_values}
 use Rattle.code_follows.proofs.Growing.{Extended, extended}
-use Rattle.code_follows.proofs.Settings.{At, EndsIn, Reaches, Setting, Within, earlier, ends_later, layout}
+use Rattle.code_follows.proofs.Settings.{OpenAmong, At, EndsIn, Reaches, Setting, Within, earlier, ends_later, layout}
 
 -- the word that holds a number of a type: the number promoted to 32 bits
 abbrev pub held : Elem → ℕ → ℕ
@@ -53,10 +52,6 @@ module _ (g : Setting) where
   abbrev pub IsScalar : Variable → VarInfo → Type 0
   IsScalar x info = (variable_named g.typed g.instance x ≡ Some info) × (info.shape ≡ None)
 
-  -- the parallel variables of blocks that are alive
-  abbrev pub OpenAmong : (Variable → Type 0) → ℕ → Type 0
-  OpenAmong alive k = alive (V.Local k) × ((info : VarInfo) × ((set : ℕ) × ((variable_named g.typed g.instance (V.Local k) ≡ Some info) × (info.shape ≡ Some set))))
-
   -- The registers hold the scalar variables that are alive and the constants, the memory what is held of the
   -- parallel ones; turns, output and input are those of the source.
   pub record Sim (alive : Variable → Type 0) (st : State) (s : CodeState) : Type 0 where
@@ -70,7 +65,7 @@ module _ (g : Setting) where
     pub returns : s.returns ≡ g.returns
     pub few : st.turns ≤ g.most
     pub bytes : AreBytes st.input
-    pub memory : g.held.holds (OpenAmong alive) s.at st s.memory
+    pub memory : g.held.holds (OpenAmong g alive) s.at st s.memory
 
   -- a register of a value, one that is spared, or that of the result
   unfoldable pub IsKept : Draft → ℕ → Type 0
@@ -193,7 +188,7 @@ module _ (g : Setting) where
     bytes = h.bytes;
     returns = h.returns;
     few = h.few;
-    memory = g.held.onward (OpenAmong alive) s.at place st s.memory behind h.memory;
+    memory = g.held.onward (OpenAmong g alive) s.at place st s.memory behind h.memory;
   }
 
   -- at the next instruction

@@ -49,7 +49,7 @@ use Rattle.code_follows.proofs.Jumping.{jumps, moved_to, sim_moved}
 use Rattle.code_follows.proofs.Loops.{do_runs, loop_runs}
 use Rattle.code_follows.proofs.Restoring.{restores_none}
 use Rattle.code_follows.proofs.Rounds.{BackMade, back_made}
-use Rattle.code_follows.proofs.Settings.{At, Begun, Setting, and_one, begun_later, code_more, earlier, layout, regs_more, start, stay}
+use Rattle.code_follows.proofs.Settings.{LastsTo, OpenAmong, open_named, At, Begun, Setting, and_one, begun_later, code_more, earlier, layout, regs_more, start, stay}
 use Rattle.code_follows.proofs.Starting.{go_after}
 use Rattle.code_follows.proofs.Statements.{MadeSo, StandsHere, StandsIn, do_body, do_test, statement_made, declared_on}
 
@@ -81,7 +81,7 @@ module _ (g : Setting) (has : HasRegisters g) (alive : Variable → Type 0) (fil
   effect_ran d s (Source.Gives v u) Fails h = tt
   effect_ran d s (Source.Ends early u) Fails h = tt
 
-  part_follows : (n : ℕ) (o : Option TExpr) → IfSome o (IsEffect (naming g.may alive)) → IfSome o (HasCode g.typed g.instance n) → (d : Draft) (s : CodeState) (st : State) → Begun g d → At g s (length d.code) → Sim g alive st s
+  part_follows : (n : ℕ) (o : Option TExpr) → IfSome o (IsEffect (naming g.may alive)) → IfSome o (HasCode g.typed g.instance n) → (d : Draft) (s : CodeState) (st : State) → Begun g alive d → At g s (length d.code) → Sim g alive st s
       → Follows g (RanOn g alive d s) s (done scope active o st) (part_of g.typed (layout g) o d)
   unfolding done part_of Follows
   part_follows n None h c d s st free here sim = λ within. (refl, record { grown = (0, as_it_was d); t = s; go = stay g s; at = here; sim = sim; keeps = keeps_all g d s })
@@ -171,9 +171,12 @@ module _ (g : Setting) (has : HasRegisters g) (alive : Variable → Type 0) (fil
       unfolding in_loop at_loop
       inner_among = record { loop = omega arith; all = among.among.all }
 
-      inner_here : Begun g made_first.e → StandsHere g alive (in_body inner g.held alive f) contexts
+      inner_here : Begun g alive made_first.e → StandsHere g alive (in_body inner g.held alive f) contexts
       unfolding in_loop at_loop here
-      inner_here free = record { among = inner_among; loop = restores_none g contexts 0 refl; all = among.all; lives = λ x h. h; outer = among.outer; after = calls_follow.lasts after (let low = free.code in omega (arith, low)); next = calls_follow.lasts next (let low = free.code in omega (arith, low)) }
+      inner_here free = record { among = inner_among; loop = restores_none g contexts 0 refl; all = among.all; lives = λ x h. h; outer = among.outer; after = lasts_behind after (omega arith); next = lasts_behind next (omega arith) }
+        where
+          lasts_behind : (target : ℕ) → length made_first.e.code ≤ target → LastsTo g (OpenAmong g alive) g.held target
+          lasts_behind target behind = calls_follow.lasts (OpenAmong g alive) target (let low = free.code in omega (arith, low, behind)) (open_named g (OpenAmong g alive) (length made_first.e.code) target (length made_first.e.fields) behind free.opened)
 
       begin_known : HasDeclared g.typed g.instance (layout g) n before_body
       begin_known = declared_on g I.FrontTurn n enters (declared_on g (I.FrontJump place) n made_first.e made_first.declared)
@@ -232,16 +235,16 @@ module _ (g : Setting) (has : HasRegisters g) (alive : Variable → Type 0) (fil
       all_grown = extended made_first.e enters behind_loop 1 (1 + (long + (part_length_of g.typed (layout g) step + (condition_length_of g.typed (layout g) test + 1)))) (and_one g (I.FrontJump place) made_first.e) enters_grown
 
       -- the turns, behind the first part
-      turns_follow : (t : CodeState) (u : State) → Begun g made_first.e → At g t (length made_first.e.code) → Sim g alive u t
+      turns_follow : (t : CodeState) (u : State) → Begun g alive made_first.e → At g t (length made_first.e.code) → Sim g alive u t
           → Follows g (Left g alive f made_first.e t) t (rounds u.turns (passes_or_absent scope active test) (λ v. executed scope body n active v) (λ v. done scope active step v) u) (Makes (behind n body) behind_loop)
       unfolding Extends in_loop at_loop
       turns_follow t u free at sim =
           let so = numbers_are in
           let regs1 = regs_more g I.FrontTurn enters in
           let regs2 = regs_more g (I.FrontJump place) made_first.e in
-          let begun_body : Begun g before_body = begun_later g enters before_body 1 (and_one g I.FrontTurn enters) (begun_later g made_first.e enters 1 (and_one g (I.FrontJump place) made_first.e) free) in
-          let begun_step : Begun g made_body.e = begun_later g before_body made_body.e long made_body.extended begun_body in
-          let begun_back : Begun g made_step.e = begun_later g made_body.e made_step.e (part_length_of g.typed (layout g) step) made_step.extended begun_step in
+          let begun_body : Begun g alive before_body = begun_later g alive enters before_body 1 (and_one g I.FrontTurn enters) (begun_later g alive made_first.e enters 1 (and_one g (I.FrontJump place) made_first.e) free) in
+          let begun_step : Begun g alive made_body.e = begun_later g alive before_body made_body.e long made_body.extended begun_body in
+          let begun_back : Begun g alive made_step.e = begun_later g alive made_body.e made_step.e (part_length_of g.typed (layout g) step) made_step.extended begun_step in
           let at_test = so.1 in
           let go_round : Outcome Leaving = rounds u.turns (passes_or_absent scope active test) (λ v. executed scope body n active v) (λ v. done scope active step v) u in
           delayed g (Left g alive f made_first.e t) behind_loop t go_round (Makes (behind n body) behind_loop) (0, as_it_was behind_loop) (λ within.
@@ -250,7 +253,7 @@ module _ (g : Setting) (has : HasRegisters g) (alive : Variable → Type 0) (fil
           (λ s v here_s sim_s. subst (λ (m : Made ℕ). Follows g (Left g alive (in_body inner g.held alive f) before_body s) s (executed scope body n active v) m) made_body.is (agrees (in_body inner g.held alive f) before_body s v inner_frame (inner_here free) begin_known begun_body here_s sim_s c.body_code))
           (part_falls n step)
           (λ s v here_s sim_s. subst (λ (m : Made (Unit {0})). Follows g (RanOn g alive made_body.e s) s (done scope active step v) m) made_step.is (part_follows n step steps c.step_code made_body.e s v begun_step here_s sim_s))
-          (λ s v here_s sim_s. made_back.leads begun_back (let low = free.code in let turn_is = so.3 in let a = code_more g (I.FrontJump place) made_first.e in omega (arith, low, turn_is, a)) within s v here_s sim_s)
+          (λ s v here_s sim_s. made_back.leads begun_back (let low = free.code in let turn_is = so.3 in let a = code_more g (I.FrontJump place) made_first.e in omega (arith, low, turn_is, a)) (open_named g (OpenAmong g alive) (length made_first.e.code) turn (length made_first.e.fields) (let turn_is = so.3 in let a = code_more g (I.FrontJump place) made_first.e in omega (arith, turn_is, a)) free.opened) within s v here_s sim_s)
           (behind n body) steps_in_all t (moved_to g alive (place + start g) t) u all_grown (jumps g alive place made_first.e t (earlier g enters behind_loop (1 + (long + (part_length_of g.typed (layout g) step + (condition_length_of g.typed (layout g) test + 1)))) enters_grown within) at)
           (keeps_all g made_first.e t) (omega (arith, at_test)) (sim_moved g alive u t (place + start g) (let turn_is = so.3 in let a = code_more g (I.FrontJump place) made_first.e in omega (arith, at, turn_is, a)) sim))
 
@@ -265,7 +268,7 @@ module _ (g : Setting) (has : HasRegisters g) (alive : Variable → Type 0) (fil
         (go_after g has alive files ready scope active calls_follow d s0 (Left g alive f d s0) (done scope active first st) go_round tt b.e (Makes (behind n body) (behind_loop f d framed among known c))
         (subst (λ (m : Made (Unit {0})). Follows g (RanOn g alive d s0) s0 (done scope active first st) m) b.is (part_follows n first begins c.first_code d s0 st free at sim))
         (steps_in_all f d framed among known c, all_grown f d framed among known c)
-        (λ u ran. follows_from g alive f d b.e ran.grown.0 s0 ran.t (go_round u) (Makes (behind n body) (behind_loop f d framed among known c)) ran.grown.1 ran.go ran.keeps (turns_follow f d framed among known c ran.t u (begun_later g d b.e (part_length_of g.typed (layout g) first) b.extended free) ran.at ran.sim))))
+        (λ u ran. follows_from g alive f d b.e ran.grown.0 s0 ran.t (go_round u) (Makes (behind n body) (behind_loop f d framed among known c)) ran.grown.1 ran.go ran.keeps (turns_follow f d framed among known c ran.t u (begun_later g alive d b.e (part_length_of g.typed (layout g) first) b.extended free) ran.at ran.sim))))
 
   -- `while` is `for` with its condition alone
   module _ (n : ℕ) (test : TExpr) (p : Boxed) (body : TStmt) (isin : (IsIn (naming g.may alive)) test) (agrees : Agrees g has alive files numbers ready scope active calls_follow contexts n body) where
@@ -327,9 +330,12 @@ module _ (g : Setting) (has : HasRegisters g) (alive : Variable → Type 0) (fil
       unfolding in_loop at_loop
       do_among = record { loop = omega arith; all = among.among.all }
 
-      do_here : Begun g d → StandsHere g alive (in_body do_inner g.held alive f) contexts
+      do_here : Begun g alive d → StandsHere g alive (in_body do_inner g.held alive f) contexts
       unfolding in_loop at_loop here
-      do_here free = record { among = do_among; loop = restores_none g contexts 0 refl; all = among.all; lives = λ x h. h; outer = among.outer; after = calls_follow.lasts do_after (let low = free.code in omega (arith, low)); next = calls_follow.lasts do_next (let low = free.code in omega (arith, low)) }
+      do_here free = record { among = do_among; loop = restores_none g contexts 0 refl; all = among.all; lives = λ x h. h; outer = among.outer; after = lasts_behind do_after (omega arith); next = lasts_behind do_next (omega arith) }
+        where
+          lasts_behind : (target : ℕ) → length d.code ≤ target → LastsTo g (OpenAmong g alive) g.held target
+          lasts_behind target behind = calls_follow.lasts (OpenAmong g alive) target (let low = free.code in omega (arith, low, behind)) (open_named g (OpenAmong g alive) (length d.code) target (length d.fields) behind free.opened)
 
       do_known : HasDeclared g.typed g.instance (layout g) n do_before
       do_known = declared_on g I.FrontTurn n d known
@@ -365,13 +371,13 @@ module _ (g : Setting) (has : HasRegisters g) (alive : Variable → Type 0) (fil
           extended d do_before behind_do 1 (do_long + (used_length_of g.typed (layout g) 32 true test + 1)) (and_one g I.FrontTurn d)
           (extended do_before made_do.e behind_do do_long (used_length_of g.typed (layout g) 32 true test + 1) made_do.extended made_while.extended)
 
-      do_follows : (t : CodeState) (u : State) → Begun g d → At g t (length d.code) → Sim g alive u t
+      do_follows : (t : CodeState) (u : State) → Begun g alive d → At g t (length d.code) → Sim g alive u t
           → Follows g (Left g alive f d t) t (then_round (spend_turn u (λ v. executed scope body n active v)) (λ s. rounds s.turns (passes scope active test) (λ v. executed scope body n active v) (λ v. Source.Gives Onward v) s)) (Makes (behind n body) behind_do)
       unfolding Extends in_loop at_loop state_after Follows passes_or_absent condition_length_of
       do_follows t u free at sim =
           let so = do_numbers in
           let regs1 = regs_more g I.FrontTurn d in
-          let begun_body : Begun g do_before = begun_later g d do_before 1 (and_one g I.FrontTurn d) free in
+          let begun_body : Begun g alive do_before = begun_later g alive d do_before 1 (and_one g I.FrontTurn d) free in
           let go_round : Outcome Leaving = then_round (spend_turn u (λ v. executed scope body n active v)) (λ s. rounds s.turns (passes scope active test) (λ v. executed scope body n active v) (λ v. Source.Gives Onward v) s) in
           delayed g (Left g alive f d t) behind_do t go_round (Makes (behind n body) behind_do) (0, as_it_was behind_do) (λ within.
           do_runs g alive scope active (passes scope active test) body n (behind n body) (test_falls n test) do_inner f d d made_do.e made_do.e behind_do do_turn (λ v. Source.Gives Onward v) within so.2 so.0 so.1 do_long 0 (used_length_of g.typed (layout g) 32 true test + 1) made_do.extended (as_it_was made_do.e) made_while.extended (omega (arith, regs1))
@@ -379,7 +385,7 @@ module _ (g : Setting) (has : HasRegisters g) (alive : Variable → Type 0) (fil
           (λ s v here_s sim_s. subst (λ (m : Made ℕ). Follows g (Left g alive (in_body do_inner g.held alive f) do_before s) s (executed scope body n active v) m) made_do.is (agrees (in_body do_inner g.held alive f) do_before s v do_frame (do_here free) do_known begun_body here_s sim_s (do_body g numbers n p body test c)))
           (λ v. omega arith)
           (λ s v here_s sim_s within_s. (refl, record { grown = (0, as_it_was made_do.e); t = s; go = stay g s; at = here_s; sim = sim_s; keeps = keeps_all g made_do.e s }))
-          (λ s v here_s sim_s. made_while.leads (begun_later g do_before made_do.e do_long made_do.extended begun_body) (let low = free.code in let turn_is = so.2 in omega (arith, low, turn_is)) within s v here_s sim_s)
+          (λ s v here_s sim_s. made_while.leads (begun_later g alive do_before made_do.e do_long made_do.extended begun_body) (let low = free.code in let turn_is = so.2 in omega (arith, low, turn_is)) (open_named g (OpenAmong g alive) (length d.code) _ (length d.fields) (let turn_is = so.2 in omega (arith, turn_is)) free.opened) within s v here_s sim_s)
           (behind n body) _ t u refl do_grown at sim)
 
     pub do_agrees : Agrees g has alive files numbers ready scope active calls_follow contexts n (S.Do' p body test)

@@ -34,7 +34,7 @@ use Rattle.code_follows.proofs.Following.{Finishes, Follows, HasRegisters}
 use Rattle.code_follows.proofs.Regions.{first_declared, all_numbered, all_ready}
 use Rattle.code_follows.proofs.Restoring.{restores_none}
 use Rattle.code_follows.proofs.Returning.{end_more, left_at_end}
-use Rattle.code_follows.proofs.Settings.{Held, LastsTo, Setting, Within, earlier}
+use Rattle.code_follows.proofs.Settings.{OpenAmong, Held, LastsTo, Setting, Within, earlier}
 use Rattle.code_follows.proofs.Statements.{StandsHere, StandsIn}
 use Rattle.code_follows.proofs.Units.{unit_at, within_all}
 
@@ -88,7 +88,7 @@ module _ (t : Typed) (image : Image) {beside : Beside} (p : IsProgramBeside besi
   unfolding body_frame
   among = record { loop = omega arith; all = refl }
 
-  pub stands_here : LastsTo g g.held 0 → StandsHere g OfFileOrParam exits []
+  pub stands_here : LastsTo g (OpenAmong g OfFileOrParam) g.held 0 → StandsHere g OfFileOrParam exits []
   unfolding body_frame
   stands_here lasts = record { among = among; loop = restores_none g [] 0 refl; all = restores_none g [] 0 refl; after = lasts; next = lasts; lives = λ x h. h; outer = λ x h. h }
 

@@ -50,6 +50,9 @@ behind_too alive n s before x living = declared_later n (length (variables_of s)
 the_same : {q q' : Boxed} (s other : TStmt) → Some' q s ≡ Some' q' other → s ≡ other
 the_same s other is = ap (λ (held : Held-TStmt-If-2). elim held as (λ _. TStmt) [ None' ↦ s | Some' p x ↦ x ]) is
 
+no_other : {q : Boxed} (s : TStmt) → None' ≡ Some' q s → ⊥
+no_other s is = cc
+
 -- where statements of a function stand, and what is known there
 pub record Around (Known : Setting → Scope → Active → Type 1) (g : Setting) (scope : Scope) (active : Active) : Type 1 where
   pub has : HasRegisters g
@@ -71,7 +74,7 @@ module _ {Known : Setting → Scope → Active → Type 1} {scope : Scope} (g : 
   -- statements in a row
   abbrev pub RowAgrees : {k : Count} → ℕ → Row_of-TStmt k → Type 1
   RowAgrees n row =
-      (f : Exits) (d : Draft) (s0 : CodeState) (st : State) → StandsIn g f.frame → StandsHere g alive f contexts → HasDeclared g.typed g.instance (layout g) n d → Begun g d → At g s0 (length d.code) → Sim g alive st s0 → RowCode g r.has alive files r.numbers r.ready scope active (calls_here g active r) (r.falls active) contexts n row
+      (f : Exits) (d : Draft) (s0 : CodeState) (st : State) → StandsIn g f.frame → StandsHere g alive f contexts → HasDeclared g.typed g.instance (layout g) n d → Begun g alive d → At g s0 (length d.code) → Sim g alive st s0 → RowCode g r.has alive files r.numbers r.ready scope active (calls_here g active r) (r.falls active) contexts n row
       → Follows g (Left g alive f d s0) s0 (all_executed scope row n active st) (statements_of g.typed (layout g) row f.frame contexts n d)
 
   end_agrees : (n : ℕ) → RowAgrees n end_of-TStmt
@@ -217,7 +220,7 @@ module _ {Known : Setting → Scope → Active → Type 1} (scope : Scope) (besi
     -- the statement behind an `else`, if there is one
     else_follows : (g : Setting) (active : Active) (r : Around Known g scope active) (contexts : List Field) (alive : Variable → Type 0) (files : (k : ℕ) → alive (V.File k)) (n : ℕ) → AreBefore alive n → (second : Held-TStmt-If-2) → IsInElse (naming g.may alive) n second
         → (q : Boxed) (s : TStmt) → second ≡ Some' q s → Agrees g r.has alive files r.numbers r.ready scope active (calls_here g active r) contexts n s
-    else_follows g active r contexts alive files n before None' h = λ q s is. cc
+    else_follows g active r contexts alive files n before None' h = λ q s is. absurd (no_other s is)
     else_follows g active r contexts alive files n before (Some' p second) h =
         λ q s is. subst (λ (x : TStmt). Agrees g r.has alive files r.numbers r.ready scope active (calls_here g active r) contexts n x) (the_same second s is) (statement_follows g active r contexts alive files n before second h)
 

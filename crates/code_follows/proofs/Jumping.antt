@@ -13,8 +13,8 @@ use Rattle.paris_code.specs.Spans.{JumpsTo, StandsAt}
 use Rattle.source_meaning.specs.State as Source
 use Rattle.source_meaning.specs.State.{State}
 use Rattle.source_meaning.specs.Values.{nonzero}
-use Rattle.code_follows.proofs.Following.{Finishes, Sim, OpenAmong}
-use Rattle.code_follows.proofs.Settings.{At, LastsTo, Reaches, Setting, Within, begins_here, ends_now, one, start}
+use Rattle.code_follows.proofs.Following.{Finishes, Sim}
+use Rattle.code_follows.proofs.Settings.{OpenAmong, At, LastsTo, Reaches, Setting, Within, begins_here, ends_now, one, start}
 
 -- none of those that are saved is loaded
 pub none_restored : (contexts : List Field) (newest : ℕ) (d : Draft) → newest ≡ 0 → restored contexts newest d ≡ d
@@ -35,8 +35,8 @@ module _ (g : Setting) (alive : Variable → Type 0) where
   sim_moved st s place behind h = sim_there st s place (g.held.onward (OpenAmong g alive) s.at place st s.memory behind h.memory) h
 
   -- and where it lasts to where a jump leads
-  pub sim_landed : (st : State) (s : CodeState) (at target : ℕ) (jump : Instr) → At g s at → StandsAt g.unit at jump → JumpsTo jump target → LastsTo g g.held target → Sim g alive st s → Sim g alive st (moved_to (target + start g) s)
-  sim_landed st s at target jump here stands leads lasts h = sim_there st s (target + start g) (lasts at jump stands leads (OpenAmong g alive) st s.memory (subst (λ (n : ℕ). g.held.holds (OpenAmong g alive) n st s.memory) here h.memory)) h
+  pub sim_landed : (st : State) (s : CodeState) (at target : ℕ) (jump : Instr) → At g s at → StandsAt g.unit at jump → JumpsTo jump target → LastsTo g (OpenAmong g alive) g.held target → Sim g alive st s → Sim g alive st (moved_to (target + start g) s)
+  sim_landed st s at target jump here stands leads lasts h = sim_there st s (target + start g) (lasts at jump stands leads st s.memory (subst (λ (n : ℕ). g.held.holds (OpenAmong g alive) n st s.memory) here h.memory)) h
 
   -- a jump
   pub jumps : (target : ℕ) (e : Draft) (s : CodeState) → Within g (with_instr (I.FrontJump target) e) → At g s (length e.code) → Reaches g s (moved_to (target + start g) s)

@@ -17,6 +17,7 @@ pub mod Conversions
 pub mod Clearing
 pub mod Closed
 pub mod ConstantRegisters
+pub mod Declared
 pub mod Declaring
 pub mod Effects
 pub mod Entering

@@ -64,7 +64,7 @@ undecided false false e = cc
 module _ (g : Setting) (has : HasRegisters g) (alive : Variable → Type 0) (is_or : Bool) (ty : ValueType) (quiet : Bool) (from to : Elem) (long more : ℕ) (first second : Code) (one other : State → Outcome Value) (next : Value → State → Outcome Value)
     (word : IsWord ty) (one_does : Does g has alive from true one first) (other_does : Does g has alive to true other second)
     (first_made : (d : Draft) → IsMadeWord long d (first d) ⊎ (first d ≡ Fails)) (second_made : (d : Draft) → IsMadeWord more d (second d) ⊎ (second d ≡ Fails)) (next_is : (v : Value) (st : State) → next v st ≡ joined is_or other (nonzero (number v)) st) where
-  module _ (d : Draft) (s : CodeState) (st : State) (free : Begun g d) (there : At g s (length d.code)) (sim : Sim g alive st s) where
+  module _ (d : Draft) (s : CodeState) (st : State) (free : Begun g alive d) (there : At g s (length d.code)) (sim : Sim g alive st s) where
     -- the drafts, one behind another
     abbrev opened : Draft
     opened = with_instr (I.FrontConst d.regs (from_bool is_or)) (with_reg d)
@@ -177,7 +177,7 @@ module _ (g : Setting) (has : HasRegisters g) (alive : Variable → Type 0) (is_
             let keeps : Keeps g d s t1 = keeps_on g d opened h.grown.0 s h.t arr.t h.grown.1 h.keeps arr.keeps in
             let begins : slice_index arr.t.registers d.regs ≡ from_bool is_or = arr.keeps d.regs (value_kept g opened d.regs free.regs inside) ∙ h.is in
             then_from g alive (Value_of g has alive to true leap t1) (Value_of g has alive ty.elem quiet d s) s t1 (other u) (λ w after. Source.Gives (Scalar (from_bool (nonzero (at w 0)))) after) (O.Scalar right.register) right.behind (Makes (O.Scalar d.regs) done) go
-            (subst (λ (m : Made Out). Follows g (Value_of g has alive to true leap t1) t1 (other u) m) right.is (other_does leap t1 u (begun_later g d leap ((0 + 1) + (long + 1)) (extended d opened leap (0 + 1) (long + 1) to_opened to_leap) free) (omega (arith, place, long_so)) (sim_moved g alive u arr.t (arr.t.at + 1) (omega arith) arr.sim)))
+            (subst (λ (m : Made Out). Follows g (Value_of g has alive to true leap t1) t1 (other u) m) right.is (other_does leap t1 u (begun_later g alive d leap ((0 + 1) + (long + 1)) (extended d opened leap (0 + 1) (long + 1) to_opened to_leap) free) (omega (arith, place, long_so)) (sim_moved g alive u arr.t (arr.t.at + 1) (omega arith) arr.sim)))
             (1 + 1, right_done)
             (λ w last b. λ inner. behind_right (nonzero (at w 0)) (decides is_or (nonzero (at w 0))) b.t last refl inner b.at b.sim (onto g s t1 b.t go b.go)
             (keeps_on g d leap ((0 + 1) + (long + 1)) s t1 b.t (extended d opened leap (0 + 1) (long + 1) to_opened to_leap) keeps b.keeps) (b.keeps d.regs (value_kept g leap d.regs free.regs (omega (arith, inside, regs))) ∙ begins)
@@ -205,7 +205,7 @@ module _ (g : Setting) (has : HasRegisters g) (alive : Variable → Type 0) (is_
                 let h : HasWord g has alive (from_bool is_or) d opened s st d.regs =
                 takes_word g has alive (from_bool is_or) d (with_reg d) 0 (I.FrontConst d.regs (from_bool is_or)) s s st d.regs free (stay g s) there sim (and_register d) (keeps_all g d s) within refl refl (omega arith) (omega arith) in
                 then_from g alive (Value_of g has alive from true opened h.t) (Value_of g has alive ty.elem quiet d s) s h.t (one st) next (O.Scalar left.register) left.behind (Makes (O.Scalar d.regs) done) h.go
-                (subst (λ (m : Made Out). Follows g (Value_of g has alive from true opened h.t) h.t (one st) m) left.is (one_does opened h.t st (begun_later g d opened (0 + 1) to_opened free) h.at h.sim)) (_, left_done)
+                (subst (λ (m : Made Out). Follows g (Value_of g has alive from true opened h.t) h.t (one st) m) left.is (one_does opened h.t st (begun_later g alive d opened (0 + 1) to_opened free) h.at h.sim)) (_, left_done)
                 (λ v u arr. subst (λ (o : Outcome Value). Follows g (Value_of g has alive ty.elem quiet d s) s o (Makes (O.Scalar d.regs) done)) (sym (next_is v u)) (by h v u arr (decides is_or (nonzero (number v))) refl))
 
   pub logical_follows : (bits : ℕ) (left right : Condition) → left.code ≡ first → right.code ≡ second → right.long ≡ more → Does g has alive ty.elem quiet (λ st. then_do (one st) next) (λ d. logical_by is_or ty.shape bits left right d)

@@ -76,13 +76,13 @@ module _ (g : Setting) (has : HasRegisters g) (alive : Variable → Type 0) (x :
   from_earlier R s t (Source.Ends early u) Fails go h = tt
 
   -- a value stays where it stands while the word of a register goes to the variable
-  stored_behind : (elem : Elem) (quiet : Bool) (d : Draft) (s : CodeState) (v : Value) (u : State) (out : Out) (e : Draft) (arr : Arrives g alive elem false d s v u out e) (q w : ℕ) → slice_index arr.t.registers q ≡ held info.elem w → w < 2 ^ info.elem.bits → Begun g d
+  stored_behind : (elem : Elem) (quiet : Bool) (d : Draft) (s : CodeState) (v : Value) (u : State) (out : Out) (e : Draft) (arr : Arrives g alive elem false d s v u out e) (q w : ℕ) → slice_index arr.t.registers q ≡ held info.elem w → w < 2 ^ info.elem.bits → Begun g alive d
       → Within g (with_instr (I.FrontMove own q) e) → Arrives g alive elem quiet d s v (with_scalar x w u) out (with_instr (I.FrontMove own q) e)
   unfolding begun step_of
   stored_behind elem quiet d s v u out e arr q w is few free within =
       let last : Draft = with_instr (I.FrontMove own q) e in
       let p : IsPut g has alive x info living scalar info.elem e arr.t (Scalar w) u (O.Scalar own) last =
-      put_by g has alive (variable_dest g has alive x info living scalar info.elem e arr.t (inl refl) (begun_later g d e arr.extended.0 arr.extended.1 free)) e 0 (I.FrontMove own q) arr.t u w (stay g arr.t) arr.at arr.sim (as_it_was e) (keeps_all g e arr.t) within refl
+      put_by g has alive (variable_dest g has alive x info living scalar info.elem e arr.t (inl refl) (begun_later g alive d e arr.extended.0 arr.extended.1 free)) e 0 (I.FrontMove own q) arr.t u w (stay g arr.t) arr.at arr.sim (as_it_was e) (keeps_all g e arr.t) within refl
       (ap (λ (y : ℕ). Goes (with_register own y arr.t)) is) few in
       record {
         extended = (arr.extended.0 + p.grown.0, extended d e last arr.extended.0 p.grown.0 arr.extended.1 p.grown.1);
@@ -131,7 +131,7 @@ module _ (g : Setting) (has : HasRegisters g) (alive : Variable → Type 0) (x :
   grows_store O.Nothing e = tt
 
   module _ (scope : Scope) (active : Active) (place : Place) where
-    stores : (quiet : Bool) (d : Draft) (s : CodeState) (w : ℕ) (u : State) (r : ℕ) (e : Draft) → Begun g d → Arrives g alive info.elem false d s (Scalar w) u (O.Scalar r) e
+    stores : (quiet : Bool) (d : Draft) (s : CodeState) (w : ℕ) (u : State) (r : ℕ) (e : Draft) → Begun g alive d → Arrives g alive info.elem false d s (Scalar w) u (O.Scalar r) e
         → Follows g (Value_of g has alive info.elem quiet d s) s (Source.Gives (Scalar w) (with_scalar x w u)) (kept_store (O.Scalar r) e)
     unfolding Follows then_make put_value in_register
     stores quiet d s w u r e free arr = λ within. let h = stands info.elem false d s w u r e arr in stored_behind info.elem quiet d s (Scalar w) u (O.Scalar r) e arr r w h.0 h.1 free within
@@ -170,7 +170,7 @@ module _ (g : Setting) (has : HasRegisters g) (alive : Variable → Type 0) (x :
     pub there : slice_index t.registers r ≡ held at_type word
     pub others : (q : ℕ) → IsKept g e1 q → (r ≡ q → ⊥) → slice_index t.registers q ≡ slice_index t1.registers q
 
-  computed_dest : (at_type : Elem) (d e1 : Draft) (k : ℕ) (s t1 : CodeState) (r : ℕ) → Begun g d → Extended d k e1 → Reaches g s t1 → Keeps g d s t1 → d.regs ≤ r → r < e1.regs → Dest g has alive at_type e1 t1 (λ v u out e. Computed at_type d e1 s t1 r v u e) r
+  computed_dest : (at_type : Elem) (d e1 : Draft) (k : ℕ) (s t1 : CodeState) (r : ℕ) → Begun g alive d → Extended d k e1 → Reaches g s t1 → Keeps g d s t1 → d.regs ≤ r → r < e1.regs → Dest g has alive at_type e1 t1 (λ v u out e. Computed at_type d e1 s t1 r v u e) r
   computed_dest at_type d e1 k s t1 r free ext go1 keeps1 low high = record {
     takes = λ e f n m s1 place st w go begins sim grows keeps longer within there here few.
         let t : CodeState = written_at g has alive r (held at_type w) place s1 in
@@ -214,7 +214,7 @@ module _ (g : Setting) (has : HasRegisters g) (alive : Variable → Type 0) (x :
     pub there : slice_index t.registers r ≡ held info.elem w
     pub others : (q : ℕ) → IsKept g e1 q → (r ≡ q → ⊥) → slice_index t.registers q ≡ slice_index t1.registers q
 
-  places : (at_type : Elem) (d e1 : Draft) (s t1 : CodeState) (r : ℕ) (v : Value) (u : State) (e : Draft) → Begun g d → d.regs ≤ r → r < e1.regs → (c : Computed at_type d e1 s t1 r v u e) → Within g (in_place r e) → Placed d e1 s t1 r (converted info.elem at_type c.word) u (in_place r e)
+  places : (at_type : Elem) (d e1 : Draft) (s t1 : CodeState) (r : ℕ) (v : Value) (u : State) (e : Draft) → Begun g alive d → d.regs ≤ r → r < e1.regs → (c : Computed at_type d e1 s t1 r v u e) → Within g (in_place r e) → Placed d e1 s t1 r (converted info.elem at_type c.word) u (in_place r e)
   unfolding begun step_of
   places at_type d e1 s t1 r v u e free low high c within = by (nat_lt info.elem.bits 32) refl within
     where
@@ -243,7 +243,7 @@ module _ (g : Setting) (has : HasRegisters g) (alive : Variable → Type 0) (x :
           let wide : info.elem.bits ≡ 32 = grind (arith, nat_tests, is, few) in
           record { grown = c.grown; t = c.t; go = c.go; at = c.at; sim = c.sim; keeps = c.keeps; there = c.there ∙ fits_held info.elem at_type c.word (inr wide) c.few; others = c.others }
 
-  computed_stored : (at_type : Elem) (quiet : Bool) (d e1 : Draft) (k : ℕ) (s t1 : CodeState) (r res : ℕ) (shown : ℕ → ℕ) (f : Value → Value) (o : Outcome Value) (out : Out) (e : Draft) → Begun g d → Extended d k e1 → d.regs ≤ r → r < e1.regs → d.regs ≤ res → res < e1.regs
+  computed_stored : (at_type : Elem) (quiet : Bool) (d e1 : Draft) (k : ℕ) (s t1 : CodeState) (r res : ℕ) (shown : ℕ → ℕ) (f : Value → Value) (o : Outcome Value) (out : Out) (e : Draft) → Begun g alive d → Extended d k e1 → d.regs ≤ r → r < e1.regs → d.regs ≤ res → res < e1.regs
       → ((w : ℕ) → f (Scalar w) ≡ Scalar (shown w)) → ((w : ℕ) → shown w < 2 ^ info.elem.bits)
       → ((t : CodeState) (w : ℕ) → slice_index t.registers r ≡ held info.elem (converted info.elem at_type w) → ((q : ℕ) → IsKept g e1 q → (r ≡ q → ⊥) → slice_index t.registers q ≡ slice_index t1.registers q) → slice_index t.registers res ≡ held info.elem (shown w))
       → Follows g (λ v u out e. Computed at_type d e1 s t1 r v u e) s o (Makes out e)
@@ -282,7 +282,7 @@ module _ (g : Setting) (has : HasRegisters g) (alive : Variable → Type 0) (x :
     pub is : slice_index t.registers r ≡ old
     pub others : (b : ℕ) → (r ≡ b → ⊥) → slice_index t.registers b ≡ slice_index s.registers b
 
-  loads : (d e : Draft) (s : CodeState) (u : State) (r old : ℕ) → Begun g d → g.begins ≤ r → d.regs ≤ r → r < e.regs → At g s (length e.code) → Sim g alive u s → old ≡ held info.elem (u.scalar x) → Within g (with_instr (I.FrontMove r own) e) → Loaded d e s u r old
+  loads : (d e : Draft) (s : CodeState) (u : State) (r old : ℕ) → Begun g alive d → g.begins ≤ r → d.regs ≤ r → r < e.regs → At g s (length e.code) → Sim g alive u s → old ≡ held info.elem (u.scalar x) → Within g (with_instr (I.FrontMove r own) e) → Loaded d e s u r old
   unfolding begun step_of
   loads d e s u r old room free low high here sim is within =
       let load : Instr = I.FrontMove r own in
@@ -332,7 +332,7 @@ module _ (g : Setting) (has : HasRegisters g) (alive : Variable → Type 0) (x :
     grows_operand dest v e = extends_in_register g has alive e v _ (λ b.
         let rest = grows_loaded dest b e in (1 + rest.0, extended e (loaded_in dest e) _ 1 rest.0 (and_one g (I.FrontMove dest own) e) rest.1))
 
-    module _ (quiet : Bool) (d : Draft) (s : CodeState) (free : Begun g d) where
+    module _ (quiet : Bool) (d : Draft) (s : CodeState) (free : Begun g alive d) where
       -- from the old value in its register on
       operates_on : (u : State) (b w k : ℕ) (e : Draft) (t : CodeState) → Extended d k e → d.regs < e.regs → Reaches g s t → Keeps g d s t → Loaded d e t u d.regs (held info.elem (u.scalar x)) → w < 2 ^ 32 → slice_index t.registers b ≡ w → (d.regs ≡ b → ⊥)
           → Follows g (Value_of g has alive info.elem quiet d s) s (assigned scope active place op (scalar_type info.elem) from (OfScalar x) (Scalar w) u) (Makes (O.Scalar d.regs) (with_instr (I.FrontMove own d.regs) (in_place d.regs (operated_in o signed place d.regs d.regs b (loaded_in d.regs e)))))
@@ -376,7 +376,7 @@ module _ (g : Setting) (has : HasRegisters g) (alive : Variable → Type 0) (x :
         → Does g has alive info.elem quiet (λ st. then_do (part st) (λ v after. assigned scope active place op (scalar_type info.elem) from (OfScalar x) v after)) (λ d. then_make (second (with_reg d)) (λ v after. behind_operand d.regs v after))
     operated_value quiet second part clear does d s st free here sim =
         then_follows g (λ v u out e. IsClear (layout g) (with_reg d) (Makes out e) × Value_of g has alive from.elem true (with_reg d) s v u out e) (Value_of g has alive info.elem quiet d s) s s (part st) _ (second (with_reg d)) (λ v after. behind_operand d.regs v after) (stay g s)
-        (made_so g has alive (λ made. IsClear (layout g) (with_reg d) made) (Value_of g has alive from.elem true (with_reg d) s) s (part st) (second (with_reg d)) (clear st s sim (with_reg d)) (does (with_reg d) s st (omega (arith, free)) here sim))
+        (made_so g has alive (λ made. IsClear (layout g) (with_reg d) made) (Value_of g has alive from.elem true (with_reg d) s) s (part st) (second (with_reg d)) (clear st s sim (with_reg d)) (does (with_reg d) s st (begun_later g alive d (with_reg d) 0 (and_register d) free) here sim))
         (λ v e. grows_operand d.regs v e) (λ v u out e both. with_operand quiet d s free v u out e both.0 both.1)
 
   -- ---- steps
@@ -406,7 +406,7 @@ module _ (g : Setting) (has : HasRegisters g) (alive : Variable → Type 0) (x :
     old_grown : (old : ℕ) (d : Draft) → Extended d (0 + 0 + 1) (old_in old d)
     old_grown old d = extended d (with_reg (with_reg d)) (old_in old d) (0 + 0) 1 (extended d (with_reg d) (with_reg (with_reg d)) 0 0 (and_register d) (and_register (with_reg d))) (and_one g (I.FrontMove old own) (with_reg (with_reg d)))
 
-    module _ (quiet : Bool) (d : Draft) (s : CodeState) (st : State) (free : Begun g d) (old new res : ℕ) (shown : ℕ → ℕ) (old_low : d.regs ≤ old) (old_high : old < d.regs + 2) (new_low : d.regs ≤ new) (new_high : new < d.regs + 2) (res_low : d.regs ≤ res) (res_high : res < d.regs + 2)
+    module _ (quiet : Bool) (d : Draft) (s : CodeState) (st : State) (free : Begun g alive d) (old new res : ℕ) (shown : ℕ → ℕ) (old_low : d.regs ≤ old) (old_high : old < d.regs + 2) (new_low : d.regs ≤ new) (new_high : new < d.regs + 2) (res_low : d.regs ≤ res) (res_high : res < d.regs + 2)
         (gives : (w : ℕ) → step_value order (Scalar (st.scalar x)) (Scalar w) ≡ Scalar (shown w)) (small : (w : ℕ) → st.scalar x < 2 ^ info.elem.bits → w < 2 ^ info.elem.bits → shown w < 2 ^ info.elem.bits)
         (shows : (t : CodeState) (w : ℕ) → slice_index t.registers new ≡ held info.elem w → ((new ≡ old → ⊥) → slice_index t.registers old ≡ held info.elem (st.scalar x)) → slice_index t.registers res ≡ held info.elem (shown w)) where
       with_one : (l : Loaded d (with_reg (with_reg d)) s st old (held info.elem (st.scalar x))) (q : ℕ) (f : Draft) → st.scalar x < 2 ^ info.elem.bits → HasWord g has alive 1 (old_in old d) f l.t st q
@@ -439,7 +439,7 @@ module _ (g : Setting) (has : HasRegisters g) (alive : Variable → Type 0) (x :
           (extends_then g e1 (word_in (layout g) 1 e1) _ (extends_word g has alive 1 e1) (λ q f. grows_one old new res q f)) (λ within.
           let l : Loaded d (with_reg (with_reg d)) s st old (held info.elem (st.scalar x)) = loads d (with_reg (with_reg d)) s st old (held info.elem (st.scalar x)) free (omega (arith, free, old_low)) old_low (omega (arith, old_high)) here sim refl within in
           then_follows g (λ (u : Unit {0}) after q f. (after ≡ st) × HasWord g has alive 1 e1 f l.t st q) (Value_of g has alive info.elem quiet d s) s l.t (Source.Gives tt st) (λ u after. stepped scope active op order (scalar_type info.elem) (OfScalar x) st) (word_in (layout g) 1 e1)
-          (λ q after. behind_one old new res q after) l.go (word_follows g has alive 1 e1 l.t st (begun_later g d e1 (0 + 0 + 1) (old_grown old d) free) l.at l.sim) (λ q f. grows_one old new res q f) (λ u after q f h. with_one l q f few h.1))
+          (λ q after. behind_one old new res q after) l.go (word_follows g has alive 1 e1 l.t st (begun_later g alive d e1 (0 + 0 + 1) (old_grown old d) free) l.at l.sim) (λ q f. grows_one old new res q f) (λ u after q f h. with_one l q f few h.1))
 
     -- what the code of a step is
     same_operation : (op : StepOp) (is_signed : Bool) (r a b : ℕ) (d : Draft) → with_instr (I.FrontOperate (step_operation op) r a b) d ≡ operated_in (stepping op) is_signed place r a b d

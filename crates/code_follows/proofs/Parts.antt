@@ -32,7 +32,7 @@ module _ (g : Setting) (scope : Scope) where
   -- a statement is left as in the source
   abbrev pub ComesOn : (Variable → Type 0) → Active → TStmt → ℕ → Exits → List Field → Type 0
   ComesOn alive active s n f contexts =
-      (d : Draft) (t : CodeState) (st : State) → HasDeclared g.typed g.instance (layout g) n d → Begun g d → At g t (length d.code) → Sim g alive st t
+      (d : Draft) (t : CodeState) (st : State) → HasDeclared g.typed g.instance (layout g) n d → Begun g alive d → At g t (length d.code) → Sim g alive st t
       → Follows g (Left g alive f d t) t (executed scope s n active st) (statement_of g.typed (layout g) s f.frame contexts n d)
 
 -- What is known of a setting, a scope and the active positions is what those need who know of fields.
@@ -41,7 +41,7 @@ module _ (Known : Setting → Scope → Active → Type 1) (g : Setting) (scope 
   pub record Part (alive : Variable → Type 0) (saved : Field) (f : Exits) (n m : ℕ) (run : Active → State → Outcome Leaving) (code : Draft → Made ℕ) : Type 1 where
     pub made : (d : Draft) → HasDeclared g.typed g.instance (layout g) n d → (e : Draft) × ((code d ≡ Makes m e) × ((k : ℕ) × Extended d k e) × HasDeclared g.typed g.instance (layout g) m e)
     pub follows : (held : Held) (from entries upto : ℕ) (a : Active) → Inside g saved held from entries upto → Known (under_held g held from entries upto) scope a
-        → (d : Draft) (t : CodeState) (st : State) → HasDeclared g.typed g.instance (layout g) n d → Begun (under_held g held from entries upto) d → At g t (length d.code) → Sim (under_held g held from entries upto) alive st t
+        → (d : Draft) (t : CodeState) (st : State) → HasDeclared g.typed g.instance (layout g) n d → Begun (under_held g held from entries upto) alive d → At g t (length d.code) → Sim (under_held g held from entries upto) alive st t
         → Follows (under_held g held from entries upto) (Left (under_held g held from entries upto) alive f d t) t (run a st) (code d)
 
   -- a statement under one context more, where so many variables are declared before

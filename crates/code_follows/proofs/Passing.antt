@@ -228,7 +228,7 @@ module _ (g : Setting) (has : HasRegisters g) (alive : Variable → Type 0) wher
 
     -- ---- the result
 
-    result_follows : (info : VarInfo) → c.callee.result ≡ Some info → (elem : Elem) → Takes elem info.elem → (d : Draft) (s0 : CodeState) (R : Value → State → Out → Draft → Type 0) (r : ℕ) → Begun g d → Dest g has alive elem d s0 R r → (f : Draft) (n : ℕ) (t : CodeState) (u : State) (arguments : List Value) → Extended d n f → Reaches g s0 t
+    result_follows : (info : VarInfo) → c.callee.result ≡ Some info → (elem : Elem) → Takes elem info.elem → (d : Draft) (s0 : CodeState) (R : Value → State → Out → Draft → Type 0) (r : ℕ) → Begun g alive d → Dest g has alive elem d s0 R r → (f : Draft) (n : ℕ) (t : CodeState) (u : State) (arguments : List Value) → Extended d n f → Reaches g s0 t
         → At g t (length f.code) → Sim g alive u t → Keeps g d s0 t → AreGiven g c arguments t → Follows g R t (called_so arguments u) (Makes (O.Scalar r) (register_result index source r f))
     unfolding begun step_of
     result_follows info found elem takes d s0 R r free dest f n t u arguments ext go here sim keeps given = at_once g R t (called_so arguments u) (O.Scalar r) (register_result index source r f) (λ within. all within)
@@ -277,7 +277,7 @@ module _ (g : Setting) (has : HasRegisters g) (alive : Variable → Type 0) wher
 
     -- a call with a result, whose last instruction writes the register of which something is said
     pub call_follows : {k : Count} (row : Row_of-TExpr k) → AreDone g has alive scope active true (are_quiet row) row → AreTaken c.callee.params.items (elems_of row) → (info : VarInfo) → c.callee.result ≡ Some info → (elem : Elem) → Takes elem info.elem
-        → (d : Draft) (s : CodeState) (st : State) (R : Value → State → Out → Draft → Type 0) (r : ℕ) → Begun g d → At g s (length d.code) → Sim g alive st s → Dest g has alive elem d s R r → Follows g R s (meant row st) (made_call row (O.Scalar r) d)
+        → (d : Draft) (s : CodeState) (st : State) (R : Value → State → Out → Draft → Type 0) (r : ℕ) → Begun g alive d → At g s (length d.code) → Sim g alive st s → Dest g has alive elem d s R r → Follows g R s (meant row st) (made_call row (O.Scalar r) d)
     unfolding call_to in_register
     call_follows row done taken info is elem takes d s st R r free here sim dest =
         then_follows g (Given g has alive scope active (are_quiet row) (elems_of row) d s st []) R s s (operands scope row active st) _ _ (λ given after. called g.typed (layout g) index given (O.Scalar r) after) (stay g s)
@@ -289,7 +289,7 @@ module _ (g : Setting) (has : HasRegisters g) (alive : Variable → Type 0) wher
 
     -- a call without one
     pub call_runs : {k : Count} (row : Row_of-TExpr k) → AreDone g has alive scope active true (are_quiet row) row → AreTaken c.callee.params.items (elems_of row) → c.callee.result ≡ None
-        → (dest : Out) (d : Draft) (s : CodeState) (st : State) → Begun g d → At g s (length d.code) → Sim g alive st s → Follows g (λ v u out e. Ran g alive d s u e) s (meant row st) (made_call row dest d)
+        → (dest : Out) (d : Draft) (s : CodeState) (st : State) → Begun g alive d → At g s (length d.code) → Sim g alive st s → Follows g (λ v u out e. Ran g alive d s u e) s (meant row st) (made_call row dest d)
     unfolding call_to finished
     call_runs row done taken is dest d s st free here sim =
         then_follows g (Given g has alive scope active (are_quiet row) (elems_of row) d s st []) (λ v u out e. Ran g alive d s u e) s s (operands scope row active st) _ _ (λ given after. called g.typed (layout g) index given dest after) (stay g s)

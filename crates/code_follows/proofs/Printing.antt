@@ -36,9 +36,9 @@ use Rattle.code_follows.proofs.CallValues.{arguments_code}
 use Rattle.code_follows.proofs.Expressions.{arguments_do}
 use Rattle.code_follows.proofs.Arguments.{AreHeld, Given, arguments_follow}
 use Rattle.code_follows.proofs.Callees.{CallsFollow}
-use Rattle.code_follows.proofs.Following.{Extends, Follows, HasRegisters, Keeps, Ran, Sim, delayed, extends_made, finishes_later, keeps_all, keeps_on, then_follows, OpenAmong}
+use Rattle.code_follows.proofs.Following.{Extends, Follows, HasRegisters, Keeps, Ran, Sim, delayed, extends_made, finishes_later, keeps_all, keeps_on, then_follows}
 use Rattle.code_follows.proofs.Growing.{Extended, as_it_was, extended}
-use Rattle.code_follows.proofs.Settings.{At, Begun, Reaches, Setting, and_one, at_next, begins_here, layout, one, onto, placed_instr, stay}
+use Rattle.code_follows.proofs.Settings.{OpenAmong, At, Begun, Reaches, Setting, and_one, at_next, begins_here, layout, one, onto, placed_instr, stay}
 use Rattle.code_follows.proofs.Values.{extends_in_register}
 use Rattle.code_follows.proofs.Words.{below_word, held_wide}
 
@@ -124,7 +124,7 @@ module _ (g : Setting) (has : HasRegisters g) (alive : Variable → Type 0) (n :
 
   -- ---- the whole
 
-  pub printf_follows : {k : Count} (pieces : List Piece) (row : Row_of-TExpr k) → (AreIn (naming g.may alive)) row → All (λ (elem : Elem). elem.bits ≡ 32) (elems_of row) → HaveCode g.typed g.instance n row → (d : Draft) (s : CodeState) (st : State) → Begun g d → At g s (length d.code) → Sim g alive st s
+  pub printf_follows : {k : Count} (pieces : List Piece) (row : Row_of-TExpr k) → (AreIn (naming g.may alive)) row → All (λ (elem : Elem). elem.bits ≡ 32) (elems_of row) → HaveCode g.typed g.instance n row → (d : Draft) (s : CodeState) (st : State) → Begun g alive d → At g s (length d.code) → Sim g alive st s
       → Follows g (λ v u out e. Ran g alive d s u e) s (then_do (operands scope row active st) (λ given after. Source.Gives Nothing (with_output (printed pieces (map number (given_values given))) after))) (then_make (values_of g.typed (layout g) false (are_quiet row) row [] d) (λ given after. pieces_printed pieces given after))
   printf_follows pieces row isin wide c d s st free here sim =
       then_follows g (Given g has alive scope active (are_quiet row) (elems_of row) d s st []) (λ v u out e. Ran g alive d s u e) s s (operands scope row active st) _ _ _ (stay g s) (arguments_follow g has alive scope active false (are_quiet row) row (λ is. is) (arguments_do g has alive n files ready scope active calls_follow false (are_quiet row) row isin c) [] d s st free here sim) (λ given e. pieces_grow pieces given e)

@@ -44,7 +44,7 @@ use Rattle.code_follows.proofs.Declaring.{among_before, sim_fewer}
 use Rattle.code_follows.proofs.Endings.{NeverOnward, body_never, never_second}
 use Rattle.code_follows.proofs.Entering.{AllBeside, EntersThere, before_all, calls_so, enters_so}
 use Rattle.code_follows.proofs.Executing.{Left}
-use Rattle.code_follows.proofs.Following.{held, Extends, Follows, Sim, OpenAmong, IsScalar}
+use Rattle.code_follows.proofs.Following.{held, Extends, Follows, Sim, IsScalar}
 use Rattle.code_follows.proofs.Functions.{BodyMade, EndsSo, RunsFunction, among, body_made, declares, ends_by, exits, falls, frame, framed, g, has, numbered, own, ready, runs_function, scope, stands_here}
 use Rattle.code_follows.proofs.Growing.{Extended}
 use Rattle.code_follows.proofs.Openings.{constants_run}
@@ -53,12 +53,13 @@ use Rattle.source_meaning.specs.Reductions.{int_type}
 use Rattle.code_follows.proofs.Induction.{Around, row_follows}
 use Rattle.code_follows.proofs.Numbers.{zero_converted}
 use Rattle.code_follows.proofs.Regions.{IsOwn, base_behind, base_inside, below, local_own, own_behind, param_own}
-use Rattle.code_follows.proofs.Settings.{At, Begun, EndsIn, Held, Reaches, Setting, Within, begun_later, earlier, ends_later, ends_now, onto, start}
+use Rattle.code_follows.proofs.Settings.{begun_fewer, OpenAmong, At, Begun, EndsIn, Held, Reaches, Setting, Within, earlier, ends_later, ends_now, onto, start}
 use Rattle.code_follows.proofs.Standing.{start_in}
 use Rattle.code_follows.proofs.Clearing.{clears_first}
 use Rattle.code_follows.proofs.Standing.{some_same}
 use Rattle.code_follows.proofs.Statements.{stands_wider}
-use Rattle.code_follows.proofs.Starting.{clears_declare, Now, settled_so}
+use Rattle.code_follows.proofs.Declared.{clears_declare}
+use Rattle.code_follows.proofs.Starting.{Now, settled_so}
 use Rattle.code_follows.proofs.Units.{constants_grow, empty_unit, main_is, starts_homes, starts_regs, with_constants, with_starts}
 use Rattle.paris_code.specs.declared.program.Unit.{Unit as CodeUnit}
 
@@ -268,8 +269,9 @@ module _ (t : Typed) (image : Image) {beside : Beside} (p : IsProgramBeside besi
       let initial = block_initials main_setting has_it wide one numbers is_ready here active calls_in_main (never_rises active) [] 0 locals q row c in
       let settled = settled_so main_setting has_it wide one is_ready here active calls_in_main OfFileOrParam locals.items 0 (λ x living. inl living) (λ x own. inr own) before_all h.0.1 in
       let stand = first_part (map info_of locals.items) (row_variables row) (block_stands main_setting has_it wide one numbers is_ready here active calls_in_main (never_rises active) [] 0 locals q row c) in
-      let first = clears_first main_setting (besides.follows main_setting here active known has_it).locals alive (λ x info scalar. plain_alive x info scalar) locals.items 0 begun_there h.0.0 stand in
-      let declared = clears_declare main_setting true locals.items 0 begun_there first.e first.is stand numbers (declares t image p codable compiled holding 0 p.main p.is_main [] turns begun_there homes) in
+      let none_declared = declares t image p codable compiled holding 0 p.main p.is_main [] turns begun_there homes in
+      let first = clears_first main_setting (besides.follows main_setting here active known has_it).locals numbers alive (λ x info scalar. plain_alive x info scalar) locals.items 0 begun_there h.0.0 stand none_declared in
+      let declared = clears_declare main_setting true locals.items 0 begun_there first.e first.is stand numbers none_declared in
       let code : Made ℕ = begun_code main_setting has_it wide one numbers is_ready here active calls_in_main (never_rises active) [] locals.items row out 0 first.e in
       let code_is : body_of t (own t image p codable compiled holding 0 p.main p.is_main [] turns) f p.main.body begun_there ≡ code =
       ap (λ (b : TStmt). body_of t (own t image p codable compiled holding 0 p.main p.is_main [] turns) f b begun_there) is
@@ -284,7 +286,7 @@ module _ (t : Typed) (image : Image) {beside : Beside} (p : IsProgramBeside besi
       let grown : (j : ℕ) × Extended first.e j made.e = subst (λ (m : Made ℕ). Extends main_setting first.e m) made.is_made (begun_grows main_setting has_it wide one numbers is_ready here active calls_in_main (never_rises active) [] locals.items row out 0 first.e h.0.0 settled initial own_row framed_so among_so declared) in
       let cleared_in : Within main_setting first.e = earlier main_setting first.e made.e grown.0 grown.1 ends.inside in
       let opens = opened_so (earlier main_setting begun_there first.e first.count first.grown cleared_in) in
-      let free : Begun main_setting begun_there = record { regs = omega (arith, regs); code = omega arith; fields = omega arith } in
+      let free : Begun main_setting alive begun_there = record { regs = omega (arith, regs); code = omega arith; fields = omega arith; opened = λ k is_open. absurd (is_open.0 k refl is_open.1.0 is_open.1.1.0 is_open.1.1.1.0 is_open.1.1.1.1) } in
       let ran = first.runs opens.there in_main (λ k. locals_zero k) free opens.at opens.sim cleared_in in
       let now : Variable → Type 0 = λ x. Now main_setting has_it wide one is_ready here active calls_in_main locals.items 0 x in
       let sim : Sim main_setting now (begun_body locals.items row) ran.t = sim_fewer main_setting (λ x. alive x ⊎ (is_among 0 (length locals.items) x ≡ true)) now (begun_body locals.items row) ran.t (λ x info named h. was_alive (length locals.items) x h.0) ran.sim in
@@ -294,8 +296,8 @@ module _ (t : Typed) (image : Image) {beside : Beside} (p : IsProgramBeside besi
       (runs_function t image p codable compiled holding 0 p.main p.is_main [] turns first.e made.e made.n ran.t whole ends closed
       (subst (λ (m : Made ℕ). Follows main_setting (Left main_setting OfFileOrParam out first.e ran.t) ran.t whole m) made.is_made
       (follows_fewer main_setting wide OfFileOrParam (λ x living. inl living) out first.e ran.t whole code
-      (begun_follows main_setting has_it wide one numbers is_ready here active calls_in_main (never_rises active) [] locals.items row out 0 first.e ran.t (begun_body locals.items row) h.0.0 stand settled initial own_row framed_so among_so declared (begun_later main_setting begun_there first.e first.count first.grown free) ran.at sim
-      (λ e there u none free at sim_there. row_follows here (λ g. besides.follows g here) main_setting active around [] wide one (0 + length locals.items) (among_before OfFileOrParam 0 (length locals.items) before_all) row h.0.2 out e there u framed_so (stands_wider main_setting OfFileOrParam wide (λ x living. inl living) out [] (stands_here t image p codable compiled holding 0 p.main p.is_main [] turns (calls_in_main.lasts 0 (omega arith)))) none free at sim_there own_row))))))
+      (begun_follows main_setting has_it wide one numbers is_ready here active calls_in_main (never_rises active) [] locals.items row out 0 first.e ran.t (begun_body locals.items row) h.0.0 stand settled initial own_row framed_so among_so declared (begun_fewer main_setting (λ x. OrAmong alive 0 (length locals.items) x) wide first.e (λ x living. was_alive (length locals.items) x living) (first.opened cleared_in free)) ran.at sim
+      (λ e there u none free at sim_there. row_follows here (λ g. besides.follows g here) main_setting active around [] wide one (0 + length locals.items) (among_before OfFileOrParam 0 (length locals.items) before_all) row h.0.2 out e there u framed_so (stands_wider main_setting OfFileOrParam wide (λ x living. inl living) out [] (stands_here t image p codable compiled holding 0 p.main p.is_main [] turns (calls_in_main.lasts (OpenAmong main_setting OfFileOrParam) 0 (omega arith) (λ k is_open. absurd is_open.0)))) none free at sim_there own_row))))))
   runs _ is h = absurd h
 
 -- the code comes to the end of the source's meaning
@@ -326,9 +328,9 @@ means_source t image p codable compiled memory input rest turns winner are =
         wheres = λ alive files n ready shape test q first second h. absurd (known.conditions shape test h);
         widenings = λ alive files n ready shape q body h. absurd (known.widens shape h);
       };
-      called = λ held from entries upto a me i is_me opens most known number b is back m here live place st.
+      called = λ held from entries upto a me i is_me opens most known number b is back m here live place st place_is.
           (nothing_held, (record { enters = λ at u n files winner h. tt; leaves = λ at u v n files own winner h. known.always live place v n; ends = λ u n h. known.ends u n }, nothing number b is back m));
-      lasts = λ g scope a known target low place jump stands leads live st n h. known.always live (target + start g) st n;
+      lasts = λ g scope a known live target low named place jump stands leads st n h. known.always live (target + start g) st n;
     }) (nothing 0 p.main p.is_main [] turns)).to
   where
     nothing : (number : ℕ) (i : Instance) (is : slice_get t.instances.items number ≡ Some i) (opens : List ℕ) (most : ℕ) → NothingBeside (activation t image p codable compiled nothing_held number i is opens most)

@@ -73,13 +73,13 @@ module _ (g : Setting) (has : HasRegisters g) (alive : Variable → Type 0) (n :
 
   -- an expression whose value the code puts there
   abbrev pub Puts : Elem → (State → Outcome Value) → (Draft → Made Out) → Type 0
-  Puts elem part code = (d : Draft) (s : CodeState) (st : State) → Begun g d → At g s (length d.code) → Sim g alive st s → Follows g (Put elem d s) s (part st) (code d)
+  Puts elem part code = (d : Draft) (s : CodeState) (st : State) → Begun g alive d → At g s (length d.code) → Sim g alive st s → Follows g (Put elem d s) s (part st) (code d)
 
   -- the variable keeps a number of this type
   abbrev pub Kept : Elem → Type 0
   Kept elem = Fits info.elem elem
 
-  dest : (elem : Elem) (d : Draft) (s : CodeState) → Kept elem → Begun g d → Dest g has alive elem d s (Put elem d s) own
+  dest : (elem : Elem) (d : Draft) (s : CodeState) → Kept elem → Begun g alive d → Dest g has alive elem d s (Put elem d s) own
   dest elem d s fits free = variable_dest g has alive x info living scalar elem d s fits free
 
   -- a value copied from where it stands

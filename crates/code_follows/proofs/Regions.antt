@@ -413,9 +413,8 @@ module _ (t : Typed) (p : HasScalarInstances t) (words : List ℕ) where
   elements_are number i is (V.File k) info named parallel = ap (λ (o : Option VarInfo). elim o as (λ _. ℕ) [ None ↦ 0 | Some info ↦ entries_of info ]) named
   elements_are number i is (V.Param k) info named parallel = absurd (scalar_only info (all_at IsScalarVariable i.params.items k info (p.each number i is).0 named) parallel)
   elements_are number i is (V.Local k) info named parallel =
-      let there = numbered_at (variables_of i.body) nothing_numbered k info named in
       ap (λ (o : Option LocalName). elim o as (λ _. ℕ) [ None ↦ 0 | Some name ↦ name.entries ])
-      (ap (λ (names : List LocalName). slice_get names k) (all_numbered number i is) ∙ ap (λ (j : ℕ). slice_get (numbered (variables_of i.body) nothing_numbered).locals j) (none k) ∙ there.1)
+      (ap (λ (names : List LocalName). slice_get names k) (all_numbered number i is) ∙ ap (λ (j : ℕ). slice_get (numbered (variables_of i.body) nothing_numbered).locals j) (none k) ∙ numbered_at (variables_of i.body) nothing_numbered k info named)
     where
       none : (k : ℕ) → k ≡ 0 + k
       none k = omega arith

@@ -17,7 +17,7 @@ use Rattle.code_follows.proofs.Settings.{At, Begun, Held, Setting, Within, and_o
 
 -- Loading so many of the saved contexts, the newest first, leads to where this is held of the memory.
 pub record Restores (g : Setting) (held : Held) (contexts : List Field) (newest : ℕ) : Type 1 where
-  pub loads : (alive : Variable → Type 0) (d : Draft) (s : CodeState) (st : State) → Begun g d → At g s (length d.code) → Sim g alive st s → Within g (restored contexts newest d) → Jumped g alive held d s st (length (restored contexts newest d).code)
+  pub loads : (alive : Variable → Type 0) (d : Draft) (s : CodeState) (st : State) → Begun g alive d → At g s (length d.code) → Sim g alive st s → Within g (restored contexts newest d) → Jumped g alive held d s st (length (restored contexts newest d).code)
 
 -- where none is loaded what was held still is
 pub restores_none : (g : Setting) (contexts : List Field) (newest : ℕ) → newest ≡ 0 → Restores g g.held contexts newest
@@ -79,9 +79,9 @@ module _ (g : Setting) (saved : Field) (held : Held) (from entries upto : ℕ) w
         let w : Within there all = subst (λ (e : Draft). Within there e) same within in
         let whole : Within g all = record { more = w.more; code = w.code; entries = w.entries; fields = w.fields; homes = w.homes; homes_are = w.homes_are; regs = w.regs; own = w.own; upto = let up = w.upto in let high = inside.high in omega (arith, up, high) } in
         let grown = restored_more g contexts newest back in
-        let begun : Begun g d = record { regs = free.regs; code = let c = free.code in let low = inside.low in omega (arith, c, low); fields = let f = free.fields in let more = inside.more in omega (arith, f, more) } in
+        let begun : Begun g alive d = record { regs = free.regs; code = let c = free.code in let low = inside.low in omega (arith, c, low); fields = let f = free.fields in let more = inside.more in omega (arith, f, more); opened = free.opened } in
         let first = inside.loads alive d s st at sim (earlier g back all grown.0 grown.1 whole) in
-        let rest = outer.loads alive back first.t st (begun_later g d back 1 (and_one g (I.LoadContext saved) d) begun) first.at first.sim whole in
+        let rest = outer.loads alive back first.t st (begun_later g alive d back 1 (and_one g (I.LoadContext saved) d) begun) first.at first.sim whole in
         subst (λ (e : Draft). Jumped there alive out d s st (length e.code)) (sym same) (record {
           t = rest.t;
           go = let go = onto g s first.t rest.t first.go rest.go in record { by = go.by; below = go.below };

@@ -83,7 +83,7 @@ module _ (g : Setting) (has : HasRegisters g) (alive : Variable → Type 0) (fil
   leaving_more e = let loads = restored_more g contexts f.frame.saved.in_all e in (loads.0 + 1, extended e (leaving e) (with_end g.is_main (leaving e)) loads.0 1 loads.1 (end_more g (leaving e)))
 
   -- so the code leaves the function where they are loaded
-  leads_out : (e : Draft) (s : CodeState) (u : State) → Begun g e → At g s (length e.code) → Sim g alive u s → Within g (with_end g.is_main (leaving e)) → (j : Jumped g alive f.all e s u (length (leaving e).code)) × Leaves g alive j.t
+  leads_out : (e : Draft) (s : CodeState) (u : State) → Begun g alive e → At g s (length e.code) → Sim g alive u s → Within g (with_end g.is_main (leaving e)) → (j : Jumped g alive f.all e s u (length (leaving e).code)) × Leaves g alive j.t
   leads_out e s u begun at sim within =
       let j = stands.all.loads alive e s u begun at sim (earlier g (leaving e) (with_end g.is_main (leaving e)) 1 (end_more g (leaving e)) within) in
       (j, leaves g alive (leaving e) j.t within j.at)
@@ -109,7 +109,7 @@ module _ (g : Setting) (has : HasRegisters g) (alive : Variable → Type 0) (fil
       apart_set g alive st s (result_register (layout g)) v (λ x info scalar e. has.result_apart x info scalar.0 e)
       (λ word q is e. let a = behind_variables (layout g) word q is in let b = has.result in omega (arith, e, a, b)) h
 
-  given_so : (elem : Elem) → ((info : VarInfo) → g.instance.result ≡ Some info → Takes info.elem elem) → (d : Draft) (s0 : CodeState) (w : ℕ) (u : State) (given : Outcome) (n r : ℕ) (e : Draft) (t : CodeState) → (given ≡ R.Parallel → ⊥) → (given ≡ R.Nothing → g.instance.result ≡ None) → Begun g e → Reaches g s0 t → Keeps g d s0 t → At g t (length e.code) → Sim g alive u t
+  given_so : (elem : Elem) → ((info : VarInfo) → g.instance.result ≡ Some info → Takes info.elem elem) → (d : Draft) (s0 : CodeState) (w : ℕ) (u : State) (given : Outcome) (n r : ℕ) (e : Draft) (t : CodeState) → (given ≡ R.Parallel → ⊥) → (given ≡ R.Nothing → g.instance.result ≡ None) → Begun g alive e → Reaches g s0 t → Keeps g d s0 t → At g t (length e.code) → Sim g alive u t
       → w < 2 ^ elem.bits → slice_index t.registers r ≡ held elem w → Follows g (Left g alive f d s0) s0 (Source.Gives (Returned (Some (Scalar w))) u) (stored_then_leaves given n (O.Scalar r) e)
   unfolding Follows LeftSo IsGiven stored_result put_value in_register then_make begun step_of
   given_so elem takes d s0 w u R.Nothing n r e t none no_result begun go keeps at sim few is = λ within.
@@ -130,7 +130,7 @@ module _ (g : Setting) (has : HasRegisters g) (alive : Variable → Type 0) (fil
       let before : Within g moves = earlier g moves (with_end g.is_main (leaving moves)) more.0 more.1 within in
       let t1 : CodeState = with_register q (slice_index t.registers r) t in
       let inside : q < length t.registers = let below = has.result in let long = sim.registers in let room = has.room in omega (arith, below, room, long) in
-      let (j, ends) = leads_out moves t1 u (begun_later g e moves 1 (and_one g i e) begun) (at_next g i e t (t.at + 1) at refl) (result_set u t (slice_index t.registers r) sim) within in
+      let (j, ends) = leads_out moves t1 u (begun_later g alive e moves 1 (and_one g i e) begun) (at_next g i e t (t.at + 1) at refl) (result_set u t (slice_index t.registers r) sim) within in
       record {
         t = j.t;
         go = onto g s0 t j.t go (onto g t t1 j.t (one g t t1 (begins_here g i e t before refl at) refl) j.go);
@@ -149,7 +149,7 @@ module _ (g : Setting) (has : HasRegisters g) (alive : Variable → Type 0) (fil
   given_so elem takes d s0 w u R.Parallel n r e t none no_result begun go keeps at sim few is = absurd (none refl)
 
   -- `return` with a value
-  answers : (elem : Elem) (d : Draft) (s0 : CodeState) (given : Outcome) (n : ℕ) (shape : Option ℕ) → Begun g d → shape ≡ None → ((info : VarInfo) → g.instance.result ≡ Some info → Takes info.elem elem) → (given ≡ R.Parallel → ⊥) → (given ≡ R.Nothing → g.instance.result ≡ None) → (o : Source.Outcome Value) (made : Made Out)
+  answers : (elem : Elem) (d : Draft) (s0 : CodeState) (given : Outcome) (n : ℕ) (shape : Option ℕ) → Begun g alive d → shape ≡ None → ((info : VarInfo) → g.instance.result ≡ Some info → Takes info.elem elem) → (given ≡ R.Parallel → ⊥) → (given ≡ R.Nothing → g.instance.result ≡ None) → (o : Source.Outcome Value) (made : Made Out)
       → Follows g (Value_of g has alive elem true d s0) s0 o made → Follows g (Left g alive f d s0) s0 (then_do o (λ v after. Source.Gives (Returned (Some (returned active shape v))) after)) (then_make (then_make made (λ v after. stored_result (layout g) given v after)) (λ u after. then_leaves n after))
   unfolding Follows then_do then_make returned
   answers elem d s0 given n shape free scalar takes none no_result (Source.Gives v u) (Makes out e) h =
@@ -159,7 +159,7 @@ module _ (g : Setting) (has : HasRegisters g) (alive : Variable → Type 0) (fil
       let is : returned active shape v ≡ Scalar arr.holds.word = ap (λ (o : Option ℕ). returned active o v) scalar ∙ arr.holds.value in
       subst (λ (x : Value). Follows g (Left g alive f d s0) s0 (Source.Gives (Returned (Some x)) u) (stored_then_leaves given n out e)) (sym is)
       (subst (λ (o : Out). Follows g (Left g alive f d s0) s0 (Source.Gives (Returned (Some (Scalar arr.holds.word))) u) (stored_then_leaves given n o e)) (sym arr.holds.is)
-      (given_so elem takes d s0 arr.holds.word u given n arr.holds.register e arr.t none no_result (begun_later g d e arr.extended.0 arr.extended.1 free) arr.go arr.keeps arr.at arr.sim arr.holds.small there)))
+      (given_so elem takes d s0 arr.holds.word u given n arr.holds.register e arr.t none no_result (begun_later g alive d e arr.extended.0 arr.extended.1 free) arr.go arr.keeps arr.at arr.sim arr.holds.small there)))
   answers elem d s0 given n shape free scalar takes none no_result (Source.Ends early u) (Makes out e) h = finished g (Left g alive f d s0) e s0 early u (stored_then_leaves given n out e) (extends_stored given n out e none) h
   answers elem d s0 given n shape free scalar takes none no_result (Source.Gives v u) Fails h = tt
   answers elem d s0 given n shape free scalar takes none no_result (Source.Ends early u) Fails h = tt
@@ -179,7 +179,7 @@ module _ (g : Setting) (has : HasRegisters g) (alive : Variable → Type 0) (fil
           shaped None e = cc
           shaped (Some s) e = cc
 
-  pub return_follows : (e : Option TExpr) → IfSome e (λ x. IsIn (naming g.may alive) x × g.may.returns (type_of x).elem) → (n : ℕ) (d : Draft) (s0 : CodeState) (st : State) → StandsIn g f.frame → Begun g d → At g s0 (length d.code) → Sim g alive st s0 → IfSome e (λ x. HasCode g.typed g.instance n x)
+  pub return_follows : (e : Option TExpr) → IfSome e (λ x. IsIn (naming g.may alive) x × g.may.returns (type_of x).elem) → (n : ℕ) (d : Draft) (s0 : CodeState) (st : State) → StandsIn g f.frame → Begun g alive d → At g s0 (length d.code) → Sim g alive st s0 → IfSome e (λ x. HasCode g.typed g.instance n x)
       → Follows g (Left g alive f d s0) s0 (executed scope (S.Return e) n active st) (statement_of g.typed (layout g) (S.Return e) f.frame contexts n d)
   unfolding executed statement_of returned_by given_back then_make Follows LeftSo IsGiven
   return_follows None h n d s0 st framed free at sim c =

@@ -4,8 +4,12 @@ use Rattle.std.specs.List.{slice_index_or}
 use Rattle.cstar_link.specs.Linked.{code_from, moved_by}
 use Rattle.cstar_tree.specs.declared.typed.Instance.{Instance}
 use Rattle.cstar_tree.specs.declared.typed.Typed.{Typed}
+use Rattle.cstar_tree.specs.declared.typed.VarInfo.{VarInfo}
+use Rattle.cstar_tree.specs.declared.typed.Variable.{Variable}
 use Rattle.cstar_tree.specs.declared.typed.Variable.TheVariants as V
+use Rattle.code_lengths.specs.Naming.{variable_named}
 use Rattle.field_alloc.specs.Placed.{IsPlaced, of_set}
+use Rattle.lower_base.specs.declared.names.LocalName.{LocalName}
 use Rattle.lower_base.specs.Drafts.{Draft, Plain, Step, step as step_of, with_instr, with_step}
 use Rattle.lower_base.specs.Layouts.{Layout, layout_of}
 use Rattle.paris_code.specs.declared.instr.Instr.{Instr}
@@ -21,7 +25,7 @@ use Rattle.paris_code.specs.Memory.{BitMemory, field_number}
 use Rattle.paris_code.specs.Moving.{moved_instr}
 use Rattle.paris_code.specs.Proper.{IsUnit}
 use Rattle.paris_code.specs.Shapes.{bits_at, shapes_of}
-use Rattle.paris_code.specs.Spans.{JumpsTo, StandsAt}
+use Rattle.paris_code.specs.Spans.{IsNamedAt, JumpsTo, StandsAt}
 use Rattle.source_meaning.specs.State.{State}
 use Rattle.code_follows.specs.Fragment.{May}
 use Rattle.code_follows.proofs.Growing.{Extended, and_instr, as_it_was}
@@ -97,9 +101,29 @@ module _ (g : Setting) where
   abbrev pub start : ℕ
   start = start_in g.after.units.items g.number 0
 
-  -- wherever this is held at a jump to a place of the unit, it is held at that place
-  abbrev pub LastsTo : Held → ℕ → Type 1
-  LastsTo held target = (place : ℕ) (jump : Instr) → StandsAt g.unit place jump → JumpsTo jump target → (live : ℕ → Type 0) (st : State) (m : BitMemory) → held.holds live (start + place) st m → held.holds live (target + start) st m
+  -- a parallel variable of a block
+  abbrev pub IsParallelLocal : ℕ → Type 0
+  IsParallelLocal k = (info : VarInfo) × ((set : ℕ) × ((variable_named g.typed g.instance (V.Local k) ≡ Some info) × (info.shape ≡ Some set)))
+
+  -- those that are alive
+  abbrev pub OpenAmong : (Variable → Type 0) → ℕ → Type 0
+  OpenAmong alive k = alive (V.Local k) × IsParallelLocal k
+
+  -- the entry that the unit has for a parallel variable of a block
+  abbrev pub HasHome : ℕ → ℕ → Type 0
+  HasHome k entry = (name : LocalName) × ((slice_get layout.locals k ≡ Some name) × (slice_get g.unit.homes.items name.home ≡ Some entry))
+
+  -- it is named before a place of the unit
+  abbrev pub IsNamedBefore : ℕ → ℕ → Type 0
+  IsNamedBefore entry place = (first : ℕ) × (IsNamedAt g.unit entry first × (first < place))
+
+  -- each of these variables has an entry that is named before a place
+  abbrev pub AreNamedBefore : (ℕ → Type 0) → ℕ → Type 0
+  AreNamedBefore live place = (k : ℕ) → live k → (entry : ℕ) × (HasHome k entry × IsNamedBefore entry place)
+
+  -- wherever this is held of these variables at a jump to a place of the unit, it is held at that place
+  abbrev pub LastsTo : (ℕ → Type 0) → Held → ℕ → Type 0
+  LastsTo live held target = (place : ℕ) (jump : Instr) → StandsAt g.unit place jump → JumpsTo jump target → (st : State) (m : BitMemory) → held.holds live (start + place) st m → held.holds live (target + start) st m
 
   -- the draft is an early state of the unit
   pub record Within (e : Draft) : Type 0 where
@@ -134,15 +158,42 @@ module _ (g : Setting) where
   more_entries : (d e : Draft) (n : ℕ) → Extended d n e → length d.fields ≤ length e.fields
   more_entries d e n x = let both = ap (λ (entries : List Virtual). length entries) x.fields ∙ length-append d.fields x.entries in omega (arith, both)
 
-  -- the code of a draft has begun: it stands behind the place, its values behind the registers before them, and its
-  -- entries behind those that there are
-  pub record Begun (d : Draft) : Type 0 where
+  -- the variable has one of so many entries, which is named before a place; so has each of these
+  abbrev pub IsOpenAt : ℕ → ℕ → ℕ → Type 0
+  IsOpenAt place entries k = (entry : ℕ) × (HasHome k entry × (IsNamedBefore entry place × (entry < entries)))
+
+  abbrev pub AreOpenAt : (ℕ → Type 0) → ℕ → ℕ → Type 0
+  AreOpenAt live place entries = (k : ℕ) → live k → IsOpenAt place entries k
+
+  -- it has an entry of the draft, which its code names
+  abbrev pub IsOpenIn : ℕ → Draft → Type 0
+  IsOpenIn k d = IsOpenAt (length d.code) (length d.fields) k
+
+  -- so it is at a later place, and where there are more entries
+  pub open_later : (live : ℕ → Type 0) (place later entries more : ℕ) → place ≤ later → entries ≤ more → AreOpenAt live place entries → AreOpenAt live later more
+  open_later live place later entries more behind longer opened k living =
+      let (entry, (home, ((first, (named, before)), inside))) = opened k living in
+      (entry, (home, ((first, (named, omega (arith, before, behind))), omega (arith, inside, longer))))
+
+  pub open_named : (live : ℕ → Type 0) (place later entries : ℕ) → place ≤ later → AreOpenAt live place entries → AreNamedBefore live later
+  open_named live place later entries behind opened k living =
+      let (entry, (home, ((first, (named, before)), inside))) = opened k living in
+      (entry, (home, (first, (named, omega (arith, before, behind)))))
+
+  -- the code of a draft has begun: it stands behind the place, its values behind the registers before them, its
+  -- entries behind those that there are, and the variables of blocks that are alive are among these
+  pub record Begun (alive : Variable → Type 0) (d : Draft) : Type 0 where
     pub regs : g.begins ≤ d.regs
     pub code : g.from ≤ length d.code
     pub fields : g.entries ≤ length d.fields
+    pub opened : AreOpenAt (OpenAmong alive) (length d.code) (length d.fields)
 
-  pub begun_later : (d e : Draft) (n : ℕ) → Extended d n e → Begun d → Begun e
-  begun_later d e n x b = record { regs = omega (arith, x.regs, b.regs); code = omega (arith, longer d e n x, b.code); fields = omega (arith, more_entries d e n x, b.fields) }
+  pub begun_later : (alive : Variable → Type 0) (d e : Draft) (n : ℕ) → Extended d n e → Begun alive d → Begun alive e
+  begun_later alive d e n x b = record { regs = omega (arith, x.regs, b.regs); code = omega (arith, longer d e n x, b.code); fields = omega (arith, more_entries d e n x, b.fields); opened = open_later (OpenAmong alive) (length d.code) (length e.code) (length d.fields) (length e.fields) (longer d e n x) (more_entries d e n x) b.opened }
+
+  -- so it has where fewer variables are alive
+  pub begun_fewer : (more fewer : Variable → Type 0) (d : Draft) → ((x : Variable) → fewer x → more x) → Begun more d → Begun fewer d
+  begun_fewer more fewer d among b = record { regs = b.regs; code = b.code; fields = b.fields; opened = λ k is_open. b.opened k (among (V.Local k) is_open.0, is_open.1) }
 
   -- a function is called at a place between those of which is spoken
   pub record CallStands (index : ℕ) : Type 0 where

@@ -63,7 +63,7 @@ module _ (g : Setting) (has : HasRegisters g) (alive : Variable → Type 0) (sco
     stores shown w u =
         then_do (operated scope active (scalar_type at_type) place o (not signed) (Scalar (held info.elem (u.scalar x))) (Scalar w) u) (λ v after. Source.Gives (shown v) (with_scalar x (converted info.elem at_type (number v)) after))
 
-    pub settles : (shown : Value → Value) (d e : Draft) (n : ℕ) (s t : CodeState) (u : State) (b w : ℕ) → Begun g d → Extended d n e → Reaches g s t → Keeps g d s t → At g t (length e.code) → Sim g alive u t → slice_index t.registers b ≡ w → w < 2 ^ 32
+    pub settles : (shown : Value → Value) (d e : Draft) (n : ℕ) (s t : CodeState) (u : State) (b w : ℕ) → Begun g alive d → Extended d n e → Reaches g s t → Keeps g d s t → At g t (length e.code) → Sim g alive u t → slice_index t.registers b ≡ w → w < 2 ^ 32
         → Follows g (λ v u out e. Ran g alive d s u e) s (stores shown w u) (settled b e)
     unfolding then_make a_register Follows number Extends begun step_of
     settles shown d e n s t u b w free grown go keeps here sim is_b small = by (info.elem.bits == 32) refl
@@ -93,7 +93,7 @@ module _ (g : Setting) (has : HasRegisters g) (alive : Variable → Type 0) (sco
             (then_from g alive (Value_of g has alive at_type true e t) (λ v u out e. Ran g alive d s u e) s t (operated scope active (scalar_type at_type) place o (not signed) (Scalar old) (Scalar w) u) (λ v after. Source.Gives (shown v) (with_scalar x (converted info.elem at_type (number v)) after))
             (O.Scalar r) middle (Makes (O.Scalar own) (with_instr convert middle)) go
             (operates g has alive (scalar_type at_type) o place signed (with_reg e) (with_reg e) 0 t t u (Value_of g has alive at_type true e t) scope active r own b old w (refl, wide)
-            (fresh_dest g has alive at_type true e t (begun_later g d e n grown free)) (stay g t) here sim (as_it_was (with_reg e)) (keeps_all g (with_reg e) t) is_a is_b few small)
+            (fresh_dest g has alive at_type true e t (begun_later g alive d e n grown free)) (stay g t) here sim (as_it_was (with_reg e)) (keeps_all g (with_reg e) t) is_a is_b few small)
             (1, and_one g convert middle) (λ v u2 arr. λ within.
             let word : ℕ = arr.holds.word in
             let number : ℕ = converted info.elem at_type word in

@@ -9,15 +9,15 @@ use Rattle.cstar_tree.specs.declared.typed.Variable.{Variable}
 use Rattle.cstar_tree.specs.declared.typed.Variable.TheVariants as V
 use Rattle.cstar_tree.specs.Typed.{type_of}
 use Rattle.cstar_tree.specs.Variables.{variables_of}
-use Rattle.code_lengths.specs.Growth.{GrowsOr, Leads, Stands}
+use Rattle.code_lengths.specs.Growth.{GrowsOr, Stands}
 use Rattle.code_lengths.specs.LowerableStatements.{IsLowerableLocal}
 use Rattle.code_lengths.specs.Naming.{IsDeclared, NamesVariables}
 use Rattle.code_lengths.specs.NamingStatements.{InitialsNameVariables, StandFrom}
-use Rattle.code_lengths.specs.Ready.{HasCode, HasDeclared, IsReadyButForFields, NumbersVariables}
+use Rattle.code_lengths.specs.Ready.{HasCode, HasDeclared, IsReadyButForFields}
 use Rattle.code_lengths.specs.ShapedStatements.{AreShapedLocals, IsShapedInitial}
 use Rattle.code_lengths.proofs.Agreeing.{lengths_if_made}
 use Rattle.code_lengths.proofs.Declaring.{info_of}
-use Rattle.code_lengths.proofs.Homes.{all_cleared_lead, clears, still_declared}
+use Rattle.code_lengths.proofs.Homes.{still_declared}
 use Rattle.lower_base.specs.declared.emit.Out.{Out}
 use Rattle.lower_base.specs.declared.emit.Out.TheVariants as O
 use Rattle.lower_base.specs.Drafts.{Draft, Fails, Made, Makes, first_bits, step as step_of, then_make, with_instr}
@@ -25,7 +25,7 @@ use Rattle.lower_base.specs.Layouts.{field_of, register_of}
 use Rattle.lower_expr.specs.Effects.{computed_to, put_length, put_to}
 use Rattle.lower_expr.specs.Operands.{standing}
 use Rattle.lower_expr.specs.Steps.{has_word, register_word, word_for, word_put}
-use Rattle.lower_stmt.specs.Variables.{all_cleared, all_initialised, begins_constant, initialised as initialised_in, variable_of}
+use Rattle.lower_stmt.specs.Variables.{all_initialised, begins_constant, initialised as initialised_in, variable_of}
 use Rattle.paris_code.specs.declared.instr.Instr.TheVariants as I
 use Rattle.paris_code.specs.Code.{CodeState, begun, with_register}
 use Rattle.source_meaning.specs.Constants.{constant_of, is_constant, then_value}
@@ -45,7 +45,7 @@ use Rattle.code_follows.proofs.Executing.{RanOn, gives, no_break, no_continue, n
 use Rattle.code_follows.proofs.Callees.{CallsFollow}
 use Rattle.code_follows.proofs.Following.{Extends, Follows, HasRegisters, IsScalar, Keeps, Ran, Sim, delayed, extends_then, finished, finishes_later, follows_other, held, keeps_all, then_follows, variable_kept}
 use Rattle.code_follows.proofs.Putting.{Put, put_follows}
-use Rattle.code_follows.proofs.Settings.{At, Begun, Reaches, Setting, and_one, at_next, begins_here, begun_later, layout, one, regs_more, stay}
+use Rattle.code_follows.proofs.Settings.{begun_fewer, At, Begun, Reaches, Setting, and_one, at_next, begins_here, begun_later, layout, one, regs_more, stay}
 use Rattle.code_follows.proofs.Standing.{some_same}
 use Rattle.code_follows.proofs.Stores.{below_free, same_itself, sim_begun}
 use Rattle.code_follows.proofs.Values.{extends_grown}
@@ -117,13 +117,6 @@ module _ (g : Setting) where
   unfolding DeclaredBy then_make
   declared_then m (Makes x e) next known f = f x e known
   declared_then m Fails next known f = tt
-
-  -- behind the code that clears the variables of a block these are declared
-  pub clears_declare : (at_start : Bool) (locals : List LocalVar) (n : ℕ) (d e : Draft) → all_cleared (layout g) at_start locals n d ≡ Makes tt e → StandFrom (variables_of g.instance.body) n (map info_of locals) → NumbersVariables g.instance (layout g)
-      → HasDeclared g.typed g.instance (layout g) n d → HasDeclared g.typed g.instance (layout g) (n + length locals) e
-  unfolding Leads
-  clears_declare at_start locals n d e is stand numbers known =
-      (subst (λ (m : Made (Unit {0})). Leads d (clears at_start locals) (λ (x : Unit {0}) (f : Draft). HasDeclared g.typed g.instance (layout g) (n + length locals) f) m) is (all_cleared_lead g.typed g.instance (layout g) at_start locals n d stand numbers known)).0
 
 module _ (g : Setting) (has : HasRegisters g) (alive : Variable → Type 0) (files : (k : ℕ) → alive (V.File k)) (ready : (n : ℕ) (d : Draft) → IsReadyButForFields g.typed g.instance (layout g) n d) (scope : Scope) (active : Active) (calls_follow : CallsFollow g scope active) where
   pub go_after : {B D : Type 0} (d : Draft) (s : CodeState) (Q : Leaving → State → D → Draft → Type 0) (o : Outcome Leaving) (k : State → Outcome Leaving) (y : B) (e : Draft) (made : Made D) → Follows g (RanOn g alive d s) s o (Makes y e) → Extends g e made
@@ -263,7 +256,7 @@ module _ (g : Setting) (has : HasRegisters g) (alive : Variable → Type 0) (fil
   Puts_one local locals n e d s st = Follows g (λ v u (out : Out) f. PutOne local locals n d s v u f) s (evaluated scope e active st) (put_to g.typed (layout g) (O.Scalar (register_of (layout g) (V.Local n))) e d)
 
   -- a constant
-  constant_put : (local : LocalVar) (locals : List LocalVar) (n : ℕ) (e : TExpr) (word : ℕ) (d : Draft) (s : CodeState) (st : State) → IsScalar g (V.Local n) local.info → Takes local.info.elem (type_of e).elem → (IsIn (naming g.may alive)) e → StandsAsWord e word → Begun g d → At g s (length d.code) → Sim g (λ z. Now (local ∷ locals) n z) st s
+  constant_put : (local : LocalVar) (locals : List LocalVar) (n : ℕ) (e : TExpr) (word : ℕ) (d : Draft) (s : CodeState) (st : State) → IsScalar g (V.Local n) local.info → Takes local.info.elem (type_of e).elem → (IsIn (naming g.may alive)) e → StandsAsWord e word → Begun g alive d → At g s (length d.code) → Sim g (λ z. Now (local ∷ locals) n z) st s
       → Puts_one local locals n e d s st
   unfolding put_to word_for word_put Follows begun step_of Started
   constant_put local locals n e word d s st scalar takes isin c free at sim =
@@ -303,11 +296,11 @@ module _ (g : Setting) (has : HasRegisters g) (alive : Variable → Type 0) (fil
 
   -- any other value
   value_put : (local : LocalVar) (locals : List LocalVar) (n : ℕ) (e : TExpr) (d : Draft) (s : CodeState) (st : State) → begins_constant local ≡ false → IsScalar g (V.Local n) local.info → alive (V.Local n) → Takes local.info.elem (type_of e).elem → (IsIn (naming g.may (λ z. Now (local ∷ locals) n z))) e → HasCode g.typed g.instance (n + 1) e
-      → Begun g d → At g s (length d.code) → Sim g (λ z. Now (local ∷ locals) n z) st s → Puts_one local locals n e d s st
+      → Begun g alive d → At g s (length d.code) → Sim g (λ z. Now (local ∷ locals) n z) st s → Puts_one local locals n e d s st
   unfolding Started IsDeclared
   value_put local locals n e d s st begins scalar living takes isin c free at sim =
       follows_on (evaluated scope e active st) (put_to g.typed (layout g) (O.Scalar (register_of (layout g) (V.Local n))) e d)
-      (put_follows g has (λ z. Now (local ∷ locals) n z) (n + 1) (λ j. now (V.File j) (files j) tt) (ready (n + 1)) scope active calls_follow (V.Local n) local.info (now (V.Local n) living itself) scalar e isin c (takes_fits local.info.elem (type_of e).elem takes) d s st free at sim)
+      (put_follows g has (λ z. Now (local ∷ locals) n z) (n + 1) (λ j. now (V.File j) (files j) tt) (ready (n + 1)) scope active calls_follow (V.Local n) local.info (now (V.Local n) living itself) scalar e isin c (takes_fits local.info.elem (type_of e).elem takes) d s st (begun_fewer g alive (λ z. Now (local ∷ locals) n z) d (λ x h. h.0) free) at sim)
     where
       never : begins_constant local ≡ true → ⊥
       never b = cc
@@ -324,7 +317,7 @@ module _ (g : Setting) (has : HasRegisters g) (alive : Variable → Type 0) (fil
         (p.value, record { grown = p.grown; t = p.t; go = p.go; at = p.at; keeps = p.keeps; sim = sim_fewer g (λ z. Now (local ∷ locals) n z) (λ z. Now locals (n + 1) z) (with_scalar (V.Local n) p.word u) p.t (λ y info named later. (later.0, ((λ b e. never b), later.1))) (subst (λ (w : ℕ). Sim g (λ z. Now (local ∷ locals) n z) (with_scalar (V.Local n) w u) p.t) (takes_same local.info.elem (type_of e).elem p.word takes p.small) p.sim) }),
       ))
 
-  pub initials_follow : (locals : List LocalVar) (n : ℕ) (d : Draft) (s : CodeState) (st : State) → All (IsBlockLocal g.may.beside) locals → StandFrom (variables_of g.instance.body) n (map info_of locals) → AreSettled n locals → AreCoded n locals → Begun g d → At g s (length d.code) → Sim g (λ z. Now locals n z) st s
+  pub initials_follow : (locals : List LocalVar) (n : ℕ) (d : Draft) (s : CodeState) (st : State) → All (IsBlockLocal g.may.beside) locals → StandFrom (variables_of g.instance.body) n (map info_of locals) → AreSettled n locals → AreCoded n locals → Begun g alive d → At g s (length d.code) → Sim g (λ z. Now locals n z) st s
       → Follows g (RanOn g alive d s) s (initialised scope active n locals st) (all_initialised g.typed (layout g) locals n d)
   unfolding all_initialised initialised_in initialised initialised_one AreCoded AreSettled Follows then_make then_go variable_target stored number Started begins_constant
   initials_follow [] n d s st isin stand settled c free at sim = λ within. (refl, record { grown = (0, as_it_was d); t = s; go = stay g s; at = at; sim = sim_fewer g (λ z. Now [] n z) alive st s (λ x info named h. (h, tt)) sim; keeps = keeps_all g d s })
@@ -338,7 +331,7 @@ module _ (g : Setting) (has : HasRegisters g) (alive : Variable → Type 0) (fil
       scalar_so e is = (first_is_named g n local.info (map info_of locals) stand, has_initial g.may.beside local e (all_first (IsBlockLocal g.may.beside) local locals isin) is)
 
       by : (o : Option TExpr) → local.initial ≡ o → IfSome o (λ e. Begins local locals n e) → IfSome o (HasCode g.typed g.instance (n + 1))
-          → ((e : Draft) (t : CodeState) (u : State) → Begun g e → At g t (length e.code) → Sim g (λ z. Now locals (n + 1) z) u t → Follows g (RanOn g alive e t) t (initialised scope active (n + 1) locals u) (all_initialised g.typed (layout g) locals (n + 1) e))
+          → ((e : Draft) (t : CodeState) (u : State) → Begun g alive e → At g t (length e.code) → Sim g (λ z. Now locals (n + 1) z) u t → Follows g (RanOn g alive e t) t (initialised scope active (n + 1) locals u) (all_initialised g.typed (layout g) locals (n + 1) e))
           → Follows g (RanOn g alive d s) s (then_go (initialised_one scope active there o st) (initialised scope active (n + 1) locals)) (then_make (initial_put local.info n o d) (λ u after. all_initialised g.typed (layout g) locals (n + 1) after))
       by None is h k rest = rest d s st free at (sim_fewer g (λ z. Now (local ∷ locals) n z) (λ z. Now locals (n + 1) z) st s (λ y info named later. (later.0, ((λ b e. let none = never_begins local is in cc), later.1))) sim)
       by (Some e) is h k rest =
@@ -356,4 +349,4 @@ module _ (g : Setting) (has : HasRegisters g) (alive : Variable → Type 0) (fil
           (λ v u out f p.
           let ran = p.1.1 in
           subst (λ (after : State). Follows g (RanOn g alive d s) s (go_on after) (next f)) (sym (ap (λ (w : Value). stored active (OfScalar x) w u) p.1.0))
-          (run_from d f ran.grown.0 s ran.t (go_on (with_scalar x p.0 u)) (next f) ran.grown.1 ran.go ran.keeps (rest f ran.t (with_scalar x p.0 u) (begun_later g d f ran.grown.0 ran.grown.1 free) ran.at ran.sim))))))
+          (run_from d f ran.grown.0 s ran.t (go_on (with_scalar x p.0 u)) (next f) ran.grown.1 ran.go ran.keeps (rest f ran.t (with_scalar x p.0 u) (begun_later g alive d f ran.grown.0 ran.grown.1 free) ran.at ran.sim))))))

@@ -31,7 +31,7 @@ use Rattle.paris_code.specs.declared.operands.Field.{Field}
 use Rattle.code_follows.proofs.Executing.{Exits}
 use Rattle.code_follows.proofs.Growing.{Extended, from_advanced}
 use Rattle.code_follows.proofs.Restoring.{Restores}
-use Rattle.code_follows.proofs.Settings.{LastsTo, Setting, layout}
+use Rattle.code_follows.proofs.Settings.{OpenAmong, LastsTo, Setting, layout}
 
 -- the frame of a statement of the function
 pub record StandsIn (g : Setting) (f : Frame) : Type 0 where
@@ -49,8 +49,8 @@ in_context_too g f h = record { outcome = h.outcome; main = h.main; scalar = h.s
 pub record StandsHere (g : Setting) (alive : Variable → Type 0) (f : Exits) (contexts : List Field) : Type 1 where
   pub among : StandsAmong f.frame contexts
   pub loop : Restores g f.loop contexts f.frame.saved.in_loop
-  pub after : LastsTo g f.loop f.frame.after
-  pub next : LastsTo g f.loop f.frame.next
+  pub after : LastsTo g (OpenAmong g f.lives) f.loop f.frame.after
+  pub next : LastsTo g (OpenAmong g f.lives) f.loop f.frame.next
   pub all : Restores g f.all contexts f.frame.saved.in_all
   pub lives : (x : Variable) → f.lives x → alive x
   pub outer : (x : Variable) → f.outer x → alive x

@@ -15,9 +15,9 @@ use Rattle.lower_base.specs.Layouts.{register_of}
 use Rattle.paris_code.specs.Code.{CodeState, with_register}
 use Rattle.source_meaning.specs.State.{State, is_same, with_scalar}
 use Rattle.source_meaning.specs.Values.{Scalar, Value}
-use Rattle.code_follows.proofs.Following.{HasRegisters, IsScalar, Keeps, Sim, held, variable_kept, keeps_on, OpenAmong}
+use Rattle.code_follows.proofs.Following.{HasRegisters, IsScalar, Keeps, Sim, held, variable_kept, keeps_on}
 use Rattle.code_follows.proofs.Growing.{Extended, as_it_was, extended}
-use Rattle.code_follows.proofs.Settings.{At, Begun, Reaches, Setting, layout, ahead, onto}
+use Rattle.code_follows.proofs.Settings.{OpenAmong, At, Begun, Reaches, Setting, layout, ahead, onto}
 use Rattle.code_follows.proofs.Values.{Dest, written_at}
 use Rattle.code_follows.proofs.ConstantRegisters.{behind_variables}
 use Rattle.code_follows.proofs.Standing.{some_same}
@@ -123,7 +123,7 @@ module _ (g : Setting) (has : HasRegisters g) (alive : Variable → Type 0) (x :
     pub sim : Sim g alive (with_scalar x (converted info.elem elem word) st) t
     pub keeps : Keeps g d s t
 
-  pub variable_dest : (elem : Elem) (d : Draft) (s0 : CodeState) → Fits info.elem elem → Begun g d → Dest g has alive elem d s0 (λ v st out e. IsPut elem d s0 v st out e) register
+  pub variable_dest : (elem : Elem) (d : Draft) (s0 : CodeState) → Fits info.elem elem → Begun g alive d → Dest g has alive elem d s0 (λ v st out e. IsPut elem d s0 v st out e) register
   variable_dest elem d s0 fits free = record {
     takes = λ e f n k s place st w go begins sim grows keeps more within there here few.
         let low = below_free g has x info scalar in

@@ -49,10 +49,10 @@ use Rattle.source_meaning.specs.State.{Outcome, State, then_do}
 use Rattle.source_meaning.specs.Targets.{read, variable_target}
 use Rattle.source_meaning.specs.Values.{Active, Scalar, Scope, Value, at, convert_to, each, failing, unary_of, unless}
 use Rattle.code_follows.specs.Fragment.{IsWord}
-use Rattle.code_follows.proofs.Following.{Arrives, Extends, Follows, HasRegisters, IsScalar, Keeps, Sim, extends_then, finishes_later, arrives_fresh, held, keeps_all, keeps_on, knowing, register_at, register_is, register_kept, register_set, then_follows, keeps_less, OpenAmong}
+use Rattle.code_follows.proofs.Following.{Arrives, Extends, Follows, HasRegisters, IsScalar, Keeps, Sim, extends_then, finishes_later, arrives_fresh, held, keeps_all, keeps_on, knowing, register_at, register_is, register_kept, register_set, then_follows, keeps_less}
 use Rattle.code_follows.proofs.Growing.{Extended, as_it_was, extended, from_growth}
 use Rattle.code_follows.proofs.Operators.{by_machine, machine_below, machine_same, minus_same, wide_signed}
-use Rattle.code_follows.proofs.Settings.{At, Begun, Reaches, Setting, Within, ahead, and_one, at_next, begins_here, begun_later, earlier, ends_now, layout, one, onto, placed_instr, regs_more, start, stay}
+use Rattle.code_follows.proofs.Settings.{OpenAmong, At, Begun, Reaches, Setting, Within, ahead, and_one, at_next, begins_here, begun_later, earlier, ends_now, layout, one, onto, placed_instr, regs_more, start, stay}
 use Rattle.code_follows.proofs.Words.{below_bits, below_word, held_wide}
 
 -- one more register
@@ -81,7 +81,7 @@ module _ (g : Setting) (has : HasRegisters g) (alive : Variable → Type 0) wher
     pub is : slice_index t.registers q ≡ word
 
   -- an instruction that puts a word in a register of a value, which is taken before it
-  pub takes_word : (word : ℕ) (d e : Draft) (n : ℕ) (i : Instr) (s0 s : CodeState) (st : State) (r : ℕ) → Begun g d → Reaches g s0 s → At g s (length e.code) → Sim g alive st s → Extended d n e → Keeps g d s0 s
+  pub takes_word : (word : ℕ) (d e : Draft) (n : ℕ) (i : Instr) (s0 s : CodeState) (st : State) (r : ℕ) → Begun g alive d → Reaches g s0 s → At g s (length e.code) → Sim g alive st s → Extended d n e → Keeps g d s0 s
       → Within g (with_instr i e) → step_of i ≡ Plain i → begun g.image (placed_instr g i) s ≡ Goes (with_register r word s) → d.regs ≤ r → r < e.regs → HasWord word d (with_instr i e) s0 st r
   takes_word word d e n i s0 s st r free go here sim grows keeps within plain does low high =
       let t : CodeState = with_register r word s in
@@ -99,7 +99,7 @@ module _ (g : Setting) (has : HasRegisters g) (alive : Variable → Type 0) wher
       }
 
   -- the same, as the value of a type
-  pub sets_register : (elem : Elem) (quiet : Bool) (d e : Draft) (n : ℕ) (i : Instr) (s0 s : CodeState) (st : State) (r w : ℕ) → Begun g d → Reaches g s0 s → At g s (length e.code) → Sim g alive st s
+  pub sets_register : (elem : Elem) (quiet : Bool) (d e : Draft) (n : ℕ) (i : Instr) (s0 s : CodeState) (st : State) (r w : ℕ) → Begun g alive d → Reaches g s0 s → At g s (length e.code) → Sim g alive st s
       → Extended d n e → Keeps g d s0 s → Within g (with_instr i e) → step_of i ≡ Plain i → begun g.image (placed_instr g i) s ≡ Goes (with_register r (held elem w) s) → d.regs ≤ r → r < e.regs → w < 2 ^ elem.bits
       → Arrives g alive elem quiet d s0 (Scalar w) st (O.Scalar r) (with_instr i e)
   sets_register elem quiet d e n i s0 s st r w free go here sim grows keeps within plain does low high small =
@@ -125,7 +125,7 @@ module _ (g : Setting) (has : HasRegisters g) (alive : Variable → Type 0) wher
         dest.takes e (with_instr i e) n 1 s (s.at + 1) st w go here sim grows keeps (and_one g i e) within (one g s (with_register r (held elem w) s) (begins_here g i e s within plain here ∙ does) refl) (at_next g i e s (s.at + 1) here refl) few
 
   -- a fresh one
-  pub fresh_dest : (elem : Elem) (quiet : Bool) (d : Draft) (s0 : CodeState) → Begun g d → Dest elem (with_reg d) s0 (λ v st out e. Arrives g alive elem quiet d s0 v st out e) d.regs
+  pub fresh_dest : (elem : Elem) (quiet : Bool) (d : Draft) (s0 : CodeState) → Begun g alive d → Dest elem (with_reg d) s0 (λ v st out e. Arrives g alive elem quiet d s0 v st out e) d.regs
   fresh_dest elem quiet d s0 free = record {
     takes = λ e f n k s place st w go begins sim grows keeps more within there here few.
         let t : CodeState = written_at d.regs (held elem w) place s in
@@ -139,7 +139,7 @@ module _ (g : Setting) (has : HasRegisters g) (alive : Variable → Type 0) wher
   }
 
   -- a number goes to a fresh register
-  pub constant_follows : (elem : Elem) (quiet : Bool) (value : ℕ) (d : Draft) (s : CodeState) (st : State) → elem.bits ≡ 32 → value < 2 ^ 32 → Begun g d → At g s (length d.code) → Sim g alive st s
+  pub constant_follows : (elem : Elem) (quiet : Bool) (value : ℕ) (d : Draft) (s : CodeState) (st : State) → elem.bits ≡ 32 → value < 2 ^ 32 → Begun g alive d → At g s (length d.code) → Sim g alive st s
       → Follows g (λ v u out e. Arrives g alive elem quiet d s v u out e) s (Source.Gives (Scalar value) st) (constant_in value d)
   unfolding Follows constant_in a_register then_make begun step_of
   constant_follows elem quiet value d s st wide few free at sim = λ within.
@@ -161,7 +161,7 @@ module _ (g : Setting) (has : HasRegisters g) (alive : Variable → Type 0) wher
   named_scalar : (n : ℕ) (ty : ValueType) (x : Variable) → (v : HasVariable g.typed g.instance n x (plain ty)) → ty.shape ≡ None → IsScalar g x (variable_info v.word (plain ty) v.start)
   named_scalar n ty x v scalar = (v.named, scalar)
 
-  pub variable_follows : (quiet : Bool) (bits n : ℕ) (ty : ValueType) (x : Variable) (d : Draft) (s : CodeState) (st : State) → ty.shape ≡ None → HasVariable g.typed g.instance n x (plain ty) → alive x → Begun g d → At g s (length d.code) → Sim g alive st s
+  pub variable_follows : (quiet : Bool) (bits n : ℕ) (ty : ValueType) (x : Variable) (d : Draft) (s : CodeState) (st : State) → ty.shape ≡ None → HasVariable g.typed g.instance n x (plain ty) → alive x → Begun g alive d → At g s (length d.code) → Sim g alive st s
       → Follows g (λ v u out e. Arrives g alive ty.elem quiet d s v u out e) s (Source.Gives (read st (variable_target ty.shape x 0)) st) (read_by g.typed (layout g) (T.Variable ty x) ty bits (λ between. Makes (variable_spot (layout g) ty x) between) d)
   unfolding Follows begun step_of
   variable_follows quiet bits n ty x d s st plain_shape v lives free at sim =
@@ -305,7 +305,7 @@ module _ (g : Setting) (has : HasRegisters g) (alive : Variable → Type 0) wher
   -- what a value's code does, from wherever it begins
   abbrev pub Does : Elem → Bool → (State → Outcome Value) → Code → Type 0
   Does elem quiet part code =
-      (d : Draft) (s : CodeState) (st : State) → Begun g d → At g s (length d.code) → Sim g alive st s → Follows g (Value_of elem quiet d s) s (part st) (code d)
+      (d : Draft) (s : CodeState) (st : State) → Begun g alive d → At g s (length d.code) → Sim g alive st s → Follows g (Value_of elem quiet d s) s (part st) (code d)
 
   abbrev pub Grows_on : Code → Type 0
   Grows_on code = (d : Draft) → Extends g d (code d)
@@ -324,7 +324,7 @@ module _ (g : Setting) (has : HasRegisters g) (alive : Variable → Type 0) wher
     grows_first : (r : ℕ) (v : Out) (between : Draft) → Extends g between (behind_first r v between)
     grows_first r v between = extends_in_register between v _ (λ a. extends_then g between (second between) _ (other_grows between) (λ w after. grows_second r a w after))
 
-    module _ (d : Draft) (s : CodeState) (R : Value → State → Out → Draft → Type 0) (r : ℕ) (free : Begun g d) (dest : Dest ty.elem d s R r) where
+    module _ (d : Draft) (s : CodeState) (R : Value → State → Out → Draft → Type 0) (r : ℕ) (free : Begun g alive d) (dest : Dest ty.elem d s R r) where
       abbrev source_behind : Value → State → Outcome Value
       source_behind v st1 = then_do (other st1) (λ w after. operated scope active ty place op (not from.signed) v w after)
 
@@ -355,7 +355,7 @@ module _ (g : Setting) (has : HasRegisters g) (alive : Variable → Type 0) wher
           (subst (λ (u : Value). Follows g R s (source_behind u st1) (behind_first r (O.Scalar a) e)) (sym is_v)
           (let it : Arrives g alive from calm d s (Scalar x) st1 (O.Scalar a) e = subst (λ (o : Out). Arrives g alive from calm d s (Scalar x) st1 o e) is_out (subst (λ (u : Value). Arrives g alive from calm d s u st1 out e) is_v arr) in
           then_follows g (λ w st2 o e2. (other st1 ≡ Source.Gives w st2) × Arrives g alive to true e it.t w st2 o e2) R s it.t (other st1) _ (second e) (λ w after. behind_second r a w after) it.go
-          (knowing g (Value_of to true e it.t) it.t (other st1) (second e) (other_does e it.t st1 (begun_later g d e it.extended.0 it.extended.1 free) it.at it.sim))
+          (knowing g (Value_of to true e it.t) it.t (other st1) (second e) (other_does e it.t st1 (begun_later g alive d e it.extended.0 it.extended.1 free) it.at it.sim))
           (λ w after. grows_second r a w after) (λ w st2 o e2 both. with_both st1 a x e it w st2 o e2 both)))
 
       pub registers_follow : (st : State) (first : Code) (one_part : State → Outcome Value) → Does from calm one_part first → At g s (length d.code) → Sim g alive st s
@@ -371,12 +371,12 @@ module _ (g : Setting) (has : HasRegisters g) (alive : Variable → Type 0) wher
         let signed : is_signed (type_of left).elem ≡ from.signed = ap is_signed (sym same) ∙ wide_signed from wide in
         subst (λ (made : Made Out). Follows g (Value_of ty.elem quiet d s) s (then_do (one_part st) (λ v between. then_do (other between) (λ w after. operated scope active ty place op (not from.signed) v w after))) made)
         (sym (binary_is ty bits op place first second left right d word.0 ∙ ap (λ (b : Bool). registers_by op b place d.regs first second (with_reg d)) signed))
-        (registers_follow (with_reg d) s (Value_of ty.elem quiet d s) d.regs (omega (arith, free)) (fresh_dest ty.elem quiet d s free) st first one_part one_does here sim)
+        (registers_follow (with_reg d) s (Value_of ty.elem quiet d s) d.regs (begun_later g alive d (with_reg d) 0 (and_register d) free) (fresh_dest ty.elem quiet d s free) st first one_part one_does here sim)
 
   -- a unary operator on the word of a register
   abbrev Negates : UnaryOp → ValueType → Type 1
   Negates op ty =
-      (d e : Draft) (n : ℕ) (s0 s : CodeState) (st : State) (R : Value → State → Out → Draft → Type 0) (r a x : ℕ) → Begun g d → Dest ty.elem d s0 R r → Reaches g s0 s → At g s (length e.code) → Sim g alive st s → Extended d n e → Keeps g d s0 s
+      (d e : Draft) (n : ℕ) (s0 s : CodeState) (st : State) (R : Value → State → Out → Draft → Type 0) (r a x : ℕ) → Begun g alive d → Dest ty.elem d s0 R r → Reaches g s0 s → At g s (length e.code) → Sim g alive st s → Extended d n e → Keeps g d s0 s
       → ((t : CodeState) → Sim g alive st t → Keeps g e s t → slice_index t.registers a ≡ x) → x < 2 ^ 32 → Follows g R s0 (Source.Gives (Scalar (unary_of op x)) st) (register_negated (layout g) op r a e)
 
   minus : (ty : ValueType) → ty.elem.bits ≡ 32 → Negates U.Minus ty
@@ -394,7 +394,7 @@ module _ (g : Setting) (has : HasRegisters g) (alive : Variable → Type 0) wher
       (ap (λ (q : ℕ). Goes (with_register r (2 ^ 32 - 1 - q) s)) (is s sim (keeps_all g e s)) ∙ ap (λ (w : ℕ). Goes (with_register r w s)) (sym (held_wide ty.elem (2 ^ 32 - 1 - x) wide below))) (below_bits ty.elem.bits (2 ^ 32 - 1 - x) wide below)
 
   -- a number in a register, where it stands or in a fresh one
-  pub word_follows : (word : ℕ) (d : Draft) (s : CodeState) (st : State) → Begun g d → At g s (length d.code) → Sim g alive st s → Follows g (λ (u : Unit {0}) after q e. (after ≡ st) × HasWord word d e s st q) s (Source.Gives tt st) (word_in (layout g) word d)
+  pub word_follows : (word : ℕ) (d : Draft) (s : CodeState) (st : State) → Begun g alive d → At g s (length d.code) → Sim g alive st s → Follows g (λ (u : Unit {0}) after q e. (after ≡ st) × HasWord word d e s st q) s (Source.Gives tt st) (word_in (layout g) word d)
   unfolding word_in Follows a_register then_make begun step_of
   word_follows word d s st free at sim = by (constant_register (layout g) word) refl
     where
@@ -416,7 +416,7 @@ module _ (g : Setting) (has : HasRegisters g) (alive : Variable → Type 0) wher
   unfolding register_negated Extends Follows begun step_of unary_of then_do then_make operate divides outcome compared_word
   nots ty wide d e n s0 s st R r a x free dest go here sim grows keeps is few =
       then_follows g (λ (u : Unit {0}) after q f. (after ≡ st) × HasWord 0 e f s st q) R s0 s (Source.Gives tt st) (λ u after. Source.Gives (Scalar (unary_of U.Not x)) st) (word_in (layout g) 0 e)
-      (λ q after. Makes (O.Scalar r) (with_instr (I.FrontCompare C.UEq r a q) after)) go (word_follows 0 e s st (begun_later g d e n grows free) here sim) (λ q after. one_more q after) (λ u after q f h. compares after q f h)
+      (λ q after. Makes (O.Scalar r) (with_instr (I.FrontCompare C.UEq r a q) after)) go (word_follows 0 e s st (begun_later g alive d e n grows free) here sim) (λ q after. one_more q after) (λ u after q f h. compares after q f h)
     where
       one_more : (q : ℕ) (f : Draft) → Extends g f (Makes (O.Scalar r) (with_instr (I.FrontCompare C.UEq r a q) f))
       one_more q f = (1, and_one g (I.FrontCompare C.UEq r a q) f)
@@ -456,7 +456,7 @@ module _ (g : Setting) (has : HasRegisters g) (alive : Variable → Type 0) wher
     unfolding negated
     grows_operand r v e = extends_in_register e v _ (λ a. extends_negated op r a e)
 
-    module _ (d : Draft) (s : CodeState) (R : Value → State → Out → Draft → Type 0) (r : ℕ) (free : Begun g d) (dest : Dest ty.elem d s R r) where
+    module _ (d : Draft) (s : CodeState) (R : Value → State → Out → Draft → Type 0) (r : ℕ) (free : Begun g alive d) (dest : Dest ty.elem d s R r) where
       with_operand : (v : Value) (st : State) (out : Out) (e : Draft) → Arrives g alive from true d s v st out e → Follows g R s (Source.Gives (mapped ty (unary_of op) v) st) (behind_operand r out e)
       unfolding negated in_register at
       with_operand v st out e arr =
@@ -477,7 +477,7 @@ module _ (g : Setting) (has : HasRegisters g) (alive : Variable → Type 0) wher
     unfolding unary_by fresh_for a_register then_make
     unary_follows quiet code second part bits does d s st free here sim =
         subst (λ (made : Made Out). Follows g (Value_of ty.elem quiet d s) s (then_do (part st) (λ v after. Source.Gives (mapped ty (unary_of op) v) after)) made) (sym made_is)
-        (negated_follows (with_reg d) s (Value_of ty.elem quiet d s) d.regs (omega (arith, free)) (fresh_dest ty.elem quiet d s free) st second part does here sim)
+        (negated_follows (with_reg d) s (Value_of ty.elem quiet d s) d.regs (begun_later g alive d (with_reg d) 0 (and_register d) free) (fresh_dest ty.elem quiet d s free) st second part does here sim)
       where
         made_is : (if is_plus op then code d else then_make (fresh_for ty.shape bits d) (λ dest between. then_make (second between) (λ v after. negated (layout g) op dest v after))) ≡ then_make (second (with_reg d)) (λ v after. behind_operand d.regs v after)
         made_is =

@@ -69,7 +69,7 @@ use Rattle.fields_follow.proofs.Instructions.{Puts, extents, operation_below, pu
 use Rattle.fields_follow.proofs.Meaning.{value_in, word_at}
 use Rattle.fields_follow.proofs.Outcomes.{Ended, meant, outcome_follows}
 use Rattle.fields_follow.proofs.Leaving.{Leaves, PassesTests, UpdateLeaves}
-use Rattle.fields_follow.proofs.Passing.{After, Passes, after_same, code_longer, made_after, passes_all}
+use Rattle.fields_follow.proofs.Passing.{fields_longer, After, Passes, after_same, code_longer, made_after, passes_all}
 use Rattle.fields_follow.proofs.PassingTests.{tests_passed}
 use Rattle.fields_follow.proofs.Places.{HoldsTheFields, IsFileField, PlacesFields, names_first, stands_here}
 use Rattle.fields_follow.proofs.Updates.{IsFileTarget, assign_ends, assign_means, assigned_divides, assigned_is, divides_as, divides_never, file_target, promoted_wide, step_means, updated_is}
@@ -80,7 +80,7 @@ use Rattle.fields_follow.proofs.Writing.{TakesBehind, entry_and_below, entry_end
 use Rattle.fields_follow.proofs.Effects.{IsEntryFor, in_place_last, put_last}
 use Rattle.fields_follow.proofs.Expressions.{operand_at}
 use Rattle.code_follows.specs.Fragment.{ScalarsAmong}
-use Rattle.fields_follow.proofs.Starts.{Starts, starts_later}
+use Rattle.fields_follow.proofs.Starts.{starts_entry, Starts, starts_later}
 use Rattle.fields_follow.proofs.Variables.{file_carries}
 use Rattle.paris_code.specs.Spans.{IsNamedAt}
 
@@ -113,7 +113,7 @@ module _ (g : Setting) (has : HasRegisters g) (alive : Variable → Type 0) (n :
           grown = (0 + (p.grown.0 + last.more.0), extended d entered f 0 (p.grown.0 + last.more.0) (and_entry set info.elem.bits (W.File (file_number g.typed k 0)) d) x);
           t = record p.t { at = last.place; memory = written last.takes.write p.t.memory };
           go = onto g s p.t (record p.t { at = last.place; memory = written last.takes.write p.t.memory }) p.go last.go;
-          at = starts_later g alive p.t (record p.t { at = last.place; memory = written last.takes.write p.t.memory }) (length e2.code) e2.regs (length f.code) f.regs longer last.more.1.regs last.at p.at;
+          at = starts_later g alive p.t (record p.t { at = last.place; memory = written last.takes.write p.t.memory }) (length e2.code) e2.regs (length e2.fields) (length f.code) f.regs (length f.fields) longer last.more.1.regs (fields_longer e2 f last.more.0 last.more.1) last.at p.at;
           registers = keeps_less g d entered s p.t (and_entry set info.elem.bits (W.File (file_number g.typed k 0)) d).regs p.registers;
           sim = file_sim g places fields alive set variable p.t st v p.sim refl ends.0 ends.1 last.takes k 0 info is refl file last.place (fields.active set) w (λ q below. refl)
               (λ q below on. same.0 q below (few g places fields alive set variable p.t st v p.sim refl ends.0 ends.1 last.takes q below on)) same.1;
@@ -179,7 +179,7 @@ module _ (g : Setting) (has : HasRegisters g) (alive : Variable → Type 0) (n :
       by (Some x) h = ap (λ (b : Bool). if b then Some mine else None) (within x (h.2, h.3))
 
   assigns : (ty : ValueType) (place : Place) (op : AssignOp) (p q : Boxed) (target value : TExpr) (set : ℕ) → ty ≡ type_of target → IsTarget set target → HasOperation op ty.elem value → IsOperand set value → NamesVariables g.typed g.instance n target → HasItsCode g.typed g.instance alive n value
-      → (d : Draft) (s : CodeState) (st : State) → Starts g alive s (length d.code) d.regs → Sim g alive st s
+      → (d : Draft) (s : CodeState) (st : State) → Starts g alive s (length d.code) d.regs (length d.fields) → Sim g alive st s
       → UpdateLeaves g alive fields (T.Assign' ty place op p target q value) d s st
   unfolding effect_of assignment_effect variable_operated
   assigns ty place op p q target value set same is_target operates is_value names c d s st here sim =
@@ -289,7 +289,7 @@ module _ (g : Setting) (has : HasRegisters g) (alive : Variable → Type 0) (n :
       plain_put : assign_op_of op ≡ None → (type_of value).elem.bits ≡ bits → IsOperand set value → (IsPure set value × IsPlain bits value) ⊎ IsPromoted set value → After g Q (code (assign_op_of op))
       plain_put is known is_operand any =
           after_same g Q (ap code is)
-          (put_last g has alive n ready places fields set (length d.fields) bits value (kind_bits h.info.elem.bits h.info.elem.signed h.info.elem.kind).0 most any c d1 s st here sim Q
+          (put_last g has alive n ready places fields set (length d.fields) bits value (kind_bits h.info.elem.bits h.info.elem.signed h.info.elem.kind).0 most any c d1 s st (starts_entry g alive _ _ here) sim Q
           (λ given e2 i within passes puts. inl (plain_given is given, leaves_value set h.k h.info h.is d s st (λ x. word_at (extents g set) st value x) w (λ x below small. (plain_stored is known is_operand x).0, λ x. (plain_stored is known is_operand x).1) e2 i within passes puts)) (λ early out e. inr (value_ended early)))
 
       truth_put : assign_op_of op ≡ None → IsTruth set bits value → After g Q (code (assign_op_of op))
@@ -297,7 +297,7 @@ module _ (g : Setting) (has : HasRegisters g) (alive : Variable → Type 0) (n :
           let few : (x : ℕ) → number x < 2 ^ bits = λ x. subst (λ (m : ℕ). m < 2 ^ bits) (sym (truth_bit (extents g set) st set bits value x truth)) (bit_below (nonzero (number x))) in
           let stored : (x : ℕ) → w x ≡ number x = λ x. plainly op ty.elem (type_of value).elem (old x) (number x) is in
           after_same g Q (ap code is)
-          (truth_last g has alive n ready places fields set h.k (length d.fields) bits h.info h.is (kind_bits h.info.elem.bits h.info.elem.signed h.info.elem.kind).0 refl d1 s st here sim (entry_for set h.k h.info h.is d s st) Q value truth c
+          (truth_last g has alive n ready places fields set h.k (length d.fields) bits h.info h.is (kind_bits h.info.elem.bits h.info.elem.signed h.info.elem.kind).0 refl d1 s st (starts_entry g alive _ _ here) sim (entry_for set h.k h.info h.is d s st) Q value truth c
           (λ given e2 f2 used within passes wanted last. inl (plain_given is given, leaves set h.k h.info h.is d s st number w (λ x below small. stored x ∙ sym (mod-eq_of_lt (few x)), λ x. subst (λ (m : ℕ). m < 2 ^ bits) (sym (stored x)) (few x)) e2 f2 used within passes wanted last)) (λ early out e. inr (value_ended early)))
 
       pure_put : assign_op_of op ≡ None → (type_of value).elem.bits ≡ bits → IsPure set value → IsTruth set bits value ⊎ IsPlain bits value → After g Q (code (assign_op_of op))
@@ -317,7 +317,7 @@ module _ (g : Setting) (has : HasRegisters g) (alive : Variable → Type 0) (n :
           ∙ updated_is op x h.info.elem (type_of value).elem (old y) (number y) is known.2 known.1
           (operation_below x (assigned_signed x h.info.elem (type_of value).elem) (held h.info.elem (old y)) (number y) known.0.0 (held_below h.info.elem (old y)) (below_word (type_of value).elem.bits _ known.1 (operand_small g alive n places fields set value st s sim is_operand c y))) in
           after_same g Q (ap code is)
-          (in_place_last g has alive n ready places fields set (length d.fields) h.k h.info x signed place value d1 s st h.is (entry_for set h.k h.info h.is d s st) known.0 known.3 is_operand c here sim Q
+          (in_place_last g has alive n ready places fields set (length d.fields) h.k h.info x signed place value d1 s st h.is (entry_for set h.k h.info h.is d s st) known.0 known.3 is_operand c (starts_entry g alive _ _ here) sim Q
           (λ given there never e2 i within passes puts. inl (
             operator_given x (is, (known, is_operand)) given there never,
             leaves_value set h.k h.info h.is d s st (λ y. outcome x 32 (not signed) (held h.info.elem (old y)) (word_at (extents g set) st value y)) w (
@@ -364,7 +364,7 @@ module _ (g : Setting) (has : HasRegisters g) (alive : Variable → Type 0) (n :
       mine = record { shape = Some set; variable = V.File k }
 
   steps : (ty : ValueType) (op : StepOp) (order : StepOrder) (p : Boxed) (target : TExpr) (set : ℕ) → ty ≡ type_of target → IsTarget set target → (ty.elem.bits == 1) ≡ false → NamesVariables g.typed g.instance n target
-      → (d : Draft) (s : CodeState) (st : State) → Starts g alive s (length d.code) d.regs → Sim g alive st s
+      → (d : Draft) (s : CodeState) (st : State) → Starts g alive s (length d.code) d.regs (length d.fields) → Sim g alive st s
       → UpdateLeaves g alive fields (T.Step' ty op order p target) d s st
   unfolding effect_of step_effect variable_stepped word_in step_of
   steps ty op order p target set same is_target no_truth names d s st here sim =
@@ -382,7 +382,7 @@ module _ (g : Setting) (has : HasRegisters g) (alive : Variable → Type 0) (n :
         means.1,
         leaves_value set h.k h.info h.is d s st (λ x. outcome (stepping op) 32 (not signed) (held elem (old x)) 1) w
             (λ x below small. moved x, λ x. subst (λ (m : ℕ). m < 2 ^ elem.bits) (sym (moved x)) (mod_below (given_by x) (2 ^ elem.bits) (pow_pos elem.bits)))
-            d1 i within (passes_all g alive (length d1.fields) d1 s st (Unit {0}) here sim)
+            d1 i within (passes_all g alive (length d1.fields) d1 s st (Unit {0}) (starts_entry g alive _ _ here) sim)
             (puts_operate_constant g elem.bits set (stepping op) signed f f (K.Imm 1) s (λ q. held elem (old q)) (step_known op) (modular_keeps (stepping op) signed elem.bits 1 (step_modular op) (kind_bits elem.bits elem.signed elem.kind).1) refl numbers.0 (omega arith)),
       ))))
     where
@@ -431,7 +431,7 @@ module _ (g : Setting) (has : HasRegisters g) (alive : Variable → Type 0) (n :
       Q out e = ((meant g fields (T.Step' ty op order p target) st ≡ Gives means.0 u) × Leaves g alive d e s u) ⊎ Ended g s (meant g fields (T.Step' ty op order p target) st)
 
   -- an update leaves what it leaves in the source
-  pub updates_leave : (e : TExpr) → IsUpdate e → HasItsCode g.typed g.instance alive n e → (d : Draft) (s : CodeState) (st : State) → Starts g alive s (length d.code) d.regs → Sim g alive st s → UpdateLeaves g alive fields e d s st
+  pub updates_leave : (e : TExpr) → IsUpdate e → HasItsCode g.typed g.instance alive n e → (d : Draft) (s : CodeState) (st : State) → Starts g alive s (length d.code) d.regs (length d.fields) → Sim g alive st s → UpdateLeaves g alive fields e d s st
   unfolding IsUpdate NamesVariables IsShaped IsLowerable ScalarsAmong
   updates_leave (T.Assign' ty place op p target q value) is c =
       assigns ty place op p q target value set_of is.1.0 is.1.1 is.1.2 is.1.3 c.code.names.0 (record { code = record { shaped = c.code.shaped.3; lowerable = c.code.lowerable.3; names = c.code.names.1 }; among = c.among.1 })

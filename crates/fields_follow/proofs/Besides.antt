@@ -39,10 +39,10 @@ use Rattle.fields_follow.proofs.Starts.{Starts}
 use Rattle.fields_follow.proofs.ScalarOperating.{changing_leaves}
 
 module _ (g : Setting) (scope : Scope) (active : Active) (known : KnowsFields g scope active) (has : HasRegisters g) where
-  module _ (alive : Variable → Type 0) (n : ℕ) (ready : (d : Draft) → IsReadyButForFields g.typed g.instance (layout g) n d) (e : TExpr) (c : HasItsCode g.typed g.instance alive n e) (d : Draft) (s : CodeState) (st : State) (begun : Begun g d) (at_place : At g s (length d.code)) (files : (k : ℕ) → alive (V.File k)) (sim : Sim g alive st s) where
+  module _ (alive : Variable → Type 0) (n : ℕ) (ready : (d : Draft) → IsReadyButForFields g.typed g.instance (layout g) n d) (e : TExpr) (c : HasItsCode g.typed g.instance alive n e) (d : Draft) (s : CodeState) (st : State) (begun : Begun g alive d) (at_place : At g s (length d.code)) (files : (k : ℕ) → alive (V.File k)) (sim : Sim g alive st s) where
     -- the code starts there
-    here : Starts (under g active) alive s (length d.code) d.regs
-    here = record { stands = at_place; free = begun.regs; low = begun.code; files = files }
+    here : Starts (under g active) alive s (length d.code) d.regs (length d.fields)
+    here = record { stands = at_place; free = begun.regs; low = begun.code; files = files; opened = begun.opened }
 
     -- what is kept of the memory lasts over code behind the draft
     kept_behind : (f : Draft) (t : CodeState) → Within g f → Reaches (under g active) s t → StaysNamed g (length d.code) (length d.fields) (length f.code) s.memory t.memory → known.kept t.memory
@@ -104,7 +104,7 @@ module _ (g : Setting) (scope : Scope) (active : Active) (known : KnowsFields g 
             grown = p.grown;
             t = p.t;
             go = reaches_again g active p.go;
-            at = starts_again g active alive p.t (length given.middle.code) given.middle.regs p.at;
+            at = starts_again g active alive p.t (length given.middle.code) given.middle.regs (length given.middle.fields) p.at;
             registers = keeps_again g active d s p.t p.registers;
             sim = sim_close g scope active known alive st p.t p.sim (kept_behind f p.t within p.go (λ h first last q inside own ends before early after late. p.stays tt h first last q inside own ends before early after (omega (arith, late, longer))));
             stays = p.stays;

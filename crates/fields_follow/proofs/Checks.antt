@@ -10,9 +10,9 @@ use Rattle.paris_code.specs.Code.{CodeState, Goes, step}
 use Rattle.source_meaning.specs.State as Source
 use Rattle.source_meaning.specs.State.{State}
 use Rattle.code_follows.proofs.Besides.{sim_saying}
-use Rattle.code_follows.proofs.Following.{Finishes, finishes_later, OpenAmong}
+use Rattle.code_follows.proofs.Following.{Finishes, finishes_later}
 use Rattle.code_follows.proofs.Growing.{extended}
-use Rattle.code_follows.proofs.Settings.{Setting, and_one, at_next, code_more, ends_now, one, onto}
+use Rattle.code_follows.proofs.Settings.{OpenAmong, Setting, and_one, at_next, code_more, ends_now, one, onto}
 use Rattle.fields_follow.proofs.Passing.{Passes}
 use Rattle.fields_follow.proofs.Starts.{starts_next}
 

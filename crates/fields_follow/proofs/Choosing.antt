@@ -47,7 +47,7 @@ use Rattle.fields_follow.proofs.Places.{HoldsTheFields, IsOwnField, PlacesFields
 use Rattle.fields_follow.proofs.Pure.{choice_means, choice_so}
 use Rattle.fields_follow.proofs.Relations.{kind_some, relation_most}
 use Rattle.fields_follow.proofs.Sizes.{choice_parts, pure_at}
-use Rattle.fields_follow.proofs.Starts.{Starts, starts_next}
+use Rattle.fields_follow.proofs.Starts.{starts_entry, Starts, starts_next}
 use Rattle.fields_follow.proofs.TestFlags.{Tells, numbers_tell}
 use Rattle.fields_follow.proofs.Truths.{Stays, field_lasts, fields_sim, whole_sim}
 use Rattle.fields_follow.proofs.Values.{Gives, IsFlag, and_entry, next_field, one_more, operand_after, operand_of, taken, with_entry}
@@ -178,7 +178,7 @@ module _ (g : Setting) (has : HasRegisters g) (alive : Variable → Type 0) (n :
 
     -- ---- what it does
 
-    module _ (d : Draft) (s : CodeState) (st : State) (here : Starts g alive s (length d.code) d.regs) (sim : Sim g alive st s) where
+    module _ (d : Draft) (s : CodeState) (st : State) (here : Starts g alive s (length d.code) d.regs (length d.fields)) (sim : Sim g alive st s) where
       abbrev taken_field : Draft
       taken_field = with_entry set bits W.Own d
 
@@ -250,7 +250,7 @@ module _ (g : Setting) (has : HasRegisters g) (alive : Variable → Type 0) (n :
         stored_sim : Sim g alive st stored.t
         stored_sim = whole_sim g alive places fields st stored.t stored.sim
 
-        stored_here : Starts g alive stored.t (length saves.code) saves.regs
+        stored_here : Starts g alive stored.t (length saves.code) saves.regs (length saves.fields)
         stored_here = starts_next g alive (I.StoreContext saved) e t stored.t stored.at gives.passes.at
 
         stored_stays : (h : Field) (one last x : ℕ) → (h.offset ≡ saved.offset → ⊥) → IsOwnField g h → IsNamedAt g.unit h.offset one → one < length e.code → IsNamedAt g.unit h.offset last → length e.code < last → number_in g h stored.t x ≡ number_in g h t x
@@ -449,7 +449,7 @@ module _ (g : Setting) (has : HasRegisters g) (alive : Variable → Type 0) (n :
           known_follows g s (meant g fields whole st) (number set whole st) st (Answers g has alive n ready places fields (IsFlag whole) bits (length d.fields) d s set st (words whole)) (value_of g.typed (layout g) bits whole d)
           (after_same g Q (choice_code d)
           (then_known g s (meant g fields test st) v st (Gives g has alive n ready places fields (IsFlag test) known (length begun.fields) begun s set st (words test)) Q (tested begun) (λ x e. behind f saved x e)
-          (operand_after g has alive n ready places fields known set test (is_quiet first) kinded.0 parts.0.code.names test_valued begun s st here sim) (λ x e. behind_grows f saved x e)
+          (operand_after g has alive n ready places fields known set test (is_quiet first) kinded.0 parts.0.code.names test_valued begun s st (starts_entry g alive _ _ (starts_entry g alive _ _ here)) sim) (λ x e. behind_grows f saved x e)
           (λ is_meant x e (a, (is_a, (gives, apart))).
           after_same g Q (ap (λ (o : Out). behind f saved o e) is_a ∙ behind_is f saved a e ∙ ap (λ (m : ℕ). halves f saved m a (with_instr (I.StoreContext saved) e)) (gives_set g alive places fields known (length begun.fields) begun s set st (words test) a e gives).0)
           (chosen is_meant first_valued second_valued a e gives))

@@ -242,7 +242,7 @@ module _ (g : Setting) (places : PlacesFields g) (fields : HoldsTheFields g) (al
       grown = (0 + (passes.grown.0 + 2), extended d taken_first own_behind 0 (passes.grown.0 + 2) (and_entry set bits W.Own d) whole);
       t = record two.passes.t { at = takes.place; memory = written takes.takes.write two.passes.t.memory };
       go = onto g s two.passes.t (record two.passes.t { at = takes.place; memory = written takes.takes.write two.passes.t.memory }) passes.go takes.go;
-      at = starts_later g alive two.passes.t (record two.passes.t { at = takes.place; memory = written takes.takes.write two.passes.t.memory }) (length e2.code) e2.regs (length own_behind.code) own_behind.regs (omega (arith, long, behind_long)) (joined_more g is_or set (length d.fields) bits a b e2).regs takes.at two.passes.at;
+      at = starts_later g alive two.passes.t (record two.passes.t { at = takes.place; memory = written takes.takes.write two.passes.t.memory }) (length e2.code) e2.regs (length e2.fields) (length own_behind.code) own_behind.regs (length own_behind.fields) (omega (arith, long, behind_long)) (joined_more g is_or set (length d.fields) bits a b e2).regs (fields_longer e2 own_behind 2 (joined_more g is_or set (length d.fields) bits a b e2)) takes.at two.passes.at;
       registers = keeps_less g d taken_first s two.passes.t (and_entry set bits W.Own d).regs passes.registers;
       sim = own_sim g places fields alive set dest two.passes.t st joins_to two.passes.sim refl ends.0 ends.1 takes.takes takes.place own;
       stays = λ again h first last q below is_own ends_below before low after high.

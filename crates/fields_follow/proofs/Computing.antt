@@ -37,7 +37,7 @@ use Rattle.source_meaning.proofs.ConstantLaws.{Boxed}
 use Rattle.code_follows.proofs.Following.{Extends, Follows, HasRegisters, Sim, follows_same, held}
 use Rattle.code_follows.proofs.Settings.{Setting, and_one, layout}
 use Rattle.fields_follow.specs.Fragment.{ArePure, HasItsKind, HasKnownKind, IsNarrowed, IsOperation, IsPure, IsRelation, IsWide}
-use Rattle.fields_follow.proofs.Starts.{Starts}
+use Rattle.fields_follow.proofs.Starts.{starts_entry, Starts}
 use Rattle.fields_follow.proofs.Choosing.{choice_valued}
 use Rattle.fields_follow.proofs.Clearing.{joined_more}
 use Rattle.fields_follow.proofs.ConditionCode.{Bit, Truth, bit_not_value, joined_value, operand_at, put_in, relation_value, word_not_value}
@@ -93,7 +93,7 @@ module _ (g : Setting) (has : HasRegisters g) (alive : Variable → Type 0) (n :
   relation_valued bits set ty place op p q left right shaped related truth d s st here sim =
       follows_same g (Given g (number set whole st) st (Gave bits set whole d s st)) s refl (relation_value g set bits ty place op p q left right d shaped related (relates_plainly op related))
       (tests_put g has alive n ready places fields set whole d s st (λ x. is_truth op 32 (not (type_of left).elem.signed) (value_in (extents g set) st left x) (value_in (extents g set) st right x) related) whole (λ x below. refl) (itself set whole s st) bits
-      (truth_of g.typed (layout g) whole (with_entry set bits W.Own d)) (truth (with_entry set bits W.Own d) s st here sim))
+      (truth_of g.typed (layout g) whole (with_entry set bits W.Own d)) (truth (with_entry set bits W.Own d) s st (starts_entry g alive _ _ here) sim))
     where
       whole : TExpr
       whole = T.Binary' ty place op p left q right
@@ -109,14 +109,14 @@ module _ (g : Setting) (has : HasRegisters g) (alive : Variable → Type 0) (n :
       tests no_bit d s st here sim =
           follows_same g (Given g (number set whole st) st (Gave bits set whole d s st)) s refl (word_not_value g set bits ty p inner d shaped (pure_kept set inner kinded.0) no_bit)
           (tests_put g has alive n ready places fields set whole d s st (λ x. truth_is _) whole (λ x below. refl) (itself set whole s st) bits (zero_tested (operand_at g (bits_of (kind_of inner)) inner) (with_entry set bits W.Own d))
-          (not_truth g has alive n ready places fields set ty p inner shaped kinded c done (with_entry set bits W.Own d) s st here sim))
+          (not_truth g has alive n ready places fields set ty p inner shaped kinded c done (with_entry set bits W.Own d) s st (starts_entry g alive _ _ here) sim))
 
       turns : (bits_of (kind_of inner) == 1) ≡ true → Valued_at 1 set whole
       turns bit d s st here sim =
           follows_same g (Given g (number set whole st) st (Gave 1 set whole d s st)) s refl (bit_not_value g set ty p inner d shaped (pure_kept set inner kinded.0) bit)
           (turned_put g has alive n ready places fields set whole d s st (λ x. truth_is _) inner
           (record { gives = λ given. unary_means fields.scope fields.active set ty U.Not p inner (number set inner st) st shaped given; ends = λ early. unary_ended g has alive n ready places fields ty U.Not p inner s st early })
-          (λ q. refl) (operand_at g 1 inner (with_entry set 1 W.Own d)) (kinded_bit g has alive n ready places fields set inner kinded bit c (done.value 1 (omega arith) (omega arith)) (with_entry set 1 W.Own d) s st here sim))
+          (λ q. refl) (operand_at g 1 inner (with_entry set 1 W.Own d)) (kinded_bit g has alive n ready places fields set inner kinded bit c (done.value 1 (omega arith) (omega arith)) (with_entry set 1 W.Own d) s st (starts_entry g alive _ _ here) sim))
 
       by : (a b : Bool) → (bits == 1) ≡ a → (bits_of (kind_of inner) == 1) ≡ b → Valued_at bits set whole
       by true true one bit = subst (λ (k : ℕ). Valued_at k set whole) (sym (eqb-true bits 1 one)) (turns bit)
@@ -127,13 +127,13 @@ module _ (g : Setting) (has : HasRegisters g) (alive : Variable → Type 0) (n :
   logical_valued : (is_or : Bool) (bits set : ℕ) (ty : ValueType) (whole left right : TExpr) → 0 < bits → ty.shape ≡ Some set → HasItsKind set left → HasItsKind set right → ignores_context right ≡ true → HaveTheirCode g.typed g.instance alive n left right → Done set left → Done set right
       → ((st : State) (q : ℕ) → from_bool (either_or_both is_or (nonzero (value_in (extents g set) st left q)) (nonzero (value_in (extents g set) st right q))) ≡ value_in (extents g set) st whole q)
       → ((st : State) → IsGiven g has alive n ready places fields set left st → set < length (shapes g) → IsGiven g has alive n ready places fields set whole st) → ((s : CodeState) (st : State) → Ended g s (meant g fields left st) → Ended g s (meant g fields whole st))
-      → (d : Draft) (s : CodeState) (st : State) → Starts g alive s (length d.code) d.regs → Sim g alive st s
+      → (d : Draft) (s : CodeState) (st : State) → Starts g alive s (length d.code) d.regs (length d.fields) → Sim g alive st s
       → Follows g (Given g (number set whole st) st (Gave bits set whole d s st)) s (meant g fields whole st) (logical_by is_or ty.shape bits (condition_of g.typed (layout g) left) (condition_of g.typed (layout g) right) d)
   unfolding joined cleared first_bits condition_by Extends
   logical_valued is_or bits set ty whole left right some shaped is also free codes one two same means ends d s st here sim =
       known_follows g s (meant g fields whole st) (number set whole st) st (Gave bits set whole d s st) (logical_by is_or ty.shape bits (condition_of g.typed (layout g) left) (condition_of g.typed (layout g) right) d)
       (after_same g (Q bits) (joined_value g is_or set bits ty.shape (condition_of g.typed (layout g) left) (condition_of g.typed (layout g) right) d shaped (conditions_join set left right is.0 also.0 free))
-      (flags_after g has alive n ready places fields set left right is also free codes one two (with_entry set bits W.Own d) s st here sim (Q bits) (λ f h e. joined is_or (next_field set bits d) f h e) (λ f h e. grows f h e (bits == 1))
+      (flags_after g has alive n ready places fields set left right is also free codes one two (with_entry set bits W.Own d) s st (starts_entry g alive _ _ here) sim (Q bits) (λ f h e. joined is_or (next_field set bits d) f h e) (λ f h e. grows f h e (bits == 1))
       (λ is_left exists f h e1 e2 a b. last (means st is_left exists) f h e1 e2 a b) (λ early x e. inr (ends s st early))))
     where
       Q : ℕ → Out → Draft → Type 0
@@ -192,7 +192,7 @@ module _ (g : Setting) (has : HasRegisters g) (alive : Variable → Type 0) (n :
       (tests_put g has alive n ready places fields set whole d s st (λ x. bool_bit ty.elem (type_of inner).elem (value_in (extents g set) st inner x) one) inner
       (λ x below. bool_nonzero ty.elem (type_of inner).elem (value_in (extents g set) st inner x) one (value_small g alive n places fields set inner st s sim kinded.0 c x))
       (record { gives = λ given. convert_means g has alive n ready places fields set ty p inner st shaped given; ends = λ early. convert_ended g has alive n ready places fields ty p inner s st early }) bits (tested g.typed (layout g) inner (with_entry set bits W.Own d))
-      (done.tests kinded.1 (with_entry set bits W.Own d) s st here sim))
+      (done.tests kinded.1 (with_entry set bits W.Own d) s st (starts_entry g alive _ _ here) sim))
     where
       whole : TExpr
       whole = T.Convert' ty p inner
@@ -303,7 +303,7 @@ module _ (g : Setting) (has : HasRegisters g) (alive : Variable → Type 0) (n :
   pure_after bits set e some most is c = (done g has alive n ready places fields set e is c).value bits some most
 
   -- an operand of 32 bits has its numbers
-  pub whole_after : (bits set : ℕ) (e : TExpr) (quiet : Bool) → 0 < bits → bits ≤ 32 → IsPure set e → IsWide set (type_of e) → HasItsCode g.typed g.instance alive n e → (d : Draft) (s : CodeState) (st : State) → Starts g alive s (length d.code) d.regs → Sim g alive st s
+  pub whole_after : (bits set : ℕ) (e : TExpr) (quiet : Bool) → 0 < bits → bits ≤ 32 → IsPure set e → IsWide set (type_of e) → HasItsCode g.typed g.instance alive n e → (d : Draft) (s : CodeState) (st : State) → Starts g alive s (length d.code) d.regs (length d.fields) → Sim g alive st s
       → Follows g (Given g (λ q. value_in (extents g set) st e q) st (λ out f. (h : Field) × ((out ≡ O.Field h) × GivesField g alive bits (length d.fields) d s set st (λ q. value_in (extents g set) st e q) h f))) s (meant g fields e st) (operand g has alive n ready places fields bits quiet e d)
   whole_after bits set e quiet some most pure wide c d s st here sim =
       given_weaker g s (meant g fields e st) (λ q. value_in (extents g set) st e q) st (Gave g has alive n ready places fields bits set e d s st) (λ out f. (h : Field) × ((out ≡ O.Field h) × GivesField g alive bits (length d.fields) d s set st (λ q. value_in (extents g set) st e q) h f)) (operand g has alive n ready places fields bits quiet e d)
@@ -311,17 +311,17 @@ module _ (g : Setting) (has : HasRegisters g) (alive : Variable → Type 0) (n :
       (operand_after g has alive n ready places fields bits set e quiet pure c.code.names (pure_after bits set e some most pure c) d s st here sim)
 
   -- the code of the test of a value
-  pub condition_tested : (set : ℕ) (e : TExpr) → HasItsKind set e → HasItsCode g.typed g.instance alive n e → (d : Draft) (s : CodeState) (st : State) → Starts g alive s (length d.code) d.regs → Sim g alive st s
+  pub condition_tested : (set : ℕ) (e : TExpr) → HasItsKind set e → HasItsCode g.typed g.instance alive n e → (d : Draft) (s : CodeState) (st : State) → Starts g alive s (length d.code) d.regs (length d.fields) → Sim g alive st s
       → Follows g (Given g (λ q. value_in (extents g set) st e q) st (λ _ f. LeavesTests g alive fields d s set st (λ q. value_in (extents g set) st e q) f)) s (meant g fields e st) (tested g.typed (layout g) e d)
   condition_tested set e is c = (done g has alive n ready places fields set e is.0 c).tests is.1
 
   -- one of one bit gives it to the next instruction
-  pub condition_bit : (set : ℕ) (e : TExpr) → HasItsKind set e → (bits_of (kind_of e) == 1) ≡ true → HasItsCode g.typed g.instance alive n e → (d : Draft) (s : CodeState) (st : State) → Starts g alive s (length d.code) d.regs → Sim g alive st s
+  pub condition_bit : (set : ℕ) (e : TExpr) → HasItsKind set e → (bits_of (kind_of e) == 1) ≡ true → HasItsCode g.typed g.instance alive n e → (d : Draft) (s : CodeState) (st : State) → Starts g alive s (length d.code) d.regs (length d.fields) → Sim g alive st s
       → Follows g (Given g (λ q. value_in (extents g set) st e q) st (Bit g alive places fields d s set st (λ q. value_in (extents g set) st e q))) s (meant g fields e st) (next_of g.typed (layout g) 1 true e d)
   condition_bit set e is one c = kinded_bit g has alive n ready places fields set e is one c ((done g has alive n ready places fields set e is.0 c).value 1 (omega arith) (omega arith))
 
   -- what comes behind two that are put in fields of one bit
-  pub both_flagged : (set : ℕ) (left right : TExpr) → HasItsKind set left → HasItsKind set right → ignores_context right ≡ true → HaveTheirCode g.typed g.instance alive n left right → (d : Draft) (s : CodeState) (st : State) → Starts g alive s (length d.code) d.regs → Sim g alive st s
+  pub both_flagged : (set : ℕ) (left right : TExpr) → HasItsKind set left → HasItsKind set right → ignores_context right ≡ true → HaveTheirCode g.typed g.instance alive n left right → (d : Draft) (s : CodeState) (st : State) → Starts g alive s (length d.code) d.regs (length d.fields) → Sim g alive st s
       → (Q : Out → Draft → Type 0) (last : Field → Field → Draft → Made Out) → ((f h : Field) (e : Draft) → Extends g e (last f h e))
       → (IsGiven g has alive n ready places fields set left st → set < length (shapes g) → (f h : Field) (e1 e2 : Draft) (one : Truth g alive places fields d s set st (λ q. value_in (extents g set) st left q) f e1) → Truth g alive places fields e1 one.passes.t set st (λ q. value_in (extents g set) st right q) h e2 → After g Q (last f h e2))
       → (Ended g s (meant g fields left st) → (x : Out) (e : Draft) → Q x e)

@@ -152,7 +152,7 @@ module _ (g : Setting) where
 
   module _ (has : HasRegisters g) (alive : Variable → Type 0) (n : ℕ) (ready : (d : Draft) → IsReadyButForFields g.typed g.instance (layout g) n d) (places : PlacesFields g) (fields : HoldsTheFields g) where
     -- What is said where a truth value goes to a variable of the file, behind code of conditions, is said of its code.
-    module _ (set k offset bits : ℕ) (info : VarInfo) (is_element : IsElement g.typed k info set 0) (some : 0 < bits) (word : info.elem.bits ≡ bits) (d : Draft) (s : CodeState) (st : State) (here : Starts g alive s (length d.code) d.regs) (sim : Sim g alive st s)
+    module _ (set k offset bits : ℕ) (info : VarInfo) (is_element : IsElement g.typed k info set 0) (some : 0 < bits) (word : info.elem.bits ≡ bits) (d : Draft) (s : CodeState) (st : State) (here : Starts g alive s (length d.code) d.regs (length d.fields)) (sim : Sim g alive st s)
         (entry : (f : Draft) (m : ℕ) → Extended d m f → Within g f → IsFileField g k 0 (field_at set offset bits)) (Q : Out → Draft → Type 0) where
       abbrev f : Field
       f = field_at set offset bits

@@ -74,7 +74,7 @@ use Rattle.cstar_base.proofs.NumberLaws.{kind_bits}
 use Rattle.std.proofs.lemmas.Bool.{eqb-true}
 use Rattle.std.proofs.lemmas.Bool.Decides.{nat_tests}
 use Rattle.std.specs.Prelude.{nat_le}
-use Rattle.fields_follow.proofs.Starts.{Starts}
+use Rattle.fields_follow.proofs.Starts.{starts_entry, Starts}
 use Rattle.fields_follow.proofs.Variables.{file_carries}
 use Rattle.paris_code.specs.Spans.{IsNamedAt}
 
@@ -115,7 +115,7 @@ module _ (g : Setting) (has : HasRegisters g) (alive : Variable → Type 0) (n :
       let named : IsNamedAt g.unit source.offset (length d2.code) = names_second g i f source [] (length d2.code) (stands_here g i d2 within refl) refl in
       let behind : s.at ≤ start g + length d2.code = (let at = here.stands in omega (arith, at)) in
       let numbers = variable_has g has alive n ready places fields set (V.File k) info source s st (file_carries g alive places fields set k info source is file refl refl) (length d2.code) named behind sim in
-      last (ap (λ (x : Value). Source.Gives x st) (read_is fields.scope fields.active ty set (V.File k) st shaped)) d2 i within (passes_from g alive (length d.fields) d d2 d2 s st (Unit {0}) (and_entry set info.elem.bits owner d) (passes_all g alive (length d.fields) d2 s st (Unit {0}) here sim))
+      last (ap (λ (x : Value). Source.Gives x st) (read_is fields.scope fields.active ty set (V.File k) st shaped)) d2 i within (passes_from g alive (length d.fields) d d2 d2 s st (Unit {0}) (and_entry set info.elem.bits owner d) (passes_all g alive (length d.fields) d2 s st (Unit {0}) (starts_entry g alive _ _ here) sim))
       (puts_extended g info.elem set f source s (λ q. held info.elem (st.parallel (V.File k) 0 q)) most (λ q below on. numbers.1 q below) numbers.0)))
 
   -- what is put for one expression is put for another with the same words
@@ -334,7 +334,7 @@ module _ (g : Setting) (has : HasRegisters g) (alive : Variable → Type 0) (n :
   IsEntryFor k f d = (e : Draft) (m : ℕ) → Extended d m e → Within g e → IsFileField g k 0 f
 
   pub in_place_last : (set offset k : ℕ) (info : VarInfo) (op : Op) (signed : Bool) (place : Place) (value : TExpr) (d : Draft) (s : CodeState) (st : State) → IsElement g.typed k info set 0 → IsEntryFor k (field_at set offset info.elem.bits) d
-      → IsOperation op value → operation_bits info.elem.bits op value ≡ info.elem.bits → IsOperand set value → HasItsCode g.typed g.instance alive n value → Starts g alive s (length d.code) d.regs → Sim g alive st s → (Q : Out → Draft → Type 0)
+      → IsOperation op value → operation_bits info.elem.bits op value ≡ info.elem.bits → IsOperand set value → HasItsCode g.typed g.instance alive n value → Starts g alive s (length d.code) d.regs (length d.fields) → Sim g alive st s → (Q : Out → Draft → Type 0)
       → (IsGiven set value st → set < length (shapes g) → (divides op ≡ true → zero_at g fields set (words_of set value st) ≡ None) → (e2 : Draft) (i : Instr) → Within g (with_instr i e2) → (p : Passes g alive (length d.fields) d e2 s st (Unit {0})) → Puts g set i (field_at set offset info.elem.bits) p.t (λ q. outcome op 32 (not signed) (held info.elem (st.parallel (V.File k) 0 q)) (words_of set value st q)) → Q (O.Field (field_at set offset info.elem.bits)) (with_instr i e2))
       → (Ended g s (meant g fields value st) → (x : Out) (after : Draft) → Q x after)
       → (IsGiven set value st → set < length (shapes g) → divides op ≡ true → (q : ℕ) → zero_at g fields set (words_of set value st) ≡ Some q → Finishes g (Source.Fault DivZero place (Some q)) st s → (x : Out) (after : Draft) → Q x after)
@@ -343,7 +343,7 @@ module _ (g : Setting) (has : HasRegisters g) (alive : Variable → Type 0) (n :
   in_place_last set offset k info op signed place value d s st is entry known works isin c here sim Q last ended fault =
       then_after g (GivesField g alive bits (length d1.fields) d1 s set st v) Q (Makes f d1) (λ a begun. then_make (right_by (operand bits true value) op value begun) (λ right after. right_operated op signed place f a right spare after))
       (made_after g (GivesField g alive bits (length d1.fields) d1 s set st v) f d1 (λ within. record {
-        passes = passes_all g alive (length d1.fields) d1 s st (Behind g f d1) here sim;
+        passes = passes_all g alive (length d1.fields) d1 s st (Behind g f d1) (starts_entry g alive _ _ here) sim;
         stands = inr (record { x = V.File k; info = info; carries = file_carries g alive places fields set k info f is (entry d1 0 (and_entry set bits W.Own d) within) refl refl; len = refl; fits = omega arith; same = λ q below. (refl, held_below info.elem (st.parallel (V.File k) 0 q)) });
       }))
       (λ a begun. extends_then g begun (right_by (operand bits true value) op value begun) (λ right after. right_operated op signed place f a right spare after) (right_extends g (operand bits true value) op value (λ after. operand_grows g has alive n ready places fields bits value c true after) begun) (λ right after. operated_extends g op signed place f a spare right after known.0))

@@ -42,6 +42,7 @@ use Rattle.fields_follow.proofs.Places.{IsOwnField}
 use Rattle.fields_follow.proofs.TestFlags.{LeavesTests}
 use Rattle.fields_follow.proofs.Computing.{condition_tested}
 use Rattle.fields_follow.proofs.Values.{and_entry, next_field, one_more, taken, with_entry}
+use Rattle.fields_follow.proofs.Starts.{Starts, starts_entry}
 
 -- code that is made where it grows
 grown_made : {A : Type 0} (d : Draft) (n : ℕ) (P : A → Type 0) (made : Made A) → GrowsOr ⊥ d n P made → (x : A) × ((e : Draft) × ((made ≡ Makes x e) × ((k : ℕ) × Extended d k e)))
@@ -110,7 +111,7 @@ module _ (g : Setting) (shape : ℕ) (d : Draft) (test : TExpr) where
     pub code_more_by : length d.code ≤ length after.code
     code_more_by = code_longer (for_test shape d) after made.1.1.1.0 longer
 
-    module _ (scope : Scope) (active : Active) (known : KnowsFields g scope active) (alive : Variable → Type 0) (begun : Begun g d) (s : CodeState) (st : State) where
+    module _ (scope : Scope) (active : Active) (known : KnowsFields g scope active) (alive : Variable → Type 0) (begun : Begun g alive d) (s : CodeState) (st : State) where
       -- what is kept, and the test flags
       abbrev Tested : (BitMemory → Type 0) → BitMemory → Type 0
       Tested kept m = kept m × TestsAre g shape active (λ q. value_in (extents g shape) st test q) m
@@ -125,10 +126,11 @@ module _ (g : Setting) (shape : ℕ) (d : Draft) (test : TExpr) where
       pub condition_runs : (has : HasRegisters g) (n : ℕ) (ready : (d : Draft) → IsReadyButForFields g.typed g.instance (layout g) n d) → IsCondition shape test → HasItsCode g.typed g.instance alive n test → ((k : ℕ) → alive (V.File k)) → At g s (length d.code) → Sim g alive st s → Within g after → HasRun ⊎ Ended g s (evaluated scope test active st)
       unfolding After
       condition_runs has n ready condition c files at sim w =
+          let here : Starts (under g active) alive s (length d.code) d.regs (length d.fields) = record { stands = at; free = begun.regs; low = begun.code; files = files; opened = begun.opened } in
           by
           (subst (λ (m : Made (Unit {0})). After (under g active) (Known (under g active) s (evaluated scope test active st) v st R) m) made.1.1.0
           (follows_known (under g active) s (evaluated scope test active st) v st R (tested g.typed (layout g) test (for_test shape d))
-          (condition_tested (under g active) (registers_under g active has) alive n ready (places_under g active known.places) (fields_under g active scope known.same_extents) shape test condition c (for_test shape d) s st (record { stands = at; free = begun.regs; low = begun.code; files = files }) (sim_open g scope active known alive st s sim)))
+          (condition_tested (under g active) (registers_under g active has) alive n ready (places_under g active known.places) (fields_under g active scope known.same_extents) shape test condition c (for_test shape d) s st (starts_entry (under g active) alive _ _ (starts_entry (under g active) alive _ _ here)) (sim_open g scope active known alive st s sim)))
           (within_under g active w))
         where
           v : ℕ → ℕ

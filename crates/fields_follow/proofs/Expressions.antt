@@ -68,7 +68,7 @@ use Rattle.cstar_base.specs.Numbers.{converted}
 use Rattle.cstar_base.proofs.NumberLaws.{kind_bits}
 use Rattle.std.specs.Prelude.{nat_lt, unwrap_or}
 use Rattle.std.proofs.lemmas.Bool.Decides.{nat_tests}
-use Rattle.fields_follow.proofs.Starts.{Starts}
+use Rattle.fields_follow.proofs.Starts.{starts_entry, Starts}
 
 -- the operands of an operator have the same bits and signs as their types say
 pub wide_operands : (bits : ℕ) (op : Op) (left right : TExpr) → relates op ≡ false → operand_bits bits op left right ≡ operation_bits bits op right
@@ -178,7 +178,7 @@ module _ (g : Setting) (has : HasRegisters g) (alive : Variable → Type 0) (n :
   pub from_operand : (bits set : ℕ) (inner : TExpr) (dest : Field) (i : Field → Instr) (next : Out → Draft → Made Out) (bound : ℕ) (d : Draft) (s : CodeState) (st : State) (w : ℕ → ℕ) → ((a : Field) → step_of (i a) ≡ Plain (i a)) → ((a : Field) → fields_of (i a) ≡ dest ∷ a ∷ [])
       → ((x : Out) (after : Draft) → Extends g after (next x after)) → ((a : Field) (after : Draft) → next (O.Field a) after ≡ Makes (O.Field dest) (with_instr (i a) after))
       → ((a : Field) (t : CodeState) → HasNumbers g bits set a t (λ q. word_at (extents g set) st inner q) → Sim g alive st t → Puts g set (i a) dest t w)
-      → IsPure set inner → HasItsCode g.typed g.instance alive n inner → IsValued bits set inner → bound ≤ length d.fields → Starts g alive s (length d.code) d.regs → Sim g alive st s → (Q : Out → Draft → Type 0)
+      → IsPure set inner → HasItsCode g.typed g.instance alive n inner → IsValued bits set inner → bound ≤ length d.fields → Starts g alive s (length d.code) d.regs (length d.fields) → Sim g alive st s → (Q : Out → Draft → Type 0)
       → (IsMeant set inner st → (e1 : Draft) (i : Instr) → Within g (with_instr i e1) → (p : Passes g alive bound d e1 s st (Unit {0})) → Puts g set i dest p.t w → Q (O.Field dest) (with_instr i e1)) → (Ended g s (meant g fields inner st) → (x : Out) (f : Draft) → Q x f)
       → After g Q (then_make (operand bits true inner d) (λ v after. next v after))
   unfolding step_of
@@ -207,7 +207,7 @@ module _ (g : Setting) (has : HasRegisters g) (alive : Variable → Type 0) (n :
   unary_ended ty op p inner s st early = ended_on g s (meant g fields inner st) (λ v after. Source.Gives (mapped ty (unary_of op) v) after) early
 
   pub negated_after : (bits set : ℕ) (ty : ValueType) (op : UnaryOp) (p : Boxed) (dest : Field) (inner : TExpr) (bound : ℕ) (d : Draft) (s : CodeState) (st : State) → ty.shape ≡ Some set → bits ≤ 32 → IsSign op → dest.len ≡ bits → IsPure set inner → IsWide set (type_of inner) → HasItsCode g.typed g.instance alive n inner → IsValued bits set inner
-      → bound ≤ length d.fields → Starts g alive s (length d.code) d.regs → Sim g alive st s → (Q : Out → Draft → Type 0)
+      → bound ≤ length d.fields → Starts g alive s (length d.code) d.regs (length d.fields) → Sim g alive st s → (Q : Out → Draft → Type 0)
       → (IsMeant set (T.Unary' ty op p inner) st → (e1 : Draft) (i : Instr) → Within g (with_instr i e1) → (p : Passes g alive bound d e1 s st (Unit {0})) → Puts g set i dest p.t (λ q. unary_of op (value_in (extents g set) st inner q)) → Q (O.Field dest) (with_instr i e1))
       → (Ended g s (meant g fields (T.Unary' ty op p inner) st) → (x : Out) (f : Draft) → Q x f)
       → After g Q (then_make (operand bits true inner d) (λ v after. negated (layout g) op (O.Field dest) v after))
@@ -259,7 +259,7 @@ module _ (g : Setting) (has : HasRegisters g) (alive : Variable → Type 0) (n :
       ∙ ap (λ (b : Bool). if b then code bits inner d else then_make (fresh_for ty.shape bits d) (λ dest between. then_make (operand_by g.typed (layout g) (unary_bits bits op inner) (value_of g.typed (layout g) (unary_bits bits op inner) inner) true inner between) (λ x after. negated (layout g) op dest x after))) sign.0
       ∙ ap (λ (b : Bool). then_make (fresh_for ty.shape bits d) (λ dest between. then_make (operand_by g.typed (layout g) (if b then bits_of (kind_of inner) else bits) (value_of g.typed (layout g) (if b then bits_of (kind_of inner) else bits) inner) true inner between) (λ x after. negated (layout g) op dest x after))) sign.1
       ∙ ap (λ (o : Option ℕ). then_make (fresh_for o bits d) (λ dest between. then_make (operand bits true inner between) (λ x after. negated (layout g) op dest x after))) is.0.0)
-      (negated_after bits set ty op p (next_field set bits d) inner (length d.fields) (with_entry set bits W.Own d) s st is.0.0 most sign refl is.2 wide (unary_part g alive n places fields ty op p inner c) whole (let one = one_more set bits W.Own d in omega (arith, one)) here sim (Knows bits d s set st (T.Unary' ty op p inner))
+      (negated_after bits set ty op p (next_field set bits d) inner (length d.fields) (with_entry set bits W.Own d) s st is.0.0 most sign refl is.2 wide (unary_part g alive n places fields ty op p inner c) whole (let one = one_more set bits W.Own d in omega (arith, one)) (starts_entry g alive _ _ here) sim (Knows bits d s set st (T.Unary' ty op p inner))
       (λ is_meant e1 i within passes puts. inl (is_meant, own_result bits set d e1 s st v i within passes (puts_same g set i (next_field set bits d) passes.t _ v (λ q below. unary_at set ty op p inner st passes.t passes.sim is c q) puts))) (λ early x f. inr early)))
     where
       v : ℕ → ℕ
@@ -356,7 +356,7 @@ module _ (g : Setting) (has : HasRegisters g) (alive : Variable → Type 0) (n :
       known_follows g s (meant g fields (T.Pcoord ty axis) st) (number set (T.Pcoord ty axis) st) st (Answers (IsFlag (T.Pcoord ty axis)) bits (length d.fields) d s set st v) (code bits (T.Pcoord ty axis) d)
       (after_same g (Knows bits d s set st (T.Pcoord ty axis)) (ap (λ (o : Option ℕ). coordinate_in o bits axis d) wide.0)
       (made_after g (Knows bits d s set st (T.Pcoord ty axis)) (O.Field dest) (with_instr i d1) (λ within.
-      let given = own_result {flag = IsFlag (T.Pcoord ty axis)} bits set d d1 s st v i within (passes_all g alive (length d.fields) d1 s st (Unit {0}) here sim)
+      let given = own_result {flag = IsFlag (T.Pcoord ty axis)} bits set d d1 s st v i within (passes_all g alive (length d.fields) d1 s st (Unit {0}) (starts_entry g alive _ _ here) sim)
       (puts_same g set i dest s (λ q. coordinate (extents g set) q axis) v (λ q below. sym (held_wide ty.elem (coordinate (extents g set) q axis) wide.1 (places.few set axis q))) (puts_coordinate g set axis dest s refl (λ p below. places.few set axis p))) in
       inl (coordinate_means set axis ty st wide.0 (gives_set g alive places fields bits (length d.fields) d s set st v given.0 (with_instr i d1) given.1.1.0).1, given))))
     where
@@ -411,7 +411,7 @@ module _ (g : Setting) (has : HasRegisters g) (alive : Variable → Type 0) (n :
 
   -- a field of as many bits as the type has is extended
   pub extended_after : (set : ℕ) (ty : ValueType) (p : Boxed) (inner : TExpr) (dest : Field) (bound : ℕ) (d : Draft) (s : CodeState) (st : State) → ty.shape ≡ Some set → (ty.elem.bits == 1) ≡ false → dest.len ≤ 32 → IsPure set inner → HasItsCode g.typed g.instance alive n inner → IsValued ty.elem.bits set inner
-      → bound ≤ length d.fields → Starts g alive s (length d.code) d.regs → Sim g alive st s → (Q : Out → Draft → Type 0)
+      → bound ≤ length d.fields → Starts g alive s (length d.code) d.regs (length d.fields) → Sim g alive st s → (Q : Out → Draft → Type 0)
       → (IsMeant set (T.Convert' ty p inner) st → (e1 : Draft) (i : Instr) → Within g (with_instr i e1) → (passes : Passes g alive bound d e1 s st (Unit {0})) → Puts g set i dest passes.t (λ q. word_at (extents g set) st (T.Convert' ty p inner) q) → Q (O.Field dest) (with_instr i e1))
       → (Ended g s (meant g fields (T.Convert' ty p inner) st) → (x : Out) (f : Draft) → Q x f)
       → After g Q (extended ty.elem.signed dest (operand ty.elem.bits true inner) d)
@@ -454,7 +454,7 @@ module _ (g : Setting) (has : HasRegisters g) (alive : Variable → Type 0) (n :
       by true more =
           known_follows g s (meant g fields e st) (number set e st) st (Answers (IsFlag e) bits (length d.fields) d s set st w) (made (nat_lt ty.elem.bits bits))
           (after_same g (Knows bits d s set st e) (ap made more ∙ ap (λ (o : Option ℕ). then_make (a_field (unwrap_or o 0) bits d) (λ dest begun. extended ty.elem.signed dest (operand ty.elem.bits true inner) begun)) is.0)
-          (extended_after set ty p inner (next_field set bits d) (length d.fields) (with_entry set bits W.Own d) s st is.0 no_truth most is.2 part (whole ty.elem.bits (kind_bits ty.elem.bits ty.elem.signed ty.elem.kind).0 (kind_bits ty.elem.bits ty.elem.signed ty.elem.kind).1) (let one = one_more set bits W.Own d in omega (arith, one)) here sim (Knows bits d s set st e)
+          (extended_after set ty p inner (next_field set bits d) (length d.fields) (with_entry set bits W.Own d) s st is.0 no_truth most is.2 part (whole ty.elem.bits (kind_bits ty.elem.bits ty.elem.signed ty.elem.kind).0 (kind_bits ty.elem.bits ty.elem.signed ty.elem.kind).1) (let one = one_more set bits W.Own d in omega (arith, one)) (starts_entry g alive _ _ here) sim (Knows bits d s set st e)
           (λ is_meant e1 i within passes puts. inl (is_meant, own_result bits set d e1 s st w i within passes puts)) (λ early x f. inr early)))
       by false enough =
           follows_same g R s refl (ap made enough)
@@ -470,7 +470,7 @@ module _ (g : Setting) (has : HasRegisters g) (alive : Variable → Type 0) (n :
       given_follows g s (meant g fields e st) (number set e st) st (Answers (IsFlag e) bits (length d.fields) d s set st v) (code bits e d)
       (get_gives g places fields n ty place p indexes k of set st shaped same are c.code.names.0 (get_names g.typed g.instance n of set indexes same are c.code.names.1 c.code.names.2))
       (after_same g (Answers (IsFlag e) bits (length d.fields) d s set st v) (ap (λ (o : Option ℕ). then_make (fresh_for o bits d) (λ dest begun. index_read_to g.typed (layout g) e spot dest begun)) shaped)
-      (get_last g alive n places fields ty place p indexes k of set (length d.fields) bits spot (length d.fields) (with_entry set bits W.Own d) s st most shaped same are c.code.names.0 (get_names g.typed g.instance n of set indexes same are c.code.names.1 c.code.names.2) (let one = one_more set bits W.Own d in omega (arith, one)) here sim
+      (get_last g alive n places fields ty place p indexes k of set (length d.fields) bits spot (length d.fields) (with_entry set bits W.Own d) s st most shaped same are c.code.names.0 (get_names g.typed g.instance n of set indexes same are c.code.names.1 c.code.names.2) (let one = one_more set bits W.Own d in omega (arith, one)) (starts_entry g alive _ _ here) sim
       (Answers (IsFlag e) bits (length d.fields) d s set st v) (λ e2 i within passes puts. own_result bits set d e2 s st v i within passes puts)))
     where
       e : TExpr
@@ -489,7 +489,7 @@ module _ (g : Setting) (has : HasRegisters g) (alive : Variable → Type 0) (n :
   routed_after bits set ty place p indexes k most shaped goes are valued c d s st here sim =
       known_follows g s (meant g fields e st) (number set e st) st (Answers (IsFlag e) bits (length d.fields) d s set st v) (code bits e d)
       (after_same g (Knows bits d s set st e) (ap (λ (o : Option ℕ). then_make (fresh_for o bits d) (λ dest begun. index_read_to g.typed (layout g) e spot dest begun)) shaped)
-      (routed_last g has alive n ready places fields ty place p indexes k set (length d.fields) bits (length d.fields) (are_quiet indexes) spot (with_entry set bits W.Own d) s st most shaped goes are (all_coded g has alive n ready places fields ty place p indexes (V.File k) set c) valued c.code.names.0 c.code.names.2 refl (let one = one_more set bits W.Own d in omega (arith, one)) here sim
+      (routed_last g has alive n ready places fields ty place p indexes k set (length d.fields) bits (length d.fields) (are_quiet indexes) spot (with_entry set bits W.Own d) s st most shaped goes are (all_coded g has alive n ready places fields ty place p indexes (V.File k) set c) valued c.code.names.0 c.code.names.2 refl (let one = one_more set bits W.Own d in omega (arith, one)) (starts_entry g alive _ _ here) sim
       (Knows bits d s set st e) (λ is_meant e2 i within passes puts. inl (is_meant, own_result bits set d e2 s st v i within passes puts)) (λ early x f. inr early)))
     where
       e : TExpr

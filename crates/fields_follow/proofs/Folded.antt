@@ -82,7 +82,7 @@ module _ (g : Setting) (alive : Variable → Type 0) (places : PlacesFields g) (
     pub kept : is_kept e ≡ false
     pub wide : IsWide set (type_of e)
     pub number : State → ℕ → ℕ
-    pub gives : (d : Draft) (s : CodeState) (st : State) → Starts g alive s (length d.code) d.regs → Sim g alive st s
+    pub gives : (d : Draft) (s : CodeState) (st : State) → Starts g alive s (length d.code) d.regs (length d.fields) → Sim g alive st s
         → Follows g (Given g (number st) st (InField g alive (reduced_bits op e) set (number st) d s st)) s (meant g fields e st) (next_of g.typed (layout g) (reduced_bits op e) true e d)
     pub folds : (s : CodeState) (st : State) → Sim g alive st s → FoldsWords g alive op (type_of e).elem.signed places fields set (number st) (reduced_bits op e) (folded_kind (folding op (type_of e).elem.signed) (kind_of e))
 

@@ -197,7 +197,7 @@ module _ (g : Setting) (alive : Variable → Type 0) (n : ℕ) where
               finishes = behind_it.finishes;
             }
 
-        leaves_it : ty ≡ type_of target → (s : CodeState) → Starts g alive s (length d.code) d.regs → Sim g alive st s → Follows g (λ x u out f. LeavesScalars g alive d s st u f) s (meant g fields whole st) (effect_of g.typed (layout g) whole d)
+        leaves_it : ty ≡ type_of target → (s : CodeState) → Starts g alive s (length d.code) d.regs (length d.fields) → Sim g alive st s → Follows g (λ x u out f. LeavesScalars g alive d s st u f) s (meant g fields whole st) (effect_of g.typed (layout g) whole d)
         leaves_it same s here sim =
             outcome_like g s (meant g fields value st) (h.number st) st (meant g fields whole st) (Scalar (stored_over (fields.scope.extents set))) left R (λ x u out f. LeavesScalars g alive d s st u f) (effect_of g.typed (layout g) whole d)
             (λ given. means_it same given) (λ early. ends_it same s early) (λ out f said. said)
@@ -208,7 +208,7 @@ module _ (g : Setting) (alive : Variable → Type 0) (n : ℕ) where
             let regs = gives.passes.grown.1.regs in
             folds_onto g alive has d free v.variable info v.living (known.named, v.scalar) reduction (type_of value).elem wide.1 d.regs f sign places fields set (h.number st) bits (h.folds s st sim) e s st (stored_over (fields.scope.extents set))
             (λ exists. ap stored_over (sym (fields.same_extents set exists))) (omega arith) (omega (arith, regs)) (gives_from g alive bits (length d.fields) d (with_reg d) e s set st (h.number st) f (and_register d) gives) within))))
-            (h.gives (with_reg d) s st (starts_later g alive s s (length d.code) d.regs (length d.code) (d.regs + 1) (omega arith) (omega arith) here.stands here) sim)))
+            (h.gives (with_reg d) s st (starts_later g alive s s (length d.code) d.regs (length d.fields) (length d.code) (d.regs + 1) (length d.fields) (omega arith) (omega arith) (omega arith) here.stands here) sim)))
           where
             R : Out → Draft → Type 0
             R out f = LeavesScalars g alive d s st left f
@@ -218,7 +218,7 @@ module _ (g : Setting) (alive : Variable → Type 0) (n : ℕ) where
     abbrev OntoLeaves : TExpr → Draft → CodeState → State → Type 0
     OntoLeaves e d s st = Follows g (λ x u out f. LeavesScalars g alive d s st u f) s (meant g fields e st) (effect_of g.typed (layout g) e d)
 
-    pub onto_leaves : (e : TExpr) → IsFoldOnto e → HasItsCode g.typed g.instance alive n e → (d : Draft) (s : CodeState) (st : State) → g.begins ≤ d.regs → Starts g alive s (length d.code) d.regs → Sim g alive st s → OntoLeaves e d s st
+    pub onto_leaves : (e : TExpr) → IsFoldOnto e → HasItsCode g.typed g.instance alive n e → (d : Draft) (s : CodeState) (st : State) → g.begins ≤ d.regs → Starts g alive s (length d.code) d.regs (length d.fields) → Sim g alive st s → OntoLeaves e d s st
     unfolding IsFoldOnto NamesVariables IsShaped IsLowerable ScalarsAmong
     onto_leaves (T.Assign' ty place op p target q value) is c d s st free here sim =
         subst (λ (o : AssignOp). OntoLeaves (T.Assign' ty place o p target q value) d s st) (sym is.2.1.0) (leaves_it target v ty place is.2.0 p q value is.2.1.1.0 h.kept h.wide has names d free places fields h st is.0 s here sim)

@@ -34,7 +34,7 @@ use Rattle.fields_follow.proofs.Outcomes.{Ended, after_all, ended_back}
 use Rattle.fields_follow.proofs.Passing.{After, Passes, code_longer, fields_longer, passes_all, then_after}
 use Rattle.fields_follow.proofs.PassingTests.{tests_passed}
 use Rattle.fields_follow.proofs.Places.{HoldsTheFields, IsOwnField, PlacesFields, names_first, stands_here}
-use Rattle.fields_follow.proofs.Starts.{Starts, starts_later}
+use Rattle.fields_follow.proofs.Starts.{Starts, same_entries, starts_later}
 use Rattle.fields_follow.proofs.TestFlags.{LeavesTests, Tells, puts_nonzero, tested_behind}
 use Rattle.fields_follow.proofs.Truths.{fields_sim, whole_sim}
 use Rattle.fields_follow.proofs.Writing.{TakesBehind, elsewhere, instr_takes, own_has, own_sim}
@@ -115,7 +115,7 @@ module _ (g : Setting) (alive : Variable → Type 0) (places : PlacesFields g) (
     pub grown : (n : ℕ) × Extended d n e
     pub t : CodeState
     pub go : Reaches g s t
-    pub at : Starts g alive t (length e.code) e.regs
+    pub at : Starts g alive t (length e.code) e.regs (length e.fields)
     pub registers : Keeps g d s t
     pub sim : Sim g alive st t
     pub ends : EndsBelow g f
@@ -132,7 +132,7 @@ module _ (g : Setting) (alive : Variable → Type 0) (places : PlacesFields g) (
     pub grown : (n : ℕ) × Extended d n e
     pub t : CodeState
     pub go : Reaches g s t
-    pub at : Starts (under g b) alive t (length e.code) e.regs
+    pub at : Starts (under g b) alive t (length e.code) e.regs (length e.fields)
     pub registers : Keeps g d s t
     pub sim : Sim (under g b) alive st t
     pub stays : (h : Field) (first last p : ℕ) → h.offset < length d.fields → IsOwnField g h → EndsBelow g h → IsNamedAt g.unit h.offset first → first < length d.code → IsNamedAt g.unit h.offset last → length e.code ≤ last → number_in g h t p ≡ number_in g h s p
@@ -244,7 +244,7 @@ module _ (g : Setting) (alive : Variable → Type 0) (places : PlacesFields g) (
               let two = code_more g (I.LoadContext saved) put_draft in
               let three = regs_more g i e in
               let four = regs_more g (I.LoadContext saved) put_draft in
-              starts_later g alive p.t loaded.t (length e.code) e.regs (length last_draft.code) last_draft.regs (omega (arith, one, two)) (omega (arith, three, four)) loaded.at (starts_again g b alive p.t (length e.code) e.regs p.at);
+              starts_later g alive p.t loaded.t (length e.code) e.regs (length e.fields) (length last_draft.code) last_draft.regs (length last_draft.fields) (omega (arith, one, two)) (omega (arith, three, four)) (let a = same_entries g alive i e in let b = same_entries g alive (I.LoadContext saved) put_draft in omega (arith, a, b)) loaded.at (starts_again g b alive p.t (length e.code) e.regs (length e.fields) p.at);
           registers = λ y kept. ap (λ (registers : List ℕ). slice_index registers y) loaded.registers ∙ keeps_on g d narrow x.grown.0 s x.t p.t x.grown.1 x.registers (keeps_again g b narrow x.t p.t p.registers) y kept;
           sim = whole_sim g alive places fields st loaded.t loaded.sim;
           ends = ends_here.1;
@@ -284,7 +284,9 @@ module _ (g : Setting) (alive : Variable → Type 0) (places : PlacesFields g) (
             let two = code_more g (I.LoadContext saved) over in
             let three = more.1.regs in
             let four = regs_more g (I.LoadContext saved) over in
-            starts_later g alive x.t back_there.t (length e.code) e.regs (length (with_instr (I.LoadContext saved) over).code) (with_instr (I.LoadContext saved) over).regs (omega (arith, one, two)) (omega (arith, three, four)) back_there.at (starts_again g b alive x.t (length e.code) e.regs x.at);
+            let five = fields_longer e over more.0 more.1 in
+            let six = same_entries g alive (I.LoadContext saved) over in
+            starts_later g alive x.t back_there.t (length e.code) e.regs (length e.fields) (length (with_instr (I.LoadContext saved) over).code) (with_instr (I.LoadContext saved) over).regs (length (with_instr (I.LoadContext saved) over).fields) (omega (arith, one, two)) (omega (arith, three, four)) (omega (arith, five, six)) back_there.at (starts_again g b alive x.t (length e.code) e.regs (length e.fields) x.at);
         registers = λ y kept. ap (λ (rs : List ℕ). slice_index rs y) (back_there.registers ∙ registers) ∙ x.registers y kept;
         sim = whole_sim g alive places fields st back_there.t back_there.sim;
         ends = ends;
@@ -337,7 +339,7 @@ module _ (g : Setting) (has : HasRegisters g) (alive : Variable → Type 0) (n :
 
     -- what a half finds beside: a field that tells where the condition holds
     pub record Ready : Type 0 where
-      pub here : Starts g alive s (length d.code) d.regs
+      pub here : Starts g alive s (length d.code) d.regs (length d.fields)
       pub sim : Sim g alive st s
       pub tells : Tells g set a s v
       pub keeping : Keeping g alive places fields set offset bits saved d s
@@ -370,7 +372,7 @@ module _ (g : Setting) (has : HasRegisters g) (alive : Variable → Type 0) (n :
             grown = (1 + 1, more);
             t = turned.t;
             go = onto g s tests.leaves.t turned.t tests.leaves.go turned.go;
-            at = starts_under g b alive turned.t (length narrow.code) narrow.regs (starts_later g alive s turned.t (length d.code) d.regs (length narrow.code) narrow.regs (omega (arith, one, two)) more.regs turned.at r.here);
+            at = starts_under g b alive turned.t (length narrow.code) narrow.regs (length narrow.fields) (starts_later g alive s turned.t (length d.code) d.regs (length d.fields) (length narrow.code) narrow.regs (length narrow.fields) (omega (arith, one, two)) more.regs (fields_longer d narrow (1 + 1) more) turned.at r.here);
             registers = λ y kept. ap (λ (registers : List ℕ). slice_index registers y) turned.registers ∙ tests.leaves.registers y kept;
             sim = turned.sim;
             stays = λ h first last p inside own ends named early after late. turned.stays h p ends ∙ tests.leaves.stays tt h first last p inside own ends named early after (omega (arith, late, two));

@@ -26,9 +26,9 @@ use Rattle.phase_meaning.proofs.Alike.{shifted_below}
 use Rattle.phase_meaning.proofs.Widths.{cut_cut}
 use Rattle.source_meaning.specs.State.{State}
 use Rattle.vp_sets.specs.Positions.{are_positive, shifted}
-use Rattle.code_follows.proofs.Following.{Sim, OpenAmong}
+use Rattle.code_follows.proofs.Following.{Sim}
 use Rattle.code_follows.proofs.Growing.{Extended, extended}
-use Rattle.code_follows.proofs.Settings.{Setting, Within, and_one, at_next, begins_here, code_more, earlier, one_writes, placed_instr}
+use Rattle.code_follows.proofs.Settings.{OpenAmong, Setting, Within, and_one, at_next, begins_here, code_more, earlier, one_writes, placed_instr}
 use Rattle.fields_follow.proofs.Bits.{active_apart, bits_written, field_apart, field_written}
 use Rattle.fields_follow.proofs.Fields.{HoldsFields}
 use Rattle.fields_follow.proofs.FileFields.{apart_back}
@@ -123,7 +123,7 @@ module _ (g : Setting) where
     hop_plain axis k d a = refl
 
     hop_passes : (bits bound set axis k : ℕ) (d a : Field) (e : Draft) (s : CodeState) (st : State) (v : ℕ → ℕ) → bound ≤ d.offset → IsOwnField g d → d.set ≡ set → d.len ≡ bits → HasAxis set axis → HasEverywhere bits set a s v
-        → Within g (with_instr (hop_instr axis k d a) e) → IsNamedAt g.unit d.offset (length (with_instr (hop_instr axis k d a) e).code) → Starts g alive s (length e.code) e.regs → Sim g alive st s
+        → Within g (with_instr (hop_instr axis k d a) e) → IsNamedAt g.unit d.offset (length (with_instr (hop_instr axis k d a) e).code) → Starts g alive s (length e.code) e.regs (length e.fields) → Sim g alive st s
         → (p : Passes g alive bound e (with_instr (hop_instr axis k d a) e) s st (Unit {0})) × HasEverywhere bits set d p.t (λ q. v (neighbour set axis k q))
     unfolding written
     hop_passes bits bound set axis k d a e s st v newer own of_set long_d grid h within again here sim = (
@@ -178,7 +178,7 @@ module _ (g : Setting) where
     IsFresh bits bound set f = (bound ≤ f.offset) × IsOwnField g f × (f.set ≡ set) × (f.len ≡ bits)
 
     hop_by : (bits bound set axis k : ℕ) (c : Konst) (d a : Field) (e : Draft) (s : CodeState) (st : State) (v : ℕ → ℕ) → c ≡ K.Imm k → IsFresh bits bound set d → HasAxis set axis → HasEverywhere bits set a s v
-        → Within g (with_instr (I.GetFromNewsAlways d a axis c) e) → IsNamedAt g.unit d.offset (length (with_instr (I.GetFromNewsAlways d a axis c) e).code) → Starts g alive s (length e.code) e.regs → Sim g alive st s
+        → Within g (with_instr (I.GetFromNewsAlways d a axis c) e) → IsNamedAt g.unit d.offset (length (with_instr (I.GetFromNewsAlways d a axis c) e).code) → Starts g alive s (length e.code) e.regs (length e.fields) → Sim g alive st s
         → (p : Passes g alive bound e (with_instr (I.GetFromNewsAlways d a axis c) e) s st (Unit {0})) × HasEverywhere bits set d p.t (λ q. v (neighbour set axis (konst_number c []) q))
     hop_by bits bound set axis k c d a e s st v is fresh grid h within again here sim =
         subst
@@ -256,7 +256,7 @@ module _ (g : Setting) where
       OfType set v = (q : ℕ) → q < processors (shapes g) set → has_number elem (v q) ≡ true
 
       pub moves_last : (bound set : ℕ) (steps : List GridStep) (hop : Hop) (v : ℕ → ℕ) (d : Draft) (s : CodeState) (st : State) → AreMoves set steps → OfType set v → IsFresh bits bound set hop.next → IsFresh bits bound set hop.spare → HasEverywhere bits set hop.source s v
-          → Within g (stepwise elem dest steps hop d) → Starts g alive s (length d.code) d.regs → Sim g alive st s → MovesLast bound set steps hop v d s st
+          → Within g (stepwise elem dest steps hop d) → Starts g alive s (length d.code) d.regs (length d.fields) → Sim g alive st s → MovesLast bound set steps hop v d s st
       unfolding AreMoves origin stepwise with_hop hopped passes_on
       moves_last bound set [] hop v d s st are of_type fresh spare h within here sim = by reads
         where
@@ -266,7 +266,7 @@ module _ (g : Setting) where
       moves_last bound set (step ∷ steps) hop v d s st are of_type fresh spare h within here sim = by (on_or_last step steps) (λ u of_u next e t fresh spare h within here sim. moves_last bound set steps next u e t st are.2 of_u fresh spare h within here sim)
         where
           by : GoesOn step steps ⊎ ((steps ≡ []) × (is_extended elem dest ≡ false) × (dest.len ≡ bits))
-              → ((u : ℕ → ℕ) → OfType set u → (next : Hop) (e : Draft) (t : CodeState) → IsFresh bits bound set next.next → IsFresh bits bound set next.spare → HasEverywhere bits set next.source t u → Within g (stepwise elem dest steps next e) → Starts g alive t (length e.code) e.regs → Sim g alive st t → MovesLast bound set steps next u e t st)
+              → ((u : ℕ → ℕ) → OfType set u → (next : Hop) (e : Draft) (t : CodeState) → IsFresh bits bound set next.next → IsFresh bits bound set next.spare → HasEverywhere bits set next.source t u → Within g (stepwise elem dest steps next e) → Starts g alive t (length e.code) e.regs (length e.fields) → Sim g alive st t → MovesLast bound set steps next u e t st)
               → MovesLast bound set (step ∷ steps) hop v d s st
           by (inl on) go =
               let rest = steps_extend steps (hopped hop) (with_hop step hop d) in

@@ -14,8 +14,8 @@ use Rattle.paris_code.specs.Spans.{IsNamedAt, StandsAt}
 use Rattle.source_meaning.specs.State.{Early, State}
 use Rattle.source_meaning.specs.Values.{Active, Scope}
 use Rattle.code_follows.proofs.Besides.{sim_saying, under_held}
-use Rattle.code_follows.proofs.Following.{Finishes, IsKept, Sim, OpenAmong}
-use Rattle.code_follows.proofs.Settings.{Held, SameBelow, Setting, Within}
+use Rattle.code_follows.proofs.Following.{Finishes, IsKept, Sim}
+use Rattle.code_follows.proofs.Settings.{OpenAmong, Held, SameBelow, Setting, Within}
 use Rattle.fields_follow.specs.Fragment.{IsCondition, IsParallelVariable, IsFold, IsParallelEffect}
 use Rattle.fields_follow.proofs.Fields.{HoldsFields, HoldsNumbers, fields_held}
 use Rattle.fields_follow.proofs.Instructions.{SameExtents, place, shapes}

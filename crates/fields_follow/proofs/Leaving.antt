@@ -32,7 +32,7 @@ module _ (g : Setting) where
       pub grown : (n : ℕ) × Extended d n e
       pub t : CodeState
       pub go : Reaches g s t
-      pub at : Starts g alive t (length e.code) e.regs
+      pub at : Starts g alive t (length e.code) e.regs (length e.fields)
       pub registers : Keeps g d s t
       pub sim : Sim g alive u t
       pub stays : used → (h : Field) (first last p : ℕ) → h.offset < length d.fields → IsOwnField g h → EndsBelow h → IsNamedAt g.unit h.offset first → first < length d.code → IsNamedAt g.unit h.offset last → length e.code ≤ last → number_in g h t p ≡ number_in g h s p
@@ -67,11 +67,11 @@ module _ (g : Setting) where
   registers_under a h = registers_there g (fields_held g.typed g.image a) g.from g.entries g.upto h
 
   -- the code starts there as it does in the unit
-  pub starts_under : (a : Active) (alive : Variable → Type 0) (s : CodeState) (place regs : ℕ) → Starts g alive s place regs → Starts (under a) alive s place regs
-  starts_under a alive s place regs h = record { stands = h.stands; free = h.free; low = h.low; files = h.files }
+  pub starts_under : (a : Active) (alive : Variable → Type 0) (s : CodeState) (place regs entries : ℕ) → Starts g alive s place regs entries → Starts (under a) alive s place regs entries
+  starts_under a alive s place regs entries h = record { stands = h.stands; free = h.free; low = h.low; files = h.files; opened = h.opened }
 
-  pub starts_again : (a : Active) (alive : Variable → Type 0) (s : CodeState) (place regs : ℕ) → Starts (under a) alive s place regs → Starts g alive s place regs
-  starts_again a alive s place regs h = record { stands = h.stands; free = h.free; low = h.low; files = h.files }
+  pub starts_again : (a : Active) (alive : Variable → Type 0) (s : CodeState) (place regs entries : ℕ) → Starts (under a) alive s place regs entries → Starts g alive s place regs entries
+  starts_again a alive s place regs entries h = record { stands = h.stands; free = h.free; low = h.low; files = h.files; opened = h.opened }
 
   -- and it keeps the same registers
   pub keeps_again : (a : Active) (d : Draft) (s t : CodeState) → Keeps (under a) d s t → Keeps g d s t

@@ -80,8 +80,10 @@ pub mod ScanOperands
 pub mod Scanned
 pub mod Scans
 pub mod SendCode
+pub mod Sending
 pub mod SendMeans
 pub mod Sends
+pub mod SendValues
 pub mod SendWrites
 pub mod Sizes
 pub mod Spreading

@@ -9,11 +9,11 @@ use Rattle.paris_code.specs.Memory.{BitMemory, field_number, processors}
 use Rattle.paris_code.specs.Shapes.{bits_at}
 use Rattle.paris_code.specs.Spans.{IsNamedAt}
 use Rattle.source_meaning.specs.State.{State, is_same, with_positions}
-use Rattle.code_follows.proofs.Settings.{Setting, start}
+use Rattle.code_follows.proofs.Settings.{HasHome, Setting, start}
 use Rattle.fields_follow.specs.Fields.{IsElement}
 use Rattle.fields_follow.proofs.FileFields.{Apart, apart_back}
 use Rattle.fields_follow.proofs.Instructions.{place, shapes}
-use Rattle.fields_follow.proofs.Locals.{HasHome, HoldsLocal, HoldsLocals, IsLocalField, StillUsed, locals_on, same_local}
+use Rattle.fields_follow.proofs.Locals.{HoldsLocal, HoldsLocals, IsLocalField, StillUsed, locals_on, same_local}
 use Rattle.fields_follow.proofs.Places.{IsOwnField, PlacesFields, of_file}
 
 -- a memory differs from another one in this field alone

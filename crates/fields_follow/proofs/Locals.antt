@@ -15,7 +15,7 @@ use Rattle.paris_code.specs.Shapes.{bits_at}
 use Rattle.paris_code.specs.Spans.{IsInUse, IsNamedAt, Span}
 use Rattle.source_meaning.specs.State.{State}
 use Rattle.code_follows.proofs.Growing.{Extended}
-use Rattle.code_follows.proofs.Settings.{Setting, Within, earlier, layout, start}
+use Rattle.code_follows.proofs.Settings.{HasHome, Setting, Within, earlier, layout, start}
 use Rattle.code_follows.proofs.Standing.{some_same}
 use Rattle.fields_follow.proofs.Instructions.{place, shapes}
 
@@ -26,15 +26,11 @@ kept_get (y ∷ xs) ys zero x is = is
 kept_get (y ∷ xs) ys (suc i) x is = kept_get xs ys i x is
 
 module _ (g : Setting) where
-  -- the entry that the unit has for a parallel variable of a block
-  abbrev pub HasHome : ℕ → ℕ → Type 0
-  HasHome k entry = (name : LocalName) × ((slice_get (layout g).locals k ≡ Some name) × (slice_get g.unit.homes.items name.home ≡ Some entry))
-
   -- it is an own one, and this is its field with all bits
   pub record IsLocalField (k : ℕ) (info : VarInfo) (f : Field) : Type 0 where
     pub known : variable_named g.typed g.instance (V.Local k) ≡ Some info
     pub parallel : info.shape ≡ Some f.set
-    pub home : HasHome k f.offset
+    pub home : HasHome g k f.offset
     pub own : IsOwn g.unit f.offset f.set f.len
     pub len : f.len ≡ info.elem.bits
 

@@ -1,5 +1,5 @@
 -- The code that clears a parallel variable of a block makes its own entry 0 at every position.
-use Rattle.std.proofs.Common.{◌≡◌, ◌∙◌, ℕ, ◌+◌, ◌<◌, ◌≤◌, ◌^◌, ◌&&◌, ◌⊎◌, inl, inr, Bool, false, if◌then◌else◌, nat_lt, [], ◌∷◌, length, Option, Some, None, refl, sym, ap, subst, arith}
+use Rattle.std.proofs.Common.{◌≡◌, ◌∙◌, ℕ, ◌+◌, ◌<◌, ◌≤◌, ◌^◌, ◌&&◌, ◌⊎◌, inl, inr, Bool, false, if◌then◌else◌, nat_lt, List, [], ◌∷◌, ◌++◌, append_assoc, length, slice_get, take, Option, Some, None, refl, sym, ap, subst, arith}
 use Rattle.std.specs.Prelude.{nat_le}
 use Rattle.std.proofs.lemmas.Bool.{cases_eq}
 use Rattle.std.proofs.lemmas.Bool.Decides.{nat_tests}
@@ -7,9 +7,13 @@ use Rattle.cstar_tree.specs.declared.typed.VarInfo.{VarInfo}
 use Rattle.cstar_tree.specs.declared.typed.Variable.{Variable}
 use Rattle.cstar_tree.specs.declared.typed.Variable.TheVariants as V
 use Rattle.code_lengths.proofs.Drafting.{append_nothing}
+use Rattle.code_lengths.proofs.Declaring.{at_length}
 use Rattle.code_lengths.specs.Naming.{variable_named}
-use Rattle.lower_base.specs.Drafts.{Draft, Made, Makes, an_entry, step as step_of, then_make, with_instr}
-use Rattle.lower_base.specs.Layouts.{entries_of, register_of}
+use Rattle.code_lengths.specs.Ready.{HasDeclared, NumbersVariables, homes_of}
+use Rattle.cstar_tree.specs.Variables.{variables_of}
+use Rattle.lower_base.specs.declared.names.LocalName.{LocalName}
+use Rattle.lower_base.specs.Drafts.{Draft, Made, Makes, an_entry, step as step_of, then_make, with_instr, with_step}
+use Rattle.lower_base.specs.Layouts.{entries_of, nothing_numbered, numbered, register_of}
 use Rattle.lower_stmt.specs.Variables.{cleared, cleared_fields, is_kept_so, with_home}
 use Rattle.paris_code.specs.declared.instr.Instr.{Instr}
 use Rattle.paris_code.specs.declared.instr.Instr.TheVariants as I
@@ -25,9 +29,11 @@ use Rattle.paris_code.specs.Writes.{Write, written}
 use Rattle.source_meaning.specs.State.{State, is_among, zeroed}
 use Rattle.source_meaning.specs.Values.{Active, Scope}
 use Rattle.code_follows.proofs.Besides.{LocalsClear}
-use Rattle.code_follows.proofs.Following.{IsScalar, Ran, Sim, held, OpenAmong}
+use Rattle.code_follows.proofs.Following.{IsScalar, Ran, Sim, held}
 use Rattle.code_follows.proofs.Growing.{Extended, extended}
-use Rattle.code_follows.proofs.Settings.{At, Begun, SameBelow, Setting, StandsBelow, Within, and_one, at_next, begins_here, code_more, layout, one_writes, placed_instr}
+use Rattle.code_follows.proofs.Numbered.{numbered_at}
+use Rattle.fields_follow.proofs.Passing.{fields_longer}
+use Rattle.code_follows.proofs.Settings.{HasHome, IsOpenIn, OpenAmong, At, Begun, SameBelow, Setting, StandsBelow, Within, and_one, at_next, begins_here, code_more, layout, one_writes, placed_instr}
 use Rattle.code_follows.proofs.Standing.{some_same}
 use Rattle.fields_follow.proofs.Bits.{active_apart, bits_written, field_apart}
 use Rattle.fields_follow.proofs.Fields.{HoldsFields}
@@ -36,7 +42,7 @@ use Rattle.fields_follow.proofs.Instructions.{place, shapes, wrote}
 use Rattle.fields_follow.proofs.Knowing.{KnowsFields, StaysNamed}
 use Rattle.fields_follow.proofs.Leaving.{EndsBelow}
 use Rattle.fields_follow.proofs.Places.{IsOwnField, PlacesFields, names_first, of_file, stands_here}
-use Rattle.fields_follow.proofs.Values.{and_entry, next_field, taken, with_entry}
+use Rattle.fields_follow.proofs.Values.{and_entry, next_field, one_more, taken, with_entry}
 
 -- the home of the variable is no code
 and_home : (d : Draft) → Extended d 0 (with_home d)
@@ -116,7 +122,42 @@ module _ (g : Setting) (scope : Scope) (active : Active) (known : KnowsFields g 
   unfolding with_home
   code_same = refl
 
-  module _ (before : Variable → Type 0) (s : CodeState) (st : State) (free : Begun g d) (at : At g s (length d.code)) (sim : Sim g before st s) (within : Within g behind) where
+  -- the instruction names the entry
+  there : Within g behind → IsNamedAt g.unit dest.offset (length taken_for.code)
+  unfolding step_of
+  there within = names_first g clear dest [] (length taken_for.code) (stands_here g clear taken_for within refl) refl
+
+  -- it is the home of the variable
+  homes_now : behind.homes ≡ d.homes ++ length d.fields ∷ []
+  unfolding with_home with_instr with_step
+  homes_now = refl
+
+  home : NumbersVariables g.instance (layout g) → HasDeclared g.typed g.instance (layout g) n d → Within g behind → HasHome g n dest.offset
+  unfolding variable_named with_home
+  home numbers declared within = (
+    record { home = before_it; entries = entries_of info },
+    (
+      ap (λ (names : List LocalName). slice_get names n) numbers ∙ ap (λ (k : ℕ). slice_get (numbered (variables_of g.instance.body) nothing_numbered).locals k) (none n) ∙ numbered_at (variables_of g.instance.body) nothing_numbered n info named,
+      ap (λ (homes : List ℕ). slice_get homes before_it) (within.homes_are ∙ ap (λ (homes : List ℕ). homes ++ within.homes) homes_now ∙ append_assoc d.homes (length d.fields ∷ []) within.homes)
+          ∙ ap (λ (k : ℕ). slice_get (d.homes ++ length d.fields ∷ within.homes) k) (sym declared.homes) ∙ at_length d.homes (length d.fields) within.homes,
+    ),
+  )
+    where
+      none : (k : ℕ) → k ≡ 0 + k
+      none k = omega arith
+
+      before_it : ℕ
+      before_it = homes_of (take n (variables_of g.instance.body))
+
+  -- so the variable is open behind it
+  is_open : NumbersVariables g.instance (layout g) → HasDeclared g.typed g.instance (layout g) n d → Within g behind → IsOpenIn g n behind
+  is_open numbers declared within =
+      let more = code_more g clear taken_for in
+      let first = one_more set bits W.Own (with_home d) in
+      let longer = fields_longer taken_for behind 1 (and_one g clear taken_for) in
+      (dest.offset, (home numbers declared within, ((length taken_for.code, (there within, omega (arith, more))), omega (arith, first, longer))))
+
+  module _ (before : Variable → Type 0) (s : CodeState) (st : State) (free : Begun g before d) (at : At g s (length d.code)) (sim : Sim g before st s) (within : Within g behind) where
     write : Write
     write = elementwise (shapes g) (I.MoveZeroAlways (place g dest)) [] s.memory
 
@@ -138,10 +179,6 @@ module _ (g : Setting) (scope : Scope) (active : Active) (known : KnowsFields g 
     unfolding step_of
     ends = places.ends (length taken_for.code) clear dest [] (stands_here g clear taken_for within refl) refl tt refl
 
-    there : IsNamedAt g.unit dest.offset (length taken_for.code)
-    unfolding step_of
-    there = names_first g clear dest [] (length taken_for.code) (stands_here g clear taken_for within refl) refl
-
     still : (f : Field) (p : ℕ) → Apart (place g dest) f → field_number (written write s.memory) f p ≡ field_number s.memory f p
     still f p apart = field_apart write s.memory f p (subst (λ (h : Field). Apart h f) ran_in apart)
 
@@ -151,7 +188,7 @@ module _ (g : Setting) (scope : Scope) (active : Active) (known : KnowsFields g 
     stays : StaysNamed g g.from g.entries g.upto s.memory (written write s.memory)
     stays h first last p inside is_own ends_h begins early ends_so late =
         still (place g h) p (apart_back (place g h) (place g dest) (places.owns_apart_at h dest first (length taken_for.code) (λ same. let low = free.fields in let equal = fields_same in omega (arith, same, inside, low, equal)) is_own own ends.0 begins
-        (let low = free.code in let equal = code_same in omega (arith, early, low, equal)) (λ span held. let most = (held.named last ends_so).1 in let up = within.upto in let more = code_more g clear taken_for in omega (arith, most, late, up, more)) there))
+        (let low = free.code in let equal = code_same in omega (arith, early, low, equal)) (λ span held. let most = (held.named last ends_so).1 in let up = within.upto in let more = code_more g clear taken_for in omega (arith, most, late, up, more)) (there within)))
 
     holds : HoldsFields g.typed g.image active st s.memory → HoldsFields g.typed g.image active (zeroed n 1 st) (written write s.memory)
     unfolding zeroed is_among written
@@ -179,7 +216,7 @@ module _ (g : Setting) (scope : Scope) (active : Active) (known : KnowsFields g 
 -- each that the program may have is cleared so
 pub locals_clear : (g : Setting) (scope : Scope) (active : Active) → KnowsFields g scope active → LocalsClear g
 unfolding cleared cleared_fields then_make an_entry entries_of
-locals_clear g scope active known at_start local n d may named =
+locals_clear g scope active known at_start local n d may named numbers declared =
     let is = known.locals local.info may in
     let set = is.0 in
     let parallel = is.1.0 in
@@ -195,5 +232,6 @@ locals_clear g scope active known at_start local n d may named =
           ∙ ap (λ (k : ℕ). cleared_fields k set local.info.elem.bits (with_home d)) once;
       count = 0 + (0 + 1);
       grown = grown g scope active known n local.info set named parallel d;
+      opened = λ within. is_open g scope active known n local.info set named parallel d numbers declared within;
       runs = λ before s st free at sim within. clears_it g scope active known n local.info set named parallel d before s st free at sim within;
     }

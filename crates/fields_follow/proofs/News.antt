@@ -50,7 +50,7 @@ use Rattle.fields_follow.proofs.Passing.{After, Passes, after_same, first_words,
 use Rattle.fields_follow.proofs.Places.{HoldsTheFields, IsFileField, PlacesFields}
 use Rattle.fields_follow.proofs.Totals.{held_below}
 use Rattle.fields_follow.proofs.Values.{and_entry, next_field, one_more, taken, with_entry}
-use Rattle.fields_follow.proofs.Starts.{Starts}
+use Rattle.fields_follow.proofs.Starts.{starts_entry, Starts}
 use Rattle.fields_follow.proofs.Variables.{Carries, file_carries, file_numbers}
 
 -- such a get goes by NEWS
@@ -154,7 +154,7 @@ module _ (g : Setting) where
 
     -- so the last instruction puts those of the neighbours
     pub get_last : (ty : ValueType) (place : Place) (p : _) (indexes : Row_of-TExpr _) (k of set offset bits : ℕ) (spot : Draft → Made Spot) (bound : ℕ) (d : Draft) (s : CodeState) (st : State) → bits ≤ 32 → ty.shape ≡ Some set → of ≡ set → AreWrapping set 0 indexes
-        → HasVariable g.typed g.instance n (V.File k) (plain (parallel ty.elem of)) → NameExtents (extents_in g.typed of) indexes → bound ≤ length d.fields → Starts g alive s (length d.code) d.regs → Sim g alive st s → (Q : Out → Draft → Type 0)
+        → HasVariable g.typed g.instance n (V.File k) (plain (parallel ty.elem of)) → NameExtents (extents_in g.typed of) indexes → bound ≤ length d.fields → Starts g alive s (length d.code) d.regs (length d.fields) → Sim g alive st s → (Q : Out → Draft → Type 0)
         → ((e2 : Draft) (i : Instr) → Within g (with_instr i e2) → (passes : Passes g alive bound d e2 s st (Unit {0})) → Puts g set i (record { set = set; offset = offset; len = bits }) passes.t (λ q. word_at (extents g set) st (T.LeftIndex' ty place p indexes (V.File k) of) q) → Q (O.Field (record { set = set; offset = offset; len = bits })) (with_instr i e2))
         → After g Q (index_read_to g.typed (layout g) (T.LeftIndex' ty place p indexes (V.File k) of) spot (O.Field (record { set = set; offset = offset; len = bits })) d)
     unfolding passes_from is_extended read_bits
@@ -229,7 +229,7 @@ module _ (g : Setting) where
             (λ q below. held_has ty.elem (st.parallel (V.File k) 0 q) (small_there g alive places fields set k info st s is sim q))
             (let one = one_more set info.elem.bits (owner_of k) d in omega (arith, less, one), taken g set read W.Own d1 made (0 + more.0) within behind2, refl, refl)
             (let one = one_more set info.elem.bits (owner_of k) d in let two = one_more set read W.Own d1 in omega (arith, less, one, two), taken g set read W.Own d2 made more.0 within more.1, refl, refl)
-            (file_everywhere read set k info (next_field set read d) s st is (taken g set info.elem.bits (owner_of k) d made (0 + (0 + more.0)) within behind1) refl refl fits sim) within here sim
+            (file_everywhere read set k info (next_field set read d) s st is (taken g set info.elem.bits (owner_of k) d made (0 + (0 + more.0)) within behind1) refl refl fits sim) within (starts_entry g alive _ _ (starts_entry g alive _ _ (starts_entry g alive _ _ here))) sim
 
         found : (q : ℕ) → q < processors (shapes g) set → numbers (origin g set steps q) ≡ word_at (extents g set) st (T.LeftIndex' ty place p indexes (V.File k) of) q
         found q below =

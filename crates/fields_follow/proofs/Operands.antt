@@ -53,7 +53,7 @@ use Rattle.fields_follow.proofs.Places.{HoldsTheFields, PlacesFields, stands_her
 use Rattle.fields_follow.proofs.Promoted.{IsComputed, computed_after, promoted_stands}
 use Rattle.fields_follow.proofs.Spreading.{GivesWord, HasBoth, spread_behind}
 use Rattle.fields_follow.proofs.Values.{Gives, IsFlag, Valued, code_of, next_field, one_more, operand_after, operand_of, taken, with_entry}
-use Rattle.fields_follow.proofs.Starts.{Starts}
+use Rattle.fields_follow.proofs.Starts.{starts_entry, Starts}
 
 -- the instruction that operates on a field and what the right operand is
 abbrev pub operating : Op → Bool → Field → Field → Right → Instr
@@ -167,12 +167,12 @@ module _ (g : Setting) where
         (taken g set bits W.Own d (with_instr i e) (h.passes.grown.0 + 1) within (extended d1 e (with_instr i e) h.passes.grown.0 1 h.passes.grown.1 (and_one g i e))) refl refl within h.passes.at h.passes.sim (puts_constant g set (next_field set bits d) k h.passes.t h.small)))
 
     -- a constant has its word wherever the code stands
-    pub constant_given : (bound : ℕ) (set : ℕ) (e : TExpr) (h : HasItsWord e) (d : Draft) (s : CodeState) (st : State) → Starts g alive s (length d.code) d.regs → Sim g alive st s → GivesWord g alive bound d s st (λ q. word_at (extents g set) st e q) (K.Imm h.word) d
+    pub constant_given : (bound : ℕ) (set : ℕ) (e : TExpr) (h : HasItsWord e) (d : Draft) (s : CodeState) (st : State) → Starts g alive s (length d.code) d.regs (length d.fields) → Sim g alive st s → GivesWord g alive bound d s st (λ q. word_at (extents g set) st e q) (K.Imm h.word) d
     unfolding word_in
     constant_given bound set e h d s st here sim = record { passes = passes_all g alive bound d s st (Unit {0}) here sim; small = h.small; same = λ q. h.value (extents g set) st q }
 
     -- a left operand that is not promoted stands in a field, and the fresh one is not used
-    pub pure_left : (bits set : ℕ) (e : TExpr) (quiet : Bool) → IsPure set e → HasItsCode g.typed g.instance alive n e → IsValued bits set e → (dest : Field) (d : Draft) (s : CodeState) (st : State) → Starts g alive s (length d.code) d.regs → Sim g alive st s
+    pub pure_left : (bits set : ℕ) (e : TExpr) (quiet : Bool) → IsPure set e → HasItsCode g.typed g.instance alive n e → IsValued bits set e → (dest : Field) (d : Draft) (s : CodeState) (st : State) → Starts g alive s (length d.code) d.regs (length d.fields) → Sim g alive st s
         → Follows g (Given g (λ q. value_in (extents g set) st e q) st (GivesField g alive bits (length d.fields) d s set st (λ q. word_at (extents g set) st e q))) s (meant g fields e st) (spread_into (operand bits quiet e) e dest d)
     unfolding spread_into in_a_field
     pure_left bits set e quiet pure c whole dest d s st here sim =
@@ -191,7 +191,7 @@ module _ (g : Setting) where
         Q = GivesField g alive bits (length d.fields) d s set st (λ q. word_at (extents g set) st e q)
 
     -- one that is stands in the fresh one
-    pub promoted_left : (bits set : ℕ) (e : TExpr) (quiet : Bool) → IsPromoted set e → HasItsCode g.typed g.instance alive n e → (d : Draft) (s : CodeState) (st : State) → Starts g alive s (length d.code) d.regs → Sim g alive st s
+    pub promoted_left : (bits set : ℕ) (e : TExpr) (quiet : Bool) → IsPromoted set e → HasItsCode g.typed g.instance alive n e → (d : Draft) (s : CodeState) (st : State) → Starts g alive s (length d.code) d.regs (length d.fields) → Sim g alive st s
         → Follows g (Given g (λ q. value_in (extents g set) st e q) st (GivesField g alive bits (length d.fields) (with_entry set bits W.Own d) s set st (λ q. word_at (extents g set) st e q))) s (meant g fields e st) (spread_into (operand bits quiet e) e (next_field set bits d) (with_entry set bits W.Own d))
     unfolding spread_into in_a_field then_make
     promoted_left bits set e quiet promoted c d s st here sim = by (promoted_stands g alive n set e promoted c)
@@ -217,13 +217,13 @@ module _ (g : Setting) where
         by : HasItsWord e ⊎ IsComputed g alive n set e → Follows g (Given g v st Q) s (meant g fields e st) (spread_into (operand bits quiet e) e dest d1)
         by (inl h) =
             given_follows g s (meant g fields e st) v st Q (spread_into (operand bits quiet e) e dest d1) (h.means fields.scope fields.active (extents g set) st)
-            (after_same g Q (ap code h.is) (made_after g Q dest (with_instr (I.MoveConstant dest (K.Imm h.word)) d1) (λ within. word_spread bits set d d1 (K.Imm h.word) (λ q. word_at (extents g set) st e q) s st (constant_given (length d.fields) set e h d1 s st here sim) within)))
+            (after_same g Q (ap code h.is) (made_after g Q dest (with_instr (I.MoveConstant dest (K.Imm h.word)) d1) (λ within. word_spread bits set d d1 (K.Imm h.word) (λ q. word_at (extents g set) st e q) s st (constant_given (length d.fields) set e h d1 s st (starts_entry g alive _ _ here) sim) within)))
         by (inr h) =
             follows_same g (Given g v st Q) s refl (ap code h.no_word)
             (given_through g s (meant g fields e st) v st P Q (operand bits quiet e d1) (λ x after. in_a_field x dest after) (λ x after. in_field_extends x dest after)
             (λ part said. then_after g P Q part (λ x after. in_a_field x dest after) said (λ x after. in_field_extends x dest after) (λ x after (r, (is, gives)). after_same g Q (ap (λ (o : Out). in_a_field o dest after) is)
             (made_after g Q dest (with_instr (I.MoveConstant dest (K.Reg r)) after) (λ within. word_spread bits set d after (K.Reg r) (λ q. word_at (extents g set) st e q) s st gives within))))
-            (computed_after g alive n has ready fields set bits (length d.fields) quiet e h d1 s st here sim))
+            (computed_after g alive n has ready fields set bits (length d.fields) quiet e h d1 s st (starts_entry g alive _ _ here) sim))
 
     -- the right operand stands in a field, or is a word that is the same at every position
     abbrev pub GivesRight : ℕ → ℕ → Draft → CodeState → ℕ → State → (ℕ → ℕ) → Right → Draft → Type 0
@@ -234,7 +234,7 @@ module _ (g : Setting) where
     abbrev pub RightField : ℕ → Draft → CodeState → ℕ → State → (ℕ → ℕ) → Right → Draft → Type 0
     RightField bits d s set st v right e = (b : Field) × ((right ≡ R.Field b) × GivesField g alive bits (length d.fields) d s set st v b e)
 
-    pub pure_right : (bits set : ℕ) (op : Op) (e : TExpr) → IsPure set e → HasItsCode g.typed g.instance alive n e → IsValued bits set e → (d : Draft) (s : CodeState) (st : State) → Starts g alive s (length d.code) d.regs → Sim g alive st s
+    pub pure_right : (bits set : ℕ) (op : Op) (e : TExpr) → IsPure set e → HasItsCode g.typed g.instance alive n e → IsValued bits set e → (d : Draft) (s : CodeState) (st : State) → Starts g alive s (length d.code) d.regs (length d.fields) → Sim g alive st s
         → Follows g (Given g (λ q. value_in (extents g set) st e q) st (RightField bits d s set st (λ q. word_at (extents g set) st e q))) s (meant g fields e st) (right_by (operand bits true e) op e d)
     unfolding right_by word_taken then_make right_given from Extends
     pure_right bits set op e pure c whole d s st here sim =
@@ -261,7 +261,7 @@ module _ (g : Setting) where
         given None after = tt
 
     -- a promoted one is a word: a constant has no code
-    pub promoted_right : (bits set : ℕ) (op : Op) (e : TExpr) → IsPromoted set e → (divides op ≡ false) ⊎ IsDivisor e → HasItsCode g.typed g.instance alive n e → (d : Draft) (s : CodeState) (st : State) → Starts g alive s (length d.code) d.regs → Sim g alive st s
+    pub promoted_right : (bits set : ℕ) (op : Op) (e : TExpr) → IsPromoted set e → (divides op ≡ false) ⊎ IsDivisor e → HasItsCode g.typed g.instance alive n e → (d : Draft) (s : CodeState) (st : State) → Starts g alive s (length d.code) d.regs (length d.fields) → Sim g alive st s
         → Follows g (Given g (λ q. value_in (extents g set) st e q) st (λ right f. Takes op right × GivesRight bits (length d.fields) d s set st (λ q. word_at (extents g set) st e q) right f)) s (meant g fields e st) (right_by (operand bits true e) op e d)
     unfolding right_by word_taken then_make right_given from Extends
     promoted_right bits set op e promoted is c d s st here sim = by (promoted_stands g alive n set e promoted c)
@@ -313,7 +313,7 @@ module _ (g : Setting) where
             (computed_after g alive n has ready fields set bits (length d.fields) true e h d s st here sim))
 
     -- any right operand
-    pub right_after : (bits set : ℕ) (op : Op) (e : TExpr) → (divides op ≡ false) ⊎ IsDivisor e → IsPure set e ⊎ IsPromoted set e → HasItsCode g.typed g.instance alive n e → (IsPure set e → IsValued bits set e) → (d : Draft) (s : CodeState) (st : State) → Starts g alive s (length d.code) d.regs → Sim g alive st s
+    pub right_after : (bits set : ℕ) (op : Op) (e : TExpr) → (divides op ≡ false) ⊎ IsDivisor e → IsPure set e ⊎ IsPromoted set e → HasItsCode g.typed g.instance alive n e → (IsPure set e → IsValued bits set e) → (d : Draft) (s : CodeState) (st : State) → Starts g alive s (length d.code) d.regs (length d.fields) → Sim g alive st s
         → Follows g (Given g (λ q. value_in (extents g set) st e q) st (λ right f. Takes op right × GivesRight bits (length d.fields) d s set st (λ q. word_at (extents g set) st e q) right f)) s (meant g fields e st) (right_by (operand bits true e) op e d)
     right_after bits set op e is (inl pure) c whole d s st here sim =
         given_weaker g s (meant g fields e st) (λ q. value_in (extents g set) st e q) st (RightField bits d s set st (λ q. word_at (extents g set) st e q)) (λ right f. Takes op right × GivesRight bits (length d.fields) d s set st (λ q. word_at (extents g set) st e q) right f) (right_by (operand bits true e) op e d)
@@ -437,7 +437,7 @@ module _ (g : Setting) where
         → ((x : ℕ) → Keeps op (type_of left).elem.signed bits (word_at (extents g set) st right x)) → ((x : ℕ) → x < processors (shapes g) set → word_at (extents g set) st right x ≡ value_in (extents g set) st right x) → dest.len ≡ bits → AreOperands set left right
         → HasItsCode g.typed g.instance alive n left → HasItsCode g.typed g.instance alive n right → (IsPure set left → IsValued bits set left) → (IsPure set right → IsValued bits set right)
         → ((quiet : Bool) (after : Draft) → Extends g after (operand bits quiet left after)) → ((quiet : Bool) (after : Draft) → Extends g after (operand bits quiet right after))
-        → Starts g alive s (length d.code) d.regs → Sim g alive st s → (Q : Out → Draft → Type 0)
+        → Starts g alive s (length d.code) d.regs (length d.fields) → Sim g alive st s → (Q : Out → Draft → Type 0)
         → (meant g fields (T.Binary' ty place op p left q right) st ≡ Source.Gives (Parallel (λ x. value_in (extents g set) st (T.Binary' ty place op p left q right) x)) st → (e2 : Draft) (i : Instr) → Within g (with_instr i e2) → (passes : Passes g alive (length d.fields) (with_entry set bits W.Own d) e2 s st (Unit {0}))
         → Puts g set i dest passes.t (λ x. outcome op 32 (not (type_of left).elem.signed) (word_at (extents g set) st left x) (word_at (extents g set) st right x)) → Q (O.Field dest) (with_instr i e2))
         → (Ended g s (meant g fields (T.Binary' ty place op p left q right) st) → (x : Out) (f : Draft) → Q x f)
@@ -492,7 +492,7 @@ module _ (g : Setting) where
         by : AreOperands set left right → After g Q (then_make (spread_into (operand bits (is_quiet right) left) left spare d1) (λ a between. next a between))
         by (inl (pure, any)) =
             then_known g s (meant g fields left st) v st (GivesField g alive bits (length d1.fields) d1 s set st (λ x. word_at (extents g set) st left x)) Q (spread_into (operand bits (is_quiet right) left) left spare d1) (λ a between. next a between)
-            (pure_left bits set left (is_quiet right) pure c_left (whole_left pure) spare d1 s st here sim) next_extends
+            (pure_left bits set left (is_quiet right) pure c_left (whole_left pure) spare d1 s st (starts_entry g alive _ _ here) sim) next_extends
             (λ is_left a e1 one. behind (length d1.fields) (omega (arith, first)) a e1 is_left (fields_longer d1 e1 one.passes.grown.0 one.passes.grown.1) one
             (given_weaker g one.passes.t (meant g fields right st) w st (λ b f. Takes op b × GivesRight bits (length e1.fields) e1 one.passes.t set st (λ x. word_at (extents g set) st right x) b f)
             (λ b f. Spares bits set (length d1.fields) d b × (Takes op b × GivesRight bits (length e1.fields) e1 one.passes.t set st (λ x. word_at (extents g set) st right x) b f)) (right_by (operand bits true right) op right e1) (λ b f h. ((λ k same. omega arith), h))

@@ -12,9 +12,9 @@ use Rattle.paris_code.specs.Shapes.{bits_at}
 use Rattle.paris_code.specs.Spans.{IsNamedAt, StandsAt, entry_of, fields_of}
 use Rattle.source_meaning.specs.State.{State}
 use Rattle.phase_meaning.proofs.Widths.{cut_cut}
-use Rattle.code_follows.proofs.Following.{Extends, Keeps, Sim, held, keeps_all, keeps_less, keeps_on, OpenAmong}
+use Rattle.code_follows.proofs.Following.{Extends, Keeps, Sim, held, keeps_all, keeps_less, keeps_on}
 use Rattle.code_follows.proofs.Growing.{Extended, as_it_was, extended}
-use Rattle.code_follows.proofs.Settings.{At, Reaches, Setting, Within, and_one, code_more, earlier, onto, start, stay}
+use Rattle.code_follows.proofs.Settings.{OpenAmong, At, Reaches, Setting, Within, and_one, code_more, earlier, onto, start, stay}
 use Rattle.fields_follow.specs.Fields.{IsElement}
 use Rattle.fields_follow.proofs.Bits.{first_number}
 use Rattle.fields_follow.proofs.Instructions.{AreAlike, HasNumbers, Puts, has_alike, number_in, place, shapes}
@@ -83,12 +83,12 @@ module _ (g : Setting) where
       pub grown : (n : ℕ) × Extended d n e
       pub t : CodeState
       pub go : Reaches g s t
-      pub at : Starts g alive t (length e.code) e.regs
+      pub at : Starts g alive t (length e.code) e.regs (length e.fields)
       pub registers : Keeps g d s t
       pub sim : Sim g alive st t
       pub stays : used → (h : Field) (first last p : ℕ) → h.offset < bound → IsOwnField g h → EndsBelow g h → IsNamedAt g.unit h.offset first → first < length d.code → IsNamedAt g.unit h.offset last → length e.code ≤ last → number_in g h t p ≡ number_in g h s p
 
-    abbrev pub passes_all : (bound : ℕ) (d : Draft) (s : CodeState) (st : State) (used : Type 0) → Starts g alive s (length d.code) d.regs → Sim g alive st s → Passes bound d d s st used
+    abbrev pub passes_all : (bound : ℕ) (d : Draft) (s : CodeState) (st : State) (used : Type 0) → Starts g alive s (length d.code) d.regs (length d.fields) → Sim g alive st s → Passes bound d d s st used
     passes_all bound d s st used here sim = record {
       grown = (0, as_it_was d);
       t = s;
@@ -300,7 +300,7 @@ module _ (g : Setting) where
 
       -- an instruction by which an own entry takes numbers
       pub next_own : (bits bound : ℕ) (set : ℕ) (i : Instr) (d : Field) (e : Draft) (s : CodeState) (st : State) (v : ℕ → ℕ) → bound ≤ d.offset → d.offset < length e.fields → IsOwnField g d → d.set ≡ set → d.len ≡ bits
-          → Starts g alive s (length e.code) e.regs → Sim g alive st s → PutsNext g places fields alive set i d e s v → GivesField bits bound e s set st v d (with_instr i e)
+          → Starts g alive s (length e.code) e.regs (length e.fields) → Sim g alive st s → PutsNext g places fields alive set i d e s v → GivesField bits bound e s set st v d (with_instr i e)
       next_own bits bound set i d e s st v newer older own of_set long here sim next =
           let w = next_written g places fields alive set i d e s st v here.stands sim of_set next own in
           let x : Extended e 1 (with_instr i e) = and_one g i e in
@@ -331,5 +331,5 @@ module _ (g : Setting) where
           }
 
       pub puts_own : (bits bound : ℕ) (set : ℕ) (i : Instr) (d : Field) (e : Draft) (s : CodeState) (st : State) (v : ℕ → ℕ) → bound ≤ d.offset → d.offset < length e.fields → IsOwnField g d → d.set ≡ set → d.len ≡ bits
-          → Within g (with_instr i e) → Starts g alive s (length e.code) e.regs → Sim g alive st s → Puts g set i d s v → GivesField bits bound e s set st v d (with_instr i e)
+          → Within g (with_instr i e) → Starts g alive s (length e.code) e.regs (length e.fields) → Sim g alive st s → Puts g set i d s v → GivesField bits bound e s set st v d (with_instr i e)
       puts_own bits bound set i d e s st v newer older own of_set long within here sim puts = next_own bits bound set i d e s st v newer older own of_set long here sim (puts_next g places fields alive set i d e s v within here.stands puts)

@@ -11,6 +11,7 @@ use Rattle.code_follows.proofs.Settings.{Setting, onto}
 use Rattle.fields_follow.proofs.Leaving.{PassesTests}
 use Rattle.fields_follow.proofs.Passing.{Passes, code_longer, fields_longer}
 use Rattle.fields_follow.proofs.Values.{and_entry, with_entry}
+use Rattle.fields_follow.proofs.Starts.{starts_entry}
 
 module _ (g : Setting) (alive : Variable → Type 0) where
   -- code that leaves test flags too
@@ -45,7 +46,7 @@ module _ (g : Setting) (alive : Variable → Type 0) where
     grown = (a.grown.0 + 0, extended d e (with_entry set len W.Own e) a.grown.0 0 a.grown.1 (and_entry set len W.Own e));
     t = a.t;
     go = a.go;
-    at = a.at;
+    at = (starts_entry g alive _ _ a.at);
     registers = a.registers;
     sim = a.sim;
     stays = a.stays;

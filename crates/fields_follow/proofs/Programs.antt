@@ -101,7 +101,7 @@ module _ (t : Typed) (image : Image) (p : IsParallelProgram t) (codable : IsCoda
   all_beside : AllBeside t image p codable compiled KnowsFields
   all_beside = record {
     follows = besides;
-    called = λ held from entries upto a me i is_me opens most caller number b is back m here live place st.
+    called = λ held from entries upto a me i is_me opens most caller number b is back m here live place st place_is.
         let inside : Held = held_called held from entries upto a me i is_me opens most caller in (
           inside,
           (
@@ -113,7 +113,7 @@ module _ (t : Typed) (image : Image) (p : IsParallelProgram t) (codable : IsCoda
             known_called held from entries upto a me i is_me opens most caller number b is back m here,
           ),
         );
-    lasts = λ unit scope a known target low place jump stands leads live st memory h. let has = known.opens live (start unit + place) st memory h in known.closes live (target + start unit) st memory has.0 has.1;
+    lasts = λ unit scope a known live target low named place jump stands leads st memory h. let has = known.opens live (start unit + place) st memory h in known.closes live (target + start unit) st memory has.0 has.1;
   }
 
   -- a parallel variable of the file begins with 0

@@ -172,7 +172,7 @@ module _ (g : Setting) (alive : Variable → Type 0) (n : ℕ) where
 
   module _ (has : HasRegisters g) (ready : (d : Draft) → IsReadyButForFields g.typed g.instance (layout g) n d) (fields : HoldsTheFields g) where
     -- the code leaves its word in a register
-    pub computed_after : (set bits bound : ℕ) (quiet : Bool) (e : TExpr) → IsComputed set e → (d : Draft) (s : CodeState) (st : State) → Starts g alive s (length d.code) d.regs → Sim g alive st s
+    pub computed_after : (set bits bound : ℕ) (quiet : Bool) (e : TExpr) → IsComputed set e → (d : Draft) (s : CodeState) (st : State) → Starts g alive s (length d.code) d.regs (length d.fields) → Sim g alive st s
         → Follows g (Given g (λ q. value_in (extents g set) st e q) st (λ out f. (r : ℕ) × ((out ≡ O.Scalar r) × GivesWord g alive bound d s st (λ q. word_at (extents g set) st e q) (K.Reg r) f))) s (meant g fields e st) (operand_by g.typed (layout g) bits (λ after. value_of g.typed (layout g) bits e after) quiet e d)
     unfolding given_in at
     computed_after set bits bound quiet e h d s st here sim =

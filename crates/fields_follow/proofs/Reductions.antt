@@ -71,7 +71,7 @@ module _ (g : Setting) (alive : Variable → Type 0) where
     abbrev FoldGives : TExpr → Draft → CodeState → State → ℕ → Type 0
     FoldGives e d s st r = Follows g (λ x u out f. (w : ℕ) × ((x ≡ Scalar w) × ((u ≡ st) × GivesRegister r w d s st out f))) s (meant g fields e st) (computed_to g.typed (layout g) (O.Scalar r) e d)
 
-    gives_fold : (ty : ValueType) (op : ReduceOp) (p : Boxed) (operand : TExpr) (set : ℕ) → Foldable g alive places fields op set operand → (d : Draft) (s : CodeState) (st : State) (r : ℕ) → Starts g alive s (length d.code) d.regs → Sim g alive st s → FoldGives (T.Reduce' ty op p operand) d s st r
+    gives_fold : (ty : ValueType) (op : ReduceOp) (p : Boxed) (operand : TExpr) (set : ℕ) → Foldable g alive places fields op set operand → (d : Draft) (s : CodeState) (st : State) (r : ℕ) → Starts g alive s (length d.code) d.regs (length d.fields) → Sim g alive st s → FoldGives (T.Reduce' ty op p operand) d s st r
     gives_fold ty op p operand set h d s st r here sim =
         outcome_like g s (meant g fields operand st) v st (meant g fields (T.Reduce' ty op p operand) st) (Scalar w) st (GivesRegister r w d s st) (λ x u out f. (w : ℕ) × ((x ≡ Scalar w) × ((u ≡ st) × GivesRegister r w d s st out f)))
         (computed_to g.typed (layout g) (O.Scalar r) (T.Reduce' ty op p operand) d) (λ given. reduction_means ty op p operand set v st h.wide given) (λ early. reduction_ended ty op p operand s st early) (λ out f said. (w, (refl, (refl, said))))
@@ -83,7 +83,7 @@ module _ (g : Setting) (alive : Variable → Type 0) where
         w : ℕ
         w = reduction op operand set v (fields.scope.extents set)
 
-    pub folds_give : (has : HasRegisters g) (n : ℕ) → ((d : Draft) → IsReadyButForFields g.typed g.instance (layout g) n d) → (e : TExpr) → IsFold e → HasItsCode g.typed g.instance alive n e → (d : Draft) (s : CodeState) (st : State) (r : ℕ) → Starts g alive s (length d.code) d.regs → Sim g alive st s → FoldGives e d s st r
+    pub folds_give : (has : HasRegisters g) (n : ℕ) → ((d : Draft) → IsReadyButForFields g.typed g.instance (layout g) n d) → (e : TExpr) → IsFold e → HasItsCode g.typed g.instance alive n e → (d : Draft) (s : CodeState) (st : State) (r : ℕ) → Starts g alive s (length d.code) d.regs (length d.fields) → Sim g alive st s → FoldGives e d s st r
     unfolding IsFold
     folds_give has n ready (T.Reduce' ty op p operand) is c d s st r here sim = gives_fold ty op p operand is.1.0 (folds_so g has alive n ready places fields op is.1.0 operand (operand_code n ty op p operand c) is.1.1) d s st r here sim
     folds_give has n ready _ is c d s st r here sim = absurd is

@@ -58,7 +58,7 @@ use Rattle.fields_follow.proofs.Spreading.{GivesWord, HasBoth, spread_behind}
 use Rattle.fields_follow.proofs.Values.{Valued, and_entry, code_of, next_field, one_more, operand_of, with_entry}
 use Rattle.fields_follow.proofs.TestFlags.{ComparesAs, LeavesTests, compares, is_truth, puts_compare, tested_last}
 use Rattle.fields_follow.proofs.Totals.{held_below}
-use Rattle.fields_follow.proofs.Starts.{Starts}
+use Rattle.fields_follow.proofs.Starts.{starts_entry, Starts}
 
 -- the two sides of a relation are operands
 pub relation_operands : (set : ℕ) (left right : TExpr) → HaveTheirKinds set left right → AreOperands set left right
@@ -164,7 +164,7 @@ module _ (g : Setting) (has : HasRegisters g) (alive : Variable → Type 0) (n :
   compared_extends relation a (R.Word k) spare e = (2, and_instr (I.Compare relation a spare) e (with_instr (I.MoveConstant spare k) e) 1 (and_one g (I.MoveConstant spare k) e))
 
   module _ (set : ℕ) (op : Op) (left right : TExpr) (is : AreRelated set op left right) (no_check : divides op ≡ false) (c_left : HasItsCode g.typed g.instance alive n left) (c_right : HasItsCode g.typed g.instance alive n right) (left_valued : IsPure set left → IsValued (bits_of (relation_kind left right)) set left)
-      (right_valued : IsPure set right → IsValued (bits_of (relation_kind left right)) set right) (d : Draft) (s : CodeState) (st : State) (here : Starts g alive s (length d.code) d.regs) (sim : Sim g alive st s) where
+      (right_valued : IsPure set right → IsValued (bits_of (relation_kind left right)) set right) (d : Draft) (s : CodeState) (st : State) (here : Starts g alive s (length d.code) d.regs (length d.fields)) (sim : Sim g alive st s) where
     abbrev bits : ℕ
     bits = bits_of (relation_kind left right)
 
@@ -251,7 +251,7 @@ module _ (g : Setting) (has : HasRegisters g) (alive : Variable → Type 0) (n :
     unfolding compared
     chosen o gives left_ends right_ends (inl (pure, any_operand)) =
         then_known g s (meant g fields left st) (number left) st (GivesField g alive bits (length d1.fields) d1 s set st v) (Known g s o u st Q) (spread_into (operand bits (is_quiet right) left) left spare d1) (λ a e. next a e)
-        (pure_left g has alive n ready places fields bits set left (is_quiet right) pure c_left (left_valued pure) spare d1 s st here sim) next_extends
+        (pure_left g has alive n ready places fields bits set left (is_quiet right) pure c_left (left_valued pure) spare d1 s st (starts_entry g alive _ _ here) sim) next_extends
         (λ is_left a e1 one. then_known g one.passes.t (meant g fields right st) (number right) st (λ b f. Takes op b × GivesRight g has alive n ready places fields bits (length e1.fields) e1 one.passes.t set st w b f) (Known g s o u st Q) (right_by (operand bits true right) op right e1) (λ b after. compared (M.Compare c.relation) a b spare after)
         (right_after g has alive n ready places fields bits set op right (inl no_check) any_operand c_right right_valued e1 one.passes.t st one.passes.at one.passes.sim) (λ b after. compared_extends c.relation a b spare after)
         (λ is_right b e2 two. by (gives is_left is_right) a e1 one b e2 two.1) (λ early z f. inr (right_ends is_left (ended_back g s one.passes.t (meant g fields right st) one.passes.go early))))

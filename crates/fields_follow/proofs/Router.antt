@@ -60,7 +60,7 @@ use Rattle.fields_follow.proofs.Passing.{After, Behind, GivesField, Passes, afte
 use Rattle.fields_follow.proofs.Places.{HoldsTheFields, PlacesFields, stands_here}
 use Rattle.fields_follow.proofs.RouterCode.{behind_indexes, for_got, got, got_field, plain_get, router_code, wide_get}
 use Rattle.fields_follow.proofs.Routing.{indexes_at, outside_at, routed_faults, routed_gives, routed_value, target_of}
-use Rattle.fields_follow.proofs.Starts.{Starts}
+use Rattle.fields_follow.proofs.Starts.{starts_entry, Starts}
 use Rattle.fields_follow.proofs.Values.{and_entry, next_field, one_more, taken, with_entry}
 
 module _ (g : Setting) where
@@ -161,7 +161,7 @@ module _ (g : Setting) where
       there m made x within part fits = file_everywhere g alive n places fields part set k info (record source { len = part }) t st is (taken g set info.elem.bits (owner_of g k) e made m within x) refl refl fits a.passes.sim
 
       -- code behind the address that only takes entries
-      passing : (e2 : Draft) → Extended e 0 e2 → Starts g alive t (length e2.code) e2.regs → Behind g at e → Passes g alive bound d e2 s st (Unit {0})
+      passing : (e2 : Draft) → Extended e 0 e2 → Starts g alive t (length e2.code) e2.regs (length e2.fields) → Behind g at e → Passes g alive bound d e2 s st (Unit {0})
       passing e2 x here behind =
           passes_on g alive bound bound d e e2 s st (Behind g at e) (Unit {0}) (Unit {0}) (omega arith) a.passes (passes_from g alive bound e e2 e2 t st (Unit {0}) x (passes_all g alive bound e2 t st (Unit {0}) here a.passes.sim)) (λ u. behind) (λ u. tt)
 
@@ -169,7 +169,7 @@ module _ (g : Setting) where
       plain_last : bits ≤ info.elem.bits → Within g (plain_get g set k info f at e) → Q (O.Field f) (plain_get g set k info f at e)
       unfolding first_bits passing passes_on passes_from step_of
       plain_last fits within =
-          last e1 i within (passing e1 (and_entry set info.elem.bits (owner_of g k) e) a.passes.at behind)
+          last e1 i within (passing e1 (and_entry set info.elem.bits (owner_of g k) e) (starts_entry g alive _ _ a.passes.at) behind)
           (subst (λ (w : ℕ → ℕ). Puts g set i f t w) elem_words (puts_get bits set f at part t to words refl (named behind) leads (there 1 (with_instr i e1) (and_one g i e1) within bits fits)))
         where
           part : Field
@@ -215,7 +215,7 @@ module _ (g : Setting) where
           named_later = (length e2.code, (names_second g get field at (source ∷ []) (length e2.code) (stands_here g get e2 within3 refl) refl, omega arith))
 
           before : Passes g alive bound d e2 s st (Unit {0})
-          before = passing e2 taking a.passes.at named_later
+          before = passing e2 taking (starts_entry g alive _ _ (starts_entry g alive _ _ a.passes.at)) named_later
 
           behind : Behind g field e3
           behind = (length e3.code, (names_second g move f field [] (length e3.code) (stands_here g move e3 within refl) refl, omega arith))
@@ -226,7 +226,7 @@ module _ (g : Setting) where
           gives : GivesField g alive info.elem.bits bound e2 t set st (λ q. words (to q)) field e3
           gives =
               puts_own g alive places fields info.elem.bits bound set get field e2 t st (λ q. words (to q)) (let one = one_more set info.elem.bits (owner_of g k) e in omega (arith, less, one)) (let two = one_more set info.elem.bits W.Own e1 in omega (arith, two))
-              (taken g set info.elem.bits W.Own e1 e3 1 within3 (and_one g get e2)) refl refl within3 a.passes.at a.passes.sim
+              (taken g set info.elem.bits W.Own e1 e3 1 within3 (and_one g get e2)) refl refl within3 (starts_entry g alive _ _ (starts_entry g alive _ _ a.passes.at)) a.passes.sim
               (puts_get info.elem.bits set field at source t to words refl (named named_later) leads (there (0 + 1) e3 longer within3 info.elem.bits (omega arith)))
 
       got_last : Within g (got g set k info ty.elem f at e) → Q (O.Field f) (got g set k info ty.elem f at e)
@@ -245,7 +245,7 @@ module _ (g : Setting) where
     -- behind the code of its indexes
     pub routed_last : (ty : ValueType) (place_of : Place) (p : _) (indexes : Row_of-TExpr _) (k set offset bits bound : ℕ) (quiet : Bool) (spot : Draft → Made Spot) (d : Draft) (s : CodeState) (st : State) → bits ≤ 32 → ty.shape ≡ Some set → all_go_by_news set 0 (items-the_row-TExpr _ indexes) ≡ false
         → ArePure set indexes → AllCoded g has alive n ready places fields indexes → AllValued g has alive n ready places fields set indexes → HasVariable g.typed g.instance n (V.File k) (plain (parallel ty.elem set)) → HasAxes g.typed set (length (items-the_row-TExpr _ indexes))
-        → spot d ≡ indexed_spot g.typed (layout g) (T.LeftIndex' ty place_of p indexes (V.File k) set) (values_of g.typed (layout g) false quiet indexes) d → bound ≤ length d.fields → Starts g alive s (length d.code) d.regs → Sim g alive st s → (Q : Out → Draft → Type 0)
+        → spot d ≡ indexed_spot g.typed (layout g) (T.LeftIndex' ty place_of p indexes (V.File k) set) (values_of g.typed (layout g) false quiet indexes) d → bound ≤ length d.fields → Starts g alive s (length d.code) d.regs (length d.fields) → Sim g alive st s → (Q : Out → Draft → Type 0)
         → (meant g fields (T.LeftIndex' ty place_of p indexes (V.File k) set) st ≡ Source.Gives (Parallel (λ q. value_in (extents g set) st (T.LeftIndex' ty place_of p indexes (V.File k) set) q)) st → (e2 : Draft) (i : Instr) → Within g (with_instr i e2) → (passes : Passes g alive bound d e2 s st (Unit {0}))
         → Puts g set i (record { set = set; offset = offset; len = bits }) passes.t (λ q. word_at (extents g set) st (T.LeftIndex' ty place_of p indexes (V.File k) set) q) → Q (O.Field (record { set = set; offset = offset; len = bits })) (with_instr i e2))
         → (Ended g s (meant g fields (T.LeftIndex' ty place_of p indexes (V.File k) set) st) → (x : Out) (after : Draft) → Q x after)
@@ -293,7 +293,7 @@ module _ (g : Setting) where
         to = target_of (extents g set) st indexes
 
         start : PartsStand g alive bound d1 s set st [] [] d1
-        start = record { shaped = tt; passes = passes_all g alive bound d1 s st (AllBehind g [] d1) here sim; stand = λ b. tt }
+        start = record { shaped = tt; passes = passes_all g alive bound d1 s st (AllBehind g [] d1) (starts_entry g alive _ _ here) sim; stand = λ b. tt }
 
         same : (q : ℕ) → held ty.elem (st.parallel (V.File k) 0 (to q)) ≡ word_at (extents g set) st e q
         same q = ap (λ (x : ℕ). held ty.elem x) (sym (routed_value (extents g set) st ty place_of p indexes (V.File k) set q goes))

@@ -54,7 +54,7 @@ module _ (g : Setting) (scope : Scope) (active : Active) (known : KnowsFields g 
   Kept saved m = known.kept m × HasContext g active saved m
 
   -- it lasts between the places where that is saved and loaded
-  pub kept_lasts : (saved : Field) (d : Draft) (first last from entries upto : ℕ) → Begun g d → length d.code ≤ from → length d.fields ≤ entries → upto ≤ g.upto → IsOwnField g saved → (saved.set < length (shapes g)) × EndsBelow g saved → saved.offset < entries → IsNamedAt g.unit saved.offset first → first < from → IsNamedAt g.unit saved.offset last → upto ≤ last
+  pub kept_lasts : (saved : Field) (d : Draft) (first last from entries upto : ℕ) → Begun g alive d → length d.code ≤ from → length d.fields ≤ entries → upto ≤ g.upto → IsOwnField g saved → (saved.set < length (shapes g)) × EndsBelow g saved → saved.offset < entries → IsNamedAt g.unit saved.offset first → first < from → IsNamedAt g.unit saved.offset last → upto ≤ last
       → Lasts g from entries upto (λ m. Kept saved m)
   kept_lasts saved d first last from entries upto begun low more high own below inside before early after late =
       lasts_both g from entries upto known.kept (λ m. HasContext g active saved m)
@@ -88,17 +88,17 @@ module _ (g : Setting) (scope : Scope) (active : Active) (known : KnowsFields g 
           returns_from g lives held d s x.t v given x.go x.keeps (record { t = r.t; go = record { by = r.go.by; below = r.go.below }; sim = sim_saying g lives v r.t r.t.at r.t.memory r.sim.memory r.sim; leaves = r.leaves; spares = r.spares; given = given_outer lives r.t given r.given })
 
       -- so it follows, where what is kept lasts as long as its code
-      pub part_leads : (f : Exits) (b n m : ℕ) (run : Active → State → Outcome Leaving) (code : Draft → Made ℕ) → Part KnowsFields g scope alive saved (in_one_more f) b m run code → code begin ≡ Makes m e → HasDeclared g.typed g.instance (layout g) b begin → Begun g d → Extended begin n e
+      pub part_leads : (f : Exits) (b n m : ℕ) (run : Active → State → Outcome Leaving) (code : Draft → Made ℕ) → Part KnowsFields g scope alive saved (in_one_more f) b m run code → code begin ≡ Makes m e → HasDeclared g.typed g.instance (layout g) b begin → Begun g alive d → Extended begin n e
           → ((m : BitMemory) → kept m → HasContext g active saved m) → ((m : BitMemory) → kept m → known.kept m) → ((q p : ℕ) → (q ≡ saved.set → ⊥) → active q p ≡ a q p) → Follows g (LedLeft a kept f d s) s (run a u) (Makes m e)
       unfolding Follows LeftSo in_context
       part_leads f b n m run code part is none free longer has weaker beside =
           at_once g (LedLeft a kept f d s) s (run a u) m e (λ within.
-          let begun : Begun g begin = begun_later g d begin x.grown.0 x.grown.1 free in
+          let begun : Begun g alive begin = begun_later g alive d begin x.grown.0 x.grown.1 free in
           let inside : Inside g saved there.held (length begin.code) (length begin.fields) (length e.code) =
           record { low = begun.code; more = begun.fields; high = within.upto; loads = λ every h t v at sim w. loads_back g scope active known a saved kept (length begin.code) (length begin.fields) (length e.code) lasts has weaker beside every h t v at sim w } in
           by (run a u) (subst (λ (made : Made ℕ). Follows there (Left there alive (in_one_more f) begin x.t) x.t (run a u) made) is
           (part.follows there.held (length begin.code) (length begin.fields) (length e.code) a inside (knows_inner g scope active known a kept (length begin.code) (length begin.fields) (length e.code) lasts) begin x.t u none
-          (record { regs = begun.regs; code = omega arith; fields = omega arith }) x.at (sim_inner g scope active known a kept (length begin.code) (length begin.fields) (length e.code) alive u x.t x.sim x.has))))
+          (record { regs = begun.regs; code = omega arith; fields = omega arith; opened = begun.opened }) x.at (sim_inner g scope active known a kept (length begin.code) (length begin.fields) (length e.code) alive u x.t x.sim x.has))))
         where
           inwards : Within g e → Within there e
           inwards w = within_inner g scope active known a kept (length begin.code) (length begin.fields) (length e.code) e (omega arith) w
@@ -122,7 +122,7 @@ module _ (g : Setting) (scope : Scope) (active : Active) (known : KnowsFields g 
 
   -- a part whose code is made, and behind it the context is loaded
   pub part_closed : (a : Active) (saved : Field) (kept : BitMemory → Type 0) (f : Exits) (d begin e : Draft) (s : CodeState) (u : State) (k b m : ℕ) (run : Active → State → Outcome Leaving) (code : Draft → Made ℕ) → Part KnowsFields g scope alive saved (in_one_more f) b m run code
-      → code begin ≡ Makes m e → HasDeclared g.typed g.instance (layout g) b begin → Begun g d → Lasts g (length begin.code) (length begin.fields) (length e.code) kept → ((m : BitMemory) → kept m → HasContext g active saved m) → ((m : BitMemory) → kept m → known.kept m) → ((q p : ℕ) → (q ≡ saved.set → ⊥) → active q p ≡ a q p) → Extended begin k e
+      → code begin ≡ Makes m e → HasDeclared g.typed g.instance (layout g) b begin → Begun g alive d → Lasts g (length begin.code) (length begin.fields) (length e.code) kept → ((m : BitMemory) → kept m → HasContext g active saved m) → ((m : BitMemory) → kept m → known.kept m) → ((q p : ℕ) → (q ≡ saved.set → ⊥) → active q p ≡ a q p) → Extended begin k e
       → Led g scope active known alive a kept d begin s u → Follows g (LedLeft active kept f d s) s (run a u) (Makes m (with_instr (I.LoadContext saved) e))
   unfolding LeftSo
   part_closed a saved kept f d begin e s u k b m run code part is none begun lasts has weaker beside longer x =

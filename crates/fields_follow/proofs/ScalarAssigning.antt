@@ -50,7 +50,7 @@ use Rattle.fields_follow.proofs.Lengths.{held_first}
 use Rattle.fields_follow.proofs.Places.{HoldsTheFields, PlacesFields}
 use Rattle.fields_follow.proofs.Promoted.{Spreads, changing_stands, everywhere}
 use Rattle.fields_follow.proofs.Scalars.{GivesChanged, changed_follows}
-use Rattle.fields_follow.proofs.Starts.{Starts}
+use Rattle.fields_follow.proofs.Starts.{starts_entry, Starts}
 use Rattle.fields_follow.proofs.Updates.{IsFileTarget, assigned_is, divides_never, file_target}
 use Rattle.fields_follow.proofs.Values.{next_field, with_entry}
 
@@ -66,12 +66,12 @@ module _ (g : Setting) (has : HasRegisters g) (alive : Variable → Type 0) (n :
   made_follows Q s x u y e h = h
 
   pub assigns : (ty : ValueType) (place : Place) (op : AssignOp) (p q : Boxed) (target value : TExpr) (set : ℕ) → ty ≡ type_of target → assign_op_of op ≡ None → (type_of value).elem.bits ≡ ty.elem.bits → IsTarget set target → IsChanging set value → NamesVariables g.typed g.instance n target
-      → HasItsCode g.typed g.instance alive n value → (d : Draft) (s : CodeState) (st : State) → Starts g alive s (length d.code) d.regs → Sim g alive st s → UpdateLeaves g alive fields (T.Assign' ty place op p target q value) d s st
+      → HasItsCode g.typed g.instance alive n value → (d : Draft) (s : CodeState) (st : State) → Starts g alive s (length d.code) d.regs (length d.fields) → Sim g alive st s → UpdateLeaves g alive fields (T.Assign' ty place op p target q value) d s st
   unfolding effect_of assignment_effect variable_operated put_to word_for evaluated then_do put_value put_in_field at
   assigns ty place op p q target value set same none long is_target is names c d s st here sim =
       follows_same g Q s means code
       (then_follows g R Q s s (evaluated fields.scope v.operand fields.active st) k made (λ x after. put_value (O.Field f) x after) (stay g s)
-      (changed_follows g has alive n ready fields true bits (length d1.fields) v.operand v.is v.among v.has d1 s st here sim)
+      (changed_follows g has alive n ready fields true bits (length d1.fields) v.operand v.is v.among v.has d1 s st (starts_entry g alive _ _ here) sim)
       (λ x after. value_put g has alive n ready places fields f x after) gives)
     where
       h : IsFileTarget g.typed set target

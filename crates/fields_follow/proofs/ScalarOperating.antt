@@ -53,7 +53,7 @@ use Rattle.fields_follow.proofs.Outcomes.{Ended, outcome_follows}
 use Rattle.fields_follow.proofs.Places.{HoldsTheFields, PlacesFields}
 use Rattle.fields_follow.proofs.Promoted.{Spreads, changing_stands, everywhere}
 use Rattle.fields_follow.proofs.Scalars.{GivesChanged, changed_follows}
-use Rattle.fields_follow.proofs.Starts.{Starts}
+use Rattle.fields_follow.proofs.Starts.{starts_entry, Starts}
 use Rattle.fields_follow.proofs.Updates.{IsFileTarget, assigned_divides, assigned_is, file_target, divides_as, updated_is}
 use Rattle.fields_follow.proofs.Values.{next_field, with_entry, and_entry, one_more}
 use Rattle.std.proofs.lemmas.Nat.{pow_pos, mod_below}
@@ -81,12 +81,12 @@ module _ (g : Setting) (has : HasRegisters g) (alive : Variable → Type 0) (n :
   after_within Q e Fails grows h = tt
 
   pub operates : (ty : ValueType) (place : Place) (op : AssignOp) (p q : Boxed) (target value : TExpr) (set : ℕ) (x : Op) → ty ≡ type_of target → assign_op_of op ≡ Some x → HasOperation op ty.elem value → IsOperation x value → (type_of value).elem.bits ≡ 32 → (ty.elem.bits == 1) ≡ false → operation_bits ty.elem.bits x value ≡ ty.elem.bits
-      → IsTarget set target → IsChanging set value → NamesVariables g.typed g.instance n target → HasItsCode g.typed g.instance alive n value → (d : Draft) (s : CodeState) (st : State) → Starts g alive s (length d.code) d.regs → Sim g alive st s → UpdateLeaves g alive fields (T.Assign' ty place op p target q value) d s st
+      → IsTarget set target → IsChanging set value → NamesVariables g.typed g.instance n target → HasItsCode g.typed g.instance alive n value → (d : Draft) (s : CodeState) (st : State) → Starts g alive s (length d.code) d.regs (length d.fields) → Sim g alive st s → UpdateLeaves g alive fields (T.Assign' ty place op p target q value) d s st
   unfolding effect_of assignment_effect variable_operated field_operated right_by word_taken an_entry evaluated then_do then_make right_given from at passes_from Extends
   operates ty place op p q target value set x same is_op known operation wide no_truth works is_target is names c d s st here sim =
       follows_same g Q s means code
       (then_follows g R Q s s (evaluated fields.scope v.operand fields.active st) k made (λ y after. next y after) (stay g s)
-      (changed_follows g has alive n ready fields true bits (length d2.fields) v.operand v.is v.among v.has d2 s st here sim) grows gives)
+      (changed_follows g has alive n ready fields true bits (length d2.fields) v.operand v.is v.among v.has d2 s st (starts_entry g alive _ _ (starts_entry g alive _ _ here)) sim) grows gives)
     where
       h : IsFileTarget g.typed set target
       h = file_target g.typed g.instance n set target is_target names
@@ -240,7 +240,7 @@ module _ (g : Setting) (has : HasRegisters g) (alive : Variable → Type 0) (n :
               ∙ ap (λ (m : ℕ). outcome x 32 (not signed) (old z) m % 2 ^ bits) (sym is_cw)
 
   -- such an assignment leaves what it leaves in the source
-  pub changing_leaves : (e : TExpr) → IsChangingAssigned e → HasItsCode g.typed g.instance alive n e → (d : Draft) (s : CodeState) (st : State) → Starts g alive s (length d.code) d.regs → Sim g alive st s → UpdateLeaves g alive fields e d s st
+  pub changing_leaves : (e : TExpr) → IsChangingAssigned e → HasItsCode g.typed g.instance alive n e → (d : Draft) (s : CodeState) (st : State) → Starts g alive s (length d.code) d.regs (length d.fields) → Sim g alive st s → UpdateLeaves g alive fields e d s st
   unfolding IsChangingAssigned NamesVariables IsShaped IsLowerable ScalarsAmong
   changing_leaves (T.Assign' ty place op p target q value) is c = by (assign_op_of op) refl is.1
     where
@@ -248,7 +248,7 @@ module _ (g : Setting) (has : HasRegisters g) (alive : Variable → Type 0) (n :
       part = record { code = record { shaped = c.code.shaped.3; lowerable = c.code.lowerable.3; names = c.code.names.1 }; among = c.among.1 }
 
       by : (o : Option Op) → assign_op_of op ≡ o → (elim o as (λ _. Type 0) [ None ↦ (type_of value).elem.bits ≡ ty.elem.bits | Some x ↦ IsOperation x value × ((type_of value).elem.bits ≡ 32) × ((ty.elem.bits == 1) ≡ false) × (operation_bits ty.elem.bits x value ≡ ty.elem.bits) ])
-          → (d : Draft) (s : CodeState) (st : State) → Starts g alive s (length d.code) d.regs → Sim g alive st s → UpdateLeaves g alive fields (T.Assign' ty place op p target q value) d s st
+          → (d : Draft) (s : CodeState) (st : State) → Starts g alive s (length d.code) d.regs (length d.fields) → Sim g alive st s → UpdateLeaves g alive fields (T.Assign' ty place op p target q value) d s st
       by None none long = assigns g has alive n ready places fields ty place op p q target value is.2.0 is.0 none long is.2.1.0 is.2.1.1 c.code.names.0 part
       by (Some x) some known = operates ty place op p q target value is.2.0 x is.0 some is.1 known.0 known.1 known.2 known.3 is.2.1.0 is.2.1.1 c.code.names.0 part
   changing_leaves _ is c = absurd is

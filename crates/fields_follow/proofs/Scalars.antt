@@ -22,11 +22,11 @@ use Rattle.code_follows.specs.Fragment.{IsIn, ScalarsAmong}
 use Rattle.code_follows.proofs.Callees.{CallsFollow}
 use Rattle.code_follows.proofs.Expressions.{operand}
 use Rattle.code_follows.proofs.Following.{Arrives, Finishes, Follows, HasRegisters, IsKept, Keeps, Sim, follows_same, held, keeps_all, knowing, follows_other}
-use Rattle.code_follows.proofs.Settings.{Held, Setting, Within, layout}
+use Rattle.code_follows.proofs.Settings.{Held, OpenAmong, open_later, Setting, Within, layout}
 use Rattle.fields_follow.specs.Fragment.{IsCalm, alone}
 use Rattle.fields_follow.proofs.Calm.{IsCalmly, alone_in, alone_same, calm_alone, calm_gives}
 use Rattle.fields_follow.proofs.Instructions.{place, word_in}
-use Rattle.fields_follow.proofs.Passing.{code_longer}
+use Rattle.fields_follow.proofs.Passing.{code_longer, fields_longer}
 use Rattle.fields_follow.proofs.Places.{HoldsTheFields}
 use Rattle.fields_follow.proofs.Spreading.{GivesWord}
 use Rattle.fields_follow.proofs.Starts.{Starts}
@@ -72,7 +72,7 @@ module _ (g : Setting) (has : HasRegisters g) (fields : HoldsTheFields g) (m : B
     effect = λ index given none. absurd none;
     returns = λ elem none. absurd none;
     beside = λ registers. record { effects = λ alive files n ready e none. absurd none; folds = λ alive files n ready e none. absurd none };
-    lasts = λ target behind place jump stands jumps live st memory h. (fields.closes live _ st memory (fields.opens live _ st memory h.0), h.1);
+    lasts = λ live target behind named place jump stands jumps st memory h. (fields.closes live _ st memory (fields.opens live _ st memory h.0), h.1);
   }
 
   within_calm : (e : Draft) → Within g e → Within calm e
@@ -128,7 +128,7 @@ module _ (g : Setting) (has : HasRegisters g) (alive : Variable → Type 0) (n :
   abbrev pub GivesChanged : ℕ → Draft → CodeState → TExpr → Value → State → Out → Draft → Type 0
   GivesChanged bound d s e x u out f = (w : ℕ) × ((x ≡ Scalar w) × ((w < 2 ^ (type_of e).elem.bits) × ((r : ℕ) × ((out ≡ O.Scalar r) × GivesWord g alive bound d s u (λ q. held (type_of e).elem w) (K.Reg r) f))))
 
-  pub changed_follows : (quiet : Bool) (bits bound : ℕ) (e : TExpr) → IsIn alone e → ScalarsAmong alive e → HasCode g.typed g.instance n e → (d : Draft) (s : CodeState) (st : State) → Starts g alive s (length d.code) d.regs → Sim g alive st s
+  pub changed_follows : (quiet : Bool) (bits bound : ℕ) (e : TExpr) → IsIn alone e → ScalarsAmong alive e → HasCode g.typed g.instance n e → (d : Draft) (s : CodeState) (st : State) → Starts g alive s (length d.code) d.regs (length d.fields) → Sim g alive st s
       → Follows g (GivesChanged bound d s e) s (evaluated fields.scope e fields.active st) (operand_by g.typed (layout g) bits (λ after. value_of g.typed (layout g) bits e after) quiet e d)
   unfolding word_in
   changed_follows quiet bits bound e is among code d s st here sim =
@@ -147,7 +147,7 @@ module _ (g : Setting) (has : HasRegisters g) (alive : Variable → Type 0) (n :
       law : Follows (calm g has fields s.memory) Arrived s o made
       law =
           operand (calm g has fields s.memory) (calm_registers g has fields s.memory) alive n here.files ready (around g has fields s.memory) fields.active (nothing_called g has fields s.memory) quiet bits e (alone_in alive e is among) code d s st
-          (record { regs = here.free; code = here.low; fields = omega arith }) here.stands (sim_calm g has fields s.memory alive st s refl sim)
+          (record { regs = here.free; code = here.low; fields = omega arith; opened = here.opened }) here.stands (sim_calm g has fields s.memory alive st s refl sim)
 
       gives : (x : Value) (u : State) (out : Out) (f : Draft) → Arrived x u out f → GivesChanged bound d s e x u out f
       gives x u out f a =
@@ -171,6 +171,7 @@ module _ (g : Setting) (has : HasRegisters g) (alive : Variable → Type 0) (n :
                           free = let more = a.extended.1.regs in let free = here.free in omega (arith, more, free);
                           low = let more = code_longer d f a.extended.0 a.extended.1 in let low = here.low in omega (arith, more, low);
                           files = here.files;
+                          opened = open_later g (OpenAmong g alive) (length d.code) (length f.code) (length d.fields) (length f.fields) (code_longer d f a.extended.0 a.extended.1) (fields_longer d f a.extended.0 a.extended.1) here.opened;
                         };
                         registers = keeps_back g has fields s.memory d s a.t a.keeps;
                         sim = sim_back g has fields s.memory alive u a.t a.sim;
@@ -189,7 +190,7 @@ module _ (g : Setting) (has : HasRegisters g) (alive : Variable → Type 0) (n :
   abbrev pub GivesScalar : ℕ → Draft → CodeState → State → TExpr → Value → State → Out → Draft → Type 0
   GivesScalar bound d s st e x u out f = (w : ℕ) × ((x ≡ Scalar w) × ((u ≡ st) × ((r : ℕ) × ((out ≡ O.Scalar r) × GivesWord g alive bound d s st (λ q. held (type_of e).elem w) (K.Reg r) f))))
 
-  pub scalar_follows : (quiet : Bool) (bits bound : ℕ) (e : TExpr) → IsCalm e → ScalarsAmong alive e → HasCode g.typed g.instance n e → (d : Draft) (s : CodeState) (st : State) → Starts g alive s (length d.code) d.regs → Sim g alive st s
+  pub scalar_follows : (quiet : Bool) (bits bound : ℕ) (e : TExpr) → IsCalm e → ScalarsAmong alive e → HasCode g.typed g.instance n e → (d : Draft) (s : CodeState) (st : State) → Starts g alive s (length d.code) d.regs (length d.fields) → Sim g alive st s
       → Follows g (GivesScalar bound d s st e) s (evaluated fields.scope e fields.active st) (operand_by g.typed (layout g) bits (λ after. value_of g.typed (layout g) bits e after) quiet e d)
   unfolding IsCalmly
   scalar_follows quiet bits bound e is among code d s st here sim =

@@ -59,7 +59,7 @@ use Rattle.fields_follow.proofs.ScanForms.{scan_shape}
 use Rattle.fields_follow.proofs.ScanOperands.{right_keeps, scan_right}
 use Rattle.fields_follow.proofs.Scanned.{scan_valued, scan_words, scanned_last, scanned_small}
 use Rattle.fields_follow.proofs.Scanning.{ScanGives, scanned_in}
-use Rattle.fields_follow.proofs.Starts.{Starts}
+use Rattle.fields_follow.proofs.Starts.{starts_entry, Starts}
 use Rattle.fields_follow.proofs.Totals.{held_below}
 use Rattle.fields_follow.proofs.Updates.{IsFileTarget, assign_ends, assign_means, assigned_divides, assigned_is, divides_as, divides_never, file_target, updated_is}
 use Rattle.fields_follow.proofs.Values.{and_entry, next_field, one_more, with_entry}
@@ -68,7 +68,7 @@ use Rattle.fields_follow.proofs.Variables.{file_carries}
 module _ (g : Setting) (has : HasRegisters g) (alive : Variable → Type 0) (n : ℕ) (ready : (d : Draft) → IsReadyButForFields g.typed g.instance (layout g) n d) (places : PlacesFields g) (fields : HoldsTheFields g) where
   -- An operator on the field of a variable and a value with scans in it: the last instruction writes the variable.
   in_place : (set k : ℕ) (info : VarInfo) (is : IsElement g.typed k info set 0) (op : Op) (signed : Bool) (place : Place) (value : TExpr) (d0 : Draft) (s : CodeState) (st : State) → IsOperation op value → operation_bits info.elem.bits op value ≡ info.elem.bits → IsScan set value → IsWide set (type_of value)
-      → HasItsCode g.typed g.instance alive n value → Starts g alive s (length (entered g has alive n ready places fields set k info is d0 s st).code) (entered g has alive n ready places fields set k info is d0 s st).regs → Sim g alive st s → (Q : Out → Draft → Type 0)
+      → HasItsCode g.typed g.instance alive n value → Starts g alive s (length (entered g has alive n ready places fields set k info is d0 s st).code) (entered g has alive n ready places fields set k info is d0 s st).regs (length (entered g has alive n ready places fields set k info is d0 s st).fields) → Sim g alive st s → (Q : Out → Draft → Type 0)
       → (ScanGives g alive places fields set value st → set < length (shapes g) → (divides op ≡ true → zero_at g fields set (λ q. scanned_in g alive places fields set st value q) ≡ None) → (e2 : Draft) (i : Instr) → Within g (with_instr i e2) → (p : Passes g alive (length (entered g has alive n ready places fields set k info is d0 s st).fields) (entered g has alive n ready places fields set k info is d0 s st) e2 s st (Unit {0}))
       → Puts g set i (next_field set info.elem.bits d0) p.t (λ q. outcome op 32 (not signed) (held info.elem (st.parallel (V.File k) 0 q)) (scanned_in g alive places fields set st value q)) → Q (O.Field (next_field set info.elem.bits d0)) (with_instr i e2))
       → (Ended g s (meant g fields value st) → (x : Out) (after : Draft) → Q x after)
@@ -78,7 +78,7 @@ module _ (g : Setting) (has : HasRegisters g) (alive : Variable → Type 0) (n :
   in_place set k info is op signed place value d0 s st known works scans wide c here sim Q last ended fault =
       then_after g (GivesField g alive bits (length d1.fields) d1 s set st v) Q (Makes f d1) (λ a begun. then_make (right_by (operand true) op value begun) (λ right after. right_operated op signed place f a right spare after))
       (made_after g (GivesField g alive bits (length d1.fields) d1 s set st v) f d1 (λ within. record {
-        passes = passes_all g alive (length d1.fields) d1 s st (Behind g f d1) here sim;
+        passes = passes_all g alive (length d1.fields) d1 s st (Behind g f d1) (starts_entry g alive _ _ here) sim;
         stands = inr (record { x = V.File k; info = info; carries = file_carries g alive places fields set k info f is (entry_for g has alive n ready places fields set k info is d0 s st d1 0 (and_entry set bits W.Own d) within) refl refl; len = refl; fits = omega arith; same = λ q below. (refl, held_below info.elem (st.parallel (V.File k) 0 q)) });
       }))
       (λ a begun. extends_then g begun (right_by (operand true) op value begun) (λ right after. right_operated op signed place f a right spare after) (right_extends g (operand true) op value (λ after. operand_grows g has alive n ready places fields bits value c true after) begun) (λ right after. operated_extends g op signed place f a spare right after known.0))
@@ -119,7 +119,7 @@ module _ (g : Setting) (has : HasRegisters g) (alive : Variable → Type 0) (n :
       w = λ q. scanned_in g alive places fields set st value q
 
   assigns : (ty : ValueType) (place : Place) (op : AssignOp) (p q : Boxed) (target value : TExpr) (set : ℕ) → ty ≡ type_of target → HasOperation op ty.elem value → IsTarget set target → IsScanFor set ty.elem.bits op value → NamesVariables g.typed g.instance n target
-      → HasItsCode g.typed g.instance alive n value → (d : Draft) (s : CodeState) (st : State) → Starts g alive s (length d.code) d.regs → Sim g alive st s → UpdateLeaves g alive fields (T.Assign' ty place op p target q value) d s st
+      → HasItsCode g.typed g.instance alive n value → (d : Draft) (s : CodeState) (st : State) → Starts g alive s (length d.code) d.regs (length d.fields) → Sim g alive st s → UpdateLeaves g alive fields (T.Assign' ty place op p target q value) d s st
   unfolding effect_of assignment_effect variable_operated
   assigns ty place op p q target value set same operates is_target is_value names c d s st here sim =
       outcome_follows g s o (Parallel w) u (λ out e. Leaves g alive d e s u) (λ v t out e. Leaves g alive d e s t) (effect_of g.typed (layout g) (T.Assign' ty place op p target q value) d) (λ out e said. said)
@@ -207,7 +207,7 @@ module _ (g : Setting) (has : HasRegisters g) (alive : Variable → Type 0) (n :
           let few : (x : ℕ) → number x < 2 ^ bits = λ x. subst (λ (b : ℕ). number x < 2 ^ b) long (scanned_small g has alive n ready places fields set bits value st s sim scans c x) in
           let stored : (x : ℕ) → w x ≡ number x = λ x. plainly g has alive n ready places fields op ty.elem (type_of value).elem (old x) (number x) is in
           after_same g Q (ap code is)
-          (scanned_last g has alive n ready places fields set f bits value (kind_bits h.info.elem.bits h.info.elem.signed h.info.elem.kind).0 (kind_bits h.info.elem.bits h.info.elem.signed h.info.elem.kind).1 refl refl scans c (length d1.fields) d1 s st (omega arith) here sim Q
+          (scanned_last g has alive n ready places fields set f bits value (kind_bits h.info.elem.bits h.info.elem.signed h.info.elem.kind).0 (kind_bits h.info.elem.bits h.info.elem.signed h.info.elem.kind).1 refl refl scans c (length d1.fields) d1 s st (omega arith) (starts_entry g alive _ _ here) sim Q
           (λ given e2 i within passes puts. inl (plain_given is given, leaves_value g has alive n ready places fields set h.k h.info h.is d s st number w ((λ x below small. stored x ∙ sym (mod-eq_of_lt (few x))), λ x. subst (λ (m : ℕ). m < 2 ^ bits) (sym (stored x)) (few x)) e2 i within passes puts)) (λ early out e. inr (ends early)))
       by (Some x) is known scans =
           let signed : Bool = assigned_signed x (type_of target).elem (type_of value).elem in
@@ -217,7 +217,7 @@ module _ (g : Setting) (has : HasRegisters g) (alive : Variable → Type 0) (n :
           ∙ updated_is op x h.info.elem (type_of value).elem (old y) (number y) is known.2 known.1
           (operation_below x (assigned_signed x h.info.elem (type_of value).elem) (held h.info.elem (old y)) (number y) known.0.0 (held_below h.info.elem (old y)) (scan_words g has alive n ready places fields set value st s sim scans c y)) in
           after_same g Q (ap code is)
-          (in_place set h.k h.info h.is x signed place value d s st known.0 known.3 scans (scan_shape set value scans) c here sim Q
+          (in_place set h.k h.info h.is x signed place value d s st known.0 known.3 scans (scan_shape set value scans) c (starts_entry g alive _ _ here) sim Q
           (λ given there never e2 i within passes puts. inl (
             operator_given x is given there never,
             leaves_value g has alive n ready places fields set h.k h.info h.is d s st (λ y. outcome x 32 (not signed) (held h.info.elem (old y)) (number y)) w (
@@ -228,7 +228,7 @@ module _ (g : Setting) (has : HasRegisters g) (alive : Variable → Type 0) (n :
           (λ given there divided y none finishes out e. inr (record { early = Source.Fault DivZero place (Some y); state = st; is = divided_so x is given there divided ∙ ap by_zero none; finishes = finishes })))
 
   -- the assignment of a scan leaves what it leaves in the source
-  pub scans_leave : (e : TExpr) → IsScanAssigned e → HasItsCode g.typed g.instance alive n e → (d : Draft) (s : CodeState) (st : State) → Starts g alive s (length d.code) d.regs → Sim g alive st s → UpdateLeaves g alive fields e d s st
+  pub scans_leave : (e : TExpr) → IsScanAssigned e → HasItsCode g.typed g.instance alive n e → (d : Draft) (s : CodeState) (st : State) → Starts g alive s (length d.code) d.regs (length d.fields) → Sim g alive st s → UpdateLeaves g alive fields e d s st
   unfolding IsScanAssigned NamesVariables IsShaped IsLowerable ScalarsAmong
   scans_leave (T.Assign' ty place op p target q value) is c =
       assigns ty place op p q target value is.2.0 is.0 is.1 is.2.1.0 is.2.1.1 c.code.names.0 (record { code = record { shaped = c.code.shaped.3; lowerable = c.code.lowerable.3; names = c.code.names.1 }; among = c.among.1 })

@@ -48,7 +48,7 @@ use Rattle.fields_follow.proofs.Passing.{After, GivesField, Passes, after_same, 
 use Rattle.fields_follow.proofs.Places.{HoldsTheFields, PlacesFields}
 use Rattle.fields_follow.proofs.ScanForms.{operand_number, scan_constant, scan_own, scan_word}
 use Rattle.fields_follow.proofs.Scanning.{scanned_in}
-use Rattle.fields_follow.proofs.Starts.{Starts}
+use Rattle.fields_follow.proofs.Starts.{starts_entry, Starts}
 use Rattle.fields_follow.proofs.Values.{Gives, IsFlag, next_field, one_more, operand_of, with_entry}
 
 module _ (g : Setting) (has : HasRegisters g) (alive : Variable → Type 0) (n : ℕ) (ready : (d : Draft) → IsReadyButForFields g.typed g.instance (layout g) n d) (places : PlacesFields g) (fields : HoldsTheFields g) (set : ℕ) where
@@ -63,7 +63,7 @@ module _ (g : Setting) (has : HasRegisters g) (alive : Variable → Type 0) (n :
   GivesScan bits e d s st out x = Gives g has alive n ready places fields (IsFlag e) bits (length d.fields) d s set st (λ q. number e st q) out x
 
   abbrev pub ScanValued : ℕ → TExpr → (Draft → Made Out) → Type 0
-  ScanValued bits e code = (d : Draft) (s : CodeState) (st : State) → Starts g alive s (length d.code) d.regs → Sim g alive st s → Follows g (Given g (λ q. number e st q) st (GivesScan bits e d s st)) s (meant g fields e st) (code d)
+  ScanValued bits e code = (d : Draft) (s : CodeState) (st : State) → Starts g alive s (length d.code) d.regs (length d.fields) → Sim g alive st s → Follows g (Given g (λ q. number e st q) st (GivesScan bits e d s st)) s (meant g fields e st) (code d)
 
   -- as an operand it is its value
   pub scan_operand : (bits : ℕ) (quiet : Bool) (e : TExpr) → IsScan set e → ScanValued bits e (λ d. value_of g.typed (layout g) bits e d) → ScanValued bits e (λ d. operand bits quiet e d)
@@ -89,7 +89,7 @@ module _ (g : Setting) (has : HasRegisters g) (alive : Variable → Type 0) (n :
 
   -- a left operand that is not promoted
   abbrev LeftGiven : ℕ → TExpr → Bool → Field → Type 0
-  LeftGiven bits e quiet dest = (d : Draft) (s : CodeState) (st : State) → Starts g alive s (length d.code) d.regs → Sim g alive st s
+  LeftGiven bits e quiet dest = (d : Draft) (s : CodeState) (st : State) → Starts g alive s (length d.code) d.regs (length d.fields) → Sim g alive st s
       → Follows g (Given g (λ q. number e st q) st (GivesField g alive bits (length d.fields) d s set st (λ q. number e st q))) s (meant g fields e st) (spread_into (operand bits quiet e) e dest d)
 
   scan_left : (bits : ℕ) (e : TExpr) (quiet : Bool) (dest : Field) → IsScan set e → ScanValued bits e (λ d. value_of g.typed (layout g) bits e d) → LeftGiven bits e quiet dest
@@ -116,7 +116,7 @@ module _ (g : Setting) (has : HasRegisters g) (alive : Variable → Type 0) (n :
   abbrev IsRight : ℕ → Op → TExpr → Draft → CodeState → State → Right → Draft → Type 0
   IsRight bits op e d s st right f = Takes op right × GivesRight g has alive n ready places fields bits (length d.fields) d s set st (λ q. number e st q) right f
 
-  pub scan_right : (bits : ℕ) (op : Op) (e : TExpr) → IsScan set e → ScanValued bits e (λ d. value_of g.typed (layout g) bits e d) → (d : Draft) (s : CodeState) (st : State) → Starts g alive s (length d.code) d.regs → Sim g alive st s
+  pub scan_right : (bits : ℕ) (op : Op) (e : TExpr) → IsScan set e → ScanValued bits e (λ d. value_of g.typed (layout g) bits e d) → (d : Draft) (s : CodeState) (st : State) → Starts g alive s (length d.code) d.regs (length d.fields) → Sim g alive st s
       → Follows g (Given g (λ q. number e st q) st (RightField g has alive n ready places fields bits d s set st (λ q. number e st q))) s (meant g fields e st) (right_by (operand bits true e) op e d)
   unfolding right_by word_taken then_make right_given from Extends
   scan_right bits op e is valued d s st here sim =
@@ -139,7 +139,7 @@ module _ (g : Setting) (has : HasRegisters g) (alive : Variable → Type 0) (n :
       given (Some right) after = (0, as_it_was after)
       given None after = tt
 
-  plain_right : (bits : ℕ) (op : Op) (e : TExpr) → 0 < bits → bits ≤ 32 → IsOperation op e → IsOperand set e → IsWide set (type_of e) → HasItsCode g.typed g.instance alive n e → (d : Draft) (s : CodeState) (st : State) → Starts g alive s (length d.code) d.regs → Sim g alive st s
+  plain_right : (bits : ℕ) (op : Op) (e : TExpr) → 0 < bits → bits ≤ 32 → IsOperation op e → IsOperand set e → IsWide set (type_of e) → HasItsCode g.typed g.instance alive n e → (d : Draft) (s : CodeState) (st : State) → Starts g alive s (length d.code) d.regs (length d.fields) → Sim g alive st s
       → Follows g (Given g (λ q. number e st q) st (IsRight bits op e d s st)) s (meant g fields e st) (right_by (operand bits true e) op e d)
   plain_right bits op e some most operates is wide c d s st here sim =
       subst (λ (v : ℕ → ℕ). Follows g (Given g v st (IsRight bits op e d s st)) s (meant g fields e st) (right_by (operand bits true e) op e d)) (own_numbers e st is)
@@ -159,7 +159,7 @@ module _ (g : Setting) (has : HasRegisters g) (alive : Variable → Type 0) (n :
   pub sides_after : (bits : ℕ) (ty : ValueType) (place : Place) (op : Op) (p q : Boxed) (dest : Field) (left right : TExpr) (d : Draft) (s : CodeState) (st : State) → 0 < bits → bits ≤ 32 → ty.shape ≡ Some set → IsOperation op right → (divides op ≡ true → bits ≡ 32)
       → ((x : ℕ) → Keeps op (type_of left).elem.signed bits (number right st x)) → dest.len ≡ bits → AreSides left right → IsWide set (type_of left) → IsWide set (type_of right) → HasItsCode g.typed g.instance alive n left → HasItsCode g.typed g.instance alive n right
       → (IsScan set left → ScanValued bits left (λ d. value_of g.typed (layout g) bits left d)) → (IsScan set right → ScanValued bits right (λ d. value_of g.typed (layout g) bits right d))
-      → Starts g alive s (length d.code) d.regs → Sim g alive st s → (Q : Out → Draft → Type 0)
+      → Starts g alive s (length d.code) d.regs (length d.fields) → Sim g alive st s → (Q : Out → Draft → Type 0)
       → (meant g fields (T.Binary' ty place op p left q right) st ≡ Source.Gives (Parallel (λ x. outcome op 32 (not (type_of left).elem.signed) (number left st x) (number right st x))) st → (e2 : Draft) (i : Instr) → Within g (with_instr i e2) → (passes : Passes g alive (length d.fields) (with_entry set bits W.Own d) e2 s st (Unit {0}))
       → Puts g set i dest passes.t (λ x. outcome op 32 (not (type_of left).elem.signed) (number left st x) (number right st x)) → Q (O.Field dest) (with_instr i e2))
       → (Ended g s (meant g fields (T.Binary' ty place op p left q right) st) → (x : Out) (f : Draft) → Q x f)
@@ -209,14 +209,14 @@ module _ (g : Setting) (has : HasRegisters g) (alive : Variable → Type 0) (n :
           (λ early z f. ended (right_ended g fields ty place op p q left right v s one.passes.t st one.passes.go is_left early) z f)
 
       -- a scan behind it is in a field
-      scan_behind : (bound : ℕ) (e1 : Draft) (t : CodeState) → IsScan set right → Starts g alive t (length e1.code) e1.regs → Sim g alive st t
+      scan_behind : (bound : ℕ) (e1 : Draft) (t : CodeState) → IsScan set right → Starts g alive t (length e1.code) e1.regs (length e1.fields) → Sim g alive st t
           → Follows g (Given g w st (λ b f. Spares g has alive n ready places fields bits set bound d b × IsRight bits op right e1 t st b f)) t (meant g fields right st) (right_by (operand bits true right) op right e1)
       scan_behind bound e1 t scans there sim_there =
           given_weaker g t (meant g fields right st) w st (RightField g has alive n ready places fields bits e1 t set st w) (λ b f. Spares g has alive n ready places fields bits set bound d b × IsRight bits op right e1 t st b f) (right_by (operand bits true right) op right e1)
           (λ b f h. ((λ k same. let wrong = sym h.1.0 ∙ same in cc), ((λ word same divided. let wrong = sym h.1.0 ∙ same in cc), inl h)))
           (scan_right bits op right scans (right_valued scans) e1 t st there sim_there)
 
-      any_behind : (e1 : Draft) (t : CodeState) → IsScan set right ⊎ IsOperand set right → Starts g alive t (length e1.code) e1.regs → Sim g alive st t
+      any_behind : (e1 : Draft) (t : CodeState) → IsScan set right ⊎ IsOperand set right → Starts g alive t (length e1.code) e1.regs (length e1.fields) → Sim g alive st t
           → Follows g (Given g w st (λ b f. Spares g has alive n ready places fields bits set (length d1.fields) d b × IsRight bits op right e1 t st b f)) t (meant g fields right st) (right_by (operand bits true right) op right e1)
       any_behind e1 t (inl scans) there sim_there = scan_behind (length d1.fields) e1 t scans there sim_there
       any_behind e1 t (inr plain) there sim_there =
@@ -226,7 +226,7 @@ module _ (g : Setting) (has : HasRegisters g) (alive : Variable → Type 0) (n :
       -- a left one in a field
       in_field : LeftGiven bits left (is_quiet right) spare → IsScan set right ⊎ IsOperand set right → After g Q (then_make (spread_into (operand bits (is_quiet right) left) left spare d1) (λ a between. next a between))
       in_field given any =
-          then_known g s (meant g fields left st) v st (GivesField g alive bits (length d1.fields) d1 s set st v) Q (spread_into (operand bits (is_quiet right) left) left spare d1) (λ a between. next a between) (given d1 s st here sim) next_extends
+          then_known g s (meant g fields left st) v st (GivesField g alive bits (length d1.fields) d1 s set st v) Q (spread_into (operand bits (is_quiet right) left) left spare d1) (λ a between. next a between) (given d1 s st (starts_entry g alive _ _ here) sim) next_extends
           (λ is_left a e1 one. behind (length d1.fields) (omega (arith, first)) a e1 is_left (fields_longer d1 e1 one.passes.grown.0 one.passes.grown.1) one (any_behind e1 one.passes.t any one.passes.at one.passes.sim))
           (λ early z f. ended (left_ended g fields ty place op p q left right s st early) z f)
 

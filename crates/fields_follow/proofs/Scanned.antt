@@ -60,7 +60,7 @@ use Rattle.fields_follow.proofs.ScanOperands.{GivesScan, ScanValued, own_numbers
 use Rattle.fields_follow.proofs.Scans.{PutsScan, SourceGiven, ones_message, scan_message, source_part}
 use Rattle.fields_follow.proofs.Meaning.{as_shaped, either, unary_means}
 use Rattle.fields_follow.proofs.Sizes.{binary_parts, brackets_part, convert_part, operand_small, unary_part, value_small}
-use Rattle.fields_follow.proofs.Starts.{Starts}
+use Rattle.fields_follow.proofs.Starts.{starts_entry, Starts}
 use Rattle.fields_follow.proofs.Values.{IsFlag, and_entry, first_given, next_field, one_more, with_entry}
 
 no_flag : (elem : Elem) → elem.bits ≡ 32 → (elem.bits == 1) ≡ false
@@ -84,12 +84,12 @@ module _ (g : Setting) (has : HasRegisters g) (alive : Variable → Type 0) (n :
   Valued bits e code = ScanValued g has alive n ready places fields set bits e code
 
   -- what puts it in the entry that is taken first gives it
-  own_given : (bits : ℕ) (e : TExpr) (made : Draft → Made Out) (d : Draft) (s : CodeState) (st : State) → bits ≤ 32 → Starts g alive s (length d.code) d.regs → Sim g alive st s → Puts_ (next_field set 32 d) e made
+  own_given : (bits : ℕ) (e : TExpr) (made : Draft → Made Out) (d : Draft) (s : CodeState) (st : State) → bits ≤ 32 → Starts g alive s (length d.code) d.regs (length d.fields) → Sim g alive st s → Puts_ (next_field set 32 d) e made
       → Follows g (Given g (λ q. number e st q) st (ScanGiven bits e d s st)) s (meant g fields e st) (lowest bits (made (with_entry set 32 W.Own d)))
   own_given bits e made d s st most here sim whole =
       known_follows g s (meant g fields e st) (λ q. number e st q) st (ScanGiven bits e d s st) (lowest bits (made (with_entry set 32 W.Own d)))
       (first_given g has alive n ready places fields 32 bits (length d.fields) d s set st (λ q. number e st q) (IsFlag e) (ScanGives g alive places fields set e st) (Ended g s (meant g fields e st)) (made (with_entry set 32 W.Own d)) most
-      (whole (length d.fields) (with_entry set 32 W.Own d) s st (let one = one_more set 32 W.Own d in omega (arith, one)) here sim (λ out f. (ScanGives g alive places fields set e st × ScanGiven 32 e d s st out f) ⊎ Ended g s (meant g fields e st))
+      (whole (length d.fields) (with_entry set 32 W.Own d) s st (let one = one_more set 32 W.Own d in omega (arith, one)) (starts_entry g alive _ _ here) sim (λ out f. (ScanGives g alive places fields set e st × ScanGiven 32 e d s st out f) ⊎ Ended g s (meant g fields e st))
       (λ given e2 i within passes puts. inl (given, own_result g has alive n ready places fields 32 set d e2 s st (λ q. number e st q) i within passes puts)) (λ early x f. inr early)))
 
   -- its numbers are those of its type
@@ -137,7 +137,7 @@ module _ (g : Setting) (has : HasRegisters g) (alive : Variable → Type 0) (n :
   -- an instruction from its field to another one, behind its code
   from_scan : (bits : ℕ) (e : TExpr) (dest : Field) (i : Field → Instr) (next : Out → Draft → Made Out) (w : ℕ → ℕ) (bound : ℕ) (d : Draft) (s : CodeState) (st : State) → ((a : Field) → step_of (i a) ≡ Plain (i a)) → ((a : Field) → fields_of (i a) ≡ dest ∷ a ∷ [])
       → ((x : Out) (after : Draft) → Extends g after (next x after)) → ((a : Field) (after : Draft) → next (O.Field a) after ≡ Makes (O.Field dest) (with_instr (i a) after)) → ((a : Field) (t : CodeState) → HasNumbers g bits set a t (λ q. number e st q) → Puts g set (i a) dest t w)
-      → IsScan set e → Valued bits e (λ d. value_of g.typed (layout g) bits e d) → bound ≤ length d.fields → Starts g alive s (length d.code) d.regs → Sim g alive st s → (Q : Out → Draft → Type 0)
+      → IsScan set e → Valued bits e (λ d. value_of g.typed (layout g) bits e d) → bound ≤ length d.fields → Starts g alive s (length d.code) d.regs (length d.fields) → Sim g alive st s → (Q : Out → Draft → Type 0)
       → (ScanGives g alive places fields set e st → (e1 : Draft) (i : Instr) → Within g (with_instr i e1) → (p : Passes g alive bound d e1 s st (Unit {0})) → Puts g set i dest p.t w → Q (O.Field dest) (with_instr i e1)) → (Ended g s (meant g fields e st) → (x : Out) (f : Draft) → Q x f)
       → After g Q (then_make (next_of g.typed (layout g) bits true e d) (λ v after. next v after))
   from_scan bits e dest i next w bound d s st plain both grows is_next puts is valued less here sim Q last ended =
@@ -157,7 +157,7 @@ module _ (g : Setting) (has : HasRegisters g) (alive : Variable → Type 0) (n :
 
   -- a sign before it
   signed_from : (bits : ℕ) (op : UnaryOp) (dest : Field) (operand : TExpr) (bound : ℕ) (d : Draft) (s : CodeState) (st : State) → bits ≤ 32 → IsSign g has alive n ready places fields op → dest.len ≡ bits → IsScan set operand → Valued bits operand (λ d. value_of g.typed (layout g) bits operand d)
-      → bound ≤ length d.fields → Starts g alive s (length d.code) d.regs → Sim g alive st s → (Q : Out → Draft → Type 0)
+      → bound ≤ length d.fields → Starts g alive s (length d.code) d.regs (length d.fields) → Sim g alive st s → (Q : Out → Draft → Type 0)
       → (ScanGives g alive places fields set operand st → (e1 : Draft) (i : Instr) → Within g (with_instr i e1) → (p : Passes g alive bound d e1 s st (Unit {0})) → Puts g set i dest p.t (λ q. unary_of op (number operand st q)) → Q (O.Field dest) (with_instr i e1)) → (Ended g s (meant g fields operand st) → (x : Out) (f : Draft) → Q x f)
       → After g Q (then_make (next_of g.typed (layout g) bits true operand d) (λ v after. negated (layout g) op (O.Field dest) v after))
   unfolding negated in_field Extends step_of
@@ -198,7 +198,7 @@ module _ (g : Setting) (has : HasRegisters g) (alive : Variable → Type 0) (n :
       ∙ ap (λ (b : Bool). if b then value_of g.typed (layout g) bits operand d else then_make (fresh_for ty.shape bits d) (λ dest between. then_make (operand_by g.typed (layout g) (unary_bits bits op operand) (value_of g.typed (layout g) (unary_bits bits op operand) operand) true operand between) (λ x after. negated (layout g) op dest x after))) sign.0
       ∙ ap (λ (b : Bool). then_make (fresh_for ty.shape bits d) (λ dest between. then_make (operand_by g.typed (layout g) (if b then bits_of (kind_of operand) else bits) (value_of g.typed (layout g) (if b then bits_of (kind_of operand) else bits) operand) true operand between) (λ x after. negated (layout g) op dest x after))) sign.1
       ∙ ap (λ (o : Option ℕ). then_make (fresh_for o bits d) (λ dest between. then_make (next_of g.typed (layout g) bits true operand between) (λ x after. negated (layout g) op dest x after))) is.0.0)
-      (signed_from bits op (next_field set bits d) operand (length d.fields) (with_entry set bits W.Own d) s st most sign refl is.2 valued (let one = one_more set bits W.Own d in omega (arith, one)) here sim Q
+      (signed_from bits op (next_field set bits d) operand (length d.fields) (with_entry set bits W.Own d) s st most sign refl is.2 valued (let one = one_more set bits W.Own d in omega (arith, one)) (starts_entry g alive _ _ here) sim Q
       (λ given e1 i within passes puts. inl (signed_gives ty op p operand st is.0.0 given, own_result g has alive n ready places fields bits set d e1 s st (λ q. number e st q) i within passes puts)) (λ early x f. inr (unary_ended g has alive n ready places fields ty op p operand s st early))))
     where
       e : TExpr

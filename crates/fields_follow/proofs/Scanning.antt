@@ -44,8 +44,8 @@ use Rattle.source_meaning.proofs.ConstantLaws.{Boxed}
 use Rattle.communication_laws.specs.Scans.{HasBits, bit_counts}
 use Rattle.communication_laws.proofs.Orders.{fold_few}
 use Rattle.communication_laws.proofs.Scans.{scans}
-use Rattle.code_follows.proofs.Following.{Sim, OpenAmong}
-use Rattle.code_follows.proofs.Settings.{Setting}
+use Rattle.code_follows.proofs.Following.{Sim}
+use Rattle.code_follows.proofs.Settings.{OpenAmong, Setting}
 use Rattle.fields_follow.specs.Fields.{IsElement}
 use Rattle.fields_follow.proofs.Folds.{identity_below}
 use Rattle.fields_follow.proofs.Instructions.{HasNumbers, Puts, extents, has_words, place, shapes}

@@ -54,10 +54,10 @@ use Rattle.fields_follow.proofs.Forms.{HasItsCode, element_is, field_is}
 use Rattle.fields_follow.proofs.Instructions.{HasNumbers, Puts, extents, place, puts_constant, shapes, word_in}
 use Rattle.fields_follow.proofs.Neighbours.{fit_positive}
 use Rattle.fields_follow.proofs.Outcomes.{Ended, Given, meant, then_known}
-use Rattle.fields_follow.proofs.Passing.{After, Behind, GivesField, Passes, after_same, flags_of, gives_from, gives_numbers, made_after, names_second, passes_less, puts_own}
+use Rattle.fields_follow.proofs.Passing.{fields_longer, After, Behind, GivesField, Passes, after_same, flags_of, gives_from, gives_numbers, made_after, names_second, passes_less, puts_own}
 use Rattle.fields_follow.proofs.Places.{HoldsTheFields, IsFileField, IsOwnField, PlacesFields, stands_here}
 use Rattle.fields_follow.proofs.Scanning.{ScanGives, file_segments, ones_give, puts_scan, scan_ended, scan_gives, scan_instr, scan_numbers, scanned_in}
-use Rattle.fields_follow.proofs.Starts.{Starts, starts_later}
+use Rattle.fields_follow.proofs.Starts.{starts_entry, Starts, starts_later}
 use Rattle.fields_follow.proofs.Values.{and_entry, next_field, one_more, taken, with_entry}
 
 some_shape : (o : Option ℕ) → is_none o ≡ false → (s : ℕ) × (o ≡ Some s)
@@ -127,7 +127,7 @@ module _ (g : Setting) (alive : Variable → Type 0) (n : ℕ) (places : PlacesF
         grown = (gives.passes.grown.0 + 0, extended d e b.after gives.passes.grown.0 0 gives.passes.grown.1 b.grown);
         t = gives.passes.t;
         go = gives.passes.go;
-        at = starts_later g alive gives.passes.t gives.passes.t (length e.code) e.regs (length b.after.code) b.after.regs (omega (arith, same_length)) b.grown.regs (subst (λ (k : ℕ). At g gives.passes.t k) (sym same_length) gives.passes.at.stands) gives.passes.at;
+        at = starts_later g alive gives.passes.t gives.passes.t (length e.code) e.regs (length e.fields) (length b.after.code) b.after.regs (length b.after.fields) (omega (arith, same_length)) b.grown.regs (fields_longer e b.after 0 b.grown) (subst (λ (k : ℕ). At g gives.passes.t k) (sym same_length) gives.passes.at.stands) gives.passes.at;
         registers = gives.passes.registers;
         sim = gives.passes.sim;
         stays = λ u h first later p below own ends before low after high. gives.passes.stays behind h first later p below own ends before low after (omega (arith, high, same_length));
@@ -156,13 +156,13 @@ module _ (g : Setting) (has : HasRegisters g) (alive : Variable → Type 0) (n :
   -- code that leaves all as it was, is said of it, and what is said where it ends early.
   abbrev pub PutsScan : Field → TExpr → (Draft → Made Out) → Type 1
   PutsScan f e made =
-      (bound : ℕ) (d : Draft) (s : CodeState) (st : State) → bound ≤ length d.fields → Starts g alive s (length d.code) d.regs → Sim g alive st s → (Q : Out → Draft → Type 0)
+      (bound : ℕ) (d : Draft) (s : CodeState) (st : State) → bound ≤ length d.fields → Starts g alive s (length d.code) d.regs (length d.fields) → Sim g alive st s → (Q : Out → Draft → Type 0)
       → (ScanGives g alive places fields set e st → (e2 : Draft) (i : Instr) → Within g (with_instr i e2) → (p : Passes g alive bound d e2 s st (Unit {0})) → Puts g set i f p.t (λ q. scanned_in g alive places fields set st e q) → Q (O.Field f) (with_instr i e2))
       → (Ended g s (meant g fields e st) → (x : Out) (after : Draft) → Q x after) → After g Q (made d)
 
   -- what is scanned is given in a field, and its numbers are words
   pub record SourceGiven (e : TExpr) : Type 0 where
-    pub follows : (d : Draft) (s : CodeState) (st : State) → Starts g alive s (length d.code) d.regs → Sim g alive st s
+    pub follows : (d : Draft) (s : CodeState) (st : State) → Starts g alive s (length d.code) d.regs (length d.fields) → Sim g alive st s
         → Follows g (Given g (λ q. scanned_in g alive places fields set st e q) st (λ out x. (h : Field) × ((out ≡ O.Field h) × GivesField g alive 32 (length d.fields) d s set st (λ q. scanned_in g alive places fields set st e q) h x))) s (meant g fields e st) (next_of g.typed (layout g) 32 true e d)
     pub few : (s : CodeState) (st : State) → Sim g alive st s → (q : ℕ) → scanned_in g alive places fields set st e q < 2 ^ 32
 
@@ -261,6 +261,6 @@ module _ (g : Setting) (has : HasRegisters g) (alive : Variable → Type 0) (n :
         let own : IsOwnField g (one_field d) = taken g set 32 W.Own d (with_instr (ones_instr d) (bits_of_ones d).after) (1 + (0 + 1)) within (extended d1 e (with_instr (ones_instr d) (bits_of_ones d).after) 1 (0 + 1) (and_one g (one_instr d) d1) behind) in
         let gives : GivesField g alive 32 (length d.fields) d s set st (λ q. 1) (one_field d) e =
         gives_from g alive 32 (length d.fields) d d1 e s set st (λ q. 1) (one_field d) (and_entry set 32 W.Own d)
-        (puts_own g alive places fields 32 (length d.fields) set (one_instr d) (one_field d) d1 s st (λ q. 1) (omega arith) (let one = one_more set 32 W.Own d in omega (arith, one)) own refl refl early here sim (puts_constant g set (one_field d) (K.Imm 1) s (omega arith))) in
+        (puts_own g alive places fields 32 (length d.fields) set (one_instr d) (one_field d) d1 s st (λ q. 1) (omega arith) (let one = one_more set 32 W.Own d in omega (arith, one)) own refl refl early (starts_entry g alive _ _ here) sim (puts_constant g set (one_field d) (K.Imm 1) s (omega arith))) in
         let (passes, puts) = scanned_behind g alive n places fields set axis C.Add (not ty.elem.signed) direction mode bit way (λ same. absurd (let wrong = same in cc)) f (one_field d) (length d.fields) d e s st (λ q. 1) on (λ q. omega arith) gives (bits_of_ones d) within in
         last (ones_give g alive places fields set ty axis direction way mode bit st wide.0) (bits_of_ones d).after (ones_instr d) within (passes_less g alive bound (length d.fields) d (bits_of_ones d).after s st (Unit {0}) less passes) puts))

@@ -1,7 +1,19 @@
 -- The code of a send: that of its indexes, their check and the address, that of its value, and the send itself.
 use denote.Hole.Carrier
-use Rattle.std.proofs.Common.{◌≡◌, ◌∙◌, ℕ, Bool, true, false, List, [], map, Option, Some, None, refl, sym, ap, if◌then◌else◌}
+use Rattle.std.proofs.Common.{◌≡◌, ◌∙◌, ℕ, ◌+◌, Bool, true, false, List, [], map, Option, Some, None, refl, sym, ap, if◌then◌else◌}
 use Rattle.std.specs.Prelude.{is_some, unwrap_or}
+use Rattle.cstar_base.specs.declared.elem.Elem.{Elem}
+use Rattle.cstar_base.specs.declared.operators.Op.{Op}
+use Rattle.cstar_base.specs.declared.operators.Op.TheVariants as P
+use Rattle.lower_base.specs.Drafts.{with_instr, Draft, Fails, Made, Makes, an_entry, fresh_for, from, in_field, then_make}
+use Rattle.lower_base.specs.Operators.{fold_of, assign_op_of, is_signed}
+use Rattle.lower_comm.specs.Messages.{sent_value, all_somewhere, assigned, communicated, each_located, index_coordinate, indexed, indexed_field, located, located_at, part_field, sent, sent_to}
+use Rattle.paris_code.specs.declared.instr.Instr.TheVariants as I
+use Rattle.code_follows.proofs.Following.{Extends, extends_made, extends_then}
+use Rattle.code_follows.proofs.Growing.{as_it_was, extended}
+use Rattle.code_follows.proofs.Settings.{and_one, Setting, layout}
+use Rattle.fields_follow.proofs.News.{owner_of, for_variable}
+use Rattle.fields_follow.proofs.Values.{and_entry, next_field, with_entry}
 use Rattle.cstar_base.specs.declared.operators.Place.{Place}
 use Rattle.cstar_tree.specs.declared.syntax.AssignOp.{AssignOp}
 use Rattle.cstar_tree.specs.declared.typed.TExpr.{TExpr, Row_of-TExpr, items-the_row-TExpr, items_shown-the_row-TExpr-0, out-TExpr}
@@ -14,11 +26,8 @@ use Rattle.cstar_tree.specs.declared.typed.Variable.TheVariants as V
 use Rattle.cstar_tree.specs.Typed.{type_of}
 use Rattle.lower_base.specs.declared.emit.Out.{Out}
 use Rattle.lower_base.specs.declared.emit.Out.TheVariants as O
-use Rattle.lower_base.specs.Drafts.{Draft, Fails, Made, Makes, an_entry, fresh_for, from, in_field, then_make}
 use Rattle.lower_base.specs.Constants.{word_in}
 use Rattle.lower_base.specs.Layouts.{Layout, field_of}
-use Rattle.lower_base.specs.Operators.{assign_op_of, is_signed}
-use Rattle.lower_comm.specs.Messages.{all_somewhere, assigned, communicated, each_located, index_coordinate, indexed, indexed_field, located, located_at, part_field, sent, sent_to}
 use Rattle.lower_expr.specs.declared.operands.Own.{Own}
 use Rattle.lower_expr.specs.declared.spots.Spot.{Spot}
 use Rattle.lower_expr.specs.declared.spots.Spot.TheVariants as S
@@ -33,12 +42,9 @@ use Rattle.source_meaning.specs.Expressions.{located as located_in}
 use Rattle.source_meaning.specs.State.{State}
 use Rattle.source_meaning.specs.Values.{Active, Scope}
 use Rattle.source_meaning.proofs.ConstantLaws.{Boxed}
-use Rattle.code_follows.proofs.Settings.{Setting, layout}
 use Rattle.fields_follow.specs.Fields.{IsElement}
 use Rattle.fields_follow.proofs.Forms.{field_is}
-use Rattle.fields_follow.proofs.News.{for_variable}
 use Rattle.fields_follow.proofs.RouterCode.{then_three, unknown}
-use Rattle.fields_follow.proofs.Values.{next_field, with_entry}
 
 -- a target, maybe in brackets, is that of another expression
 pub record IsLike (t : Typed) (l : Layout) (target left : TExpr) : Type 0 where
@@ -66,6 +72,27 @@ module _ (g : Setting) where
   unfoldable pub sends_out : ℕ → ℕ → VarInfo → ValueType → AssignOp → TExpr → Field → Out → Draft → Made Out
   sends_out set k info ty op value at (O.Field f) d = send_at set k info ty op value at f d
   sends_out set k info ty op value at out d = Fails
+
+  sent_value_extends : (o : Op) (f : Field) (d : Draft) → Extends g d (sent_value o f d)
+  unfolding Extends sent_value an_entry then_make
+  sent_value_extends P.Sub f d = (0 + 1, extended d (with_entry f.set 32 W.Own d) (with_instr (I.Negate (next_field f.set 32 d) f) (with_entry f.set 32 W.Own d)) 0 1 (and_entry f.set 32 W.Own d) (and_one g (I.Negate (next_field f.set 32 d) f) (with_entry f.set 32 W.Own d)))
+  sent_value_extends _ f d = (0, as_it_was d)
+
+  sent_to_extends : (o : Option Op) (signed : Bool) (kind : Elem) (dest at f : Field) (d : Draft) → Extends g d (sent_to o signed kind dest at f d)
+  unfolding Extends sent_to
+  sent_to_extends None signed kind dest there f d = (1, and_one g (I.SendWithOverwrite dest kind there f) d)
+  sent_to_extends (Some o) signed kind dest there f d =
+      extends_then g d (sent_value o f d) (λ source after. Makes O.Nothing (with_instr (I.SendWithCombiner (fold_of o signed) dest kind there source) after)) (sent_value_extends o f d) (λ source after. (1, and_one g (I.SendWithCombiner (fold_of o signed) dest kind there source) after))
+
+  -- it goes on from where it stands
+  pub sends_extend : (set k : ℕ) (info : VarInfo) (ty : ValueType) (op : AssignOp) (value : TExpr) (at : Field) (out : Out) (d : Draft) → Extends g d (sends_out set k info ty op value at out d)
+  unfolding Extends sends_out
+  sends_extend set k info ty op value there (O.Field f) d =
+      extends_made g d (for_variable g set k info d) 0 (send_at set k info ty op value there f d) (and_entry set info.elem.bits (owner_of g k) d)
+      (extends_then g (for_variable g set k info d) (sent_to (assign_op_of op) (is_signed (type_of value).elem) ty.elem (next_field set info.elem.bits d) there f (for_variable g set k info d)) (λ _ last. Makes O.Nothing last)
+      (sent_to_extends (assign_op_of op) (is_signed (type_of value).elem) ty.elem (next_field set info.elem.bits d) there f (for_variable g set k info d)) (λ _ last. (0, as_it_was last)))
+  sends_extend set k info ty op value there (O.Scalar r) d = tt
+  sends_extend set k info ty op value there O.Nothing d = tt
 
   -- what follows the address
   abbrev behind_spot : (Draft → Made Out) → TExpr → Spot → Draft → Made Out

@@ -13,10 +13,10 @@ use Rattle.paris_code.specs.Memory.{BitMemory, field_number, processors}
 use Rattle.paris_code.specs.Shapes.{bits_at}
 use Rattle.paris_code.specs.Writes.{Write, written}
 use Rattle.source_meaning.specs.State.{State, is_same, with_positions}
-use Rattle.code_follows.proofs.Following.{OpenAmong, Sim}
+use Rattle.code_follows.proofs.Following.{Sim}
 use Rattle.code_follows.proofs.Growing.{extended}
 use Rattle.code_follows.proofs.Standing.{some_same}
-use Rattle.code_follows.proofs.Settings.{Setting, Within, and_one, at_next, begins_here, code_more, one_writes, onto, placed_instr}
+use Rattle.code_follows.proofs.Settings.{OpenAmong, Setting, Within, and_one, at_next, begins_here, code_more, one_writes, onto, placed_instr}
 use Rattle.fields_follow.specs.Fields.{IsElement}
 use Rattle.fields_follow.proofs.Bits.{active_apart, bits_written, field_apart}
 use Rattle.fields_follow.proofs.Fields.{HoldsFields}

@@ -22,10 +22,9 @@ use Rattle.paris_code.specs.Shapes.{bits_at}
 use Rattle.paris_code.specs.Writes.{Write, written}
 use Rattle.source_meaning.specs.State.{State}
 use Rattle.source_meaning.specs.Values.{nonzero}
-use Rattle.code_follows.proofs.Following.{OpenAmong}
 use Rattle.code_follows.proofs.Besides.{sim_saying}
 use Rattle.code_follows.proofs.Growing.{extended}
-use Rattle.code_follows.proofs.Settings.{Setting, Within, and_one, at_next, begins_here, code_more, one_writes, onto, placed_instr}
+use Rattle.code_follows.proofs.Settings.{OpenAmong, Setting, Within, and_one, at_next, begins_here, code_more, one_writes, onto, placed_instr}
 use Rattle.fields_follow.proofs.Bits.{bits_written, field_apart}
 use Rattle.fields_follow.proofs.Fields.{HoldsFields}
 use Rattle.fields_follow.proofs.Flags.{above_fields, bit_is, context_under_test, test_taken, written_to}

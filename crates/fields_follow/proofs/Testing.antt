@@ -43,7 +43,7 @@ use Rattle.code_follows.proofs.Values.{extends_grown}
 use Rattle.code_follows.proofs.Settings.{Setting, and_one, layout, start, start}
 use Rattle.fields_follow.specs.Fields.{IsElement, file_number}
 use Rattle.fields_follow.specs.Fragment.{HasItsKind, HasKnownKind, IsPure}
-use Rattle.fields_follow.proofs.Starts.{Starts}
+use Rattle.fields_follow.proofs.Starts.{starts_entry, Starts}
 use Rattle.fields_follow.proofs.ConditionCode.{Bit, Told, Truth, bit_taken, flag_after, flag_extends, nonzero_after, operand_at, zero_after}
 use Rattle.fields_follow.proofs.Conditions.{HaveTheirCode}
 use Rattle.fields_follow.proofs.Expressions.{unary_ended}
@@ -74,7 +74,7 @@ module _ (g : Setting) (has : HasRegisters g) (alive : Variable → Type 0) (n :
 
   -- This is said of code wherever it begins, where the source gives the expression's numbers; else both end early.
   abbrev pub Says : {B : Type 0} → ℕ → TExpr → (Draft → CodeState → State → B → Draft → Type 0) → (Draft → Made B) → Type 0
-  Says set e said made = (d : Draft) (s : CodeState) (st : State) → Starts g alive s (length d.code) d.regs → Sim g alive st s → Follows g (Given g (numbers_of set e st) st (said d s st)) s (meant g fields e st) (made d)
+  Says set e said made = (d : Draft) (s : CodeState) (st : State) → Starts g alive s (length d.code) d.regs (length d.fields) → Sim g alive st s → Follows g (Given g (numbers_of set e st) st (said d s st)) s (meant g fields e st) (made d)
 
   -- the source gives them
   abbrev pub IsGiven : ℕ → TExpr → State → Type 0
@@ -104,7 +104,7 @@ module _ (g : Setting) (has : HasRegisters g) (alive : Variable → Type 0) (n :
       (operand_after g has alive n ready places fields bits set e true kinded.0 c.code.names whole d s st here sim)
 
   -- a variable of the file, where it stands
-  pub variable_tested : (set k : ℕ) (ty : ValueType) → ty.shape ≡ Some set → HasVariable g.typed g.instance n (V.File k) (plain ty) → (d : Draft) (s : CodeState) (st : State) → Starts g alive s (length d.code) d.regs → Sim g alive st s
+  pub variable_tested : (set k : ℕ) (ty : ValueType) → ty.shape ≡ Some set → HasVariable g.typed g.instance n (V.File k) (plain ty) → (d : Draft) (s : CodeState) (st : State) → Starts g alive s (length d.code) d.regs (length d.fields) → Sim g alive st s
       → Follows g (Given g (λ q. st.parallel (V.File k) 0 q) st (λ _ f. LeavesTests g alive fields d s set st (λ q. st.parallel (V.File k) 0 q) f)) s (meant g fields (T.Variable ty (V.File k)) st) (truth_of g.typed (layout g) (T.Variable ty (V.File k)) d)
   unfolding truth_of then_make an_entry step_of passes_from evaluated
   variable_tested set k ty shaped v d s st here sim =
@@ -117,7 +117,7 @@ module _ (g : Setting) (has : HasRegisters g) (alive : Variable → Type 0) (n :
       let behind : s.at ≤ start g + length d1.code = (let at = here.stands in omega (arith, at)) in
       let numbers = variable_has g has alive n ready places fields set (V.File k) info source s st carries (length d1.code) named behind sim in
       tested_last g alive fields places (length d.fields) set d d1 (I.NeZero source) s st number (Unit {0}) (omega arith)
-      (passes_from g alive (length d.fields) d d1 d1 s st (Unit {0}) (and_entry set info.elem.bits (W.File (file_number g.typed k 0)) d) (passes_all g alive (length d.fields) d1 s st (Unit {0}) here sim)) tt numbers.0.exists within
+      (passes_from g alive (length d.fields) d d1 d1 s st (Unit {0}) (and_entry set info.elem.bits (W.File (file_number g.typed k 0)) d) (passes_all g alive (length d.fields) d1 s st (Unit {0}) (starts_entry g alive _ _ here) sim)) tt numbers.0.exists within
       (puts_nonzero g set source s number (numbers_tell g info.elem.bits set source s (λ q. held info.elem (number q)) number (λ q below. ap (λ (m : ℕ). m == 0) (held_first info.elem (number q) info.elem.bits (small q) (omega arith) ∙ mod-eq_of_lt (small q))) numbers.0)))))
     where
       number : ℕ → ℕ
@@ -246,7 +246,7 @@ module _ (g : Setting) (has : HasRegisters g) (alive : Variable → Type 0) (n :
   ignoring_means set e st active is free exists = pure_means fields.scope active set e st is free ∙ ap (λ (xs : List ℕ). Source.Gives (Parallel (λ q. value_in xs st e q)) st) (fields.same_extents set exists)
 
   -- what comes behind two of them
-  pub flags_after : (set : ℕ) (left right : TExpr) → HasItsKind set left → HasItsKind set right → ignores_context right ≡ true → HaveTheirCode g.typed g.instance alive n left right → IsDone set left → IsDone set right → (d : Draft) (s : CodeState) (st : State) → Starts g alive s (length d.code) d.regs → Sim g alive st s
+  pub flags_after : (set : ℕ) (left right : TExpr) → HasItsKind set left → HasItsKind set right → ignores_context right ≡ true → HaveTheirCode g.typed g.instance alive n left right → IsDone set left → IsDone set right → (d : Draft) (s : CodeState) (st : State) → Starts g alive s (length d.code) d.regs (length d.fields) → Sim g alive st s
       → (Q : Out → Draft → Type 0) (last : Field → Field → Draft → Made Out) → ((f h : Field) (e : Draft) → Extends g e (last f h e))
       → (IsGiven set left st → set < length (shapes g) → (f h : Field) (e1 e2 : Draft) (one : Truth g alive places fields d s set st (numbers_of set left st) f e1) → Truth g alive places fields e1 one.passes.t set st (numbers_of set right st) h e2 → After g Q (last f h e2))
       → (Ended g s (meant g fields left st) → (x : Out) (e : Draft) → Q x e)

@@ -19,9 +19,9 @@ use Rattle.paris_code.specs.Spans.{IsNamedAt, fields_of}
 use Rattle.source_meaning.specs.State.{State}
 use Rattle.source_meaning.specs.Values.{nonzero}
 use Rattle.code_follows.proofs.Besides.{sim_saying}
-use Rattle.code_follows.proofs.Following.{Sim, OpenAmong}
+use Rattle.code_follows.proofs.Following.{Sim}
 use Rattle.code_follows.proofs.Growing.{extended}
-use Rattle.code_follows.proofs.Settings.{Setting, Within, and_one, code_more, onto, placed_instr, start}
+use Rattle.code_follows.proofs.Settings.{OpenAmong, Setting, Within, and_one, code_more, onto, placed_instr, start}
 use Rattle.fields_follow.specs.Fields.{IsElement}
 use Rattle.fields_follow.proofs.FileFields.{Apart}
 use Rattle.fields_follow.proofs.Flags.{Stored, bit_fits, stored, written_to}

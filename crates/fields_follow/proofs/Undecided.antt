@@ -55,7 +55,7 @@ use Rattle.fields_follow.proofs.Outcomes.{Ended, Given, Known, after_all, ended_
 use Rattle.fields_follow.proofs.Passing.{After, after_same, code_longer, fields_longer, flags_of, made_after, passes_all, then_after}
 use Rattle.fields_follow.proofs.Places.{HoldsTheFields, IsOwnField, PlacesFields, names_first, stands_here}
 use Rattle.fields_follow.proofs.Sizes.{pure_at, promoted_small}
-use Rattle.fields_follow.proofs.Starts.{Starts, starts_later, starts_next}
+use Rattle.fields_follow.proofs.Starts.{starts_entry, Starts, starts_later, starts_next}
 use Rattle.fields_follow.proofs.TestFlags.{LeavesTests}
 use Rattle.fields_follow.proofs.Testing.{IsTested}
 use Rattle.fields_follow.proofs.Truths.{either_or_both, fields_sim, whole_sim}
@@ -205,7 +205,7 @@ module _ (g : Setting) (has : HasRegisters g) (alive : Variable → Type 0) (n :
 
     -- ---- what it does
 
-    module _ (d : Draft) (s : CodeState) (st : State) (here : Starts g alive s (length d.code) d.regs) (sim : Sim g alive st s) where
+    module _ (d : Draft) (s : CodeState) (st : State) (here : Starts g alive s (length d.code) d.regs (length d.fields)) (sim : Sim g alive st s) where
       abbrev taken_field : Draft
       taken_field = with_entry set bits W.Own d
 
@@ -249,8 +249,8 @@ module _ (g : Setting) (has : HasRegisters g) (alive : Variable → Type 0) (n :
         unfolding word_in
         first = own_written g places fields alive set (sets f is_or) f (begun d) s st (λ x. from_bool is_or) within here.stands sim refl (puts_constant g set f (K.Imm (from_bool is_or)) s (from_bool_below is_or)) own
 
-        first_here : Starts g alive first.t (length (tests_from d).code) (tests_from d).regs
-        first_here = starts_next g alive (sets f is_or) (begun d) s first.t first.at here
+        first_here : Starts g alive first.t (length (tests_from d).code) (tests_from d).regs (length (tests_from d).fields)
+        first_here = starts_next g alive (sets f is_or) (begun d) s first.t first.at (starts_entry g alive _ _ (starts_entry g alive _ _ here))
 
         first_named : IsNamedAt g.unit f.offset (length (begun d).code)
         unfolding step_of
@@ -294,12 +294,13 @@ module _ (g : Setting) (has : HasRegisters g) (alive : Variable → Type 0) (n :
             left_there : Narrows g alive places fields among_left saves (narrow saves) stored.t st
             left_there = narrows g alive places fields is_or set v saves stored.t st (λ x below on. stored.tests set x ∙ l.flags x below on) within_narrow stored.at (whole_sim g alive places fields st stored.t stored.sim)
 
-            left_here : Starts (under g among_left) alive left_there.t (length (narrow saves).code) (narrow saves).regs
+            left_here : Starts (under g among_left) alive left_there.t (length (narrow saves).code) (narrow saves).regs (length (narrow saves).fields)
             left_here =
                 let more = saves_more in
                 let two = code_longer saves (narrow saves) 1 left_there.more in
-                starts_under g among_left alive left_there.t (length (narrow saves).code) (narrow saves).regs
-                (starts_later g alive l.leaves.t left_there.t (length e.code) e.regs (length (narrow saves).code) (narrow saves).regs (omega (arith, more, two)) (extended e saves (narrow saves) 1 1 (and_one g (I.StoreContext saved) e) left_there.more).regs left_there.at l.leaves.at)
+                starts_under g among_left alive left_there.t (length (narrow saves).code) (narrow saves).regs (length (narrow saves).fields)
+                (starts_later g alive l.leaves.t left_there.t (length e.code) e.regs (length e.fields) (length (narrow saves).code) (narrow saves).regs (length (narrow saves).fields) (omega (arith, more, two)) (extended e saves (narrow saves) 1 1 (and_one g (I.StoreContext saved) e) left_there.more).regs
+                (fields_longer e (narrow saves) (1 + 1) (extended e saves (narrow saves) 1 1 (and_one g (I.StoreContext saved) e) left_there.more)) left_there.at l.leaves.at)
 
             left_go : Reaches g s left_there.t
             left_go = onto g s first.t left_there.t first.go (onto g first.t l.leaves.t left_there.t l.leaves.go (onto g l.leaves.t stored.t left_there.t stored.go left_there.go))
@@ -326,7 +327,6 @@ module _ (g : Setting) (has : HasRegisters g) (alive : Variable → Type 0) (n :
                   before = omega (arith, more);
                   saves = λ x below. stored.has x below tt;
                 }
-
 
             -- where the code of the right operand has ended
             module _ (final : Draft) (ended : Halved g alive places fields set f saved among_both (λ x. from_bool (not is_or)) saves final stored.t st) (place : ℕ) (again_named : IsNamedAt g.unit f.offset place) (late : length saves.code ≤ place) where
@@ -443,8 +443,9 @@ module _ (g : Setting) (has : HasRegisters g) (alive : Variable → Type 0) (n :
                     grown = (1 + (r.leaves.grown.0 + 1), all);
                     t = right_there.t;
                     go = onto g stored.t left_there.t right_there.t left_there.go (onto g left_there.t r.leaves.t right_there.t (reaches_again g among_left r.leaves.go) (reaches_again g among_left right_there.go));
-                    at = starts_under g among_both alive right_there.t (length (narrow after).code) (narrow after).regs
-                        (starts_later g alive r.leaves.t right_there.t (length after.code) after.regs (length (narrow after).code) (narrow after).regs two right_there.more.regs right_there.at (starts_again g among_left alive r.leaves.t (length after.code) after.regs r.leaves.at));
+                    at = starts_under g among_both alive right_there.t (length (narrow after).code) (narrow after).regs (length (narrow after).fields)
+                        (starts_later g alive r.leaves.t right_there.t (length after.code) after.regs (length after.fields) (length (narrow after).code) (narrow after).regs (length (narrow after).fields) two right_there.more.regs (fields_longer after (narrow after) 1 right_there.more) right_there.at
+                        (starts_again g among_left alive r.leaves.t (length after.code) after.regs (length after.fields) r.leaves.at));
                     registers = λ y kept.
                         ap (λ (registers : List ℕ). slice_index registers y) right_there.registers
                         ∙ keeps_on g saves (narrow saves) 1 stored.t left_there.t r.leaves.t left_there.more (λ z kept_so. ap (λ (registers : List ℕ). slice_index registers z) left_there.registers) (keeps_again g among_left (narrow saves) left_there.t r.leaves.t r.leaves.registers) y kept;
@@ -547,7 +548,7 @@ module _ (g : Setting) (has : HasRegisters g) (alive : Variable → Type 0) (n :
                         grown = (before_jump.grown.0 + 1, extended saves after jump before_jump.grown.0 1 before_jump.grown.1 grown);
                         t = u;
                         go = onto g stored.t gives.passes.t u before_jump.go (subst (λ (b : Bool). Reaches g gives.passes.t (moved_to g alive (if b then length after.code + 2 + start g else gives.passes.t.at + 1) gives.passes.t)) free goes);
-                        at = starts_under g among_left alive u (length jump.code) jump.regs (starts_later g alive gives.passes.t u (length after.code) after.regs (length jump.code) jump.regs (omega (arith, more)) grown.regs (omega (arith, at, more)) (starts_again g among_left alive gives.passes.t (length after.code) after.regs gives.passes.at));
+                        at = starts_under g among_left alive u (length jump.code) jump.regs (length jump.fields) (starts_later g alive gives.passes.t u (length after.code) after.regs (length after.fields) (length jump.code) jump.regs (length jump.fields) (omega (arith, more)) grown.regs (fields_longer after jump 1 grown) (omega (arith, at, more)) (starts_again g among_left alive gives.passes.t (length after.code) after.regs (length after.fields) gives.passes.at));
                         registers = before_jump.registers;
                         sim = sim_moved (under g among_left) alive st gives.passes.t (gives.passes.t.at + 1) (omega arith) gives.passes.sim;
                         stays = λ h begin later y inside own_h ends named early behind late. before_jump.stays h begin later y inside own_h ends named early behind (omega (arith, late, more));
@@ -682,7 +683,7 @@ module _ (g : Setting) (has : HasRegisters g) (alive : Variable → Type 0) (n :
 
   abbrev pub LogicalGives : Bool → ℕ → ℕ → ValueType → TExpr → TExpr → TExpr → Type 0
   LogicalGives is_or bits set ty whole left right =
-      (d : Draft) (s : CodeState) (st : State) → Starts g alive s (length d.code) d.regs → Sim g alive st s
+      (d : Draft) (s : CodeState) (st : State) → Starts g alive s (length d.code) d.regs (length d.fields) → Sim g alive st s
       → Follows g (Given g (number set whole st) st (Answers g has alive n ready places fields (IsFlag whole) bits (length d.fields) d s set st (words_of g has alive n ready places fields set whole st))) s (meant g fields whole st) (logical_by is_or ty.shape bits (condition_of g.typed (layout g) left) (condition_of g.typed (layout g) right) d)
 
   pub undecided_valued : (is_or : Bool) (bits set : ℕ) (ty : ValueType) (whole left right : TExpr) → ty.shape ≡ Some set → HasItsKind set left → joins left right ≡ false → IsPure set whole → IsWide set (type_of whole) → HasItsCode g.typed g.instance alive n whole → HaveTheirCode g.typed g.instance alive n left right → LogicalValue set whole left right is_or

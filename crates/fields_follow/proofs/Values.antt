@@ -47,7 +47,7 @@ use Rattle.fields_follow.proofs.Outcomes.{Given, given_follows, meant}
 use Rattle.fields_follow.proofs.Passing.{After, Behind, GivesField, after_same, fields_longer, gives_first, gives_from, gives_set, in_variable_has, made_after, names_second, passes_all, passes_from, puts_own}
 use Rattle.fields_follow.proofs.Places.{HoldsTheFields, IsFileField, IsOwnField, PlacesFields, entry_is, of_file, stands_here}
 use Rattle.fields_follow.proofs.Totals.{held_below}
-use Rattle.fields_follow.proofs.Starts.{Starts}
+use Rattle.fields_follow.proofs.Starts.{starts_entry, starts_wider, Starts}
 use Rattle.fields_follow.proofs.Variables.{Carries, file_carries}
 use Rattle.paris_code.specs.Spans.{IsNamedAt}
 
@@ -98,7 +98,7 @@ module _ (g : Setting) where
     -- as many of a parallel expression's value, where the source gives one, and it ends as the source does where that ends
     abbrev pub Valued : ℕ → ℕ → TExpr → Code → Type 0
     Valued bits set e code =
-        (d : Draft) (s : CodeState) (st : State) → Starts g alive s (length d.code) d.regs → Sim g alive st s
+        (d : Draft) (s : CodeState) (st : State) → Starts g alive s (length d.code) d.regs (length d.fields) → Sim g alive st s
         → Follows g (Given g (λ q. value_in (extents g set) st e q) st (Gives (IsFlag e) bits (length d.fields) d s set st (λ q. word_at (extents g set) st e q))) s (meant g fields e st) (code d)
 
     -- The code finds the field of a variable, maybe with an entry more: it carries the variable, and one of a variable of one
@@ -154,8 +154,11 @@ module _ (g : Setting) where
     finds_read set _ info d read known shaped one = absurd read
 
     -- code that goes on from the entry starts where it did
-    starts_found : (set : ℕ) (x : Variable) (info : VarInfo) (d : Draft) (s : CodeState) → (found : Finds set x info d) → Starts g alive s (length d.code) d.regs → Starts g alive s (length found.e.code) found.e.regs
-    starts_found set x info d s found here = subst (λ (c : List Step). Starts g alive s (length c) found.e.regs) (sym found.code) (subst (λ (r : ℕ). Starts g alive s (length d.code) r) (sym found.regs) here)
+    starts_found : (set : ℕ) (x : Variable) (info : VarInfo) (d : Draft) (s : CodeState) → (found : Finds set x info d) → Starts g alive s (length d.code) d.regs (length d.fields) → Starts g alive s (length found.e.code) found.e.regs (length found.e.fields)
+    starts_found set x info d s found here =
+        let longer = fields_longer d found.e 0 found.grown in
+        starts_wider g alive s (length found.e.code) found.e.regs (length d.fields) (length found.e.fields) longer
+        (subst (λ (c : List Step). Starts g alive s (length c) found.e.regs (length d.fields)) (sym found.code) (subst (λ (r : ℕ). Starts g alive s (length d.code) r (length d.fields)) (sym found.regs) here))
 
     -- a variable where it stands
     pub standing_after : (bits set : ℕ) (e : TExpr) → (h : StandsInVariable g.typed g.instance bits set e) → Valued bits set e (λ d. standing g.typed (layout g) bits (record { shape = Some set; variable = h.x }) d)
@@ -229,7 +232,7 @@ module _ (g : Setting) where
     )
 
     -- a copy of a variable's field, cut or extended
-    field_copied : (bits set : ℕ) (x : Variable) (info : VarInfo) → bits ≤ 32 → (d : Draft) → FindsOrFails set x info (with_entry set bits W.Own d) → (s : CodeState) (st : State) → Starts g alive s (length d.code) d.regs → Sim g alive st s
+    field_copied : (bits set : ℕ) (x : Variable) (info : VarInfo) → bits ≤ 32 → (d : Draft) → FindsOrFails set x info (with_entry set bits W.Own d) → (s : CodeState) (st : State) → Starts g alive s (length d.code) d.regs (length d.fields) → Sim g alive st s
         → (flag : Type 0) → After g (Gives flag bits (length d.fields) d s set st (λ q. held info.elem (st.parallel x 0 q))) (field_loaded g.typed (layout g) info.elem.signed x 0 (next_field set bits d) (with_entry set bits W.Own d))
     unfolding field_loaded then_make step_of After
     field_copied bits set x info most d (inl fails) s st here sim flag =
@@ -241,7 +244,7 @@ module _ (g : Setting) where
         let source : Field = found.f in
         let i : Instr = I.Move info.elem.signed dest source in
         let v : ℕ → ℕ = λ q. held info.elem (st.parallel x 0 q) in
-        let starts : Starts g alive s (length d2.code) d2.regs = starts_found set x info d1 s found here in
+        let starts : Starts g alive s (length d2.code) d2.regs (length d2.fields) = starts_found set x info d1 s found (starts_entry g alive _ _ here) in
         after_same g (Gives flag bits (length d.fields) d s set st v) (ap (λ (m : Made Field). then_make m (λ f after. Makes (O.Field dest) (with_instr (I.Move info.elem.signed dest f) after))) found.is)
         (made_after g (Gives flag bits (length d.fields) d s set st v) (O.Field dest) (with_instr i d2) (λ within.
         let own : IsOwnField g dest = taken set bits W.Own d (with_instr i d2) 1 within (and_instr i d1 d2 0 found.grown) in

@@ -9,8 +9,8 @@ use Rattle.paris_code.specs.Memory.{field_number, processors}
 use Rattle.paris_code.specs.Shapes.{bits_at}
 use Rattle.paris_code.specs.Spans.{IsNamedAt}
 use Rattle.source_meaning.specs.State.{State}
-use Rattle.code_follows.proofs.Following.{Sim, OpenAmong}
-use Rattle.code_follows.proofs.Settings.{Setting, start}
+use Rattle.code_follows.proofs.Following.{Sim}
+use Rattle.code_follows.proofs.Settings.{OpenAmong, Setting, start}
 use Rattle.fields_follow.specs.Fields.{IsElement}
 use Rattle.fields_follow.proofs.Instructions.{number_in, place, shapes}
 use Rattle.fields_follow.proofs.Locals.{HoldsLocal, HoldsLocals, IsLocalField, same_local, used_up_to}

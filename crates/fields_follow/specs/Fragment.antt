@@ -7,7 +7,7 @@
 -- of `&&` and `||` does where the left one does not decide. They are
 -- assigned to such variables and folded into numbers and onto scalar variables, as scans of them and of ones with
 -- operators on these are, and they are the conditions of `where`. Folds and scans are of the active positions.
--- They are sent to such variables at such indexes, without an operator.
+-- They are sent to such variables by such indexes, also with an operator that folds.
 -- Scalars that change variables, by assignments, steps and `getchar`, are assigned to such variables too, also with
 -- operators.
 -- Blocks may have parallel variables without initialisers, which no expression names.
@@ -29,6 +29,7 @@ use Rattle.cstar_tree.specs.declared.typed.ValueType.{ValueType}
 use Rattle.cstar_tree.specs.declared.typed.VarInfo.{VarInfo}
 use Rattle.cstar_tree.specs.declared.typed.Variable.{Variable}
 use Rattle.cstar_tree.specs.declared.typed.Variable.TheVariants as V
+use Rattle.cstar_tree.specs.Operations.{folds}
 use Rattle.cstar_tree.specs.Typed.{type_of}
 use Rattle.lower_base.specs.Operators.{assign_op_of, negates, relates}
 use Rattle.lower_base.specs.Kinds.{is_bitwise, kind_of}
@@ -290,13 +291,13 @@ IsSendTarget set (T.LeftIndex' ty place p indexes (V.File k) of) = (ty.shape ≡
 IsSendTarget set (T.Brackets' ty p inner) = (ty ≡ type_of inner) × IsSendTarget set inner
 IsSendTarget set _ = ⊥
 
--- without an operator a value of as many bits as the variable has
+-- without an operator a value of as many bits as the variable has, and with one that folds a value of 32 bits
 abbrev pub IsSent : AssignOp → Elem → TExpr → Type 0
-IsSent op elem value = (op ≡ A.Set) × ((type_of value).elem.bits ≡ elem.bits)
+IsSent op elem value = ((op ≡ A.Set) × ((type_of value).elem.bits ≡ elem.bits)) ⊎ ((folds op ≡ true) × ((type_of value).elem.bits ≡ 32))
 
 -- it is sent from each active position
 unfoldable pub IsSend : TExpr → Type 0
-IsSend (T.Assign' ty place op p target q value) = (ty ≡ type_of target) × IsSent op ty.elem value × ((set : ℕ) × (IsSendTarget set target × IsPure set value))
+IsSend (T.Assign' ty place op p target q value) = (ty ≡ type_of target) × IsSent op ty.elem value × ((set : ℕ) × (IsSendTarget set target × IsOperand set value))
 IsSend _ = ⊥
 
 -- a parallel expression whose value is not used
