@@ -20,7 +20,7 @@ use Rattle.lower_base.specs.declared.emit.Out.TheVariants as O
 use Rattle.lower_base.specs.Drafts.{Draft, Made, Makes, a_field, an_entry, first_bits, then_make, with_instr}
 use Rattle.lower_base.specs.Kinds.{bits_of, kind_of}
 use Rattle.lower_base.specs.Operators.{negates, relates}
-use Rattle.lower_expr.specs.Joined.{cleared, joined, operation_of}
+use Rattle.lower_expr.specs.Joined.{cleared, joined, operation_of, joins}
 use Rattle.lower_expr.specs.Kinds.{operation_bits}
 use Rattle.lower_expr.specs.Operands.{ignores_context, operand_by}
 use Rattle.lower_expr.specs.Steps.{has_truth, is_kept}
@@ -41,14 +41,14 @@ use Rattle.fields_follow.proofs.Starts.{no_home, starts_entry, Starts}
 use Rattle.fields_follow.proofs.Choosing.{choice_valued}
 use Rattle.fields_follow.proofs.Clearing.{joined_more}
 use Rattle.fields_follow.proofs.ConditionCode.{Bit, Truth, bit_not_value, joined_value, operand_at, put_in, relation_value, word_not_value}
-use Rattle.fields_follow.proofs.Conditions.{HaveTheirCode, and_codes, conditions_join, or_codes}
+use Rattle.fields_follow.proofs.Conditions.{HaveTheirCode, and_codes, conditions_join, joined_free, or_codes}
 use Rattle.fields_follow.proofs.Expressions.{Answers, answers_alike, binary_after, convert_after, convert_ended, convert_means, coordinate_after, left_index_after, named, unary_after, unary_ended}
 use Rattle.fields_follow.proofs.Forms.{HasItsCode, IsRead, pure_kept}
 use Rattle.fields_follow.proofs.Instructions.{alike_same, extents, shapes}
 use Rattle.fields_follow.proofs.Leaving.{fields_under, places_under, registers_under, under}
 use Rattle.fields_follow.proofs.Lengths.{operation_most, relates_plainly}
 use Rattle.fields_follow.proofs.Indexing.{AllCoded, AllValued, all_coded}
-use Rattle.fields_follow.proofs.Meaning.{unary_means, value_in, word_at}
+use Rattle.fields_follow.proofs.Meaning.{either, unary_means, value_in, word_at}
 use Rattle.fields_follow.proofs.NarrowKinds.{are_related}
 use Rattle.fields_follow.proofs.Outcomes.{Ended, Given, Known, given_weaker, known_follows, meant}
 use Rattle.fields_follow.proofs.Passing.{After, GivesField, after_same, gives_alike}
@@ -59,7 +59,7 @@ use Rattle.fields_follow.proofs.TestFlags.{LeavesTests, is_truth, truth_is}
 use Rattle.fields_follow.proofs.Testing.{IsDone, IsGiven, IsValued, Says, and_ended, and_given, and_right_ended, brackets_tested, flags_after, kinded_bit, not_truth, or_ended, or_given, or_right_ended, pure_tested, relation_truth, truth_tested, variable_tested}
 use Rattle.fields_follow.proofs.TruthFields.{ComesFrom, bit_joined, several_joined, tests_put, turned_put}
 use Rattle.fields_follow.proofs.TruthValues.{bool_bit, bool_nonzero, by_case}
-use Rattle.fields_follow.proofs.Undecided.{undecided_valued}
+use Rattle.fields_follow.proofs.Undecided.{LogicalEnds, LogicalMeans, scalar_valued, undecided_valued}
 use Rattle.fields_follow.proofs.Truths.{either_or_both}
 use Rattle.fields_follow.proofs.Values.{IsFlag, next_field, operand_after, variable_after, with_entry}
 
@@ -258,25 +258,27 @@ mutual
       record { value = λ bits some most. brackets_valued g has alive n ready places fields bits set ty p inner is.0 (part.value bits some most); tests = λ known. brackets_tested g has alive n ready places fields set ty p inner is is.1 (part.tests known) }
   done g has alive n ready places fields set (T.Unary' ty op p operand) is c = unary_done g has alive n ready places fields set ty op p operand is is.0.0 is.2 is.1 c (done g has alive n ready places fields set operand is.2 (unary_part g alive n places fields ty op p operand c))
   done g has alive n ready places fields set (T.LogicalOr' ty p left q right) is c =
-      let codes = or_codes g.typed g.instance alive n set ty p q left right is.1.0 is.2.0 c in
+      let codes = or_codes g.typed g.instance alive n set ty p q left right is.1.0 c in
       let one = done g has alive n ready places fields set left is.1.0 codes.left_code in
-      let two = done g has alive n ready places fields set right is.2.0 codes.right_code in
-      by_value g has alive n ready places fields set (T.LogicalOr' ty p left q right) is refl c (λ bits some most. by_case (ignores_context right)
-      (λ free. logical_valued g has alive n ready places fields true bits set ty (T.LogicalOr' ty p left q right) left right some is.0.0 is.1 is.2 free codes one two (λ st q. refl)
-      (λ st given exists. or_given g has alive n ready places fields set ty p q left right st is.1.0 is.2.0 free given exists) (λ s st early. or_ended g has alive n ready places fields ty p q left right s st early))
-      (λ bound. undecided_valued g has alive n ready places fields true bits set ty (T.LogicalOr' ty p left q right) left right is.0.0 is.1 is.2 bound is is.0 c codes (λ st q. refl) (one.tests is.1.1) (λ b. (done (under g b) (registers_under g b has) alive n ready (places_under g b places) (fields_under g b fields.scope fields.same_extents) set right is.2.0 codes.right_code).tests is.2.1)
-      (λ st given other. or_means fields.scope fields.active set ty p q left right (number g has alive n ready places fields set left st) (number g has alive n ready places fields set right st) st is.1.0 given other) (λ s st early. or_ended g has alive n ready places fields ty p q left right s st early)
-      (λ s st given early. or_right_ended g has alive n ready places fields set ty p q left right s st is.1.0 given early)))
+      let means : LogicalMeans g has alive n ready places fields true set (T.LogicalOr' ty p left q right) left right = λ st given other. or_means fields.scope fields.active set ty p q left right (number g has alive n ready places fields set left st) (number g has alive n ready places fields set right st) st is.1.0 given other in
+      let ends : LogicalEnds g has alive n ready places fields true set (T.LogicalOr' ty p left q right) left right = (λ s st early. or_ended g has alive n ready places fields ty p q left right s st early, λ s st given early. or_right_ended g has alive n ready places fields set ty p q left right s st is.1.0 given early) in
+      by_value g has alive n ready places fields set (T.LogicalOr' ty p left q right) is refl c (λ bits some most. either
+      (λ also. by_case (joins left right)
+      (λ join. logical_valued g has alive n ready places fields true bits set ty (T.LogicalOr' ty p left q right) left right some is.0.0 is.1 also (joined_free left right join) codes one (done g has alive n ready places fields set right also.0 codes.right_code) (λ st q. refl)
+      (λ st given exists. or_given g has alive n ready places fields set ty p q left right st is.1.0 also.0 (joined_free left right join) given exists) (λ s st early. or_ended g has alive n ready places fields ty p q left right s st early))
+      (λ apart. undecided_valued g has alive n ready places fields true bits set ty (T.LogicalOr' ty p left q right) left right is.0.0 is.1 apart is is.0 c codes (λ st q. refl) (one.tests is.1.1) means ends also (λ b. (done (under g b) (registers_under g b has) alive n ready (places_under g b places) (fields_under g b fields.scope fields.same_extents) set right also.0 codes.right_code).tests also.1)))
+      (λ promoted. scalar_valued g has alive n ready places fields true bits set ty (T.LogicalOr' ty p left q right) left right is.0.0 is.1 is is.0 c codes (λ st q. refl) (one.tests is.1.1) means ends promoted.0 promoted.1) is.2)
   done g has alive n ready places fields set (T.LogicalAnd' ty p left q right) is c =
-      let codes = and_codes g.typed g.instance alive n set ty p q left right is.1.0 is.2.0 c in
+      let codes = and_codes g.typed g.instance alive n set ty p q left right is.1.0 c in
       let one = done g has alive n ready places fields set left is.1.0 codes.left_code in
-      let two = done g has alive n ready places fields set right is.2.0 codes.right_code in
-      by_value g has alive n ready places fields set (T.LogicalAnd' ty p left q right) is refl c (λ bits some most. by_case (ignores_context right)
-      (λ free. logical_valued g has alive n ready places fields false bits set ty (T.LogicalAnd' ty p left q right) left right some is.0.0 is.1 is.2 free codes one two (λ st q. refl)
-      (λ st given exists. and_given g has alive n ready places fields set ty p q left right st is.1.0 is.2.0 free given exists) (λ s st early. and_ended g has alive n ready places fields ty p q left right s st early))
-      (λ bound. undecided_valued g has alive n ready places fields false bits set ty (T.LogicalAnd' ty p left q right) left right is.0.0 is.1 is.2 bound is is.0 c codes (λ st q. refl) (one.tests is.1.1) (λ b. (done (under g b) (registers_under g b has) alive n ready (places_under g b places) (fields_under g b fields.scope fields.same_extents) set right is.2.0 codes.right_code).tests is.2.1)
-      (λ st given other. and_means fields.scope fields.active set ty p q left right (number g has alive n ready places fields set left st) (number g has alive n ready places fields set right st) st is.1.0 given other) (λ s st early. and_ended g has alive n ready places fields ty p q left right s st early)
-      (λ s st given early. and_right_ended g has alive n ready places fields set ty p q left right s st is.1.0 given early)))
+      let means : LogicalMeans g has alive n ready places fields false set (T.LogicalAnd' ty p left q right) left right = λ st given other. and_means fields.scope fields.active set ty p q left right (number g has alive n ready places fields set left st) (number g has alive n ready places fields set right st) st is.1.0 given other in
+      let ends : LogicalEnds g has alive n ready places fields false set (T.LogicalAnd' ty p left q right) left right = (λ s st early. and_ended g has alive n ready places fields ty p q left right s st early, λ s st given early. and_right_ended g has alive n ready places fields set ty p q left right s st is.1.0 given early) in
+      by_value g has alive n ready places fields set (T.LogicalAnd' ty p left q right) is refl c (λ bits some most. either
+      (λ also. by_case (joins left right)
+      (λ join. logical_valued g has alive n ready places fields false bits set ty (T.LogicalAnd' ty p left q right) left right some is.0.0 is.1 also (joined_free left right join) codes one (done g has alive n ready places fields set right also.0 codes.right_code) (λ st q. refl)
+      (λ st given exists. and_given g has alive n ready places fields set ty p q left right st is.1.0 also.0 (joined_free left right join) given exists) (λ s st early. and_ended g has alive n ready places fields ty p q left right s st early))
+      (λ apart. undecided_valued g has alive n ready places fields false bits set ty (T.LogicalAnd' ty p left q right) left right is.0.0 is.1 apart is is.0 c codes (λ st q. refl) (one.tests is.1.1) means ends also (λ b. (done (under g b) (registers_under g b has) alive n ready (places_under g b places) (fields_under g b fields.scope fields.same_extents) set right also.0 codes.right_code).tests also.1)))
+      (λ promoted. scalar_valued g has alive n ready places fields false bits set ty (T.LogicalAnd' ty p left q right) left right is.0.0 is.1 is is.0 c codes (λ st q. refl) (one.tests is.1.1) means ends promoted.0 promoted.1) is.2)
   done g has alive n ready places fields set (T.Binary' ty place op p left q right) is c =
       let parts = binary_parts g alive n places fields ty place op p q left right c in
       binary_done g has alive n ready places fields set ty place op p q left right is c (λ pure. done g has alive n ready places fields set left pure parts.0) (λ pure. done g has alive n ready places fields set right pure parts.1)

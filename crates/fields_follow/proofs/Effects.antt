@@ -23,7 +23,7 @@ use Rattle.lower_base.specs.Drafts.{Draft, Fails, Made, Makes, a_field, an_entry
 use Rattle.lower_base.specs.Operators.{negates}
 use Rattle.lower_expr.specs.Effects.{binary_to, bits_for, cast_to, computed_to, converted_to, field_binary_to, field_operated, fits_field, goes_unchanged, gone_to, keeps_bits, logical_to, moved, put_to}
 use Rattle.lower_expr.specs.Kinds.{done_as, operand_bits, operation_bits, reads_signed, unary_bits}
-use Rattle.lower_expr.specs.Operands.{are_quiet, ignores_context, is_plus, is_quiet, operand_by}
+use Rattle.lower_expr.specs.Operands.{are_quiet, is_plus, is_quiet, operand_by}
 use Rattle.lower_expr.specs.Spots.{field_loaded, loaded, variable_spot}
 use Rattle.lower_expr.specs.Steps.{is_kept, put_value, right_operated, word_for, word_put}
 use Rattle.lower_expr.specs.Values.{arm_by, extended, field_binary_of, fields_by, joined_of, next_of, read_to, right_by, scalar_choice_of, spot_of, tested, truth_put, value_of}
@@ -68,9 +68,8 @@ use Rattle.fields_follow.proofs.Totals.{held_below}
 use Rattle.fields_follow.proofs.Values.{and_entry, next_field, one_more, operand_of, taken, variable_has, with_entry}
 use Rattle.fields_follow.proofs.Expressions.{IsMeant, binary_at, convert_alike, convert_ended, convert_means, coordinate_means, operand_at, unary_ended, extended_after, negated_after, operand_grows, operands_keep, plus_alike, signed_as, unary_at, wide_operands}
 use Rattle.fields_follow.proofs.Computing.{each_after, pure_after}
-use Rattle.fields_follow.proofs.Conditions.{none_join}
 use Rattle.fields_follow.proofs.TruthValues.{IsPlain}
-use Rattle.lower_expr.specs.Joined.{is_flag}
+use Rattle.lower_expr.specs.Joined.{is_flag, joins}
 use Rattle.cstar_base.proofs.NumberLaws.{kind_bits}
 use Rattle.std.proofs.lemmas.Bool.{eqb-true}
 use Rattle.std.proofs.lemmas.Bool.Decides.{nat_tests}
@@ -179,11 +178,11 @@ module _ (g : Setting) (has : HasRegisters g) (alive : Variable → Type 0) (n :
           (puts_same g set i f passes.t _ (words_of set whole st) (λ x below. binary_at g has alive n ready places fields set ty place op p q left right st passes.t passes.sim is c x) puts)) ended)
       by false other = after_same g Q (chosen false other) (moved_last set offset bits whole some most is c d s st here sim Q last ended)
 
-  -- `&&` and `||` of which the right operand does not ignore the context
-  logical_last : (set offset bits : ℕ) (is_or : Bool) (e left right : TExpr) → 0 < bits → bits ≤ 32 → IsPure set e → ignores_context right ≡ false → HasItsCode g.typed g.instance alive n e → PutsLast set (field_at set offset bits) e (λ d. logical_to g.typed (layout g) (O.Field (field_at set offset bits)) e is_or left right d)
+  -- `&&` and `||` of operands that are not joined
+  logical_last : (set offset bits : ℕ) (is_or : Bool) (e left right : TExpr) → 0 < bits → bits ≤ 32 → IsPure set e → joins left right ≡ false → HasItsCode g.typed g.instance alive n e → PutsLast set (field_at set offset bits) e (λ d. logical_to g.typed (layout g) (O.Field (field_at set offset bits)) e is_or left right d)
   unfolding logical_to
-  logical_last set offset bits is_or e left right some most is bound c d s st here sim Q last ended =
-      after_same g Q (ap (λ (b : Bool). if b then joined_of g.typed (layout g) is_or f left right d else moved g.typed (layout g) (O.Field f) e d) (none_join left right bound)) (moved_last set offset bits e some most is c d s st here sim Q last ended)
+  logical_last set offset bits is_or e left right some most is apart c d s st here sim Q last ended =
+      after_same g Q (ap (λ (b : Bool). if b then joined_of g.typed (layout g) is_or f left right d else moved g.typed (layout g) (O.Field f) e d) apart) (moved_last set offset bits e some most is c d s st here sim Q last ended)
     where
       f : Field
       f = field_at set offset bits

@@ -259,6 +259,68 @@ module _ (g : Setting) (alive : Variable → Type 0) (places : PlacesFields g) (
           saves = λ q below. loaded.stays saved q r.saved_ends ∙ saved_still q below;
         }
 
+    -- or the code has gone on and left the field as it is, and behind that the old context is loaded
+    module _ (b : Active) (beside : (q p : ℕ) → (q ≡ set → ⊥) → fields.active q p ≡ b q p) (c : Active) (none : (p : ℕ) → p < processors (shapes g) set → c set p ≡ false) (w : ℕ → ℕ) (d e over : Draft) (s : CodeState) (st : State) (r : Keeping d s) (x : Leads b d e s st) (more : (k : ℕ) × Extended e k over) (u : CodeState) (go : Reaches g x.t u)
+        (at : At g u (length over.code)) (registers : u.registers ≡ x.t.registers) (sim : Sim (under g b) alive st u) (same : (h : Field) (p : ℕ) → number_in g h u p ≡ number_in g h x.t p) (ends : EndsBelow g f) (somewhere : ℕ) (named : IsNamedAt g.unit offset somewhere) (late : length e.code ≤ somewhere) (before : somewhere < length over.code)
+        (within_last : Within g (with_instr (I.LoadContext saved) over)) where
+      passed_named : IsNamedAt g.unit saved.offset (length over.code)
+      unfolding step_of
+      passed_named = names_first g (I.LoadContext saved) saved [] (length over.code) (stands_here g (I.LoadContext saved) over within_last refl) refl
+
+      passed_longer : length e.code ≤ length over.code
+      passed_longer = code_longer e over more.0 more.1
+
+      saved_there : (q : ℕ) → q < processors (shapes g) set → number_in g saved u q ≡ from_bool (fields.active set q)
+      saved_there q below = same saved q ∙ x.stays saved r.somewhere (length over.code) q r.saved_inside r.own_saved r.saved_ends r.named r.before passed_named passed_longer ∙ r.saves q below
+
+      back_there : Turned g places alive b fields.active over (I.LoadContext saved) u st
+      back_there = load_context g places alive b set saved over u st fields.active r.of_set saved_there beside within_last at sim
+
+      pub passed_by : Halved set f saved c w d (with_instr (I.LoadContext saved) over) s st
+      passed_by = record {
+        grown = (x.grown.0 + (more.0 + 1), extended d e (with_instr (I.LoadContext saved) over) x.grown.0 (more.0 + 1) x.grown.1 (extended e over (with_instr (I.LoadContext saved) over) more.0 1 more.1 (and_one g (I.LoadContext saved) over)));
+        t = back_there.t;
+        go = onto g s x.t back_there.t x.go (onto g x.t u back_there.t go back_there.go);
+        at =
+            let one = passed_longer in
+            let two = code_more g (I.LoadContext saved) over in
+            let three = more.1.regs in
+            let four = regs_more g (I.LoadContext saved) over in
+            let five = fields_longer e over more.0 more.1 in
+            let six = same_entries g alive (I.LoadContext saved) over in
+            starts_later g alive x.t back_there.t (length e.code) e.regs (length e.fields) (length (with_instr (I.LoadContext saved) over).code) (with_instr (I.LoadContext saved) over).regs (length (with_instr (I.LoadContext saved) over).fields) (omega (arith, one, two)) (omega (arith, three, four)) (omega (arith, five, six)) back_there.at (starts_again g b alive x.t (length e.code) e.regs (length e.fields) x.at);
+        registers = λ y kept. ap (λ (rs : List ℕ). slice_index rs y) (back_there.registers ∙ registers) ∙ x.registers y kept;
+        sim = whole_sim g alive places fields st back_there.t back_there.sim;
+        ends = ends;
+        somewhere = somewhere;
+        named = named;
+        before = let two = code_more g (I.LoadContext saved) over in omega (arith, before, two);
+        stays = λ h first last q inside differ own ends named early after behind.
+            back_there.stays h q ends ∙ same h q ∙ x.stays h first last q inside own ends named early after (let one = passed_longer in let two = code_more g (I.LoadContext saved) over in omega (arith, behind, one, two));
+        puts = λ q below on. (let wrong = sym (none q below) ∙ on in cc);
+        leaves = λ first first_named early q below off. back_there.stays f q ends ∙ same f q ∙ x.stays f first somewhere q r.inside r.own ends first_named early named late;
+        saves = λ q below. back_there.stays saved q r.saved_ends ∙ saved_there q below;
+      }
+
+  -- other positions that are the same in the set
+  pub halved_same : (set : ℕ) (f saved : Field) (b c : Active) (w : ℕ → ℕ) (d e : Draft) (s : CodeState) (st : State) → ((p : ℕ) → p < processors (shapes g) set → c set p ≡ b set p) → Halved set f saved b w d e s st → Halved set f saved c w d e s st
+  halved_same set f saved b c w d e s st same h = record {
+    grown = h.grown;
+    t = h.t;
+    go = h.go;
+    at = h.at;
+    registers = h.registers;
+    sim = h.sim;
+    ends = h.ends;
+    somewhere = h.somewhere;
+    named = h.named;
+    before = h.before;
+    stays = h.stays;
+    puts = λ p below on. h.puts p below (sym (same p below) ∙ on);
+    leaves = λ first named early p below off. h.leaves first named early p below (sym (same p below) ∙ off);
+    saves = h.saves;
+  }
+
 module _ (g : Setting) (has : HasRegisters g) (alive : Variable → Type 0) (n : ℕ) (ready : (d : Draft) → IsReadyButForFields g.typed g.instance (layout g) n d) (places : PlacesFields g) (fields : HoldsTheFields g) where
   -- an operand, as it is put where these positions are active
   abbrev pub PutsUnder : Active → ℕ → Field → TExpr → (Draft → Made Out) → Type 1

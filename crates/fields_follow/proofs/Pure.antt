@@ -132,11 +132,11 @@ module _ (scope : Scope) where
   pure_means active set (T.LogicalOr' ty p left q right) st is free =
       let parts = both_ignore left right free in
       or_means scope active set ty p q left right (λ x. value_in (scope.extents set) st left x) (λ x. value_in (scope.extents set) st right x) st is.1.0 (pure_means active set left st is.1.0 parts.0)
-      (pure_means (where_zero set (Parallel (λ q. value_in (scope.extents set) st left q)) active) set right st is.2.0 parts.1)
+      (either (λ h. pure_means (where_zero set (Parallel (λ q. value_in (scope.extents set) st left q)) active) set right st h.0 parts.1) (λ h. promoted_free scope (where_zero set (Parallel (λ q. value_in (scope.extents set) st left q)) active) set (scope.extents set) right st h.0 parts.1) is.2)
   pure_means active set (T.LogicalAnd' ty p left q right) st is free =
       let parts = both_ignore left right free in
       and_means scope active set ty p q left right (λ x. value_in (scope.extents set) st left x) (λ x. value_in (scope.extents set) st right x) st is.1.0 (pure_means active set left st is.1.0 parts.0)
-      (pure_means (where_nonzero set (Parallel (λ q. value_in (scope.extents set) st left q)) active) set right st is.2.0 parts.1)
+      (either (λ h. pure_means (where_nonzero set (Parallel (λ q. value_in (scope.extents set) st left q)) active) set right st h.0 parts.1) (λ h. promoted_free scope (where_nonzero set (Parallel (λ q. value_in (scope.extents set) st left q)) active) set (scope.extents set) right st h.0 parts.1) is.2)
   pure_means active set (T.Choice' ty p test q first r second) st is free =
       let parts = all_ignore test first second free in
       let v : ℕ → ℕ = λ x. value_in (scope.extents set) st test x in

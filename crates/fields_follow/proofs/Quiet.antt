@@ -106,8 +106,8 @@ mutual
   pure_quiet set (T.Variable ty (V.File k)) is = refl
   pure_quiet set (T.Brackets' ty p inner) is = pure_quiet set inner is.1
   pure_quiet set (T.Unary' ty op p operand) is = pure_quiet set operand is.2
-  pure_quiet set (T.LogicalOr' ty p left q right) is = both (is_quiet left) (is_quiet right) (pure_quiet set left is.1.0) (pure_quiet set right is.2.0)
-  pure_quiet set (T.LogicalAnd' ty p left q right) is = both (is_quiet left) (is_quiet right) (pure_quiet set left is.1.0) (pure_quiet set right is.2.0)
+  pure_quiet set (T.LogicalOr' ty p left q right) is = both (is_quiet left) (is_quiet right) (pure_quiet set left is.1.0) (either (λ h. pure_quiet set right h.0) (λ h. promoted_quiet set right h.0) is.2)
+  pure_quiet set (T.LogicalAnd' ty p left q right) is = both (is_quiet left) (is_quiet right) (pure_quiet set left is.1.0) (either (λ h. pure_quiet set right h.0) (λ h. promoted_quiet set right h.0) is.2)
   pure_quiet set (T.Binary' ty place op p left q right) is =
       both (is_quiet left) (is_quiet right) (either (λ h. pure_quiet set left h) (λ h. promoted_quiet set left h) (left_of set left right is.2)) (either (λ h. pure_quiet set right h) (λ h. promoted_quiet set right h) (right_of set left right is.2))
   pure_quiet set (T.Choice' ty p test q first r second) is =

@@ -47,7 +47,7 @@ use Rattle.fields_follow.proofs.Starts.{starts_entry, Starts}
 use Rattle.fields_follow.proofs.ConditionCode.{Bit, Told, Truth, bit_taken, flag_after, flag_extends, nonzero_after, operand_at, zero_after}
 use Rattle.fields_follow.proofs.Conditions.{HaveTheirCode}
 use Rattle.fields_follow.proofs.Expressions.{unary_ended}
-use Rattle.fields_follow.proofs.Forms.{HasItsCode, element_is, field_is, not_held, pure_constant}
+use Rattle.fields_follow.proofs.Forms.{HasItsCode, element_is, field_is, not_held, pure_constant, pure_kept}
 use Rattle.fields_follow.proofs.Instructions.{extents, place, shapes}
 use Rattle.fields_follow.proofs.Lengths.{held_first}
 use Rattle.fields_follow.proofs.Meaning.{read_is, unary_means, value_in, word_at}
@@ -253,7 +253,7 @@ module _ (g : Setting) (has : HasRegisters g) (alive : Variable → Type 0) (n :
       → After g Q (then_make (flag_of set (condition_of g.typed (layout g) left) d) (λ f between. then_make (flag_of set (condition_of g.typed (layout g) right) between) (λ h after. last f h after)))
   flags_after set left right is also free codes one two d s st here sim Q last grows given ended =
       then_known g s (meant g fields left st) (numbers_of set left st) st (Truth g alive places fields d s set st (numbers_of set left st)) Q (flag_of set (condition_of g.typed (layout g) left) d) (λ f e. then_make (second e) (λ h after. last f h after)) (flagged set left is codes.left_code one d s st here sim)
-      (λ f e. extends_then g e (second e) (λ h after. last f h after) (flag_grows set right codes.right_code codes.right_field e) (λ h after. grows f h after)) (λ is_left f e1 a.
+      (λ f e. extends_then g e (second e) (λ h after. last f h after) (flag_grows set right codes.right_code (codes.right_gives, pure_kept set right also.0) e) (λ h after. grows f h after)) (λ is_left f e1 a.
       then_after g (Truth g alive places fields e1 a.passes.t set st (numbers_of set right st)) Q (second e1) (λ h after. last f h after)
       (follows_given g a.passes.t (meant g fields right st) (numbers_of set right st) st (Truth g alive places fields e1 a.passes.t set st (numbers_of set right st)) (second e1) (ignoring_means set right st fields.active also.0 free a.exists) (flagged set right also codes.right_code two e1 a.passes.t st a.passes.at a.passes.sim))
       (λ h after. grows f h after) (λ h e2 b. given is_left a.exists f h e1 e2 a b)) ended

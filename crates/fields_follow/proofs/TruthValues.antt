@@ -14,7 +14,8 @@ use Rattle.cstar_tree.specs.declared.typed.TExpr as T
 use Rattle.cstar_tree.specs.declared.typed.UnaryOp.{UnaryOp}
 use Rattle.cstar_tree.specs.declared.typed.UnaryOp.TheVariants as U
 use Rattle.lower_base.specs.Operators.{negates, relates}
-use Rattle.lower_expr.specs.Operands.{ignores_context, is_plus}
+use Rattle.lower_expr.specs.Joined.{joins}
+use Rattle.lower_expr.specs.Operands.{is_plus}
 use Rattle.lower_expr.specs.Steps.{word_of}
 use Rattle.short_values.proofs.NarrowTypes.{bool_unsigned}
 use Rattle.source_meaning.specs.State.{State}
@@ -82,14 +83,14 @@ bool_nonzero to from w one few = by (w == 0) refl (number_of from.bits from.sign
     by false some (pos (suc n)) number = ap not some ∙ sym (ap (λ (m : ℕ). nonzero m) (is ∙ ap truth_number number))
     by false some (negsuc n) number = ap not some ∙ sym (ap (λ (m : ℕ). nonzero m) (is ∙ ap truth_number number))
 
--- A truth value that goes to so many bits: a relation, `!`, two values joined of which the right one ignores the context,
+-- A truth value that goes to so many bits: a relation, `!`, two values that are joined,
 -- one of these behind `+` or converted to other types than `bool` that have so many, or a value that is converted to `bool`.
 unfoldable pub IsTruth : ℕ → ℕ → TExpr → Type 0
 IsTruth set bits (T.Brackets' ty p inner) = (ty ≡ type_of inner) × IsTruth set bits inner
 IsTruth set bits (T.Convert' ty p operand) = (ty.shape ≡ Some set) × (((bits ≤ ty.elem.bits) × ((ty.elem.bits == 1) ≡ false) × IsTruth set bits operand) ⊎ ((ty.elem.bits ≡ 1) × IsCondition set operand))
 IsTruth set bits (T.Unary' ty op p operand) = IsWide set ty × (((is_plus op ≡ true) × IsTruth set bits operand) ⊎ ((negates op ≡ true) × IsCondition set operand))
-IsTruth set bits (T.LogicalOr' ty p left q right) = IsPure set (T.LogicalOr' ty p left q right) × (ignores_context right ≡ true)
-IsTruth set bits (T.LogicalAnd' ty p left q right) = IsPure set (T.LogicalAnd' ty p left q right) × (ignores_context right ≡ true)
+IsTruth set bits (T.LogicalOr' ty p left q right) = IsPure set (T.LogicalOr' ty p left q right) × (joins left right ≡ true)
+IsTruth set bits (T.LogicalAnd' ty p left q right) = IsPure set (T.LogicalAnd' ty p left q right) × (joins left right ≡ true)
 IsTruth set bits (T.Binary' ty place op p left q right) = (relates op ≡ true) × IsPure set (T.Binary' ty place op p left q right)
 IsTruth set bits _ = ⊥
 
@@ -98,8 +99,8 @@ unfoldable pub IsPlain : ℕ → TExpr → Type 0
 IsPlain bits (T.Brackets' ty p inner) = IsPlain bits inner
 IsPlain bits (T.Convert' ty p operand) = ((ty.elem.bits == 1) ≡ false) × (nat_le bits ty.elem.bits ≡ true → IsPlain bits operand)
 IsPlain bits (T.Unary' ty op p operand) = (negates op ≡ false) × (is_plus op ≡ true → IsPlain bits operand)
-IsPlain bits (T.LogicalOr' ty p left q right) = ignores_context right ≡ false
-IsPlain bits (T.LogicalAnd' ty p left q right) = ignores_context right ≡ false
+IsPlain bits (T.LogicalOr' ty p left q right) = joins left right ≡ false
+IsPlain bits (T.LogicalAnd' ty p left q right) = joins left right ≡ false
 IsPlain bits (T.Binary' ty place op p left q right) = relates op ≡ false
 IsPlain bits _ = Unit {0}
 
@@ -131,8 +132,8 @@ truth_or_plain set bits (T.Unary' ty op p operand) is = by op is.1 (truth_or_pla
     by U.Minus (inl h) any = inr (refl, λ plus. cc)
     by U.Complement (inl h) any = inr (refl, λ plus. cc)
     by U.Not (inl h) any = let wrong = h.0 in cc
-truth_or_plain set bits (T.LogicalOr' ty p left q right) is = by_case (ignores_context right) (λ free. inl (is, free)) (λ bound. inr bound)
-truth_or_plain set bits (T.LogicalAnd' ty p left q right) is = by_case (ignores_context right) (λ free. inl (is, free)) (λ bound. inr bound)
+truth_or_plain set bits (T.LogicalOr' ty p left q right) is = by_case (joins left right) (λ join. inl (is, join)) (λ apart. inr apart)
+truth_or_plain set bits (T.LogicalAnd' ty p left q right) is = by_case (joins left right) (λ join. inl (is, join)) (λ apart. inr apart)
 truth_or_plain set bits (T.Binary' ty place op p left q right) is = by is.1
   where
     by : IsOperation op right ⊎ IsRelation set op left right → IsTruth set bits (T.Binary' ty place op p left q right) ⊎ IsPlain bits (T.Binary' ty place op p left q right)

@@ -7,7 +7,7 @@
 -- of `&&` and `||` does where the left one does not decide. They are
 -- assigned to such variables and folded into numbers and onto scalar variables, as scans of them and of ones with
 -- operators on these are, and they are the conditions of `where`. Folds and scans are of the active positions.
--- They are sent to such variables by such indexes, also with an operator that folds.
+-- They are sent to such variables, of any shape, by such indexes, also with an operator that folds.
 -- Scalars that change variables, by assignments, steps and `getchar`, are assigned to such variables too, also with
 -- operators.
 -- Blocks may have parallel variables without initialisers, which no expression names.
@@ -156,7 +156,8 @@ IsRelation set op left right = (relates op ≡ true) × (HasKnownKind left ⊎ I
 
 -- A parallel expression that is not promoted; of an operator's two operands one may be. Operators work at 32 bits, to
 -- which narrower values are converted. Truth values are relations, `!`, conversions to `bool`, and two values that are
--- joined by `&&` or `||`, of which the right one is computed where the left one does not decide.
+-- joined by `&&` or `||`, of which the right one is computed where the left one does not decide, and may be a promoted
+-- scalar that is no constant.
 -- A get goes round the ends of the grid, or its indexes are such expressions, which fail where they do not lie within the
 -- extents at an active position. `?:` chooses one of two values at each position, which may be promoted, and each is
 -- computed where it is chosen.
@@ -165,8 +166,8 @@ unfoldable mutual
   IsPure set (T.Variable ty (V.File k)) = ty.shape ≡ Some set
   IsPure set (T.Brackets' ty p inner) = (ty ≡ type_of inner) × IsPure set inner
   IsPure set (T.Unary' ty op p operand) = IsWide set ty × (((negates op ≡ false) × IsWide set (type_of operand)) ⊎ ((negates op ≡ true) × HasKnownKind operand)) × IsPure set operand
-  IsPure set (T.LogicalOr' ty p left q right) = IsWide set ty × (IsPure set left × HasKnownKind left) × (IsPure set right × HasKnownKind right)
-  IsPure set (T.LogicalAnd' ty p left q right) = IsWide set ty × (IsPure set left × HasKnownKind left) × (IsPure set right × HasKnownKind right)
+  IsPure set (T.LogicalOr' ty p left q right) = IsWide set ty × (IsPure set left × HasKnownKind left) × ((IsPure set right × HasKnownKind right) ⊎ (IsPromoted set right × (word_of right ≡ None)))
+  IsPure set (T.LogicalAnd' ty p left q right) = IsWide set ty × (IsPure set left × HasKnownKind left) × ((IsPure set right × HasKnownKind right) ⊎ (IsPromoted set right × (word_of right ≡ None)))
   IsPure set (T.Binary' ty place op p left q right) =
       IsWide set ty × (IsOperation op right ⊎ IsRelation set op left right) × ((IsPure set left × (IsPure set right ⊎ IsPromoted set right)) ⊎ (IsPromoted set left × IsPure set right)) × IsWide set (type_of left) × IsWide set (type_of right)
   IsPure set (T.Choice' ty p test q first r second) = IsWide set ty × (IsPure set test × HasKnownKind test) × (IsPure set first ⊎ IsPromoted set first) × (IsPure set second ⊎ IsPromoted set second) × IsWide set (type_of first) × IsWide set (type_of second)
@@ -284,9 +285,9 @@ unfoldable pub IsFoldOnto : TExpr → Type 0
 IsFoldOnto (T.Assign' ty place op p target q value) = (ty ≡ type_of target) × IsScalarTarget target × ((reduction : ReduceOp) × ((op ≡ assignment_of reduction) × ((set : ℕ) × IsFolded set value)))
 IsFoldOnto _ = ⊥
 
--- what is sent to: a variable of the file under a left index, of the current shape
+-- what is sent to: a variable of the file, of any shape, under a left index of the current one
 unfoldable pub IsSendTarget : ℕ → TExpr → Type 0
-IsSendTarget set (T.LeftIndex' ty place p indexes (V.File k) of) = (ty.shape ≡ Some set) × (of ≡ set) × ArePure set indexes
+IsSendTarget set (T.LeftIndex' ty place p indexes (V.File k) of) = (ty.shape ≡ Some set) × ArePure set indexes
 IsSendTarget set (T.Brackets' ty p inner) = (ty ≡ type_of inner) × IsSendTarget set inner
 IsSendTarget set _ = ⊥
 
