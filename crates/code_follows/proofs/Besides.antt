@@ -18,7 +18,7 @@ use Rattle.paris_code.specs.Memory.{BitMemory}
 use Rattle.source_meaning.specs.Expressions.{evaluated}
 use Rattle.source_meaning.specs.State.{State, zeroed}
 use Rattle.source_meaning.specs.Values.{Active, Scope, Value}
-use Rattle.code_follows.specs.Fragment.{ScalarsAmong}
+use Rattle.code_follows.specs.Fragment.{NamesAmong}
 use Rattle.code_follows.proofs.Following.{Follows, HasRegisters, Ran, Sim}
 use Rattle.code_follows.proofs.Growing.{Extended}
 use Rattle.code_follows.proofs.Settings.{OpenAmong, At, Begun, Held, IsOpenIn, Setting, Within, layout}
@@ -29,11 +29,11 @@ module _ (g : Setting) (has : HasRegisters g) (scope : Scope) (active : Active) 
   -- leaves its number in the register that is to have it.
   pub record ExpressionsFollow : Type 1 where
     pub effects : (alive : Variable → Type 0) → ((k : ℕ) → alive (V.File k)) → (n : ℕ) → ((d : Draft) → IsReadyButForFields g.typed g.instance (layout g) n d)
-        → (e : TExpr) → g.may.beside.effects e → ScalarsAmong alive e → HasCode g.typed g.instance n e
+        → (e : TExpr) → g.may.beside.effects e → NamesAmong alive e → HasCode g.typed g.instance n e
         → (d : Draft) (s : CodeState) (st : State) → Begun g alive d → At g s (length d.code) → Sim g alive st s
         → Follows g (λ v u out f. Ran g alive d s u f) s (evaluated scope e active st) (effect_of g.typed (layout g) e d)
     pub folds : (alive : Variable → Type 0) → ((k : ℕ) → alive (V.File k)) → (n : ℕ) → ((d : Draft) → IsReadyButForFields g.typed g.instance (layout g) n d)
-        → (e : TExpr) → g.may.beside.folds e → ScalarsAmong alive e → HasCode g.typed g.instance n e
+        → (e : TExpr) → g.may.beside.folds e → NamesAmong alive e → HasCode g.typed g.instance n e
         → (d : Draft) (s : CodeState) (st : State) (R : Value → State → Out → Draft → Type 0) (r : ℕ) → Begun g alive d → At g s (length d.code) → Sim g alive st s
         → Dest g has alive (type_of e).elem d s R r → Follows g R s (evaluated scope e active st) (computed_to g.typed (layout g) (O.Scalar r) e d)
 

@@ -54,7 +54,7 @@ use Rattle.source_meaning.specs.State as Source
 use Rattle.source_meaning.specs.State.{Outcome, State, then_do}
 use Rattle.source_meaning.specs.Values.{Active, Scalar, Scope, Value, at, convert_to, nonzero, number, unary_of}
 use Rattle.source_meaning.proofs.ConstantLaws.{Boxed, value_means}
-use Rattle.code_follows.specs.Fragment.{AreIn, IsGiven, IsIn, IsOperand, IsWord, ScalarsAmong, naming}
+use Rattle.code_follows.specs.Fragment.{AreIn, IsGiven, IsIn, IsOperand, IsWord, NamesAmong, naming}
 use Rattle.code_follows.proofs.Arguments.{AreDone}
 use Rattle.code_follows.proofs.Branching.{IsMadeWord, made_word}
 use Rattle.code_follows.proofs.Choosing.{Arm_does, IsMadeTo, Lands, arm_follows, arm_made, choice_is, choose_is, constant_arm, fresh_lands, scalar_choice_follows}
@@ -426,7 +426,7 @@ module _ (g : Setting) (has : HasRegisters g) (alive : Variable → Type 0) (n :
       by (Makes v e) grows = let regs = grows.1.regs in (omega arith, omega (arith, regs))
       by Fails grows = tt
 
-  fold_value : (quiet : Bool) (bits : ℕ) (ty : ValueType) (op : ReduceOp) (p : Boxed) (operand : TExpr) → ty.shape ≡ None → g.may.beside.folds (T.Reduce' ty op p operand) → ScalarsAmong alive (T.Reduce' ty op p operand) → HasCode g.typed g.instance n (T.Reduce' ty op p operand) → Agrees quiet bits (T.Reduce' ty op p operand)
+  fold_value : (quiet : Bool) (bits : ℕ) (ty : ValueType) (op : ReduceOp) (p : Boxed) (operand : TExpr) → ty.shape ≡ None → g.may.beside.folds (T.Reduce' ty op p operand) → NamesAmong alive (T.Reduce' ty op p operand) → HasCode g.typed g.instance n (T.Reduce' ty op p operand) → Agrees quiet bits (T.Reduce' ty op p operand)
   fold_value quiet bits ty op p operand scalar folds among c d s st free here sim =
       subst (λ (made : Made Out). Follows g (Value_of g has alive ty.elem quiet d s) s (evaluated scope (T.Reduce' ty op p operand) active st) made) (sym (fold_code ty op p operand bits scalar d))
       ((calls_follow.beside has).folds alive files n ready (T.Reduce' ty op p operand) folds among c (with_reg d) s st (Value_of g has alive ty.elem quiet d s) d.regs (begun_later g alive d (with_reg d) 0 (and_register d) free) here sim (fresh_dest g has alive ty.elem quiet d s free))

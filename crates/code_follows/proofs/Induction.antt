@@ -27,7 +27,7 @@ use Rattle.source_meaning.specs.Statements.{all_executed, declared, executed}
 use Rattle.source_meaning.specs.Values.{Active, Scope}
 use Rattle.source_meaning.proofs.ConstantLaws.{Boxed}
 use Rattle.code_follows.proofs.Declaring.{AreBefore, among_before, declared_later}
-use Rattle.code_follows.specs.Fragment.{AreInStatements, AreInitials, IsEffect, IsIn, IsInElse, IsInStatement, IsBlockLocal, OrAmong, ScalarsAmong, naming}
+use Rattle.code_follows.specs.Fragment.{AreInStatements, AreInitials, IsEffect, IsIn, IsInElse, IsInStatement, IsBlockLocal, OrAmong, NamesAmong, naming}
 use Rattle.code_follows.proofs.Choices.{Agrees, if_alone, if_else}
 use Rattle.code_follows.proofs.Executing.{Exits, Left}
 use Rattle.code_follows.proofs.ForLoops.{do_agrees, for_agrees, while_agrees}
@@ -181,7 +181,7 @@ module _ {Known : Setting → Scope → Active → Type 1} (scope : Scope) (besi
   everywhere_agrees g active r contexts alive files n shape p body h follows f d s0 st framed stands known free at sim c =
       (besides g active r.known r.has).widenings alive files n (r.ready n) shape p body h c f contexts (part_follows g active r contexts alive files n body f framed stands (everywhere_body g r.numbers n shape p body c) follows) d s0 st known free at sim
 
-  where_agrees : (g : Setting) (active : Active) (r : Around Known g scope active) (contexts : List Field) (alive : Variable → Type 0) (files : (k : ℕ) → alive (V.File k)) (n shape : ℕ) (test : TExpr) (p : Boxed) (first : TStmt) (second : Held-TStmt-If-2) → g.may.beside.conditions shape test → ScalarsAmong alive test
+  where_agrees : (g : Setting) (active : Active) (r : Around Known g scope active) (contexts : List Field) (alive : Variable → Type 0) (files : (k : ℕ) → alive (V.File k)) (n shape : ℕ) (test : TExpr) (p : Boxed) (first : TStmt) (second : Held-TStmt-If-2) → g.may.beside.conditions shape test → NamesAmong alive test
       → FollowsWherever g active r alive files n first → ElseFollowsWherever g active r alive files (behind n first) second → Agrees g r.has alive files r.numbers r.ready scope active (calls_here g active r) contexts n (S.Where' shape test p first second)
   where_agrees g active r contexts alive files n shape test p first second h among follows others f d s0 st framed stands known free at sim c =
       (besides g active r.known r.has).wheres alive files n (r.ready n) shape test p first second h among c f contexts (part_follows g active r contexts alive files n first f framed stands (where_first g r.numbers n shape test p first second c) follows)

@@ -16,7 +16,7 @@ use Rattle.source_meaning.proofs.ConstantLaws.{Boxed}
 use Rattle.source_meaning.specs.State.{Outcome, State}
 use Rattle.source_meaning.specs.Statements.{Leaving, executed}
 use Rattle.source_meaning.specs.Values.{Active, Scope}
-use Rattle.code_follows.specs.Fragment.{ScalarsAmong}
+use Rattle.code_follows.specs.Fragment.{NamesAmong}
 use Rattle.code_follows.proofs.Besides.{ExpressionsFollow, LocalsClear, under_held}
 use Rattle.code_follows.proofs.Executing.{Exits, Left}
 use Rattle.code_follows.proofs.Following.{Follows, HasRegisters, Sim}
@@ -55,7 +55,7 @@ pub record BesideFollows (Known : Setting → Scope → Active → Type 1) (g : 
   pub expressions : ExpressionsFollow g has scope active
   pub locals : LocalsClear g
   pub wheres : (alive : Variable → Type 0) → ((k : ℕ) → alive (V.File k)) → (n : ℕ) → ((d : Draft) → IsReadyButForFields g.typed g.instance (layout g) n d)
-      → (shape : ℕ) (test : TExpr) (p : Boxed) (first : TStmt) (second : Held-TStmt-If-2) → g.may.beside.conditions shape test → ScalarsAmong alive test → HasStatementCode g.typed g.instance n (S.Where' shape test p first second)
+      → (shape : ℕ) (test : TExpr) (p : Boxed) (first : TStmt) (second : Held-TStmt-If-2) → g.may.beside.conditions shape test → NamesAmong alive test → HasStatementCode g.typed g.instance n (S.Where' shape test p first second)
       → (f : Exits) (contexts : List Field) → StatementPart Known g scope alive first n f contexts → ((q : Boxed) (s : TStmt) → second ≡ Some' q s → StatementPart Known g scope alive s (behind n first) f contexts)
       → ComesOn g scope alive active (S.Where' shape test p first second) n f contexts
   pub widenings : (alive : Variable → Type 0) → ((k : ℕ) → alive (V.File k)) → (n : ℕ) → ((d : Draft) → IsReadyButForFields g.typed g.instance (layout g) n d)

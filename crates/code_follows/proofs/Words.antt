@@ -14,7 +14,7 @@ use Rattle.lower_expr.specs.Steps.{is_kept}
 use Rattle.source_meaning.specs.Constants.{then_value, value_of}
 use Rattle.source_meaning.specs.Reductions.{int_type}
 use Rattle.source_meaning.specs.Values.{nonzero, cast_through, cast_type}
-use Rattle.code_follows.specs.Fragment.{AllAmong, AreIn, IsIn, IsScalarType, IsVariable, May, ScalarsAmong, naming}
+use Rattle.code_follows.specs.Fragment.{AllAmong, AreIn, IsIn, IsScalarType, IsVariable, May, NamesAmong, naming}
 use Rattle.cstar_tree.specs.declared.typed.Variable.{Variable}
 use mathlib.Core.Former.{Count}
 use Rattle.code_follows.proofs.Following.{held}
@@ -160,30 +160,35 @@ target_widened may more fits (T.Variable ty x) h = (h.0, fits x h.1)
 target_widened may more fits (T.Brackets' ty p inner) h = (h.0, target_widened may more fits inner h.1)
 target_widened may more fits _ h = absurd h
 
+bit_widened : (names more : Variable → Type 0) → ((x : Variable) → names x → more x) → (bit : Option Variable) → IfSome bit names → IfSome bit more
+bit_widened names more fits None h = tt
+bit_widened names more fits (Some x) h = fits x h
+
 mutual
-  unfolding ScalarsAmong
+  unfolding NamesAmong
 
-  scalars_widened : (names more : Variable → Type 0) → ((x : Variable) → names x → more x) → (e : TExpr) → ScalarsAmong names e → ScalarsAmong more e
-  scalars_widened names more fits (T.Variable ty x) h = λ scalar. fits x (h scalar)
-  scalars_widened names more fits (T.Brackets' ty p inner) h = scalars_widened names more fits inner h
-  scalars_widened names more fits (T.Convert' ty p operand) h = scalars_widened names more fits operand h
-  scalars_widened names more fits (T.Promote' ty p operand) h = scalars_widened names more fits operand h
-  scalars_widened names more fits (T.Casts' ty elems p operand) h = scalars_widened names more fits operand h
-  scalars_widened names more fits (T.Unary' ty op p operand) h = scalars_widened names more fits operand h
-  scalars_widened names more fits (T.Binary' ty place op p left q right) h = (scalars_widened names more fits left h.0, scalars_widened names more fits right h.1)
-  scalars_widened names more fits (T.Choice' ty p test q first r second) h = (scalars_widened names more fits test h.0, scalars_widened names more fits first h.1, scalars_widened names more fits second h.2)
-  scalars_widened names more fits (T.LogicalOr' ty p left q right) h = (scalars_widened names more fits left h.0, scalars_widened names more fits right h.1)
-  scalars_widened names more fits (T.LogicalAnd' ty p left q right) h = (scalars_widened names more fits left h.0, scalars_widened names more fits right h.1)
-  scalars_widened names more fits (T.Assign' ty place op p target q value) h = (scalars_widened names more fits target h.0, scalars_widened names more fits value h.1)
-  scalars_widened names more fits (T.Step' ty op order p target) h = scalars_widened names more fits target h
-  scalars_widened names more fits (T.Reduce' ty op p operand) h = scalars_widened names more fits operand h
-  scalars_widened names more fits (T.LeftIndex' ty place p indexes x of) h = all_scalars_widened names more fits indexes h
-  scalars_widened names more fits (T.Scan' ty p source axis combiner direction mode bit within) h = scalars_widened names more fits source h
-  scalars_widened names more fits _ h = tt
+  among_widened : (names more : Variable → Type 0) → ((x : Variable) → names x → more x) → (e : TExpr) → NamesAmong names e → NamesAmong more e
+  among_widened names more fits (T.Variable ty x) h = fits x h
+  among_widened names more fits (T.Brackets' ty p inner) h = among_widened names more fits inner h
+  among_widened names more fits (T.Convert' ty p operand) h = among_widened names more fits operand h
+  among_widened names more fits (T.Promote' ty p operand) h = among_widened names more fits operand h
+  among_widened names more fits (T.Casts' ty elems p operand) h = among_widened names more fits operand h
+  among_widened names more fits (T.Unary' ty op p operand) h = among_widened names more fits operand h
+  among_widened names more fits (T.Binary' ty place op p left q right) h = (among_widened names more fits left h.0, among_widened names more fits right h.1)
+  among_widened names more fits (T.Choice' ty p test q first r second) h = (among_widened names more fits test h.0, among_widened names more fits first h.1, among_widened names more fits second h.2)
+  among_widened names more fits (T.LogicalOr' ty p left q right) h = (among_widened names more fits left h.0, among_widened names more fits right h.1)
+  among_widened names more fits (T.LogicalAnd' ty p left q right) h = (among_widened names more fits left h.0, among_widened names more fits right h.1)
+  among_widened names more fits (T.Assign' ty place op p target q value) h = (among_widened names more fits target h.0, among_widened names more fits value h.1)
+  among_widened names more fits (T.Step' ty op order p target) h = among_widened names more fits target h
+  among_widened names more fits (T.Reduce' ty op p operand) h = among_widened names more fits operand h
+  among_widened names more fits (T.LeftIndex' ty place p indexes x of) h = (fits x h.0, all_among_widened names more fits indexes h.1)
+  among_widened names more fits (T.Scan' ty p source axis combiner direction mode bit within) h = (bit_widened names more fits bit h.0, among_widened names more fits source h.1)
+  among_widened names more fits (T.Enumerate ty axis direction within mode bit) h = bit_widened names more fits bit h
+  among_widened names more fits _ h = tt
 
-  all_scalars_widened : {n : Count} (names more : Variable → Type 0) → ((x : Variable) → names x → more x) → (row : Row_of-TExpr n) → AllAmong names row → AllAmong more row
-  all_scalars_widened names more fits end_of-TExpr h = tt
-  all_scalars_widened names more fits (more_of-TExpr e rest) h = (scalars_widened names more fits e h.0, all_scalars_widened names more fits rest h.1)
+  all_among_widened : {n : Count} (names more : Variable → Type 0) → ((x : Variable) → names x → more x) → (row : Row_of-TExpr n) → AllAmong names row → AllAmong more row
+  all_among_widened names more fits end_of-TExpr h = tt
+  all_among_widened names more fits (more_of-TExpr e rest) h = (among_widened names more fits e h.0, all_among_widened names more fits rest h.1)
 
 mutual
   unfolding IsIn AreIn
@@ -206,7 +211,7 @@ mutual
   widened may more fits (T.Assign' ty place op p target q value) h = (h.0, h.1, target_widened may more fits target h.2, widened may more fits value h.3, h.4)
   widened may more fits (T.Step' ty op order p target) h = (h.0, h.1, target_widened may more fits target h.2)
   widened may more fits (T.Call' ty index p arguments) h = (h.0, h.1, all_widened may more fits arguments h.2)
-  widened may more fits (T.Reduce' ty op p operand) h = (h.0, h.1, scalars_widened may.names more fits (T.Reduce' ty op p operand) h.2)
+  widened may more fits (T.Reduce' ty op p operand) h = (h.0, h.1, among_widened may.names more fits (T.Reduce' ty op p operand) h.2)
   widened may more fits _ h = absurd h
 
   all_widened : {n : Count} (may : May) (more : Variable → Type 0) → ((x : Variable) → may.names x → more x) → (row : Row_of-TExpr n) → AreIn may row → AreIn (naming may more) row

@@ -90,29 +90,30 @@ IsVariable may _ = ⊥
 abbrev pub elems_of : {n : _} → Row_of-TExpr n → List Elem
 elems_of arguments = map (λ (e : TExpr). (type_of e).elem) (items-the_row-TExpr _ arguments)
 
--- the scalar variables that a parallel expression names are among these
+-- the variables that a parallel expression names are among these
 unfoldable mutual
-  pub ScalarsAmong : (Variable → Type 0) → TExpr → Type 0
-  ScalarsAmong names (T.Variable ty x) = IsScalarType ty → names x
-  ScalarsAmong names (T.Brackets' ty p inner) = ScalarsAmong names inner
-  ScalarsAmong names (T.Convert' ty p operand) = ScalarsAmong names operand
-  ScalarsAmong names (T.Promote' ty p operand) = ScalarsAmong names operand
-  ScalarsAmong names (T.Casts' ty elems p operand) = ScalarsAmong names operand
-  ScalarsAmong names (T.Unary' ty op p operand) = ScalarsAmong names operand
-  ScalarsAmong names (T.Binary' ty place op p left q right) = ScalarsAmong names left × ScalarsAmong names right
-  ScalarsAmong names (T.Choice' ty p test q first r second) = ScalarsAmong names test × ScalarsAmong names first × ScalarsAmong names second
-  ScalarsAmong names (T.LogicalOr' ty p left q right) = ScalarsAmong names left × ScalarsAmong names right
-  ScalarsAmong names (T.LogicalAnd' ty p left q right) = ScalarsAmong names left × ScalarsAmong names right
-  ScalarsAmong names (T.Assign' ty place op p target q value) = ScalarsAmong names target × ScalarsAmong names value
-  ScalarsAmong names (T.Step' ty op order p target) = ScalarsAmong names target
-  ScalarsAmong names (T.Reduce' ty op p operand) = ScalarsAmong names operand
-  ScalarsAmong names (T.LeftIndex' ty place p indexes x of) = AllAmong names indexes
-  ScalarsAmong names (T.Scan' ty p source axis combiner direction mode bit within) = ScalarsAmong names source
-  ScalarsAmong names _ = Unit {0}
+  pub NamesAmong : (Variable → Type 0) → TExpr → Type 0
+  NamesAmong names (T.Variable ty x) = names x
+  NamesAmong names (T.Brackets' ty p inner) = NamesAmong names inner
+  NamesAmong names (T.Convert' ty p operand) = NamesAmong names operand
+  NamesAmong names (T.Promote' ty p operand) = NamesAmong names operand
+  NamesAmong names (T.Casts' ty elems p operand) = NamesAmong names operand
+  NamesAmong names (T.Unary' ty op p operand) = NamesAmong names operand
+  NamesAmong names (T.Binary' ty place op p left q right) = NamesAmong names left × NamesAmong names right
+  NamesAmong names (T.Choice' ty p test q first r second) = NamesAmong names test × NamesAmong names first × NamesAmong names second
+  NamesAmong names (T.LogicalOr' ty p left q right) = NamesAmong names left × NamesAmong names right
+  NamesAmong names (T.LogicalAnd' ty p left q right) = NamesAmong names left × NamesAmong names right
+  NamesAmong names (T.Assign' ty place op p target q value) = NamesAmong names target × NamesAmong names value
+  NamesAmong names (T.Step' ty op order p target) = NamesAmong names target
+  NamesAmong names (T.Reduce' ty op p operand) = NamesAmong names operand
+  NamesAmong names (T.LeftIndex' ty place p indexes x of) = names x × AllAmong names indexes
+  NamesAmong names (T.Scan' ty p source axis combiner direction mode bit within) = IfSome bit names × NamesAmong names source
+  NamesAmong names (T.Enumerate ty axis direction within mode bit) = IfSome bit names
+  NamesAmong names _ = Unit {0}
 
   pub AllAmong : {n : _} → (Variable → Type 0) → Row_of-TExpr n → Type 0
   AllAmong names end_of-TExpr = Unit {0}
-  AllAmong names (more_of-TExpr e rest) = ScalarsAmong names e × AllAmong names rest
+  AllAmong names (more_of-TExpr e rest) = NamesAmong names e × AllAmong names rest
 
 -- An expression whose value is used: of numbers, variables, `getchar`, operators, conversions and casts to any
 -- scalar types, assignments and steps of scalar variables, calls, and folds of parallel values.
@@ -135,16 +136,16 @@ unfoldable mutual
   IsIn may (T.Assign' ty place op p target q value) = IsScalarType ty × (ty ≡ type_of target) × IsVariable may target × IsIn may value × IsGiven op (type_of target) (type_of value)
   IsIn may (T.Step' ty op order p target) = IsScalarType ty × (ty ≡ type_of target) × IsVariable may target
   IsIn may (T.Call' ty index p arguments) = IsScalarType ty × may.calls (Some ty.elem) index (elems_of arguments) × AreIn may arguments
-  IsIn may (T.Reduce' ty op p operand) = IsWord ty × may.beside.folds (T.Reduce' ty op p operand) × ScalarsAmong may.names (T.Reduce' ty op p operand)
+  IsIn may (T.Reduce' ty op p operand) = IsWord ty × may.beside.folds (T.Reduce' ty op p operand) × NamesAmong may.names (T.Reduce' ty op p operand)
   IsIn may _ = ⊥
 
   pub AreIn : {n : _} → May → Row_of-TExpr n → Type 0
   AreIn may end_of-TExpr = Unit {0}
   AreIn may (more_of-TExpr e rest) = IsIn may e × AreIn may rest
 
--- a parallel expression that the program may have, of scalar variables that may be named
+-- a parallel expression that the program may have, of variables that may be named
 abbrev pub IsBeside : May → TExpr → Type 0
-IsBeside may e = may.beside.effects e × ScalarsAmong may.names e
+IsBeside may e = may.beside.effects e × NamesAmong may.names e
 
 -- what is evaluated without its value being used: `printf` of numbers of 32 bits too, a call of a function without a
 -- result, and a parallel assignment or step
@@ -219,7 +220,7 @@ unfoldable mutual
   IsInStatement may n (S.With' shape p body) = IsInStatement may n body
   IsInStatement may n (S.Everywhere' shape p body) = may.beside.widens shape × IsInStatement may n body
   IsInStatement may n (S.Where' shape test p first second) =
-      may.beside.conditions shape test × ScalarsAmong may.names test
+      may.beside.conditions shape test × NamesAmong may.names test
       × IsInStatement may n first × IsInElse may (behind n first) second
 
   pub AreInStatements : {k : _} → May → ℕ → Row_of-TStmt k → Type 0

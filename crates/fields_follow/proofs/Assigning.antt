@@ -79,7 +79,7 @@ use Rattle.fields_follow.proofs.Values.{and_entry, next_field, one_more, taken, 
 use Rattle.fields_follow.proofs.Writing.{TakesBehind, entry_and_below, entry_ends, few, file_sim, instr_takes, own_stays}
 use Rattle.fields_follow.proofs.Effects.{IsEntryFor, in_place_last, put_last}
 use Rattle.fields_follow.proofs.Expressions.{operand_at}
-use Rattle.code_follows.specs.Fragment.{ScalarsAmong}
+use Rattle.code_follows.specs.Fragment.{NamesAmong}
 use Rattle.fields_follow.proofs.Starts.{starts_entry, Starts, starts_later}
 use Rattle.fields_follow.proofs.Variables.{file_carries}
 use Rattle.paris_code.specs.Spans.{IsNamedAt}
@@ -432,7 +432,7 @@ module _ (g : Setting) (has : HasRegisters g) (alive : Variable → Type 0) (n :
 
   -- an update leaves what it leaves in the source
   pub updates_leave : (e : TExpr) → IsUpdate e → HasItsCode g.typed g.instance alive n e → (d : Draft) (s : CodeState) (st : State) → Starts g alive s (length d.code) d.regs (length d.fields) → Sim g alive st s → UpdateLeaves g alive fields e d s st
-  unfolding IsUpdate NamesVariables IsShaped IsLowerable ScalarsAmong
+  unfolding IsUpdate NamesVariables IsShaped IsLowerable NamesAmong
   updates_leave (T.Assign' ty place op p target q value) is c =
       assigns ty place op p q target value set_of is.1.0 is.1.1 is.1.2 is.1.3 c.code.names.0 (record { code = record { shaped = c.code.shaped.3; lowerable = c.code.lowerable.3; names = c.code.names.1 }; among = c.among.1 })
     where

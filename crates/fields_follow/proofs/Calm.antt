@@ -22,7 +22,7 @@ use Rattle.source_meaning.specs.Narrowing.{Operand, and_then, choose, or_then}
 use Rattle.source_meaning.specs.State.{Ends, Fault, Gives, Outcome, State, then_do, with_scalar}
 use Rattle.source_meaning.specs.Targets.{read, variable_target, OfScalar, Target, assign_to, assigned, new_value, step_op, step_value, stepped, stored}
 use Rattle.source_meaning.specs.Values.{Active, Scalar, Scope, Value, at, cast_through, convert_to, each, failing, nonzero, number, unary_of, unless, positions}
-use Rattle.code_follows.specs.Fragment.{IsIn, ScalarsAmong, naming, IsVariable}
+use Rattle.code_follows.specs.Fragment.{IsIn, NamesAmong, naming, IsVariable}
 use Rattle.code_follows.proofs.Following.{IsScalar}
 use Rattle.code_follows.proofs.Operators.{machine_below, machine_same}
 use Rattle.code_follows.proofs.Settings.{Setting}
@@ -67,19 +67,19 @@ calm_alone (T.Choice' ty p test q first r second) h = (h.0, calm_alone test h.1,
 calm_alone _ h = absurd h
 
 -- one that calls nothing is one of the variables that it names
-target_in : (names : Variable → Type 0) (e : TExpr) → IsVariable alone e → ScalarsAmong names e → IsVariable (naming alone names) e
-unfolding IsVariable ScalarsAmong
-target_in names (T.Variable ty x) h among = (h.0, among h.0)
+target_in : (names : Variable → Type 0) (e : TExpr) → IsVariable alone e → NamesAmong names e → IsVariable (naming alone names) e
+unfolding IsVariable NamesAmong
+target_in names (T.Variable ty x) h among = (h.0, among)
 target_in names (T.Brackets' ty p inner) h among = (h.0, target_in names inner h.1 among)
 target_in names _ h among = absurd h
 
-pub alone_in : (names : Variable → Type 0) (e : TExpr) → IsIn alone e → ScalarsAmong names e → IsIn (naming alone names) e
-unfolding ScalarsAmong IsIn
+pub alone_in : (names : Variable → Type 0) (e : TExpr) → IsIn alone e → NamesAmong names e → IsIn (naming alone names) e
+unfolding NamesAmong IsIn
 alone_in names (T.Number ty value) h among = h
 alone_in names (T.PositionsOf ty shape value) h among = h
 alone_in names (T.RankOf ty shape value) h among = h
 alone_in names (T.DimOf ty shape axis value) h among = h
-alone_in names (T.Variable ty x) h among = (h.0, among h.0)
+alone_in names (T.Variable ty x) h among = (h.0, among)
 alone_in names (T.GetChar ty) h among = h
 alone_in names (T.Brackets' ty p inner) h among = (h.0, alone_in names inner h.1 among)
 alone_in names (T.Convert' ty p operand) h among = (h.0, alone_in names operand h.1 among)
@@ -251,13 +251,13 @@ module _ (g : Setting) (alive : Variable → Type 0) (n : ℕ) (scope : Scope) (
   truth_calmly : (ty : ValueType) (few : ℕ) (o : Outcome Value) → ty.shape ≡ None → ty.elem.bits ≡ 32 → IsCalmly few st o → IsCalmly ty.elem.bits st (then_do o (λ w after. Gives (each ty.shape (λ p. from_bool (nonzero (at w p)))) after))
   truth_calmly ty few o scalar wide h = then_calmly few ty.elem.bits st o _ h (λ w below. each_calmly ty (λ p. from_bool (nonzero (at (Scalar w) p))) scalar (below_bits ty.elem.bits _ wide (from_bool_below (nonzero (at (Scalar w) 0)))))
 
-  pub calm_gives : (e : TExpr) → IsCalm e → NamesVariables g.typed g.instance n e → ScalarsAmong alive e → IsCalmly (type_of e).elem.bits st (evaluated scope e active st)
-  unfolding IsCalm NamesVariables ScalarsAmong evaluated mapped convert_to at read variable_target or_then and_then choose
+  pub calm_gives : (e : TExpr) → IsCalm e → NamesVariables g.typed g.instance n e → NamesAmong alive e → IsCalmly (type_of e).elem.bits st (evaluated scope e active st)
+  unfolding IsCalm NamesVariables NamesAmong evaluated mapped convert_to at read variable_target or_then and_then choose
   calm_gives (T.Number ty value) h names among = gives_calmly ty.elem.bits st value (below_bits ty.elem.bits value h.0.1 h.1)
   calm_gives (T.PositionsOf ty shape value) h names among = gives_calmly ty.elem.bits st value (below_bits ty.elem.bits value h.0.1 h.1)
   calm_gives (T.RankOf ty shape value) h names among = gives_calmly ty.elem.bits st value (below_bits ty.elem.bits value h.0.1 h.1)
   calm_gives (T.DimOf ty shape axis value) h names among = gives_calmly ty.elem.bits st value (below_bits ty.elem.bits value h.0.1 h.1)
-  calm_gives (T.Variable ty x) h names among = subst (λ (o : Option ℕ). IsCalmly ty.elem.bits st (Gives (read st (variable_target o x 0)) st)) (sym h) (gives_calmly ty.elem.bits st (st.scalar x) (small x (variable_info names.word (plain ty) names.start) (among h) (names.named, h)))
+  calm_gives (T.Variable ty x) h names among = subst (λ (o : Option ℕ). IsCalmly ty.elem.bits st (Gives (read st (variable_target o x 0)) st)) (sym h) (gives_calmly ty.elem.bits st (st.scalar x) (small x (variable_info names.word (plain ty) names.start) among (names.named, h)))
   calm_gives (T.Brackets' ty p inner) h names among = subst (λ (y : ValueType). IsCalmly y.elem.bits st (evaluated scope inner active st)) (sym h.0) (calm_gives inner h.1 names among)
   calm_gives (T.Convert' ty p operand) h names among =
       then_calmly (type_of operand).elem.bits ty.elem.bits st (evaluated scope operand active st) _ (calm_gives operand h.1 names among) (λ w few. each_calmly ty (λ p. converted ty.elem (type_of operand).elem w) h.0 (converted_below ty.elem (type_of operand).elem w))

@@ -28,7 +28,7 @@ use Rattle.source_meaning.specs.Reductions.{int_type}
 use Rattle.source_meaning.specs.State.{Ends, Fault, Gives, Outcome, State, then_do}
 use Rattle.source_meaning.specs.Targets.{read, variable_target}
 use Rattle.source_meaning.specs.Values.{Active, Scalar, Scope, Value, at, convert_to, each, nonzero, number, unary_of}
-use Rattle.code_follows.specs.Fragment.{ScalarsAmong}
+use Rattle.code_follows.specs.Fragment.{NamesAmong}
 use Rattle.code_follows.proofs.Following.{IsScalar, Sim, held}
 use Rattle.code_follows.proofs.Numbers.{zero_converted}
 use Rattle.code_follows.proofs.Settings.{Setting}
@@ -110,21 +110,21 @@ module _ (g : Setting) (alive : Variable → Type 0) (n : ℕ) where
     abbrev IsKinded : TExpr → ℕ → Type 0
     IsKinded e w = (kind : Elem) → kind_of e ≡ Some kind → HasWord kind (held (type_of e).elem w)
 
-    calmly : (e : TExpr) → IsCalm e → NamesVariables g.typed g.instance n e → ScalarsAmong alive e → IsCalmly (type_of e).elem.bits st (evaluated scope e active st)
+    calmly : (e : TExpr) → IsCalm e → NamesVariables g.typed g.instance n e → NamesAmong alive e → IsCalmly (type_of e).elem.bits st (evaluated scope e active st)
     calmly e h names among = calm_gives g alive n scope active st small e h names among
 
     -- that of an operand of 32 bits is the number
     own_word : (e : TExpr) (w : ℕ) → (type_of e).elem.bits ≡ 32 → w < 2 ^ (type_of e).elem.bits → IsKinded e w → (k : Elem) → kind_of e ≡ Some k → HasWord k w
     own_word e w wide few has k is = subst (λ (x : ℕ). HasWord k x) (held_wide (type_of e).elem w wide (within_word (type_of e).elem w few)) (has k is)
 
-    calm_has : (e : TExpr) → IsCalm e → NamesVariables g.typed g.instance n e → ScalarsAmong alive e → Holds (IsKinded e) (evaluated scope e active st)
-    unfolding IsCalm NamesVariables ScalarsAmong evaluated mapped convert_to at read variable_target or_then and_then choose kind_of Holds
+    calm_has : (e : TExpr) → IsCalm e → NamesVariables g.typed g.instance n e → NamesAmong alive e → Holds (IsKinded e) (evaluated scope e active st)
+    unfolding IsCalm NamesVariables NamesAmong evaluated mapped convert_to at read variable_target or_then and_then choose kind_of Holds
     calm_has (T.Number ty value) h names among = λ kind is. absurd (none-some kind is)
     calm_has (T.PositionsOf ty shape value) h names among = λ kind is. absurd (none-some kind is)
     calm_has (T.RankOf ty shape value) h names among = λ kind is. absurd (none-some kind is)
     calm_has (T.DimOf ty shape axis value) h names among = λ kind is. absurd (none-some kind is)
     calm_has (T.Variable ty x) h names among =
-        subst (λ (o : Option ℕ). Holds (IsKinded (T.Variable ty x)) (Gives (read st (variable_target o x 0)) st)) (sym h) (λ kind is. narrow_has ty.elem kind (st.scalar x) (small x (variable_info names.word (plain ty) names.start) (among h) (names.named, h)) is)
+        subst (λ (o : Option ℕ). Holds (IsKinded (T.Variable ty x)) (Gives (read st (variable_target o x 0)) st)) (sym h) (λ kind is. narrow_has ty.elem kind (st.scalar x) (small x (variable_info names.word (plain ty) names.start) among (names.named, h)) is)
     calm_has (T.Brackets' ty p inner) h names among =
         subst (λ (y : ValueType). Holds (λ w. (kind : Elem) → kind_of inner ≡ Some kind → HasWord kind (held y.elem w)) (evaluated scope inner active st)) (sym h.0) (calm_has inner h.1 names among)
     calm_has (T.Convert' ty p operand) h names among =

@@ -13,7 +13,7 @@ use Rattle.lower_expr.specs.Joined.{joins}
 use Rattle.lower_expr.specs.Operands.{ignores_context}
 use Rattle.lower_expr.specs.Steps.{is_kept}
 use Rattle.source_meaning.proofs.ConstantLaws.{Boxed}
-use Rattle.code_follows.specs.Fragment.{ScalarsAmong}
+use Rattle.code_follows.specs.Fragment.{NamesAmong}
 use Rattle.fields_follow.specs.Fragment.{HasKnownKind, IsPromoted, IsPure}
 use Rattle.fields_follow.proofs.Forms.{HasItsCode, promoted_kept, pure_kept}
 
@@ -61,7 +61,7 @@ pub record HaveTheirCode (t : Typed) (i : Instance) (alive : Variable → Type 0
 module _ (t : Typed) (i : Instance) (alive : Variable → Type 0) (n : ℕ) where
   -- the operands of `||` and `&&`
   pub or_codes : (set : ℕ) (ty : ValueType) (p q : Boxed) (left right : TExpr) → IsPure set left → HasItsCode t i alive n (T.LogicalOr' ty p left q right) → HaveTheirCode t i alive n left right
-  unfolding IsShaped IsLowerable NamesVariables ScalarsAmong
+  unfolding IsShaped IsLowerable NamesVariables NamesAmong
   or_codes set ty p q left right is h = record {
     left_code = record { code = record { shaped = h.code.shaped.0; lowerable = h.code.lowerable.1; names = h.code.names.0 }; among = h.among.0 };
     right_code = record { code = record { shaped = h.code.shaped.1; lowerable = h.code.lowerable.2; names = h.code.names.1 }; among = h.among.1 };
@@ -70,7 +70,7 @@ module _ (t : Typed) (i : Instance) (alive : Variable → Type 0) (n : ℕ) wher
   }
 
   pub and_codes : (set : ℕ) (ty : ValueType) (p q : Boxed) (left right : TExpr) → IsPure set left → HasItsCode t i alive n (T.LogicalAnd' ty p left q right) → HaveTheirCode t i alive n left right
-  unfolding IsShaped IsLowerable NamesVariables ScalarsAmong
+  unfolding IsShaped IsLowerable NamesVariables NamesAmong
   and_codes set ty p q left right is h = record {
     left_code = record { code = record { shaped = h.code.shaped.0; lowerable = h.code.lowerable.1; names = h.code.names.0 }; among = h.among.0 };
     right_code = record { code = record { shaped = h.code.shaped.1; lowerable = h.code.lowerable.2; names = h.code.names.1 }; among = h.among.1 };

@@ -30,7 +30,7 @@ use Rattle.code_follows.proofs.Following.{Extends, Follows, HasRegisters, at_onc
 use Rattle.code_follows.proofs.Growing.{Extended, and_instr, as_it_was, extended}
 use Rattle.code_follows.proofs.Parts.{ComesOn, Part, StatementPart, in_one_more}
 use Rattle.code_follows.proofs.Settings.{OpenAmong, Setting, Within, and_one, code_more, earlier, layout}
-use Rattle.code_follows.specs.Fragment.{ScalarsAmong}
+use Rattle.code_follows.specs.Fragment.{NamesAmong}
 use Rattle.fields_follow.specs.Fragment.{IsCondition}
 use Rattle.fields_follow.proofs.Forms.{HasItsCode}
 use Rattle.fields_follow.proofs.Instructions.{extents, shapes}
@@ -323,7 +323,7 @@ module _ (g : Setting) (has : HasRegisters g) (scope : Scope) (active : Active) 
           (led_weaker g scope active known alive (others shape v active) (λ m. KeptTests m) (λ m. Kept g scope active known alive saved_in m) d turns_back s u (λ m kept. kept.0) led_turns))))
 
   -- so it follows either way
-  pub where_follows : (shape : ℕ) (test : TExpr) (p : Boxed) (first : TStmt) (second : Held-TStmt-If-2) → IsCondition shape test → ScalarsAmong alive test → HasStatementCode g.typed g.instance n (S.Where' shape test p first second) → (f : Exits) (contexts : List Field)
+  pub where_follows : (shape : ℕ) (test : TExpr) (p : Boxed) (first : TStmt) (second : Held-TStmt-If-2) → IsCondition shape test → NamesAmong alive test → HasStatementCode g.typed g.instance n (S.Where' shape test p first second) → (f : Exits) (contexts : List Field)
       → StatementPart KnowsFields g scope alive first n f contexts → ((q : Boxed) (s : TStmt) → second ≡ Some' q s → StatementPart KnowsFields g scope alive s (behind n first) f contexts) → ComesOn g scope alive active (S.Where' shape test p first second) n f contexts
   where_follows shape test p first None' condition among_so c f contexts parts other_parts =
       let (field, code) = where_test shape test p first None' c in where_alone shape test p first condition field (record { code = code; among = among_so }) f contexts parts

@@ -23,7 +23,7 @@ use Rattle.code_lengths.proofs.Declaring.{else_variables, row_variables}
 use Rattle.lower_base.specs.Operators.{assign_op_of, relates}
 use Rattle.source_meaning.specs.Constants.{constant_of, is_constant, value_of}
 use Rattle.source_meaning.specs.Examples.{number, numbers}
-use Rattle.code_follows.specs.Fragment.{AreClosed, AreIn, AreInitials, AreInStatements, IsBody, IsClosed, IsClosedElse, IsEffect, IsFileVariable, IsGiven, IsIn, IsInElse, IsInStatement, IsBlockLocal, IsScalarFunction, IsScalarVariable, IsVariable, OfFileOrParam, ScalarsAmong, called_in, may_of}
+use Rattle.code_follows.specs.Fragment.{AreClosed, AreIn, AreInitials, AreInStatements, IsBody, IsClosed, IsClosedElse, IsEffect, IsFileVariable, IsGiven, IsIn, IsInElse, IsInStatement, IsBlockLocal, IsScalarFunction, IsScalarVariable, IsVariable, OfFileOrParam, NamesAmong, called_in, may_of}
 use Rattle.code_follows.proofs.Standing.{some_same}
 use Rattle.lower_base.specs.Kinds.{folded_kind, kind_of, narrow}
 use Rattle.lower_base.specs.Operators.{fold_of, is_signed, reduce_op_of}
@@ -74,7 +74,7 @@ module _ (heap : Global) where
   lift_calls = simp (block_in_row, fold_out-TExpr (List ℕ) call_step, fold_out-TStmt (List ℕ) statement_call_step)
 
 lift_is : (heap : Global) → IsScalarFunction (may_of fields_beside (example heap) (lift heap)) (lift heap)
-unfolding kind_of narrow relation_kind word_of register_word kind_with operation_bits is_modular IsBody IsInStatement IsInElse IsClosedElse IsNarrowed else_variables IsEffect IsGiven IsIn IsVariable AreIn AreInitials AreInStatements AreClosed IsClosed OfFileOrParam ScalarsAmong IsFold IsPromoted IsPure IsTarget IsUpdate assign_op_of constant_of relates divides is_constant residue value_of row_variables
+unfolding kind_of narrow relation_kind word_of register_word kind_with operation_bits is_modular IsBody IsInStatement IsInElse IsClosedElse IsNarrowed else_variables IsEffect IsGiven IsIn IsVariable AreIn AreInitials AreInStatements AreClosed IsClosed OfFileOrParam NamesAmong IsFold IsPromoted IsPure IsTarget IsUpdate assign_op_of constant_of relates divides is_constant residue value_of row_variables
 lift_is heap =
     record {
       params = All-nil IsScalarVariable;
@@ -102,7 +102,7 @@ lift_is heap =
     }
 
 main_is : (heap : Global) → IsScalarFunction (may_of fields_beside (example heap) (main heap)) (main heap)
-unfolding folded_kind fold_of reduce_op_of is_signed kind_of narrow relation_kind word_of register_word kind_with operation_bits is_modular IsBody IsInStatement IsInElse IsClosedElse IsNarrowed else_variables IsDivisor IsEffect IsGiven IsIn IsVariable AreIn AreInitials AreInStatements AreClosed IsClosed OfFileOrParam ScalarsAmong IsFold IsPromoted IsPure IsTarget IsUpdate assign_op_of constant_of relates divides is_constant residue value_of row_variables
+unfolding folded_kind fold_of reduce_op_of is_signed kind_of narrow relation_kind word_of register_word kind_with operation_bits is_modular IsBody IsInStatement IsInElse IsClosedElse IsNarrowed else_variables IsDivisor IsEffect IsGiven IsIn IsVariable AreIn AreInitials AreInStatements AreClosed IsClosed OfFileOrParam NamesAmong IsFold IsPromoted IsPure IsTarget IsUpdate assign_op_of constant_of relates divides is_constant residue value_of row_variables
 main_is heap =
     let called : Contains (calls_within (main heap).body) 1 = subst (λ (calls : List ℕ). Contains calls 1) (sym (main_calls heap)) (0, omega arith, refl) in
     record {

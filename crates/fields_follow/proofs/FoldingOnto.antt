@@ -43,7 +43,7 @@ use Rattle.source_meaning.specs.Targets.{OfScalar, assign_to, assigned, new_valu
 use Rattle.source_meaning.specs.Values.{Parallel, Scalar, Scope, Value, at, failing, number, positions, unless}
 use Rattle.source_meaning.proofs.ConstantLaws.{Boxed}
 use Rattle.vp_sets.specs.Positions.{position_count}
-use Rattle.code_follows.specs.Fragment.{IsVariable, ScalarsAmong, naming}
+use Rattle.code_follows.specs.Fragment.{IsVariable, NamesAmong, naming}
 use Rattle.code_follows.proofs.Changing.{scalar_type}
 use Rattle.code_follows.proofs.Following.{Extends, Follows, HasRegisters, Sim, follows_same}
 use Rattle.code_follows.proofs.Operators.{wide_signed}
@@ -68,9 +68,9 @@ lowest_inside bits (Makes v e) next = refl
 lowest_inside bits Fails next = refl
 
 -- the target is a scalar variable that is alive
-target_in : (g : Setting) (alive : Variable → Type 0) (target : TExpr) → IsScalarTarget target → ScalarsAmong alive target → IsVariable (naming g.may alive) target
-unfolding IsScalarTarget ScalarsAmong IsVariable
-target_in g alive (T.Variable ty x) is among = (is, among is)
+target_in : (g : Setting) (alive : Variable → Type 0) (target : TExpr) → IsScalarTarget target → NamesAmong alive target → IsVariable (naming g.may alive) target
+unfolding IsScalarTarget NamesAmong IsVariable
+target_in g alive (T.Variable ty x) is among = (is, among)
 target_in g alive (T.Brackets' ty p inner) is among = (is.0, target_in g alive inner is.1 among)
 target_in g alive _ is among = absurd is
 
@@ -219,7 +219,7 @@ module _ (g : Setting) (alive : Variable → Type 0) (n : ℕ) where
     OntoLeaves e d s st = Follows g (λ x u out f. LeavesScalars g alive d s st u f) s (meant g fields e st) (effect_of g.typed (layout g) e d)
 
     pub onto_leaves : (e : TExpr) → IsFoldOnto e → HasItsCode g.typed g.instance alive n e → (d : Draft) (s : CodeState) (st : State) → g.begins ≤ d.regs → Starts g alive s (length d.code) d.regs (length d.fields) → Sim g alive st s → OntoLeaves e d s st
-    unfolding IsFoldOnto NamesVariables IsShaped IsLowerable ScalarsAmong
+    unfolding IsFoldOnto NamesVariables IsShaped IsLowerable NamesAmong
     onto_leaves (T.Assign' ty place op p target q value) is c d s st free here sim =
         subst (λ (o : AssignOp). OntoLeaves (T.Assign' ty place o p target q value) d s st) (sym is.2.1.0) (leaves_it target v ty place is.2.0 p q value is.2.1.1.0 h.kept h.wide has names d free places fields h st is.0 s here sim)
       where

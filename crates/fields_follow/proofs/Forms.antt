@@ -26,7 +26,7 @@ use Rattle.source_meaning.specs.Reductions.{int_type}
 use Rattle.source_meaning.specs.Expressions.{evaluated, mapped}
 use Rattle.source_meaning.specs.State.{Gives, Outcome, State, then_do}
 use Rattle.source_meaning.specs.Values.{Active, Parallel, Scalar, Scope, Value, at, convert_to, each}
-use Rattle.code_follows.specs.Fragment.{ScalarsAmong}
+use Rattle.code_follows.specs.Fragment.{NamesAmong}
 use Rattle.code_follows.proofs.Settings.{Setting, layout}
 use Rattle.code_follows.proofs.Standing.{some_same}
 use Rattle.std.proofs.lemmas.Bool.{eqb-true}
@@ -68,10 +68,10 @@ pub operand_shape : (set : ℕ) (e : TExpr) → IsPure set e ⊎ IsPromoted set 
 operand_shape set e (inl pure) = pure_shape set e pure
 operand_shape set e (inr promoted) = promoted_shape set e promoted
 
--- An expression has code, and the scalar variables that it names are alive.
+-- An expression has code, and the variables that it names are alive.
 pub record HasItsCode (t : Typed) (i : Instance) (alive : Variable → Type 0) (n : ℕ) (e : TExpr) : Type 0 where
   pub code : HasCode t i n e
-  pub among : ScalarsAmong alive e
+  pub among : NamesAmong alive e
 
 shaped : (o : Option ℕ) (set : ℕ) → o ≡ Some set → is_none o ≡ false
 shaped o set is = ap is_none is

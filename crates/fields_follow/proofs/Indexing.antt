@@ -10,7 +10,7 @@ use Rattle.code_lengths.specs.Lowerable.{AreLowerable, IsLowerable}
 use Rattle.code_lengths.specs.Naming.{AllNameVariables, NamesVariables}
 use Rattle.code_lengths.specs.Ready.{IsReadyButForFields}
 use Rattle.code_lengths.specs.Shaped.{AreShaped, IsShaped}
-use Rattle.code_follows.specs.Fragment.{AllAmong, ScalarsAmong}
+use Rattle.code_follows.specs.Fragment.{AllAmong, NamesAmong}
 use Rattle.code_lengths.proofs.Agreeing.{lengths_if_made}
 use Rattle.code_lengths.proofs.Drafting.{append_nothing}
 use Rattle.lower_base.specs.declared.emit.Out.{Out}
@@ -55,8 +55,8 @@ module _ (g : Setting) (has : HasRegisters g) (alive : Variable → Type 0) (n :
 
   -- the indexes of a get that has code
   pub all_coded : (ty : ValueType) (place : Place) (p : _) (indexes : Row_of-TExpr _) (x : Variable) (of : ℕ) → HasItsCode g.typed g.instance alive n (T.LeftIndex' ty place p indexes x of) → AllCoded indexes
-  unfolding IsShaped IsLowerable NamesVariables ScalarsAmong
-  all_coded ty place p indexes x of c = row_coded indexes c.code.shaped c.code.lowerable.2 c.code.names.1 c.among
+  unfolding IsShaped IsLowerable NamesVariables NamesAmong
+  all_coded ty place p indexes x of c = row_coded indexes c.code.shaped c.code.lowerable.2 c.code.names.1 c.among.1
 
   unfoldable pub AllValued : {k : _} → ℕ → Row_of-TExpr k → Type 0
   AllValued set end_of-TExpr = Unit {0}

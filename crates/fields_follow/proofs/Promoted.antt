@@ -28,7 +28,7 @@ use Rattle.source_meaning.specs.Reductions.{int_type}
 use Rattle.source_meaning.specs.State as Source
 use Rattle.source_meaning.specs.State.{Gives, Outcome, State, then_do}
 use Rattle.source_meaning.specs.Values.{Active, Parallel, Scalar, Scope, Value, at}
-use Rattle.code_follows.specs.Fragment.{ScalarsAmong, IsIn}
+use Rattle.code_follows.specs.Fragment.{NamesAmong, IsIn}
 use Rattle.code_follows.proofs.Following.{Follows, HasRegisters, Sim, follows_same, held, knowing, then_gives}
 use Rattle.code_follows.proofs.Settings.{Setting, layout}
 use Rattle.fields_follow.specs.Fragment.{IsCalm, IsConstant, IsPromoted, IsChanging, alone}
@@ -89,7 +89,7 @@ module _ (g : Setting) (alive : Variable → Type 0) (n : ℕ) where
     pub means : (scope : Scope) (active : Active) (st : State) → evaluated scope e active st ≡ then_do (evaluated scope operand active st) (λ v after. Gives (everywhere v) after)
     pub value : (extents : _) (st : State) (q : ℕ) → value_in extents st e q ≡ computed_in st operand q
     pub has : HasCode g.typed g.instance n operand
-    pub among : ScalarsAmong alive operand
+    pub among : NamesAmong alive operand
 
   abbrev pub IsComputed : ℕ → TExpr → Type 0
   IsComputed set e = Spreads IsCalm set e
@@ -103,7 +103,7 @@ module _ (g : Setting) (alive : Variable → Type 0) (n : ℕ) where
       ∙ sym (λ i. elim (also i) as (λ _. Made Out) [ Some r ↦ Makes (O.Scalar r) d | None ↦ elim (if quiet then own_of bits inner else None) as (λ _. Made Out) [ Some x ↦ standing g.typed (layout g) bits x d | None ↦ value_of g.typed (layout g) bits inner d ] ])
 
   pub spread_over : (known : TExpr → Type 0) (set : ℕ) (ty : ValueType) (p : Boxed) (operand : TExpr) → ty.shape ≡ Some set → ty.elem ≡ (type_of operand).elem → constant_of operand ≡ None → known operand → HasItsCode g.typed g.instance alive n (T.Promote' ty p operand) → Spreads known set (T.Promote' ty p operand)
-  unfolding word_of register_word own_of NamesVariables IsShaped IsLowerable value_in scalar_in ScalarsAmong evaluated value_of held_in computed_to moved bits_for is_constant kind_of
+  unfolding word_of register_word own_of NamesVariables IsShaped IsLowerable value_in scalar_in NamesAmong evaluated value_of held_in computed_to moved bits_for is_constant kind_of
   spread_over known set ty p operand shaped same none is c =
       let no_word : register_word operand ≡ None = ap (λ (o : Option ℕ). then_value o (λ v. Some (converted int_type (type_of operand).elem v))) none in
       let code : (quiet : Bool) (bits : ℕ) (d : Draft) → operand_by g.typed (layout g) bits (λ after. value_of g.typed (layout g) bits operand after) quiet (T.Promote' ty p operand) d ≡ operand_by g.typed (layout g) bits (λ after. value_of g.typed (layout g) bits operand after) quiet operand d =
@@ -125,7 +125,7 @@ module _ (g : Setting) (alive : Variable → Type 0) (n : ℕ) where
       }
 
   pub brackets_code : (ty : ValueType) (p : Boxed) (inner : TExpr) → HasItsCode g.typed g.instance alive n (T.Brackets' ty p inner) → HasItsCode g.typed g.instance alive n inner
-  unfolding NamesVariables IsShaped IsLowerable ScalarsAmong
+  unfolding NamesVariables IsShaped IsLowerable NamesAmong
   brackets_code ty p inner c = record { code = record { shaped = c.code.shaped.1; lowerable = c.code.lowerable; names = c.code.names }; among = c.among }
 
   pub spread_within : (known : TExpr → Type 0) (set : ℕ) (ty : ValueType) (p : Boxed) (inner : TExpr) → ty ≡ type_of inner → Spreads known set inner → Spreads known set (T.Brackets' ty p inner)

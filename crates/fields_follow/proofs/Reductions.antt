@@ -23,7 +23,7 @@ use Rattle.source_meaning.specs.State.{Outcome, State, then_do}
 use Rattle.source_meaning.specs.Values.{Parallel, Scalar, Value, at, positions}
 use Rattle.source_meaning.proofs.ConstantLaws.{Boxed}
 use Rattle.vp_sets.specs.Positions.{position_count}
-use Rattle.code_follows.specs.Fragment.{ScalarsAmong}
+use Rattle.code_follows.specs.Fragment.{NamesAmong}
 use Rattle.code_follows.proofs.Following.{Follows, HasRegisters, Sim}
 use Rattle.code_follows.proofs.Settings.{Setting, layout}
 use Rattle.fields_follow.specs.Fragment.{IsFold, IsWide}
@@ -42,7 +42,7 @@ fold_type _ is = absurd is
 
 module _ (g : Setting) (alive : Variable → Type 0) where
   operand_code : (n : ℕ) (ty : ValueType) (op : ReduceOp) (p : Boxed) (operand : TExpr) → HasItsCode g.typed g.instance alive n (T.Reduce' ty op p operand) → HasItsCode g.typed g.instance alive n operand
-  unfolding IsShaped IsLowerable NamesVariables ScalarsAmong
+  unfolding IsShaped IsLowerable NamesVariables NamesAmong
   operand_code n ty op p operand c = record { code = record { shaped = c.code.shaped; lowerable = c.code.lowerable.2; names = c.code.names }; among = c.among }
 
   -- the number stands in a register, by code that passes up to its last instructions

@@ -38,7 +38,7 @@ use Rattle.source_meaning.specs.State.{Gives, Outcome, State, then_do, with_posi
 use Rattle.source_meaning.specs.Targets.{OfElement, Target, assigned}
 use Rattle.source_meaning.specs.Values.{Parallel, Scalar, Value, at}
 use Rattle.source_meaning.proofs.ConstantLaws.{Boxed}
-use Rattle.code_follows.specs.Fragment.{IsIn, ScalarsAmong}
+use Rattle.code_follows.specs.Fragment.{IsIn, NamesAmong}
 use Rattle.code_follows.proofs.Following.{Follows, HasRegisters, Sim, follows_same, held, then_follows, Extends}
 use Rattle.code_follows.proofs.Settings.{Setting, Within, layout, stay, earlier}
 use Rattle.fields_follow.specs.Fields.{file_number}
@@ -241,7 +241,7 @@ module _ (g : Setting) (has : HasRegisters g) (alive : Variable → Type 0) (n :
 
   -- such an assignment leaves what it leaves in the source
   pub changing_leaves : (e : TExpr) → IsChangingAssigned e → HasItsCode g.typed g.instance alive n e → (d : Draft) (s : CodeState) (st : State) → Starts g alive s (length d.code) d.regs (length d.fields) → Sim g alive st s → UpdateLeaves g alive fields e d s st
-  unfolding IsChangingAssigned NamesVariables IsShaped IsLowerable ScalarsAmong
+  unfolding IsChangingAssigned NamesVariables IsShaped IsLowerable NamesAmong
   changing_leaves (T.Assign' ty place op p target q value) is c = by (assign_op_of op) refl is.1
     where
       part : HasItsCode g.typed g.instance alive n value

@@ -18,7 +18,7 @@ use Rattle.source_meaning.specs.Programs.{calls}
 use Rattle.source_meaning.specs.State as Source
 use Rattle.source_meaning.specs.State.{Early, Outcome, State}
 use Rattle.source_meaning.specs.Values.{Scalar, Scope, Value}
-use Rattle.code_follows.specs.Fragment.{IsIn, ScalarsAmong}
+use Rattle.code_follows.specs.Fragment.{IsIn, NamesAmong}
 use Rattle.code_follows.proofs.Callees.{CallsFollow}
 use Rattle.code_follows.proofs.Expressions.{operand}
 use Rattle.code_follows.proofs.Following.{Arrives, Finishes, Follows, HasRegisters, IsKept, Keeps, Sim, follows_same, held, keeps_all, knowing, follows_other}
@@ -129,7 +129,7 @@ module _ (g : Setting) (has : HasRegisters g) (alive : Variable → Type 0) (n :
   abbrev pub GivesChanged : ℕ → Draft → CodeState → TExpr → Value → State → Out → Draft → Type 0
   GivesChanged bound d s e x u out f = (w : ℕ) × ((x ≡ Scalar w) × ((w < 2 ^ (type_of e).elem.bits) × ((r : ℕ) × ((out ≡ O.Scalar r) × GivesWord g alive bound d s u (λ q. held (type_of e).elem w) (K.Reg r) f))))
 
-  pub changed_follows : (quiet : Bool) (bits bound : ℕ) (e : TExpr) → IsIn alone e → ScalarsAmong alive e → HasCode g.typed g.instance n e → (d : Draft) (s : CodeState) (st : State) → Starts g alive s (length d.code) d.regs (length d.fields) → Sim g alive st s
+  pub changed_follows : (quiet : Bool) (bits bound : ℕ) (e : TExpr) → IsIn alone e → NamesAmong alive e → HasCode g.typed g.instance n e → (d : Draft) (s : CodeState) (st : State) → Starts g alive s (length d.code) d.regs (length d.fields) → Sim g alive st s
       → Follows g (GivesChanged bound d s e) s (evaluated fields.scope e fields.active st) (operand_by g.typed (layout g) bits (λ after. value_of g.typed (layout g) bits e after) quiet e d)
   unfolding word_in
   changed_follows quiet bits bound e is among code d s st here sim =
@@ -191,7 +191,7 @@ module _ (g : Setting) (has : HasRegisters g) (alive : Variable → Type 0) (n :
   abbrev pub GivesScalar : ℕ → Draft → CodeState → State → TExpr → Value → State → Out → Draft → Type 0
   GivesScalar bound d s st e x u out f = (w : ℕ) × ((x ≡ Scalar w) × ((u ≡ st) × ((r : ℕ) × ((out ≡ O.Scalar r) × GivesWord g alive bound d s st (λ q. held (type_of e).elem w) (K.Reg r) f))))
 
-  pub scalar_follows : (quiet : Bool) (bits bound : ℕ) (e : TExpr) → IsCalm e → ScalarsAmong alive e → HasCode g.typed g.instance n e → (d : Draft) (s : CodeState) (st : State) → Starts g alive s (length d.code) d.regs (length d.fields) → Sim g alive st s
+  pub scalar_follows : (quiet : Bool) (bits bound : ℕ) (e : TExpr) → IsCalm e → NamesAmong alive e → HasCode g.typed g.instance n e → (d : Draft) (s : CodeState) (st : State) → Starts g alive s (length d.code) d.regs (length d.fields) → Sim g alive st s
       → Follows g (GivesScalar bound d s st e) s (evaluated fields.scope e fields.active st) (operand_by g.typed (layout g) bits (λ after. value_of g.typed (layout g) bits e after) quiet e d)
   unfolding IsCalmly
   scalar_follows quiet bits bound e is among code d s st here sim =

@@ -39,7 +39,7 @@ use Rattle.source_meaning.specs.State.{Gives, Outcome, State, with_positions}
 use Rattle.source_meaning.specs.Targets.{OfElement, assigned}
 use Rattle.source_meaning.specs.Values.{Parallel, Value}
 use Rattle.source_meaning.proofs.ConstantLaws.{Boxed}
-use Rattle.code_follows.specs.Fragment.{ScalarsAmong}
+use Rattle.code_follows.specs.Fragment.{NamesAmong}
 use Rattle.code_follows.proofs.Following.{Finishes, HasRegisters, Sim, extends_then, held}
 use Rattle.code_follows.proofs.Settings.{Setting, Within, layout}
 use Rattle.fields_follow.specs.Fields.{IsElement, file_number}
@@ -229,7 +229,7 @@ module _ (g : Setting) (has : HasRegisters g) (alive : Variable → Type 0) (n :
 
   -- the assignment of a scan leaves what it leaves in the source
   pub scans_leave : (e : TExpr) → IsScanAssigned e → HasItsCode g.typed g.instance alive n e → (d : Draft) (s : CodeState) (st : State) → Starts g alive s (length d.code) d.regs (length d.fields) → Sim g alive st s → UpdateLeaves g alive fields e d s st
-  unfolding IsScanAssigned NamesVariables IsShaped IsLowerable ScalarsAmong
+  unfolding IsScanAssigned NamesVariables IsShaped IsLowerable NamesAmong
   scans_leave (T.Assign' ty place op p target q value) is c =
       assigns ty place op p q target value is.2.0 is.0 is.1 is.2.1.0 is.2.1.1 c.code.names.0 (record { code = record { shaped = c.code.shaped.3; lowerable = c.code.lowerable.3; names = c.code.names.1 }; among = c.among.1 })
   scans_leave _ is c = absurd is

@@ -43,7 +43,7 @@ use Rattle.source_meaning.specs.Scans.{bit_at}
 use Rattle.source_meaning.specs.State.{State}
 use Rattle.source_meaning.proofs.ConstantLaws.{Boxed}
 use Rattle.communication_laws.specs.Scans.{bit_counts}
-use Rattle.code_follows.specs.Fragment.{ScalarsAmong}
+use Rattle.code_follows.specs.Fragment.{NamesAmong}
 use Rattle.code_follows.proofs.Following.{Extends, Follows, HasRegisters, Sim}
 use Rattle.code_follows.proofs.Growing.{Extended, as_it_was, extended}
 use Rattle.code_follows.proofs.Operators.{wide_signed}
@@ -172,8 +172,8 @@ module _ (g : Setting) (has : HasRegisters g) (alive : Variable → Type 0) (n :
     whole = T.Scan' ty p source axis combiner direction mode bit way
 
     pub source_part : HasItsCode g.typed g.instance alive n whole → HasItsCode g.typed g.instance alive n source × HasBits g.typed g.instance n bit
-    unfolding IsShaped IsLowerable NamesVariables ScalarsAmong
-    source_part c = (record { code = record { shaped = c.code.shaped; lowerable = c.code.lowerable.2; names = c.code.names.1 }; among = c.among }, c.code.names.0)
+    unfolding IsShaped IsLowerable NamesVariables NamesAmong
+    source_part c = (record { code = record { shaped = c.code.shaped; lowerable = c.code.lowerable.2; names = c.code.names.1 }; among = c.among.1 }, c.code.names.0)
 
     module _ (same : ty ≡ type_of source) (given : SourceGiven source) (wide : IsWide set (type_of source)) (apart : combiner ≡ C.Last → ⊥) (is_bit : IsSegments bit) (c : HasItsCode g.typed g.instance alive n whole) (f : Field) (on : f.set ≡ set) where
       abbrev unsigned : Bool

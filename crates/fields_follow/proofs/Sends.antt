@@ -61,7 +61,7 @@ use Rattle.source_meaning.specs.State as Source
 use Rattle.source_meaning.specs.State.{Gives, Outcome, State, then_do}
 use Rattle.source_meaning.specs.Targets.{OfTargets, Target}
 use Rattle.source_meaning.proofs.ConstantLaws.{Boxed}
-use Rattle.code_follows.specs.Fragment.{ScalarsAmong}
+use Rattle.code_follows.specs.Fragment.{NamesAmong}
 use Rattle.code_follows.proofs.Following.{Extends, HasRegisters, Sim, extends_then}
 use Rattle.fields_follow.specs.Fields.{IsElement}
 use Rattle.fields_follow.proofs.Computing.{each_after}
@@ -390,7 +390,7 @@ module _ (g : Setting) (has : HasRegisters g) (alive : Variable → Type 0) (n :
   sends_to aty sending op p q target _ value set like is same c is_sent operand own d s st here sim = absurd is
 
   pub sends_leave : (e : TExpr) → IsSend e → HasItsCode g.typed g.instance alive n e → (d : Draft) (s : CodeState) (st : State) → Starts g alive s (length d.code) d.regs (length d.fields) → Sim g alive st s → UpdateLeaves g alive fields e d s st
-  unfolding IsSend NamesVariables IsShaped IsLowerable ScalarsAmong
+  unfolding IsSend NamesVariables IsShaped IsLowerable NamesAmong
   sends_leave (T.Assign' ty sending op p target q value) is c d s st here sim =
       sends_to ty sending op p q target target value is.2.0 (itself g.typed (layout g) target) is.2.1.0 is.0 (record { code = record { shaped = target_shaped is.2.0 target is.2.1.0 c.code.shaped.2; lowerable = c.code.lowerable.2; names = c.code.names.0 }; among = c.among.0 })
       is.1 is.2.1.1 (record { code = record { shaped = c.code.shaped.3; lowerable = c.code.lowerable.3; names = c.code.names.1 }; among = c.among.1 }) d s st here sim

@@ -23,7 +23,7 @@ use Rattle.paris_code.specs.Code.{CodeState}
 use Rattle.source_meaning.specs.State as Source
 use Rattle.source_meaning.specs.State.{State, Outcome}
 use Rattle.source_meaning.proofs.ConstantLaws.{Boxed}
-use Rattle.code_follows.specs.Fragment.{ScalarsAmong}
+use Rattle.code_follows.specs.Fragment.{NamesAmong}
 use Rattle.code_follows.proofs.Following.{Sim}
 use Rattle.code_follows.proofs.Settings.{Setting}
 use Rattle.code_follows.proofs.Words.{below_bits, below_word, held_wide}
@@ -49,23 +49,23 @@ number_small bits st (Source.Ends early u) q h = pow_pos bits
 module _ (g : Setting) (alive : Variable → Type 0) (n : ℕ) (places : PlacesFields g) (fields : HoldsTheFields g) where
   -- what has code of its parts
   pub binary_parts : (ty : ValueType) (place : Place) (op : Op) (p q : Boxed) (left right : TExpr) → HasItsCode g.typed g.instance alive n (T.Binary' ty place op p left q right) → HasItsCode g.typed g.instance alive n left × HasItsCode g.typed g.instance alive n right
-  unfolding IsShaped IsLowerable NamesVariables ScalarsAmong
+  unfolding IsShaped IsLowerable NamesVariables NamesAmong
   binary_parts ty place op p q left right h = (record { code = record { shaped = h.code.shaped.0; lowerable = h.code.lowerable.2; names = h.code.names.0 }; among = h.among.0 }, record { code = record { shaped = h.code.shaped.1; lowerable = h.code.lowerable.3; names = h.code.names.1 }; among = h.among.1 })
 
   pub unary_part : (ty : ValueType) (op : UnaryOp) (p : Boxed) (inner : TExpr) → HasItsCode g.typed g.instance alive n (T.Unary' ty op p inner) → HasItsCode g.typed g.instance alive n inner
-  unfolding IsShaped IsLowerable NamesVariables ScalarsAmong
+  unfolding IsShaped IsLowerable NamesVariables NamesAmong
   unary_part ty op p inner h = record { code = record { shaped = h.code.shaped.1; lowerable = h.code.lowerable.1; names = h.code.names }; among = h.among }
 
   pub brackets_part : (ty : ValueType) (p : Boxed) (inner : TExpr) → HasItsCode g.typed g.instance alive n (T.Brackets' ty p inner) → HasItsCode g.typed g.instance alive n inner
-  unfolding IsShaped IsLowerable NamesVariables ScalarsAmong
+  unfolding IsShaped IsLowerable NamesVariables NamesAmong
   brackets_part ty p inner h = record { code = record { shaped = h.code.shaped.1; lowerable = h.code.lowerable; names = h.code.names }; among = h.among }
 
   pub convert_part : (ty : ValueType) (p : Boxed) (inner : TExpr) → HasItsCode g.typed g.instance alive n (T.Convert' ty p inner) → HasItsCode g.typed g.instance alive n inner
-  unfolding IsShaped IsLowerable NamesVariables ScalarsAmong
+  unfolding IsShaped IsLowerable NamesVariables NamesAmong
   convert_part ty p inner h = record { code = record { shaped = h.code.shaped.1; lowerable = h.code.lowerable.1; names = h.code.names }; among = h.among }
 
   pub choice_parts : (ty : ValueType) (p q r : Boxed) (test first second : TExpr) → HasItsCode g.typed g.instance alive n (T.Choice' ty p test q first r second) → HasItsCode g.typed g.instance alive n test × HasItsCode g.typed g.instance alive n first × HasItsCode g.typed g.instance alive n second
-  unfolding IsShaped IsLowerable NamesVariables ScalarsAmong
+  unfolding IsShaped IsLowerable NamesVariables NamesAmong
   choice_parts ty p q r test first second h = (
     record { code = record { shaped = h.code.shaped.0; lowerable = h.code.lowerable.4; names = h.code.names.0 }; among = h.among.0 },
     record { code = record { shaped = h.code.shaped.1; lowerable = h.code.lowerable.5; names = h.code.names.1 }; among = h.among.1 },
@@ -74,7 +74,7 @@ module _ (g : Setting) (alive : Variable → Type 0) (n : ℕ) (places : PlacesF
 
   -- a scalar is one of its type
   pub promoted_small : (set : ℕ) (e : TExpr) (st : State) (s : CodeState) → Sim g alive st s → IsPromoted set e → HasItsCode g.typed g.instance alive n e → (q : ℕ) → value_in (extents g set) st e q < 2 ^ (type_of e).elem.bits
-  unfolding IsPromoted value_in scalar_in NamesVariables ScalarsAmong
+  unfolding IsPromoted value_in scalar_in NamesVariables NamesAmong
   promoted_small set (T.Promote' ty p operand) st s sim is c q = subst (λ (e : Elem). scalar_in st operand q < 2 ^ e.bits) (sym is.1) (by is.2.1)
     where
       Small : Option ℕ → Type 0

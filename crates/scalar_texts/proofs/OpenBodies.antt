@@ -10,7 +10,7 @@ use Rattle.cstar_tree.specs.declared.typed.TStmt as S
 use Rattle.cstar_tree.specs.declared.typed.Variable.{Variable}
 use Rattle.cstar_tree.specs.declared.typed.Variable.TheVariants as V
 use mathlib.Core.Former.{Count}
-use Rattle.code_follows.specs.Fragment.{AllAmong, AreIn, AreInStatements, AreInitials, IsBody, IsEffect, IsIn, IsInElse, IsInStatement, IsTested, IsVariable, May, OrAmong, ScalarsAmong, naming, within}
+use Rattle.code_follows.specs.Fragment.{AllAmong, AreIn, AreInStatements, AreInitials, IsBody, IsEffect, IsIn, IsInElse, IsInStatement, IsTested, IsVariable, May, OrAmong, NamesAmong, naming, within}
 use Rattle.code_lengths.specs.NamingStatements.{behind}
 use Rattle.open_names.specs.Opens.{AllNameOpen, ElseNamesOpen, InitialsNameOpen, IsAmong, IsOpen, NamesOpen, Open, StatementNamesOpen, StatementsNameOpen, opened}
 use Rattle.source_meaning.specs.State.{is_among}
@@ -36,30 +36,35 @@ module _ (may : May) (names : Variable → Type 0) (blocks : Open) (fits : Fits 
   variable_open (T.Brackets' ty p inner) h n = (h.0, variable_open inner h.1 n)
   variable_open _ h n = absurd h
 
+  bit_open : (bit : Option Variable) → IfSome bit (IsOpen blocks) → IfSome bit names
+  bit_open None n = tt
+  bit_open (Some x) n = fits x n
+
   mutual
-    unfolding ScalarsAmong NamesOpen AllNameOpen
+    unfolding NamesAmong NamesOpen AllNameOpen
 
-    scalars_open : (e : TExpr) → NamesOpen blocks e → ScalarsAmong names e
-    scalars_open (T.Variable ty x) n = λ scalar. fits x n
-    scalars_open (T.Brackets' ty p inner) n = scalars_open inner n
-    scalars_open (T.Convert' ty p operand) n = scalars_open operand n
-    scalars_open (T.Promote' ty p operand) n = scalars_open operand n
-    scalars_open (T.Casts' ty elems p operand) n = scalars_open operand n
-    scalars_open (T.Unary' ty op p operand) n = scalars_open operand n
-    scalars_open (T.Binary' ty place op p left q right) n = (scalars_open left n.0, scalars_open right n.1)
-    scalars_open (T.Choice' ty p test q first r second) n = (scalars_open test n.0, scalars_open first n.1, scalars_open second n.2)
-    scalars_open (T.LogicalOr' ty p left q right) n = (scalars_open left n.0, scalars_open right n.1)
-    scalars_open (T.LogicalAnd' ty p left q right) n = (scalars_open left n.0, scalars_open right n.1)
-    scalars_open (T.Assign' ty place op p target q value) n = (scalars_open target n.0, scalars_open value n.1)
-    scalars_open (T.Step' ty op order p target) n = scalars_open target n
-    scalars_open (T.Reduce' ty op p operand) n = scalars_open operand n
-    scalars_open (T.LeftIndex' ty place p indexes x of) n = all_scalars_open indexes n.1
-    scalars_open (T.Scan' ty p source axis combiner direction mode bit within) n = scalars_open source n.1
-    scalars_open _ n = tt
+    among_open : (e : TExpr) → NamesOpen blocks e → NamesAmong names e
+    among_open (T.Variable ty x) n = fits x n
+    among_open (T.Brackets' ty p inner) n = among_open inner n
+    among_open (T.Convert' ty p operand) n = among_open operand n
+    among_open (T.Promote' ty p operand) n = among_open operand n
+    among_open (T.Casts' ty elems p operand) n = among_open operand n
+    among_open (T.Unary' ty op p operand) n = among_open operand n
+    among_open (T.Binary' ty place op p left q right) n = (among_open left n.0, among_open right n.1)
+    among_open (T.Choice' ty p test q first r second) n = (among_open test n.0, among_open first n.1, among_open second n.2)
+    among_open (T.LogicalOr' ty p left q right) n = (among_open left n.0, among_open right n.1)
+    among_open (T.LogicalAnd' ty p left q right) n = (among_open left n.0, among_open right n.1)
+    among_open (T.Assign' ty place op p target q value) n = (among_open target n.0, among_open value n.1)
+    among_open (T.Step' ty op order p target) n = among_open target n
+    among_open (T.Reduce' ty op p operand) n = among_open operand n
+    among_open (T.LeftIndex' ty place p indexes x of) n = (fits x n.0, all_among_open indexes n.1)
+    among_open (T.Scan' ty p source axis combiner direction mode bit within) n = (bit_open bit n.0, among_open source n.1)
+    among_open (T.Enumerate ty axis direction within mode bit) n = bit_open bit n
+    among_open _ n = tt
 
-    all_scalars_open : {k : Count} (row : Row_of-TExpr k) → AllNameOpen blocks row → AllAmong names row
-    all_scalars_open end_of-TExpr n = tt
-    all_scalars_open (more_of-TExpr e rest) n = (scalars_open e n.0, all_scalars_open rest n.1)
+    all_among_open : {k : Count} (row : Row_of-TExpr k) → AllNameOpen blocks row → AllAmong names row
+    all_among_open end_of-TExpr n = tt
+    all_among_open (more_of-TExpr e rest) n = (among_open e n.0, all_among_open rest n.1)
 
   mutual
     unfolding IsIn AreIn NamesOpen AllNameOpen
@@ -82,7 +87,7 @@ module _ (may : May) (names : Variable → Type 0) (blocks : Open) (fits : Fits 
     expression_open (T.Assign' ty place op p target q value) h n = (h.0, h.1, variable_open target h.2 n.0, expression_open value h.3 n.1, h.4)
     expression_open (T.Step' ty op order p target) h n = (h.0, h.1, variable_open target h.2 n)
     expression_open (T.Call' ty index p arguments) h n = (h.0, h.1, all_open arguments h.2 n)
-    expression_open (T.Reduce' ty op p operand) h n = (h.0, h.1, scalars_open (T.Reduce' ty op p operand) n)
+    expression_open (T.Reduce' ty op p operand) h n = (h.0, h.1, among_open (T.Reduce' ty op p operand) n)
     expression_open _ h n = absurd h
 
     all_open : {k : Count} (row : Row_of-TExpr k) → AreIn may row → AllNameOpen blocks row → AreIn (naming may names) row
@@ -95,9 +100,9 @@ module _ (may : May) (names : Variable → Type 0) (blocks : Open) (fits : Fits 
   effect_open (T.Call' ty index p arguments) h n = (h.0, all_open arguments h.1 n)
   effect_open (T.Brackets' ty p inner) h n = effect_open inner h n
   effect_open (T.Assign' ty place op p target q value) (inl h) n = inl (expression_open (T.Assign' ty place op p target q value) h n)
-  effect_open (T.Assign' ty place op p target q value) (inr h) n = inr (h.0, scalars_open (T.Assign' ty place op p target q value) n)
+  effect_open (T.Assign' ty place op p target q value) (inr h) n = inr (h.0, among_open (T.Assign' ty place op p target q value) n)
   effect_open (T.Step' ty op order p target) (inl h) n = inl (expression_open (T.Step' ty op order p target) h n)
-  effect_open (T.Step' ty op order p target) (inr h) n = inr (h.0, scalars_open (T.Step' ty op order p target) n)
+  effect_open (T.Step' ty op order p target) (inr h) n = inr (h.0, among_open (T.Step' ty op order p target) n)
   effect_open e h n = expression_open e h n
 
   tested_open : (e : Option TExpr) → IsTested may e → IfSome e (NamesOpen blocks) → IsTested (naming may names) e
