@@ -14,7 +14,6 @@ use Rattle.constant_trees.proofs.Words.{from_bool_below}
 use Rattle.lower_base.specs.declared.emit.Out.{Out}
 use Rattle.lower_base.specs.declared.emit.Out.TheVariants as O
 use Rattle.lower_base.specs.Drafts.{Draft, Fails, Made, Makes, an_entry, step as step_of, then_make, with_instr, in_register, here as draft_here}
-use Rattle.lower_expr.specs.Operands.{ignores_context}
 use Rattle.lower_expr.specs.Steps.{is_kept, word_of}
 use Rattle.lower_expr.specs.Values.{Condition, condition_by, condition_of, decided_by, joined_by, jumped_over, limited_by, logical_by, narrowed_again, narrowed_by, narrowing_by, parallel_logical_by, tested, jump_if_decided, jumped, next_of}
 use Rattle.paris_code.specs.declared.instr.Instr.{Instr}
