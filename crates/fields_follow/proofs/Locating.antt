@@ -95,14 +95,22 @@ module _ (g : Setting) where
     Have set t vs outs = AllHave g alive places fields set t vs outs
 
     -- the set that checks them
-    set_is : {k : _} (extents : List ℕ) (st : State) (set : ℕ) (t : CodeState) (p : List ℕ) (row : Row_of-TExpr k) (vs : List (ℕ → ℕ)) (outs : List Out) → Have set t vs outs → set_of_coordinates set (with_signs (indexes_at extents st row) (map (moved_coordinate p) (coordinates_in outs))) ≡ set
-    unfolding indexes_at AllHave index_coordinate
-    set_is extents st set t p end_of-TExpr vs outs have = refl
-    set_is extents st set t p (more_of-TExpr index rest) vs [] have = refl
-    set_is extents st set t p (more_of-TExpr index rest) (v ∷ vs) (O.Field f ∷ outs) have = have.0.of_set
-    set_is extents st set t p (more_of-TExpr index rest) (v ∷ vs) (O.Scalar r ∷ outs) have = absurd have
-    set_is extents st set t p (more_of-TExpr index rest) (v ∷ vs) (O.Nothing ∷ outs) have = absurd have
-    set_is extents st set t p (more_of-TExpr index rest) [] (out ∷ outs) have = absurd have
+    set_is : {k : _} (extents : List ℕ) (st : State) (set of : ℕ) (t : CodeState) (p : List ℕ) (row : Row_of-TExpr k) (outs : List Out) → Have set t (words_of g set st row) outs → (length (items-the_row-TExpr _ row) ≡ 0 → ⊥) → set_of_coordinates of (with_signs (indexes_at extents st row) (map (moved_coordinate p) (coordinates_in outs))) ≡ set
+    unfolding indexes_at AllHave index_coordinate words_of
+    set_is extents st set of t p end_of-TExpr outs have some = absurd (some refl)
+    set_is extents st set of t p (more_of-TExpr index rest) [] have some = absurd have
+    set_is extents st set of t p (more_of-TExpr index rest) (O.Field f ∷ outs) have some = have.0.of_set
+    set_is extents st set of t p (more_of-TExpr index rest) (O.Scalar r ∷ outs) have some = absurd have
+    set_is extents st set of t p (more_of-TExpr index rest) (O.Nothing ∷ outs) have some = absurd have
+
+    -- so that set exists, where there is one
+    set_there : {k : _} (st : State) (set : ℕ) (t : CodeState) (row : Row_of-TExpr k) (outs : List Out) → Have set t (words_of g set st row) outs → (length (items-the_row-TExpr _ row) ≡ 0 → ⊥) → set < length (shapes g)
+    unfolding AllHave words_of
+    set_there st set t end_of-TExpr outs have some = absurd (some refl)
+    set_there st set t (more_of-TExpr index rest) [] have some = absurd have
+    set_there st set t (more_of-TExpr index rest) (O.Field f ∷ outs) have some = have.0.exists
+    set_there st set t (more_of-TExpr index rest) (O.Scalar r ∷ outs) have some = absurd have
+    set_there st set t (more_of-TExpr index rest) (O.Nothing ∷ outs) have some = absurd have
 
     -- they have them at another place of the code too
     have_on : (set : ℕ) (t : CodeState) (vs : List (ℕ → ℕ)) (outs : List Out) → Have set t vs outs → Have set (Machine.onward t) vs outs
@@ -142,12 +150,12 @@ module _ (g : Setting) where
         by (Some q) = refl
 
     -- where no index is outside, each lies within its extent at the active positions
-    pub inside : (set : ℕ) (given : List Operand) → set < length (shapes g) → outside_at fields.scope fields.active set given ≡ None → (q : ℕ) → q < processors (shapes g) set → fields.active set q ≡ true → are_within (extents g set) given q ≡ true
+    pub inside : (set of : ℕ) (given : List Operand) → set < length (shapes g) → of < length (shapes g) → outside_at fields.scope fields.active set of given ≡ None → (q : ℕ) → q < processors (shapes g) set → fields.active set q ≡ true → are_within (extents g of) given q ≡ true
     unfolding failing positions
-    inside set given exists none q below on =
-        ap (λ (xs : List ℕ). are_within xs given q) (sym (fields.same_extents set exists))
-        ∙ by (fields.active set q) (are_within (fields.scope.extents set) given q) on
-        (least_clear (λ p. fields.active set p && not (are_within (fields.scope.extents set) given p)) (positions fields.scope set) q (is_none (least_below (λ p. fields.active set p && not (are_within (fields.scope.extents set) given p)) (positions fields.scope set)) none)
+    inside set of given exists there none q below on =
+        ap (λ (xs : List ℕ). are_within xs given q) (sym (fields.same_extents of there))
+        ∙ by (fields.active set q) (are_within (fields.scope.extents of) given q) on
+        (least_clear (λ p. fields.active set p && not (are_within (fields.scope.extents of) given p)) (positions fields.scope set) q (is_none (least_below (λ p. fields.active set p && not (are_within (fields.scope.extents of) given p)) (positions fields.scope set)) none)
         (subst (λ (xs : List ℕ). q < position_count xs) (sym (fields.same_extents set exists)) below))
       where
         is_none : (o : Option ℕ) → (elim o as (λ _. Option (Option ℕ)) [ None ↦ None | Some p ↦ Some (Some p) ]) ≡ None → o ≡ None
@@ -178,47 +186,47 @@ module _ (g : Setting) where
       indexes_there set st t (more_of-TExpr index rest) (O.Nothing ∷ outs) args q are coded sim have below on = absurd have
 
       -- the instruction that makes the address
-      address_next : {k : _} (set : ℕ) (st : State) (s : CodeState) (row : Row_of-TExpr k) (outs : List Out) (d : Field) (e : Draft) → d.set ≡ set → set < length (shapes g) → ArePure set row → Coded row → Sim g alive st s → Have set s (words_of g set st row) outs → outside_at fields.scope fields.active set (indexes_at (extents g set) st row) ≡ None
-          → At g s (length e.code) → (h : AddressStands g (length e.code) d set (coordinates_in outs)) → PutsNext g places fields alive set (I.MakeAddress d set h.list) d e s (target_of (extents g set) st row)
+      address_next : {k : _} (set of : ℕ) (st : State) (s : CodeState) (row : Row_of-TExpr k) (outs : List Out) (d : Field) (e : Draft) → d.set ≡ set → set < length (shapes g) → of < length (shapes g) → ArePure set row → Coded row → Sim g alive st s → Have set s (words_of g set st row) outs → outside_at fields.scope fields.active set of (indexes_at (extents g set) st row) ≡ None
+          → At g s (length e.code) → (h : AddressStands g (length e.code) d of (coordinates_in outs)) → PutsNext g places fields alive set (I.MakeAddress d of h.list) d e s (target_of (extents g of) (extents g set) st row)
       unfolding begun applied after
-      address_next set st s row outs d e of_set exists are coded sim have none here h = record {
+      address_next set of st s row outs d e of_set exists also are coded sim have none here h = record {
         there = h.there;
         others = _;
         names = refl;
-        ends = places.address_ends (length e.code) d set h.over h.moved_there;
+        ends = places.address_ends (length e.code) d of h.over h.moved_there;
         takes = record {
-          write = elementwise (shapes g) (I.MakeAddress (place g d) set h.over) args s.memory;
+          write = elementwise (shapes g) (I.MakeAddress (place g d) of h.over) args s.memory;
           run = refl;
           writes = λ p. refl;
           value = λ p below on. ap (λ (x : ℕ). x % 2 ^ d.len)
-              (addresses (shapes g) s.memory args (place g d) set h.over given p (places.geometry set exists)
+              (addresses (shapes g) s.memory args (place g d) of h.over given p (places.geometry of also)
               (subst (λ (cs : List Coordinate). HasIndexes s.memory args p cs given) (sym h.moved_items) (indexes_there set st s row outs args p are coded sim have below on)) (within p below on));
           small = λ p below on.
-              let low = indexes_within_name_positions (extents g set) given p (within p below on) in
-              let few = (geometry_parts (extents g set) (places.geometry set exists)).3 in
+              let low = indexes_within_name_positions (extents g of) given p (within p below on) in
+              let few = (geometry_parts (extents g of) (places.geometry of also)).3 in
               omega (arith, low, few);
         };
-        goes = begins_there g (length e.code) (I.MakeAddress (place g d) set h.over) s h.moved_there here;
+        goes = begins_there g (length e.code) (I.MakeAddress (place g d) of h.over) s h.moved_there here;
       }
         where
           args : List ℕ
-          args = arguments_at (I.MakeAddress (place g d) set h.over) s.registers
+          args = arguments_at (I.MakeAddress (place g d) of h.over) s.registers
 
           given : List Operand
           given = indexes_at (extents g set) st row
 
-          within : (p : ℕ) → p < processors (shapes g) set → is_active (shapes g) s.memory set p ≡ true → are_within (extents g set) given p ≡ true
-          within p below on = inside set given exists none p below (sym (flags_of g alive places fields st s set p sim exists below) ∙ on)
+          within : (p : ℕ) → p < processors (shapes g) set → is_active (shapes g) s.memory set p ≡ true → are_within (extents g of) given p ≡ true
+          within p below on = inside set of given exists also none p below (sym (flags_of g alive places fields st s set p sim exists below) ∙ on)
 
       -- both
-      pub located_after : {k : _} (set bound : ℕ) (place_of : Place) (row : Row_of-TExpr k) (outs : List Out) (dest : Field) (d e : Draft) (s : CodeState) (st : State) (Q : Draft → Type 0) → ArePure set row → Coded row → length (items-the_row-TExpr _ row) ≡ length (extents g set) → set < length (shapes g)
+      pub located_after : {k : _} (set of bound : ℕ) (place_of : Place) (row : Row_of-TExpr k) (outs : List Out) (dest : Field) (d e : Draft) (s : CodeState) (st : State) (Q : Draft → Type 0) → ArePure set row → Coded row → length (items-the_row-TExpr _ row) ≡ length (extents g of) → of < length (shapes g)
           → dest.len ≡ 32 → dest.set ≡ set → bound ≤ dest.offset → dest.offset < length e.fields → IsOwnField g dest → PartsStand g alive bound d s set st (words_of g set st row) outs e
-          → Within g (with_step (MakesAddress dest set (coordinates_in outs)) (with_step (ChecksTarget set place_of (signed_coordinates (items-the_row-TExpr _ row) (coordinates_in outs))) e))
-          → (outside_at fields.scope fields.active set (indexes_at (extents g set) st row) ≡ None → (f : Draft) → GivesField g alive 32 bound d s set st (target_of (extents g set) st row) dest f → Q f)
-          → ((q : ℕ) → outside_at fields.scope fields.active set (indexes_at (extents g set) st row) ≡ Some (Some q) → Finishes g (Source.Fault Index place_of (Some q)) st s → (f : Draft) → Q f)
-          → Q (with_step (MakesAddress dest set (coordinates_in outs)) (with_step (ChecksTarget set place_of (signed_coordinates (items-the_row-TExpr _ row) (coordinates_in outs))) e))
+          → Within g (with_step (MakesAddress dest of (coordinates_in outs)) (with_step (ChecksTarget of place_of (signed_coordinates (items-the_row-TExpr _ row) (coordinates_in outs))) e))
+          → (outside_at fields.scope fields.active set of (indexes_at (extents g set) st row) ≡ None → (f : Draft) → GivesField g alive 32 bound d s set st (target_of (extents g of) (extents g set) st row) dest f → Q f)
+          → ((q : ℕ) → outside_at fields.scope fields.active set of (indexes_at (extents g set) st row) ≡ Some (Some q) → Finishes g (Source.Fault Index place_of (Some q)) st s → (f : Draft) → Q f)
+          → Q (with_step (MakesAddress dest of (coordinates_in outs)) (with_step (ChecksTarget of place_of (signed_coordinates (items-the_row-TExpr _ row) (coordinates_in outs))) e))
       unfolding check_passes
-      located_after set bound place_of row outs dest d e s st Q are coded many exists long of_set newer older own a within known faults = by least refl
+      located_after set of bound place_of row outs dest d e s st Q are coded many also long of_set newer older own a within known faults = by least refl
         where
           coordinates : List Coordinate
           coordinates = coordinates_in outs
@@ -227,10 +235,10 @@ module _ (g : Setting) where
           signed = signed_coordinates (items-the_row-TExpr _ row) coordinates
 
           checking : Step
-          checking = ChecksTarget set place_of signed
+          checking = ChecksTarget of place_of signed
 
           making : Step
-          making = MakesAddress dest set coordinates
+          making = MakesAddress dest of coordinates
 
           given : List Operand
           given = indexes_at (extents g set) st row
@@ -238,32 +246,32 @@ module _ (g : Setting) where
           t : CodeState
           t = a.passes.t
 
-          target : TargetStands g (length e.code) set place_of signed
-          target = target_stands g (length e.code) set place_of signed (next_stands g checking e (earlier g (with_step checking e) (with_step making (with_step checking e)) 1 (and_step making (with_step checking e)) within))
+          target : TargetStands g (length e.code) of place_of signed
+          target = target_stands g (length e.code) of place_of signed (next_stands g checking e (earlier g (with_step checking e) (with_step making (with_step checking e)) 1 (and_step making (with_step checking e)) within))
 
           check : Instr
-          check = I.CheckTarget set place_of target.list
+          check = I.CheckTarget of place_of target.list
 
           checked : Draft
           checked = with_instr check e
 
           same_checked : checked ≡ with_step checking e
-          same_checked = with_target g e (length e.code) set place_of signed target
+          same_checked = with_target g e (length e.code) of place_of signed target
 
-          address : AddressStands g (length checked.code) dest set coordinates
-          address = address_stands g (length checked.code) dest set coordinates (next_stands g making checked (subst (λ (x : Draft). Within g (with_step making x)) (sym same_checked) within))
+          address : AddressStands g (length checked.code) dest of coordinates
+          address = address_stands g (length checked.code) dest of coordinates (next_stands g making checked (subst (λ (x : Draft). Within g (with_step making x)) (sym same_checked) within))
 
           make : Instr
-          make = I.MakeAddress dest set address.list
+          make = I.MakeAddress dest of address.list
 
           made : Draft
           made = with_instr make checked
 
           same_made : made ≡ with_step making (with_step checking e)
-          same_made = with_address g checked (length checked.code) dest set coordinates address ∙ ap (with_step making) same_checked
+          same_made = with_address g checked (length checked.code) dest of coordinates address ∙ ap (with_step making) same_checked
 
           behind : AllBehind g outs e
-          behind = behind_earlier g outs e checked (let more = code_more g check e in omega (arith, more)) (all_behind make (length checked.code) checked outs address.there (omega arith) (address_names (length checked.code) dest set outs address) a.shaped)
+          behind = behind_earlier g outs e checked (let more = code_more g check e in omega (arith, more)) (all_behind make (length checked.code) checked outs address.there (omega arith) (address_names (length checked.code) dest of outs address) a.shaped)
 
           sure : Passes g alive bound d e s st (Unit {0})
           sure = record {
@@ -280,13 +288,20 @@ module _ (g : Setting) where
           have = all_have g alive places fields bound d e s set st (AllBehind g outs e) a.passes (words_of g set st row) outs behind (a.stand behind)
 
           args : List ℕ
-          args = arguments_at (I.CheckTarget set place_of target.over) t.registers
+          args = arguments_at (I.CheckTarget of place_of target.over) t.registers
 
           least : Option ℕ
-          least = least_failing (shapes g) (I.CheckTarget set place_of target.over) args t.memory
+          least = least_failing (shapes g) (I.CheckTarget of place_of target.over) args t.memory
 
-          own_extents : extents g set ≡ fields.scope.extents set
-          own_extents = sym (fields.same_extents set exists)
+          own_extents : (x : ℕ) → x < length (shapes g) → extents g x ≡ fields.scope.extents x
+          own_extents x there = sym (fields.same_extents x there)
+
+          -- there is an index
+          some : length (items-the_row-TExpr _ row) ≡ 0 → ⊥
+          some none = let rank = (geometry_parts (extents g of) (places.geometry of also)).0 in omega (arith, none, many, rank)
+
+          exists : set < length (shapes g)
+          exists = set_there st set t row outs have some
 
           listed : target.over.items ≡ with_signs given (map (moved_coordinate (Listed.places g)) coordinates)
           listed = target.moved_items ∙ signs_are (extents g set) st (Listed.places g) row outs
@@ -294,23 +309,23 @@ module _ (g : Setting) where
           flags : (q : ℕ) → q < processors (shapes g) set → is_active (shapes g) t.memory set q ≡ fields.active set q
           flags q below = flags_of g alive places fields st t set q a.passes.sim exists below
 
-          outside : outside_at fields.scope fields.active set given ≡ failing_at least
+          outside : outside_at fields.scope fields.active set of given ≡ failing_at least
           outside =
-              checks_of_indexes (shapes g) t.memory args fields.scope fields.active set set place_of target.over (map (moved_coordinate (Listed.places g)) coordinates) given own_extents own_extents (as_many (extents g set) st row ∙ many ∙ ap length own_extents) listed
-              (ap (set_of_coordinates set) listed ∙ set_is (extents g set) st set t (Listed.places g) row (words_of g set st row) outs have) flags
+              checks_of_indexes (shapes g) t.memory args fields.scope fields.active set of place_of target.over (map (moved_coordinate (Listed.places g)) coordinates) given (own_extents set exists) (own_extents of also) (as_many (extents g set) st row ∙ many ∙ ap length (own_extents of also)) listed
+              (ap (set_of_coordinates of) listed ∙ set_is (extents g set) st set of t (Listed.places g) row outs have some) flags
               (λ q below on. indexes_there set st t row outs args q are coded a.passes.sim have below (flags q below ∙ on))
 
           stepped : (o : Option ℕ) → least ≡ o → step g.image t ≡ (elim o as (λ _. Next) [ None ↦ Goes (Machine.onward t) | Some q ↦ Machine.Ends (Machine.Fault Index place_of (Some q)) (Machine.onward t) ])
           stepped o is =
-              begins_there g (length e.code) (I.CheckTarget set place_of target.over) t target.moved_there a.passes.at.stands ∙ check_begun set place_of target.over t
+              begins_there g (length e.code) (I.CheckTarget of place_of target.over) t target.moved_there a.passes.at.stands ∙ check_begun of place_of target.over t
               ∙ ap (λ (x : Option ℕ). elim x as (λ _. Next) [ None ↦ Goes (Machine.onward t) | Some q ↦ Machine.Ends (Machine.Fault Index place_of (Some q)) (Machine.onward t) ]) is
 
           by : (o : Option ℕ) → least ≡ o → Q (with_step making (with_step checking e))
           by None none =
-              let clear : outside_at fields.scope fields.active set given ≡ None = outside ∙ ap failing_at none in
+              let clear : outside_at fields.scope fields.active set of given ≡ None = outside ∙ ap failing_at none in
               let goes : Passes g alive bound d checked s st (Unit {0}) = check_passes g alive check bound d e s st sure (stepped None none) in
               subst Q same_made (known clear made
-              (gives_on g alive 32 bound bound d checked made s set st (target_of (extents g set) st row) dest (Unit {0}) (omega arith) goes (λ b. tt)
-              (next_own g alive places fields 32 bound set make dest checked goes.t st (target_of (extents g set) st row) newer (let more = fields_longer e checked 1 (and_one g check e) in omega (arith, older, more)) own of_set long goes.at goes.sim
-              (address_next set st goes.t row outs dest checked of_set exists are coded goes.sim (have_on set t (words_of g set st row) outs have) clear goes.at.stands address))))
+              (gives_on g alive 32 bound bound d checked made s set st (target_of (extents g of) (extents g set) st row) dest (Unit {0}) (omega arith) goes (λ b. tt)
+              (next_own g alive places fields 32 bound set make dest checked goes.t st (target_of (extents g of) (extents g set) st row) newer (let more = fields_longer e checked 1 (and_one g check e) in omega (arith, older, more)) own of_set long goes.at goes.sim
+              (address_next set of st goes.t row outs dest checked of_set exists also are coded goes.sim (have_on set t (words_of g set st row) outs have) clear goes.at.stands address))))
           by (Some q) some = faults q (outside ∙ ap failing_at some) (check_ends g alive check bound d e s st sure Index place_of q (stepped (Some q) some)) (with_step making (with_step checking e))

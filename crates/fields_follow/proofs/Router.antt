@@ -290,7 +290,7 @@ module _ (g : Setting) where
         given = indexes_at (extents g set) st indexes
 
         to : ℕ → ℕ
-        to = target_of (extents g set) st indexes
+        to = target_of (extents g set) (extents g set) st indexes
 
         start : PartsStand g alive bound d1 s set st [] [] d1
         start = record { shaped = tt; passes = passes_all g alive bound d1 s st (AllBehind g [] d1) (starts_entry g alive _ _ here) sim; stand = λ b. tt }
@@ -298,7 +298,7 @@ module _ (g : Setting) where
         same : (q : ℕ) → held ty.elem (st.parallel (V.File k) 0 (to q)) ≡ word_at (extents g set) st e q
         same q = ap (λ (x : ℕ). held ty.elem x) (sym (routed_value (extents g set) st ty place_of p indexes (V.File k) set q goes))
 
-        means : all_meant g has alive n ready places fields indexes st ≡ Source.Gives given st → outside_at fields.scope fields.active set given ≡ None → meant g fields e st ≡ Source.Gives (Parallel (λ q. value_in (extents g set) st e q)) st
+        means : all_meant g has alive n ready places fields indexes st ≡ Source.Gives given st → outside_at fields.scope fields.active set set given ≡ None → meant g fields e st ≡ Source.Gives (Parallel (λ q. value_in (extents g set) st e q)) st
         means known clear =
             routed_gives fields.scope fields.active ty place_of p indexes (V.File k) set given st shaped known clear
             ∙ ap (λ (xs : List ℕ). Source.Gives (Parallel (λ q. st.parallel (V.File k) 0 (named_by xs given q))) st) (fields.same_extents set exists)
@@ -311,12 +311,12 @@ module _ (g : Setting) where
         by parts between (inl (known, stand)) =
             after_same g Q (ap (λ (b : Bool). if b then Makes (O.Field f) (whole (each_located place_of set items (map index_coordinate parts) at between)) else Fails) (fields_somewhere g parts stand.shaped))
             (made_after g Q (O.Field f) (whole located) (λ within.
-            located_after g alive places fields has n ready set bound place_of indexes parts at d1 between s st (λ x. Within g (whole x) → Q (O.Field f) (whole x)) are coded many exists refl refl less (let longer = fields_longer d1 between stand.passes.grown.0 stand.passes.grown.1 in omega (arith, longer, first))
+            located_after g alive places fields has n ready set set bound place_of indexes parts at d1 between s st (λ x. Within g (whole x) → Q (O.Field f) (whole x)) are coded many exists refl refl less (let longer = fields_longer d1 between stand.passes.grown.0 stand.passes.grown.1 in omega (arith, longer, first))
             (taken g set 32 W.Own d (whole located) (stand.passes.grown.0 + (1 + 1 + (0 + more.0))) within (extended d1 between (whole located) stand.passes.grown.0 (1 + 1 + (0 + more.0)) stand.passes.grown.1 behind)) stand
             (earlier g located (whole located) (0 + more.0) (extended located (for_variable g set k info located) (whole located) 0 more.0 (and_entry set info.elem.bits (owner_of g k) located) more.1) within)
             (λ clear x gives w.
             got_last ty k set bits offset bound info at to d1 x s st Q most refl is (let l1 = fields_longer d1 x gives.passes.grown.0 gives.passes.grown.1 in omega (arith, less, first, l1)) gives
-            (λ q below on. indexes_within_name_positions (extents g set) given q (inside g alive places fields set given exists clear q below on))
+            (λ q below on. indexes_within_name_positions (extents g set) given q (inside g alive places fields set set given exists exists clear q below on))
             (λ e2 i w2 passes puts. last (means known clear) e2 i w2 (passes_from g alive bound d d1 e2 s st (Unit {0}) (and_entry set 32 W.Own d) passes)
             (puts_same g set i f passes.t (λ q. held ty.elem (st.parallel (V.File k) 0 (to q))) (λ q. word_at (extents g set) st e q) (λ q below. same q) puts)) w)
             (λ q some ends x w. ended (record { early = Source.Fault Index place_of (Some q); state = st; is = routed_faults fields.scope fields.active ty place_of p indexes (V.File k) set given st q shaped known some; finishes = ends }) (O.Field f) (whole x)) within))

@@ -39,9 +39,9 @@ unfolding goes_by_news out-TExpr Carrier.out
 routed ty place p indexes k set goes = ap (λ (xs : List TExpr). is_some ty.shape && all_go_by_news set 0 xs) (items_shown-the_row-TExpr-0 p indexes) ∙ right_false (is_some ty.shape) (all_go_by_news set 0 (items-the_row-TExpr _ indexes)) goes
 
 -- no position of a parallel one is known
-pub unknown : (t : Typed) (ty : ValueType) (place : Place) (p : _) (indexes : Row_of-TExpr _) (k set : ℕ) → ty.shape ≡ Some set → known_position t (T.LeftIndex' ty place p indexes (V.File k) set) ≡ None
+pub unknown : (t : Typed) (ty : ValueType) (place : Place) (p : _) (indexes : Row_of-TExpr _) (k set of : ℕ) → ty.shape ≡ Some set → known_position t (T.LeftIndex' ty place p indexes (V.File k) of) ≡ None
 unfolding known_position out-TExpr Carrier.out
-unknown t ty place p indexes k set shaped = ap (λ (xs : List TExpr). if is_none ty.shape then position_in t set xs else None) (items_shown-the_row-TExpr-0 p indexes) ∙ ap (λ (o : Option ℕ). if is_none o then position_in t set (items-the_row-TExpr _ indexes) else None) shaped
+unknown t ty place p indexes k set of shaped = ap (λ (xs : List TExpr). if is_none ty.shape then position_in t of xs else None) (items_shown-the_row-TExpr-0 p indexes) ∙ ap (λ (o : Option ℕ). if is_none o then position_in t of (items-the_row-TExpr _ indexes) else None) shaped
 
 -- three pieces of code
 pub then_three : {A B D : Type 0} (made : Made A) (f : A → Draft → Made B) (h : B → Draft → Made D) → then_make (then_make made f) h ≡ then_make made (λ x e. then_make (f x e) h)
@@ -113,7 +113,7 @@ module _ (g : Setting) where
   router_code ty place p indexes k set info dest codes spot d shaped goes of_set is spot_is =
       ap (λ (b : Bool). if b then news_to g.typed (layout g) e (O.Field dest) d else read_to g.typed (layout g) e spot (O.Field dest) d) (routed ty place p indexes k set goes)
       ∙ ap (λ (m : Made Spot). then_make m next) spot_is
-      ∙ ap (λ (o : Option ℕ). then_make (elim o as (λ _. Made Spot) [ Some position ↦ then_make (word_in (layout g) position d) (λ r after. Makes (S.Indexed (O.Scalar r)) after) | None ↦ then_make (fresh_for ty.shape 32 d) (λ at begun. then_make (codes [] begun) (λ parts between. then_make (located e parts at between) (λ out after. Makes (S.Indexed out) after))) ]) next) (unknown g.typed ty place p indexes k set shaped)
+      ∙ ap (λ (o : Option ℕ). then_make (elim o as (λ _. Made Spot) [ Some position ↦ then_make (word_in (layout g) position d) (λ r after. Makes (S.Indexed (O.Scalar r)) after) | None ↦ then_make (fresh_for ty.shape 32 d) (λ at begun. then_make (codes [] begun) (λ parts between. then_make (located e parts at between) (λ out after. Makes (S.Indexed out) after))) ]) next) (unknown g.typed ty place p indexes k set set shaped)
       ∙ ap (λ (o : Option ℕ). then_make (then_make (fresh_for o 32 d) (λ at begun. then_make (codes [] begun) (λ parts between. then_make (located e parts at between) (λ out after. Makes (S.Indexed out) after)))) next) shaped
       ∙ then_three (codes [] (with_entry set 32 W.Own d)) (λ parts between. then_make (located e parts (O.Field at) between) (λ out after. Makes (S.Indexed out) after)) next
       ∙ ap (λ (f : List Out → Draft → Made Out). then_make (codes [] (with_entry set 32 W.Own d)) f) (λ j parts between. behind_is ty place p indexes k set info dest at parts between of_set is j)

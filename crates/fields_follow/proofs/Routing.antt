@@ -35,29 +35,29 @@ unfolding indexes_at coordinates_of index_at at coordinates_named
 coordinates_same extents st end_of-TExpr q = refl
 coordinates_same extents st (more_of-TExpr index rest) q = ap (λ (cs : List ℕ). unsigned_abs (number_of (type_of index).elem.bits (type_of index).elem.signed (value_in extents st index q)) ∷ cs) (coordinates_same extents st rest q)
 
--- the position that they name at each
-abbrev pub target_of : {k : _} → List ℕ → State → Row_of-TExpr k → ℕ → ℕ
-target_of extents st row q = named_by extents (indexes_at extents st row) q
+-- the position of a shape that they name at each of their own
+abbrev pub target_of : {k : _} → List ℕ → List ℕ → State → Row_of-TExpr k → ℕ → ℕ
+target_of of extents st row q = named_by of (indexes_at extents st row) q
 
 pub routed_value : (extents : List ℕ) (st : State) (ty : ValueType) (place : Place) (p : _) (indexes : Row_of-TExpr _) (x : Variable) (of q : ℕ) → all_go_by_news of 0 (items-the_row-TExpr _ indexes) ≡ false
-    → value_in extents st (T.LeftIndex' ty place p indexes x of) q ≡ st.parallel x 0 (target_of extents st indexes q)
+    → value_in extents st (T.LeftIndex' ty place p indexes x of) q ≡ st.parallel x 0 (target_of extents extents st indexes q)
 unfolding named_by
 routed_value extents st ty place p indexes x of q goes = value_by_router extents st ty place p indexes x of q goes ∙ ap (λ (cs : List ℕ). st.parallel x 0 (number_at extents cs)) (sym (coordinates_same extents st indexes q))
 
 module _ (scope : Scope) (active : Active) where
-  -- where an index does not lie within its extent
-  abbrev pub outside_at : ℕ → List Operand → Option (Option ℕ)
-  outside_at set given = failing scope active (Some set) (λ q. not (are_within (scope.extents set) given q))
+  -- where an index of a set does not lie within its extent of a shape
+  abbrev pub outside_at : ℕ → ℕ → List Operand → Option (Option ℕ)
+  outside_at set of given = failing scope active (Some set) (λ q. not (are_within (scope.extents of) given q))
 
   targets_so : (ty : ValueType) (place : Place) (p : _) (indexes : Row_of-TExpr _) (x : Variable) (set : ℕ) (given : List Operand) (st : State) → ty.shape ≡ Some set → operands scope indexes active st ≡ Gives given st
-      → evaluated scope (T.LeftIndex' ty place p indexes x set) active st ≡ then_do (unless (outside_at set given) Index place st (Gives (position_target (Some set) x (λ q. named_by (scope.extents set) given q)) st)) (λ there after. Gives (read after there) after)
+      → evaluated scope (T.LeftIndex' ty place p indexes x set) active st ≡ then_do (unless (outside_at set set given) Index place st (Gives (position_target (Some set) x (λ q. named_by (scope.extents set) given q)) st)) (λ there after. Gives (read after there) after)
   unfolding evaluated then_do indexed_target
   targets_so ty place p indexes x set given st shaped known =
       ap (λ (o : Outcome (List Operand)). then_do o (λ given between. then_do (indexed_target scope active ty.shape place x set given between) (λ there after. Gives (read after there) after))) known
       ∙ ap (λ (o : Option ℕ). then_do (indexed_target scope active o place x set given st) (λ there after. Gives (read after there) after)) shaped
 
   -- where all lie within them, each position gets the number of its target
-  pub routed_gives : (ty : ValueType) (place : Place) (p : _) (indexes : Row_of-TExpr _) (x : Variable) (set : ℕ) (given : List Operand) (st : State) → ty.shape ≡ Some set → operands scope indexes active st ≡ Gives given st → outside_at set given ≡ None
+  pub routed_gives : (ty : ValueType) (place : Place) (p : _) (indexes : Row_of-TExpr _) (x : Variable) (set : ℕ) (given : List Operand) (st : State) → ty.shape ≡ Some set → operands scope indexes active st ≡ Gives given st → outside_at set set given ≡ None
       → evaluated scope (T.LeftIndex' ty place p indexes x set) active st ≡ Gives (Parallel (λ q. st.parallel x 0 (named_by (scope.extents set) given q))) st
   unfolding unless position_target read gotten then_do
   routed_gives ty place p indexes x set given st shaped known none =
@@ -65,7 +65,7 @@ module _ (scope : Scope) (active : Active) where
       ∙ ap (λ (o : Option (Option ℕ)). then_do (unless o Index place st (Gives (position_target (Some set) x (λ q. named_by (scope.extents set) given q)) st)) (λ there after. Gives (read after there) after)) none
 
   -- else the run ends at the least such position
-  pub routed_faults : (ty : ValueType) (place : Place) (p : _) (indexes : Row_of-TExpr _) (x : Variable) (set : ℕ) (given : List Operand) (st : State) (q : ℕ) → ty.shape ≡ Some set → operands scope indexes active st ≡ Gives given st → outside_at set given ≡ Some (Some q)
+  pub routed_faults : (ty : ValueType) (place : Place) (p : _) (indexes : Row_of-TExpr _) (x : Variable) (set : ℕ) (given : List Operand) (st : State) (q : ℕ) → ty.shape ≡ Some set → operands scope indexes active st ≡ Gives given st → outside_at set set given ≡ Some (Some q)
       → evaluated scope (T.LeftIndex' ty place p indexes x set) active st ≡ Ends (Fault Index place (Some q)) st
   unfolding unless then_do
   routed_faults ty place p indexes x set given st q shaped known some =

@@ -126,46 +126,46 @@ module _ (g : Setting) where
       by (O.Scalar r) = refl
       by O.Nothing = refl
 
-  spot_is : (ty : ValueType) (place : Place) (r : _) (indexes : Row_of-TExpr _) (k set : ℕ) (at : Field) (parts : List Out) (d : Draft)
-      → then_make (located (T.LeftIndex' ty place r indexes (V.File k) set) parts (O.Field at) d) (λ out after. Makes (S.Indexed out) after) ≡ spot_at set place (items-the_row-TExpr _ indexes) at parts d
+  spot_is : (ty : ValueType) (place : Place) (r : _) (indexes : Row_of-TExpr _) (k of : ℕ) (at : Field) (parts : List Out) (d : Draft)
+      → then_make (located (T.LeftIndex' ty place r indexes (V.File k) of) parts (O.Field at) d) (λ out after. Makes (S.Indexed out) after) ≡ spot_at of place (items-the_row-TExpr _ indexes) at parts d
   unfolding located out-TExpr Carrier.out located_at then_make
-  spot_is ty place r indexes k set at parts d =
-      ap (λ (xs : List TExpr). then_make (located_at place set xs parts (O.Field at) d) (λ out after. Makes (S.Indexed out) after)) (items_shown-the_row-TExpr-0 r indexes)
+  spot_is ty place r indexes k of at parts d =
+      ap (λ (xs : List TExpr). then_make (located_at place of xs parts (O.Field at) d) (λ out after. Makes (S.Indexed out) after)) (items_shown-the_row-TExpr-0 r indexes)
       ∙ by (all_somewhere parts)
     where
-      by : (b : Bool) → then_make (if b then Makes (O.Field at) (each_located place set (items-the_row-TExpr _ indexes) (map index_coordinate parts) at d) else Fails) (λ out after. Makes (S.Indexed out) after) ≡ (if b then Makes (S.Indexed (O.Field at)) (each_located place set (items-the_row-TExpr _ indexes) (map index_coordinate parts) at d) else Fails)
+      by : (b : Bool) → then_make (if b then Makes (O.Field at) (each_located place of (items-the_row-TExpr _ indexes) (map index_coordinate parts) at d) else Fails) (λ out after. Makes (S.Indexed out) after) ≡ (if b then Makes (S.Indexed (O.Field at)) (each_located place of (items-the_row-TExpr _ indexes) (map index_coordinate parts) at d) else Fails)
       by true = refl
       by false = refl
 
   -- the code of its value, and then the send
-  abbrev pub value_sent : ℕ → ℕ → ℕ → VarInfo → ValueType → AssignOp → TExpr → Field → Draft → Made Out
-  value_sent bits set k info ty op value at d = then_make (spread_by (λ y. value_of g.typed (layout g) bits value y) value set bits d) (λ out after. sends_out set k info ty op value at out after)
+  abbrev pub value_sent : ℕ → ℕ → ℕ → ℕ → VarInfo → ValueType → AssignOp → TExpr → Field → Draft → Made Out
+  value_sent bits set of k info ty op value at d = then_make (spread_by (λ y. value_of g.typed (layout g) bits value y) value set bits d) (λ out after. sends_out of k info ty op value at out after)
 
   -- all of it
-  pub send_code : (aty ty : ValueType) (place_of place : Place) (op : AssignOp) (p q : Boxed) (r : _) (indexes : Row_of-TExpr _) (target value : TExpr) (k set bits : ℕ) (info : VarInfo) (d : Draft) → IsLike g.typed (layout g) target (T.LeftIndex' ty place_of r indexes (V.File k) set) → ty.shape ≡ Some set → aty ≡ type_of target
-      → IsElement g.typed k info set 0 → taken_bits aty.elem.bits op target value ≡ bits
+  pub send_code : (aty ty : ValueType) (place_of place : Place) (op : AssignOp) (p q : Boxed) (r : _) (indexes : Row_of-TExpr _) (target value : TExpr) (k set of bits : ℕ) (info : VarInfo) (d : Draft) → IsLike g.typed (layout g) target (T.LeftIndex' ty place_of r indexes (V.File k) of) → ty.shape ≡ Some set → aty ≡ type_of target
+      → IsElement g.typed k info of 0 → taken_bits aty.elem.bits op target value ≡ bits
       → effect_of g.typed (layout g) (T.Assign' aty place op p target q value) d
-      ≡ then_make (values_of g.typed (layout g) false (are_quiet indexes) indexes [] (with_entry set 32 W.Own d)) (λ parts between. then_make (spot_at set place_of (items-the_row-TExpr _ indexes) (next_field set 32 d) parts between)
-      (λ _ after. value_sent bits set k info aty op value (next_field set 32 d) after))
+      ≡ then_make (values_of g.typed (layout g) false (are_quiet indexes) indexes [] (with_entry set 32 W.Own d)) (λ parts between. then_make (spot_at of place_of (items-the_row-TExpr _ indexes) (next_field set 32 d) parts between)
+      (λ _ after. value_sent bits set of k info aty op value (next_field set 32 d) after))
   unfolding effect_of assignment_effect value_of assign_by sent_by spot_of indexed_spot fresh_for an_entry then_make own_of is_send is_sent bare indexed
-  send_code aty ty place_of place op p q r indexes target value k set bits info d like shaped same is taken =
+  send_code aty ty place_of place op p q r indexes target value k set of bits info d like shaped same is taken =
       ap (λ (o : Option Own). elim (elim o as (λ _. Option Own) [ Some own ↦ if writes_itself own op (type_of target).elem value then Some own else None | None ↦ None ]) as (λ _. Made Out) [ Some own ↦ then_make (whole_of g.typed (layout g) target own d) (λ dest after. variable_assigned g.typed (layout g) op place target value dest after) | None ↦ value_of g.typed (layout g) aty.elem.bits e d ]) like.own
       ∙ ap (λ (b : Bool). if b then sent_by g.typed (layout g) e (λ y. spot_of g.typed (layout g) target y) (λ x. spread_by (code took) value (unwrap_or (type_of target).shape 0) took x) d else lowest aty.elem.bits (assigned_by g.typed (layout g) e took (assign_op_of op) place target value (type_of target).shape (λ y. spot_of g.typed (layout g) target y) (code took) d)) (like.sends ∙ ap is_some shaped)
       ∙ ap (λ (y : ValueType). then_make (spot_of g.typed (layout g) target d) (λ there after. behind_spot (λ x. spread_by (code took) value (unwrap_or y.shape 0) took x) e there after)) like.type
       ∙ ap (λ (o : Option ℕ). then_make (spot_of g.typed (layout g) target d) (λ there after. behind_spot (λ x. spread_by (code took) value (unwrap_or o 0) took x) e there after)) shaped
       ∙ ap (λ (m : ℕ). then_make (spot_of g.typed (layout g) target d) (λ there after. behind_spot (λ x. spread_by (code m) value set m x) e there after)) taken
       ∙ ap (λ (m : Made Spot). then_make m next) (like.spot d)
-      ∙ ap (λ (o : Option ℕ). then_make (elim o as (λ _. Made Spot) [ Some position ↦ then_make (word_in (layout g) position d) (λ r after. Makes (S.Indexed (O.Scalar r)) after) | None ↦ then_make (fresh_for ty.shape 32 d) (λ at begun. then_make (codes [] begun) (λ parts between. then_make (located left parts at between) (λ out after. Makes (S.Indexed out) after))) ]) next) (unknown g.typed ty place_of r indexes k set shaped)
+      ∙ ap (λ (o : Option ℕ). then_make (elim o as (λ _. Made Spot) [ Some position ↦ then_make (word_in (layout g) position d) (λ r after. Makes (S.Indexed (O.Scalar r)) after) | None ↦ then_make (fresh_for ty.shape 32 d) (λ at begun. then_make (codes [] begun) (λ parts between. then_make (located left parts at between) (λ out after. Makes (S.Indexed out) after))) ]) next) (unknown g.typed ty place_of r indexes k set of shaped)
       ∙ ap (λ (o : Option ℕ). then_make (then_make (fresh_for o 32 d) (λ at begun. then_make (codes [] begun) (λ parts between. then_make (located left parts at between) (λ out after. Makes (S.Indexed out) after)))) next) shaped
       ∙ then_three (codes [] (with_entry set 32 W.Own d)) (λ parts between. then_make (located left parts (O.Field at) between) (λ out after. Makes (S.Indexed out) after)) next
-      ∙ ap (λ (f : List Out → Draft → Made Spot). then_make (codes [] (with_entry set 32 W.Own d)) (λ parts between. then_make (f parts between) next)) (λ j parts between. spot_is ty place_of r indexes k set at parts between j)
-      ∙ ap (λ (f : List Out → Draft → Made Out). then_make (codes [] (with_entry set 32 W.Own d)) f) (λ j parts between. by (all_somewhere parts) (each_located place_of set items (map index_coordinate parts) at between) j)
+      ∙ ap (λ (f : List Out → Draft → Made Spot). then_make (codes [] (with_entry set 32 W.Own d)) (λ parts between. then_make (f parts between) next)) (λ j parts between. spot_is ty place_of r indexes k of at parts between j)
+      ∙ ap (λ (f : List Out → Draft → Made Out). then_make (codes [] (with_entry set 32 W.Own d)) f) (λ j parts between. by (all_somewhere parts) (each_located place_of of items (map index_coordinate parts) at between) j)
     where
       e : TExpr
       e = T.Assign' aty place op p target q value
 
       left : TExpr
-      left = T.LeftIndex' ty place_of r indexes (V.File k) set
+      left = T.LeftIndex' ty place_of r indexes (V.File k) of
 
       items : List TExpr
       items = items-the_row-TExpr _ indexes
@@ -185,6 +185,6 @@ module _ (g : Setting) where
       next : Spot → Draft → Made Out
       next there after = behind_spot (λ x. spread_by (code bits) value set bits x) e there after
 
-      by : (b : Bool) (x : Draft) → then_make (if b then Makes (S.Indexed (O.Field at)) x else Fails) next ≡ then_make (if b then Makes (S.Indexed (O.Field at)) x else Fails) (λ _ after. value_sent bits set k info aty op value at after)
-      by true x = ap (λ (f : Out → Draft → Made Out). then_make (spread_by (code bits) value set bits x) f) (λ j v after. stored_is aty place op p q target value k set info at v after like.indexed same is j)
+      by : (b : Bool) (x : Draft) → then_make (if b then Makes (S.Indexed (O.Field at)) x else Fails) next ≡ then_make (if b then Makes (S.Indexed (O.Field at)) x else Fails) (λ _ after. value_sent bits set of k info aty op value at after)
+      by true x = ap (λ (f : Out → Draft → Made Out). then_make (spread_by (code bits) value set bits x) f) (λ j v after. stored_is aty place op p q target value k of info at v after like.indexed same is j)
       by false x = refl

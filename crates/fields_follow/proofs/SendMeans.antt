@@ -34,22 +34,22 @@ module _ (scope : Scope) (active : Active) where
   targets_of ty place x set given st = indexed_target scope active ty.shape place x set given st
 
   -- where all lie within their extents, the targets are known
-  pub targets_given : (ty : ValueType) (place : Place) (p : _) (indexes : Row_of-TExpr _) (x : Variable) (set : ℕ) (given : List Operand) (st : State) → ty.shape ≡ Some set → operands scope indexes active st ≡ Gives given st → outside_at scope active set given ≡ None
-      → located scope (T.LeftIndex' ty place p indexes x set) active st ≡ Gives (OfTargets x (λ q. named_by (scope.extents set) given q) set) st
+  pub targets_given : (ty : ValueType) (place : Place) (p : _) (indexes : Row_of-TExpr _) (x : Variable) (set of : ℕ) (given : List Operand) (st : State) → ty.shape ≡ Some set → operands scope indexes active st ≡ Gives given st → outside_at scope active set of given ≡ None
+      → located scope (T.LeftIndex' ty place p indexes x of) active st ≡ Gives (OfTargets x (λ q. named_by (scope.extents of) given q) set) st
   unfolding located then_do indexed_target unless position_target
-  targets_given ty place p indexes x set given st shaped known none =
-      ap (λ (o : Outcome (List Operand)). then_do o (λ given after. targets_of ty place x set given after)) known
-      ∙ ap (λ (o : Option ℕ). indexed_target scope active o place x set given st) shaped
-      ∙ ap (λ (o : Option (Option ℕ)). unless o Index place st (Gives (position_target (Some set) x (λ q. named_by (scope.extents set) given q)) st)) none
+  targets_given ty place p indexes x set of given st shaped known none =
+      ap (λ (o : Outcome (List Operand)). then_do o (λ given after. targets_of ty place x of given after)) known
+      ∙ ap (λ (o : Option ℕ). indexed_target scope active o place x of given st) shaped
+      ∙ ap (λ (o : Option (Option ℕ)). unless o Index place st (Gives (position_target (Some set) x (λ q. named_by (scope.extents of) given q)) st)) none
 
   -- else the run ends at the least position where one does not
-  pub targets_fault : (ty : ValueType) (place : Place) (p : _) (indexes : Row_of-TExpr _) (x : Variable) (set : ℕ) (given : List Operand) (st : State) (q : ℕ) → ty.shape ≡ Some set → operands scope indexes active st ≡ Gives given st → outside_at scope active set given ≡ Some (Some q)
-      → located scope (T.LeftIndex' ty place p indexes x set) active st ≡ Ends (Fault Index place (Some q)) st
+  pub targets_fault : (ty : ValueType) (place : Place) (p : _) (indexes : Row_of-TExpr _) (x : Variable) (set of : ℕ) (given : List Operand) (st : State) (q : ℕ) → ty.shape ≡ Some set → operands scope indexes active st ≡ Gives given st → outside_at scope active set of given ≡ Some (Some q)
+      → located scope (T.LeftIndex' ty place p indexes x of) active st ≡ Ends (Fault Index place (Some q)) st
   unfolding located then_do indexed_target unless
-  targets_fault ty place p indexes x set given st q shaped known some =
-      ap (λ (o : Outcome (List Operand)). then_do o (λ given after. targets_of ty place x set given after)) known
-      ∙ ap (λ (o : Option ℕ). indexed_target scope active o place x set given st) shaped
-      ∙ ap (λ (o : Option (Option ℕ)). unless o Index place st (Gives (position_target (Some set) x (λ q. named_by (scope.extents set) given q)) st)) some
+  targets_fault ty place p indexes x set of given st q shaped known some =
+      ap (λ (o : Outcome (List Operand)). then_do o (λ given after. targets_of ty place x of given after)) known
+      ∙ ap (λ (o : Option ℕ). indexed_target scope active o place x of given st) shaped
+      ∙ ap (λ (o : Option (Option ℕ)). unless o Index place st (Gives (position_target (Some set) x (λ q. named_by (scope.extents of) given q)) st)) some
 
   -- what is sent arrives, as no send divides
   sent_so : (set : ℕ) (x : Variable) (place : Place) (op : AssignOp) (to from : ValueType) (targets v : ℕ → ℕ) (st : State) → to.shape ≡ Some set → ((q : ℕ) → divides_by_zero op (v q) ≡ false)

@@ -80,7 +80,7 @@ sent_as _ = inr (λ w. refl, λ f d. refl)
 pub negative_sent : (w : ℕ) → w < 2 ^ 32 → unary_of U.Minus w ≡ sent_word P.Sub w
 negative_sent w few = sym (negative 32 w w (omega arith) few (sym (mod-eq_of_lt few)) ∙ mod-eq_of_lt (unary_below U.Minus w few))
 
-module _ (g : Setting) (alive : Variable → Type 0) (places : PlacesFields g) (fields : HoldsTheFields g) (set k : ℕ) (info : VarInfo) (is : IsElement g.typed k info set 0) (d : Draft) (st : State) (to v : ℕ → ℕ) where
+module _ (g : Setting) (alive : Variable → Type 0) (places : PlacesFields g) (fields : HoldsTheFields g) (set of k : ℕ) (info : VarInfo) (is : IsElement g.typed k info of 0) (d : Draft) (st : State) (to v : ℕ → ℕ) where
   abbrev at : Field
   at = next_field set 32 d
 
@@ -134,9 +134,9 @@ module _ (g : Setting) (alive : Variable → Type 0) (places : PlacesFields g) (
       by (inr variable) = inr variable
 
   -- The send is the instruction that is next, to the entry for the variable, which was taken before.
-  module _ (bits m : ℕ) (w : ℕ → ℕ) (s : CodeState) (a : Field) (y e : Draft) (grown : Extended (for_variable g set k info y) m e) (b : BothStand bits w s a e) (i : Instr) (plain : step_of i ≡ Plain i) (names : fields_of i ≡ next_field set info.elem.bits y ∷ at ∷ a ∷ []) (within : Within g (with_instr i e)) where
+  module _ (bits m : ℕ) (w : ℕ → ℕ) (s : CodeState) (a : Field) (y e : Draft) (grown : Extended (for_variable g of k info y) m e) (b : BothStand bits w s a e) (i : Instr) (plain : step_of i ≡ Plain i) (names : fields_of i ≡ next_field of info.elem.bits y ∷ at ∷ a ∷ []) (within : Within g (with_instr i e)) where
     abbrev variable : Field
-    variable = next_field set info.elem.bits y
+    variable = next_field of info.elem.bits y
 
     at_behind : Behind g at e
     at_behind = (length e.code, (names_second g i variable at (a ∷ []) (length e.code) (stands_here g i e within plain) names, omega arith))
@@ -154,13 +154,13 @@ module _ (g : Setting) (alive : Variable → Type 0) (places : PlacesFields g) (
     numbers = (both_there bits w s a e b at_behind a_behind).1
 
     file : IsFileField g k 0 variable
-    file = taken g set info.elem.bits (owner_of g k) y (with_instr i e) (m + 1) within (extended (for_variable g set k info y) e (with_instr i e) m 1 grown (and_one g i e))
+    file = taken g of info.elem.bits (owner_of g k) y (with_instr i e) (m + 1) within (extended (for_variable g of k info y) e (with_instr i e) m 1 grown (and_one g i e))
 
     was : HoldsFields g.typed g.image fields.active st t.memory
     was = fields.opens (OpenAmong g alive) t.at st t.memory passes.sim.memory
 
     small : (q : ℕ) → st.parallel (V.File k) 0 q < 2 ^ info.elem.bits
-    small q = small_there g alive places fields set k info st t is passes.sim q
+    small q = small_there g alive places fields of k info st t is passes.sim q
 
     -- the machine has the targets of the source, what is sent, and the variable
     targets_there : HasTargets (shapes g) t.memory (place g at) send
@@ -176,42 +176,42 @@ module _ (g : Setting) (alive : Variable → Type 0) (places : PlacesFields g) (
         let inside = subst (λ (q : ℕ). p < processors (shapes g) q) numbers.1.of_set below in
         numbers.1.are p inside (flags_of g alive places fields st t set p passes.sim numbers.1.exists inside ∙ on) ∙ same p
 
-    variable_there : (p : ℕ) → p < processors (shapes g) set → true ≡ true → field_number t.memory (place g variable) p ≡ st.parallel (V.File k) 0 p
-    variable_there p below all = ap (λ (f : Field). field_number t.memory f p) (entry_place g places fields alive set k 0 info variable is refl file refl) ∙ was.numbers k 0 set p info is below
+    variable_there : (p : ℕ) → p < processors (shapes g) of → true ≡ true → field_number t.memory (place g variable) p ≡ st.parallel (V.File k) 0 p
+    variable_there p below all = ap (λ (f : Field). field_number t.memory f p) (entry_place g places fields alive of k 0 info variable is refl file refl) ∙ was.numbers k 0 of p info is below
 
     sends_leaves : (write : Write) → write.run ≡ place g variable → begun g.image (placed_instr g i) t ≡ Goes (wrote g write t) → (value : ℕ → ℕ) → ((q : ℕ) → value q < 2 ^ info.elem.bits)
-        → ((q : ℕ) → q < processors (shapes g) set → field_number (written write t.memory) (place g variable) q ≡ (with_positions (V.File k) 0 (λ x. is_sent_to send x) value st).parallel (V.File k) 0 q) → Leaves g alive d (with_instr i e) s (with_positions (V.File k) 0 (λ x. is_sent_to send x) value st)
-    sends_leaves write run goes value few has = sent_leaves g places fields alive set k info is variable file refl refl d e i s st within plain passes write run goes (λ x. is_sent_to send x) value few has
+        → ((q : ℕ) → q < processors (shapes g) of → field_number (written write t.memory) (place g variable) q ≡ (with_positions (V.File k) 0 (λ x. is_sent_to send x) value st).parallel (V.File k) 0 q) → Leaves g alive d (with_instr i e) s (with_positions (V.File k) 0 (λ x. is_sent_to send x) value st)
+    sends_leaves write run goes value few has = sent_leaves g places fields alive of k info is variable file refl refl d e i s st within plain passes write run goes (λ x. is_sent_to send x) value few has
 
   -- without an operator
-  pub set_leaves : (m : ℕ) (w : ℕ → ℕ) (s : CodeState) (a : Field) (y e : Draft) → Extended (for_variable g set k info y) m e → BothStand info.elem.bits w s a e → (to_elem from : Elem) → ((q : ℕ) → (w q % 2 ^ info.elem.bits ≡ v q) × (v q < 2 ^ info.elem.bits))
-      → Within g (with_instr (I.SendWithOverwrite (next_field set info.elem.bits y) to_elem at a) e) → Leaves g alive d (with_instr (I.SendWithOverwrite (next_field set info.elem.bits y) to_elem at a) e) s (sent A.Set to_elem from (V.File k) send st)
+  pub set_leaves : (m : ℕ) (w : ℕ → ℕ) (s : CodeState) (a : Field) (y e : Draft) → Extended (for_variable g of k info y) m e → BothStand info.elem.bits w s a e → (to_elem from : Elem) → ((q : ℕ) → (w q % 2 ^ info.elem.bits ≡ v q) × (v q < 2 ^ info.elem.bits))
+      → Within g (with_instr (I.SendWithOverwrite (next_field of info.elem.bits y) to_elem at a) e) → Leaves g alive d (with_instr (I.SendWithOverwrite (next_field of info.elem.bits y) to_elem at a) e) s (sent A.Set to_elem from (V.File k) send st)
   unfolding sent begun applied after step_of
   set_leaves m w s a y e grown b to_elem from same within =
-      sends_leaves info.elem.bits m w s a y e grown b i refl refl within (overwriting (shapes g) t_here.memory (place g (next_field set info.elem.bits y)) (place g at) (place g a)) refl refl (λ q. received st.winner A.Set to_elem from send (st.parallel (V.File k) 0 q) q)
+      sends_leaves info.elem.bits m w s a y e grown b i refl refl within (overwriting (shapes g) t_here.memory (place g (next_field of info.elem.bits y)) (place g at) (place g a)) refl refl (λ q. received st.winner A.Set to_elem from send (st.parallel (V.File k) 0 q) q)
       (λ q. set_few st.winner to_elem from send info.elem.bits (st.parallel (V.File k) 0 q) q (λ r. (same r).1) (small info.elem.bits m w s a y e grown b i refl refl within q))
-      (λ q below. overwriting_sends_store (shapes g) t_here.memory [] (place g (next_field set info.elem.bits y)) (place g at) (place g a) to_elem send st (V.File k) (targets_there info.elem.bits m w s a y e grown b i refl refl within) (numbers info.elem.bits m w s a y e grown b i refl refl within).1.of_set
+      (λ q below. overwriting_sends_store (shapes g) t_here.memory [] (place g (next_field of info.elem.bits y)) (place g at) (place g a) to_elem send st (V.File k) (targets_there info.elem.bits m w s a y e grown b i refl refl within) (numbers info.elem.bits m w s a y e grown b i refl refl within).1.of_set
       (value_there info.elem.bits m w s a y e grown b i refl refl within v (λ r. (same r).0)) (λ r below on. (same r).1) (was info.elem.bits m w s a y e grown b i refl refl within).winner (variable_there info.elem.bits m w s a y e grown b i refl refl within) to_elem from q below refl)
     where
       i : Instr
-      i = I.SendWithOverwrite (next_field set info.elem.bits y) to_elem at a
+      i = I.SendWithOverwrite (next_field of info.elem.bits y) to_elem at a
 
       t_here : CodeState
       t_here = t info.elem.bits m w s a y e grown b i refl refl within
 
   -- with an operator that folds
-  pub combined_leaves : (op : AssignOp) (o : Op) → assign_op_of op ≡ Some o → folds op ≡ true → (m : ℕ) (w : ℕ → ℕ) (s : CodeState) (a : Field) (y e : Draft) → Extended (for_variable g set k info y) m e → BothStand 32 w s a e → (to_elem from : Elem) → from.bits ≡ 32 → info.elem.bits ≡ to_elem.bits
-      → ((q : ℕ) → (w q % 2 ^ 32 ≡ sent_word o (v q)) × (v q < 2 ^ 32)) → Within g (with_instr (I.SendWithCombiner (fold_of o (is_signed from)) (next_field set info.elem.bits y) to_elem at a) e)
-      → Leaves g alive d (with_instr (I.SendWithCombiner (fold_of o (is_signed from)) (next_field set info.elem.bits y) to_elem at a) e) s (sent op to_elem from (V.File k) send st)
+  pub combined_leaves : (op : AssignOp) (o : Op) → assign_op_of op ≡ Some o → folds op ≡ true → (m : ℕ) (w : ℕ → ℕ) (s : CodeState) (a : Field) (y e : Draft) → Extended (for_variable g of k info y) m e → BothStand 32 w s a e → (to_elem from : Elem) → from.bits ≡ 32 → info.elem.bits ≡ to_elem.bits
+      → ((q : ℕ) → (w q % 2 ^ 32 ≡ sent_word o (v q)) × (v q < 2 ^ 32)) → Within g (with_instr (I.SendWithCombiner (fold_of o (is_signed from)) (next_field of info.elem.bits y) to_elem at a) e)
+      → Leaves g alive d (with_instr (I.SendWithCombiner (fold_of o (is_signed from)) (next_field of info.elem.bits y) to_elem at a) e) s (sent op to_elem from (V.File k) send st)
   unfolding sent begun applied after step_of
   combined_leaves op o is_op folding m w s a y e grown b to_elem from wide long same within =
-      sends_leaves 32 m w s a y e grown b i refl refl within (combining (shapes g) t_here.memory (fold_of o (is_signed from)) (place g (next_field set info.elem.bits y)) to_elem (place g at) (place g a)) refl refl (λ q. received st.winner op to_elem from send (st.parallel (V.File k) 0 q) q)
+      sends_leaves 32 m w s a y e grown b i refl refl within (combining (shapes g) t_here.memory (fold_of o (is_signed from)) (place g (next_field of info.elem.bits y)) to_elem (place g at) (place g a)) refl refl (λ q. received st.winner op to_elem from send (st.parallel (V.File k) 0 q) q)
       (λ q. subst (λ (x : ℕ). received st.winner op to_elem from send (st.parallel (V.File k) 0 q) q < 2 ^ x) (sym long) (folded_few st.winner op to_elem from send (st.parallel (V.File k) 0 q) q folding))
-      (λ q below. combining_sends_store (shapes g) t_here.memory [] (place g (next_field set info.elem.bits y)) (place g at) (place g a) send st (V.File k) (targets_there 32 m w s a y e grown b i refl refl within) op o is_op folding (numbers 32 m w s a y e grown b i refl refl within).1.of_set
+      (λ q below. combining_sends_store (shapes g) t_here.memory [] (place g (next_field of info.elem.bits y)) (place g at) (place g a) send st (V.File k) (targets_there 32 m w s a y e grown b i refl refl within) op o is_op folding (numbers 32 m w s a y e grown b i refl refl within).1.of_set
       (value_there 32 m w s a y e grown b i refl refl within (λ r. sent_word o (v r)) (λ r. (same r).0)) (λ r below on. (same r).1) (was 32 m w s a y e grown b i refl refl within).winner (variable_there 32 m w s a y e grown b i refl refl within) to_elem from wide long q below refl)
     where
       i : Instr
-      i = I.SendWithCombiner (fold_of o (is_signed from)) (next_field set info.elem.bits y) to_elem at a
+      i = I.SendWithCombiner (fold_of o (is_signed from)) (next_field of info.elem.bits y) to_elem at a
 
       t_here : CodeState
       t_here = t 32 m w s a y e grown b i refl refl within

@@ -92,26 +92,26 @@ target_shaped set _ is shaped = absurd is
 
 module _ (g : Setting) (has : HasRegisters g) (alive : Variable → Type 0) (n : ℕ) (ready : (d : Draft) → IsReadyButForFields g.typed g.instance (layout g) n d) (places : PlacesFields g) (fields : HoldsTheFields g) where
   -- A send follows where what its value is follows, and the send itself leaves what is sent.
-  sends_by : (aty ty : ValueType) (place_of sending : Place) (op : AssignOp) (p q : Boxed) (r : _) (indexes : Row_of-TExpr _) (target value : TExpr) (k set bits : ℕ) (info : VarInfo) (is : IsElement g.typed k info set 0) → IsLike g.typed (layout g) target (T.LeftIndex' ty place_of r indexes (V.File k) set) → ty.shape ≡ Some set → aty ≡ type_of target
-      → ArePure set indexes → AllCoded g has alive n ready places fields indexes → HasAxes g.typed set (length (items-the_row-TExpr _ indexes)) → taken_bits aty.elem.bits op target value ≡ bits → ((x : ℕ) → divides_by_zero op x ≡ false)
+  sends_by : (aty ty : ValueType) (place_of sending : Place) (op : AssignOp) (p q : Boxed) (r : _) (indexes : Row_of-TExpr _) (target value : TExpr) (k set of bits : ℕ) (info : VarInfo) (is : IsElement g.typed k info of 0) → IsLike g.typed (layout g) target (T.LeftIndex' ty place_of r indexes (V.File k) of) → ty.shape ≡ Some set → aty ≡ type_of target
+      → ArePure set indexes → AllCoded g has alive n ready places fields indexes → HasAxes g.typed of (length (items-the_row-TExpr _ indexes)) → taken_bits aty.elem.bits op target value ≡ bits → ((x : ℕ) → divides_by_zero op x ≡ false)
       → IsSpread g has alive n ready places fields bits set value → HasItsCode g.typed g.instance alive n value
       → (d : Draft) (s : CodeState) (st : State) → Starts g alive s (length d.code) d.regs (length d.fields) → Sim g alive st s
-      → ((a : Field) (e : Draft) → BothStand g alive places fields set k info is d st (λ x. target_of (extents g set) st indexes x) (λ x. value_in (extents g set) st value x) bits (λ x. word_at (extents g set) st value x) s a e
-      → After g (λ out f. Leaves g alive d f s (sent op aty.elem (type_of value).elem (V.File k) (sent_from fields.scope fields.active set (λ x. target_of (extents g set) st indexes x) (λ x. value_in (extents g set) st value x)) st)) (send_at g set k info aty op value (next_field set 32 d) a e))
+      → ((a : Field) (e : Draft) → BothStand g alive places fields set of k info is d st (λ x. target_of (extents g of) (extents g set) st indexes x) (λ x. value_in (extents g set) st value x) bits (λ x. word_at (extents g set) st value x) s a e
+      → After g (λ out f. Leaves g alive d f s (sent op aty.elem (type_of value).elem (V.File k) (sent_from fields.scope fields.active set (λ x. target_of (extents g of) (extents g set) st indexes x) (λ x. value_in (extents g set) st value x)) st)) (send_at g of k info aty op value (next_field set 32 d) a e))
       → UpdateLeaves g alive fields (T.Assign' aty sending op p target q value) d s st
   unfolding AreFields AllStand each_located located sends_out Extends
-  sends_by aty ty place_of sending op p q r indexes target value k set bits info is like shaped same are coded axes took never stands c d s st here sim last =
+  sends_by aty ty place_of sending op p q r indexes target value k set of bits info is like shaped same are coded axes took never stands c d s st here sim last =
       outcome_follows g s o Nothing u (λ out f. Leaves g alive d f s u) (λ x t out f. Leaves g alive d f s t) (effect_of g.typed (layout g) e d) (λ out f said. said)
-      (after_same g Q (send_code g aty ty place_of sending op p q r indexes target value k set bits info d like shaped same is took)
-      (then_after g Known Q (values_of g.typed (layout g) false (are_quiet indexes) indexes [] first_draft) (λ parts between. then_make (spot_at g set place_of items address parts between) (λ _ after. value_sent g bits set k info aty op value address after))
+      (after_same g Q (send_code g aty ty place_of sending op p q r indexes target value k set of bits info d like shaped same is took)
+      (then_after g Known Q (values_of g.typed (layout g) false (are_quiet indexes) indexes [] first_draft) (λ parts between. then_make (spot_at g of place_of items address parts between) (λ _ after. value_sent g bits set of k info aty op value address after))
       (parts_after g has alive n ready places fields indexes (are_quiet indexes) set bound first_draft s st [] [] first_draft are coded (each_after g has alive n ready places fields set indexes are coded) (omega (arith, first)) start)
-      (λ parts between. extends_then g between (spot_at g set place_of items address parts between) (λ _ after. value_sent g bits set k info aty op value address after) (spot_extends parts between (all_somewhere parts)) (λ _ after. value_extends after)) (λ parts between known. by parts between known)))
+      (λ parts between. extends_then g between (spot_at g of place_of items address parts between) (λ _ after. value_sent g bits set of k info aty op value address after) (spot_extends parts between (all_somewhere parts)) (λ _ after. value_extends after)) (λ parts between known. by parts between known)))
     where
       e : TExpr
       e = T.Assign' aty sending op p target q value
 
       left : TExpr
-      left = T.LeftIndex' ty place_of r indexes (V.File k) set
+      left = T.LeftIndex' ty place_of r indexes (V.File k) of
 
       items : List TExpr
       items = items-the_row-TExpr _ indexes
@@ -132,7 +132,7 @@ module _ (g : Setting) (has : HasRegisters g) (alive : Variable → Type 0) (n :
       given = indexes_at (extents g set) st indexes
 
       to : ℕ → ℕ
-      to x = target_of (extents g set) st indexes x
+      to x = target_of (extents g of) (extents g set) st indexes x
 
       v : ℕ → ℕ
       v x = value_in (extents g set) st value x
@@ -158,20 +158,20 @@ module _ (g : Setting) (has : HasRegisters g) (alive : Variable → Type 0) (n :
       Located : Draft → Type 0
       Located x = ((there_in ≡ Source.Gives (OfTargets (V.File k) to set) st) × GivesField g alive 32 bound first_draft s set st to address x) ⊎ Ended g s there_in
 
-      exists : set < length (shapes g)
-      exists = places.exists k 0 set info is
+      exists : of < length (shapes g)
+      exists = places.exists k 0 of info is
 
-      many : length items ≡ length (extents g set)
-      many = axes.2 ∙ ap length (sym (own_extents g.typed set axes.0 axes.1) ∙ (places.grids set exists).0)
+      many : length items ≡ length (extents g of)
+      many = axes.2 ∙ ap length (sym (own_extents g.typed of axes.0 axes.1) ∙ (places.grids of exists).0)
 
       start : PartsStand g alive bound first_draft s set st [] [] first_draft
       start = record { shaped = tt; passes = passes_all g alive bound first_draft s st (AllBehind g [] first_draft) (starts_entry g alive _ _ here) sim; stand = λ b. tt }
 
       checked : List Out → Draft → Draft
-      checked parts between = with_step (ChecksTarget set place_of (signed_coordinates items (map index_coordinate parts))) between
+      checked parts between = with_step (ChecksTarget of place_of (signed_coordinates items (map index_coordinate parts))) between
 
       placed : List Out → Draft → Draft
-      placed parts between = with_step (MakesAddress address set (map index_coordinate parts)) (checked parts between)
+      placed parts between = with_step (MakesAddress address of (map index_coordinate parts)) (checked parts between)
 
       placed_more : (parts : List Out) (between : Draft) → Extended between (1 + 1) (placed parts between)
       placed_more parts between = extended between (checked parts between) (placed parts between) 1 1 (and_step _ between) (and_step _ (checked parts between))
@@ -180,8 +180,8 @@ module _ (g : Setting) (has : HasRegisters g) (alive : Variable → Type 0) (n :
       spot_extends parts between true = (1 + 1, placed_more parts between)
       spot_extends parts between false = tt
 
-      value_extends : (x : Draft) → Extends g x (value_sent g bits set k info aty op value address x)
-      value_extends x = extends_then g x (spread_of g has alive n ready places fields bits set value x) (λ out after. sends_out g set k info aty op value address out after) (spread_grows g has alive n ready places fields bits set value c x) (λ out after. sends_extend g set k info aty op value address out after)
+      value_extends : (x : Draft) → Extends g x (value_sent g bits set of k info aty op value address x)
+      value_extends x = extends_then g x (spread_of g has alive n ready places fields bits set value x) (λ out after. sends_out g of k info aty op value address out after) (spread_grows g has alive n ready places fields bits set value c x) (λ out after. sends_extend g of k info aty op value address out after)
 
       target_ended : Ended g s there_in → Ended g s o
       target_ended early = record {
@@ -202,32 +202,32 @@ module _ (g : Setting) (has : HasRegisters g) (alive : Variable → Type 0) (n :
       means : there_in ≡ Source.Gives (OfTargets (V.File k) to set) st → meant g fields value st ≡ Source.Gives (Parallel v) st → o ≡ Source.Gives Nothing u
       means there gives = send_means fields.scope fields.active aty sending op p q target value set (V.File k) to v st (ap (λ (y : ValueType). y.shape) (same ∙ like.type) ∙ shaped) (λ x. never (v x)) (like.means fields.scope fields.active st ∙ there) gives
 
-      knows : all_meant g has alive n ready places fields indexes st ≡ Source.Gives given st → outside_at fields.scope fields.active set given ≡ None → there_in ≡ Source.Gives (OfTargets (V.File k) to set) st
+      knows : all_meant g has alive n ready places fields indexes st ≡ Source.Gives given st → outside_at fields.scope fields.active set of given ≡ None → there_in ≡ Source.Gives (OfTargets (V.File k) to set) st
       knows known clear =
-          targets_given fields.scope fields.active ty place_of r indexes (V.File k) set given st shaped known clear
-          ∙ ap (λ (xs : List ℕ). Source.Gives (OfTargets (V.File k) (λ x. named_by xs given x) set) st) (fields.same_extents set exists)
+          targets_given fields.scope fields.active ty place_of r indexes (V.File k) set of given st shaped known clear
+          ∙ ap (λ (xs : List ℕ). Source.Gives (OfTargets (V.File k) (λ x. named_by xs given x) set) st) (fields.same_extents of exists)
 
-      send_then : (x : Draft) → Located x → After g Q (value_sent g bits set k info aty op value address x)
-      send_then x (inr early) = after_all g Q (value_sent g bits set k info aty op value address x) (λ out f. inr (target_ended early))
+      send_then : (x : Draft) → Located x → After g Q (value_sent g bits set of k info aty op value address x)
+      send_then x (inr early) = after_all g Q (value_sent g bits set of k info aty op value address x) (λ out f. inr (target_ended early))
       send_then x (inl (there, gives)) =
-          then_known g gives.passes.t (meant g fields value st) v st (GivesSpread g has alive n ready places fields bits x gives.passes.t set st value) Q (spread_of g has alive n ready places fields bits set value x) (λ out after. sends_out g set k info aty op value address out after)
-          (stands x gives.passes.t st gives.passes.at gives.passes.sim) (λ out after. sends_extend g set k info aty op value address out after)
-          (λ known out f (a, (is_a, of_value)). after_same g Q (ap (λ (y : Out). sends_out g set k info aty op value address y f) is_a)
-          (after_weaker g (λ z h. Leaves g alive d h s u) Q (send_at g set k info aty op value address a f) (λ z h said. inl (means there known, said)) (last a f (record { x = x; address = gives; value = of_value }))))
+          then_known g gives.passes.t (meant g fields value st) v st (GivesSpread g has alive n ready places fields bits x gives.passes.t set st value) Q (spread_of g has alive n ready places fields bits set value x) (λ out after. sends_out g of k info aty op value address out after)
+          (stands x gives.passes.t st gives.passes.at gives.passes.sim) (λ out after. sends_extend g of k info aty op value address out after)
+          (λ known out f (a, (is_a, of_value)). after_same g Q (ap (λ (y : Out). sends_out g of k info aty op value address y f) is_a)
+          (after_weaker g (λ z h. Leaves g alive d h s u) Q (send_at g of k info aty op value address a f) (λ z h said. inl (means there known, said)) (last a f (record { x = x; address = gives; value = of_value }))))
           (λ early out f. inr (value_ended there (ended_back g s gives.passes.t (meant g fields value st) gives.passes.go early)))
 
-      by : (parts : List Out) (between : Draft) → Known parts between → After g Q (then_make (spot_at g set place_of items address parts between) (λ _ after. value_sent g bits set k info aty op value address after))
+      by : (parts : List Out) (between : Draft) → Known parts between → After g Q (then_make (spot_at g of place_of items address parts between) (λ _ after. value_sent g bits set of k info aty op value address after))
       by parts between (inr early) =
-          after_all g Q (then_make (spot_at g set place_of items address parts between) (λ _ after. value_sent g bits set k info aty op value address after))
-          (λ out f. inr (target_ended (ended_on g s (all_meant g has alive n ready places fields indexes st) (λ given after. targets_of fields.scope fields.active ty place_of (V.File k) set given after) early)))
+          after_all g Q (then_make (spot_at g of place_of items address parts between) (λ _ after. value_sent g bits set of k info aty op value address after))
+          (λ out f. inr (target_ended (ended_on g s (all_meant g has alive n ready places fields indexes st) (λ given after. targets_of fields.scope fields.active ty place_of (V.File k) of given after) early)))
       by parts between (inl (known, stand)) =
-          then_after g (λ _ x. Located x) Q (spot_at g set place_of items address parts between) (λ _ after. value_sent g bits set k info aty op value address after)
+          then_after g (λ _ x. Located x) Q (spot_at g of place_of items address parts between) (λ _ after. value_sent g bits set of k info aty op value address after)
           (after_same g (λ _ x. Located x) (ap (λ (b : Bool). if b then Makes (S.Indexed (O.Field address)) (placed parts between) else Fails) (fields_somewhere g parts stand.shaped))
           (made_after g (λ _ x. Located x) (S.Indexed (O.Field address)) (placed parts between) (λ within.
-          located_after g alive places fields has n ready set bound place_of indexes parts address first_draft between s st Located are coded many exists refl refl (omega arith) (let longer = fields_longer first_draft between stand.passes.grown.0 stand.passes.grown.1 in omega (arith, longer, first))
+          located_after g alive places fields has n ready set of bound place_of indexes parts address first_draft between s st Located are coded many exists refl refl (omega arith) (let longer = fields_longer first_draft between stand.passes.grown.0 stand.passes.grown.1 in omega (arith, longer, first))
           (taken g set 32 W.Own d (placed parts between) (stand.passes.grown.0 + (1 + 1)) within (extended first_draft between (placed parts between) stand.passes.grown.0 (1 + 1) stand.passes.grown.1 (placed_more parts between))) stand within
           (λ clear x gives. inl (knows known clear, gives))
-          (λ y some ends x. inr (record { early = Source.Fault Index place_of (Some y); state = st; is = targets_fault fields.scope fields.active ty place_of r indexes (V.File k) set given st y shaped known some; finishes = ends })))))
+          (λ y some ends x. inr (record { early = Source.Fault Index place_of (Some y); state = st; is = targets_fault fields.scope fields.active ty place_of r indexes (V.File k) set of given st y shaped known some; finishes = ends })))))
           (λ _ after. value_extends after) (λ _ x so. send_then x so)
 
   -- so many bits are taken of what is sent without an operator, and with one
@@ -247,26 +247,26 @@ module _ (g : Setting) (has : HasRegisters g) (alive : Variable → Type 0) (n :
       IsLike g.typed (layout g) target left → ty.shape ≡ Some set → aty ≡ type_of target → HasItsCode g.typed g.instance alive n left → IsOperand set value → HasItsCode g.typed g.instance alive n value
       → (d : Draft) (s : CodeState) (st : State) → Starts g alive s (length d.code) d.regs (length d.fields) → Sim g alive st s → UpdateLeaves g alive fields (T.Assign' aty sending op p target q value) d s st
 
-  sets : (aty ty : ValueType) (place_of sending : Place) (p q : Boxed) (r : _) (indexes : Row_of-TExpr _) (target value : TExpr) (k set : ℕ) → ArePure set indexes → (type_of value).elem.bits ≡ aty.elem.bits → Sends aty ty place_of sending A.Set p q target value (T.LeftIndex' ty place_of r indexes (V.File k) set) set
+  sets : (aty ty : ValueType) (place_of sending : Place) (p q : Boxed) (r : _) (indexes : Row_of-TExpr _) (target value : TExpr) (k set of : ℕ) → ArePure set indexes → (type_of value).elem.bits ≡ aty.elem.bits → Sends aty ty place_of sending A.Set p q target value (T.LeftIndex' ty place_of r indexes (V.File k) of) set
   unfolding NamesVariables is_send is_sent bare sent_to assign_op_of then_make
-  sets aty ty place_of sending p q r indexes target value k set are long like shaped same c operand own d s st here sim =
-      sends_by aty ty place_of sending A.Set p q r indexes target value k set bits info is like shaped same are (all_coded g has alive n ready places fields ty place_of r indexes (V.File k) set c) c.code.names.2
+  sets aty ty place_of sending p q r indexes target value k set of are long like shaped same c operand own d s st here sim =
+      sends_by aty ty place_of sending A.Set p q r indexes target value k set of bits info is like shaped same are (all_coded g has alive n ready places fields ty place_of r indexes (V.File k) of c) c.code.names.2
       (taken_plainly aty.elem.bits A.Set target value refl (like.sends ∙ ap is_some shaped) ∙ ap (λ (y : ValueType). y.elem.bits) like.type) (λ x. divides_never A.Set x refl)
       (spreads g has alive n ready places fields bits set value (kind_bits ty.elem.bits ty.elem.signed ty.elem.kind).0 (kind_bits ty.elem.bits ty.elem.signed ty.elem.kind).1 operand own) own d s st here sim
-      (λ a e both. made_after g (λ out f. Leaves g alive d f s u) O.Nothing (with_instr (I.SendWithOverwrite (next_field set bits e) aty.elem (next_field set 32 d) a) (for_variable g set k info e))
-      (λ within. set_leaves g alive places fields set k info is d st to v 0 w s a e (for_variable g set k info e) (as_it_was (for_variable g set k info e)) (both_further g alive places fields set k info is d st to v bits w s a e set bits (owner_of g k) both) aty.elem (type_of value).elem held_there within))
+      (λ a e both. made_after g (λ out f. Leaves g alive d f s u) O.Nothing (with_instr (I.SendWithOverwrite (next_field of bits e) aty.elem (next_field set 32 d) a) (for_variable g of k info e))
+      (λ within. set_leaves g alive places fields set of k info is d st to v 0 w s a e (for_variable g of k info e) (as_it_was (for_variable g of k info e)) (both_further g alive places fields set of k info is d st to v bits w s a e of bits (owner_of g k) both) aty.elem (type_of value).elem held_there within))
     where
       bits : ℕ
       bits = ty.elem.bits
 
       info : VarInfo
-      info = variable_info c.code.names.0.word (plain (parallel ty.elem set)) c.code.names.0.start
+      info = variable_info c.code.names.0.word (plain (parallel ty.elem of)) c.code.names.0.start
 
-      is : IsElement g.typed k info set 0
-      is = element_is g.typed g.instance n k set (parallel ty.elem set) refl c.code.names.0
+      is : IsElement g.typed k info of 0
+      is = element_is g.typed g.instance n k of (parallel ty.elem of) refl c.code.names.0
 
       to : ℕ → ℕ
-      to x = target_of (extents g set) st indexes x
+      to x = target_of (extents g of) (extents g set) st indexes x
 
       v : ℕ → ℕ
       v x = value_in (extents g set) st value x
@@ -286,13 +286,13 @@ module _ (g : Setting) (has : HasRegisters g) (alive : Variable → Type 0) (n :
           let few : v x < 2 ^ bits = subst (λ (m : ℕ). v x < 2 ^ m) of_type small in
           (held_first (type_of value).elem (v x) bits small (omega (arith, of_type)) ∙ mod-eq_of_lt few, few)
 
-  combines : (aty ty : ValueType) (place_of sending : Place) (op : AssignOp) (p q : Boxed) (r : _) (indexes : Row_of-TExpr _) (target value : TExpr) (k set : ℕ) → ArePure set indexes → folds op ≡ true → (type_of value).elem.bits ≡ 32 → Sends aty ty place_of sending op p q target value (T.LeftIndex' ty place_of r indexes (V.File k) set) set
+  combines : (aty ty : ValueType) (place_of sending : Place) (op : AssignOp) (p q : Boxed) (r : _) (indexes : Row_of-TExpr _) (target value : TExpr) (k set of : ℕ) → ArePure set indexes → folds op ≡ true → (type_of value).elem.bits ≡ 32 → Sends aty ty place_of sending op p q target value (T.LeftIndex' ty place_of r indexes (V.File k) of) set
   unfolding NamesVariables sent_to sent_value then_make an_entry
-  combines aty ty place_of sending op p q r indexes target value k set are folding wide like shaped same c operand own d s st here sim =
-      sends_by aty ty place_of sending op p q r indexes target value k set 32 info is like shaped same are (all_coded g has alive n ready places fields ty place_of r indexes (V.File k) set c) c.code.names.2
+  combines aty ty place_of sending op p q r indexes target value k set of are folding wide like shaped same c operand own d s st here sim =
+      sends_by aty ty place_of sending op p q r indexes target value k set of 32 info is like shaped same are (all_coded g has alive n ready places fields ty place_of r indexes (V.File k) of c) c.code.names.2
       (taken_wide aty.elem.bits set op operator.0 target value operator.1 (ap (λ (y : ValueType). y.shape) like.type ∙ shaped)) (λ x. sends_never op x folding)
       (spreads g has alive n ready places fields 32 set value (omega arith) (omega arith) operand own) own d s st here sim
-      (λ a e both. after_same g R (ap (λ (x : Option Op). then_make (sent_to x signed aty.elem (next_field set info.elem.bits e) address a (for_variable g set k info e)) finally) operator.1) (by a e operator.0 operator.1 (both_further g alive places fields set k info is d st to v 32 w s a e set info.elem.bits (owner_of g k) both) (sent_as operator.0)))
+      (λ a e both. after_same g R (ap (λ (x : Option Op). then_make (sent_to x signed aty.elem (next_field of info.elem.bits e) address a (for_variable g of k info e)) finally) operator.1) (by a e operator.0 operator.1 (both_further g alive places fields set of k info is d st to v 32 w s a e of info.elem.bits (owner_of g k) both) (sent_as operator.0)))
     where
       operator : (o : Op) × (assign_op_of op ≡ Some o)
       operator = operator_sent op folding
@@ -301,16 +301,16 @@ module _ (g : Setting) (has : HasRegisters g) (alive : Variable → Type 0) (n :
       signed = is_signed (type_of value).elem
 
       info : VarInfo
-      info = variable_info c.code.names.0.word (plain (parallel ty.elem set)) c.code.names.0.start
+      info = variable_info c.code.names.0.word (plain (parallel ty.elem of)) c.code.names.0.start
 
-      is : IsElement g.typed k info set 0
-      is = element_is g.typed g.instance n k set (parallel ty.elem set) refl c.code.names.0
+      is : IsElement g.typed k info of 0
+      is = element_is g.typed g.instance n k of (parallel ty.elem of) refl c.code.names.0
 
       address : Field
       address = next_field set 32 d
 
       to : ℕ → ℕ
-      to x = target_of (extents g set) st indexes x
+      to x = target_of (extents g of) (extents g set) st indexes x
 
       v : ℕ → ℕ
       v x = value_in (extents g set) st value x
@@ -339,31 +339,31 @@ module _ (g : Setting) (has : HasRegisters g) (alive : Variable → Type 0) (n :
       sending_by : Op → Field → Draft → Field → Draft → Made Out
       sending_by o dest e source after = Makes O.Nothing (with_instr (I.SendWithCombiner (fold_of o signed) dest aty.elem address source) after)
 
-      by : (a : Field) (e : Draft) (o : Op) → assign_op_of op ≡ Some o → BothStand g alive places fields set k info is d st to v 32 w s a (for_variable g set k info e) → (o ≡ P.Sub) ⊎ (((x : ℕ) → sent_word o x ≡ x) × ((f : Field) (y : Draft) → sent_value o f y ≡ Makes f y))
-          → After g R (then_make (sent_to (Some o) signed aty.elem (next_field set info.elem.bits e) address a (for_variable g set k info e)) finally)
+      by : (a : Field) (e : Draft) (o : Op) → assign_op_of op ≡ Some o → BothStand g alive places fields set of k info is d st to v 32 w s a (for_variable g of k info e) → (o ≡ P.Sub) ⊎ (((x : ℕ) → sent_word o x ≡ x) × ((f : Field) (y : Draft) → sent_value o f y ≡ Makes f y))
+          → After g R (then_make (sent_to (Some o) signed aty.elem (next_field of info.elem.bits e) address a (for_variable g of k info e)) finally)
       by a e o is_op both (inr plain) =
           after_same g R (ap (λ (m : Made Field). then_make (then_make m (sending_by o dest e)) finally) (plain.1 a e1))
           (made_after g R O.Nothing (with_instr (I.SendWithCombiner (fold_of o signed) dest aty.elem address a) e1) (λ within.
-          combined_leaves g alive places fields set k info is d st to v op o is_op folding 0 w s a e e1 (as_it_was e1) both aty.elem (type_of value).elem wide of_type (λ x. (ap (λ (m : ℕ). m % 2 ^ 32) (is_word x) ∙ mod-eq_of_lt (few x) ∙ sym (plain.0 (v x)), few x)) within))
+          combined_leaves g alive places fields set of k info is d st to v op o is_op folding 0 w s a e e1 (as_it_was e1) both aty.elem (type_of value).elem wide of_type (λ x. (ap (λ (m : ℕ). m % 2 ^ 32) (is_word x) ∙ mod-eq_of_lt (few x) ∙ sym (plain.0 (v x)), few x)) within))
         where
           e1 : Draft
-          e1 = for_variable g set k info e
+          e1 = for_variable g of k info e
 
           dest : Field
-          dest = next_field set info.elem.bits e
+          dest = next_field of info.elem.bits e
       by a e o is_op both (inl subtracts) =
           after_same g R (ap (λ (x : Op). then_make (sent_to (Some x) signed aty.elem dest address a e1) finally) subtracts
           ∙ ap (λ (m : ℕ). then_make (then_make (then_make (an_entry m 32 W.Own e1) (λ source after. Makes source (with_instr (I.Negate source a) after))) (sending_by P.Sub dest e)) finally) (gives_set g alive places fields 32 (length both.x.fields) both.x both.address.passes.t set st w a e1 both.value).0)
           (made_after g R O.Nothing (with_instr i e3) (λ within.
-          combined_leaves g alive places fields set k info is d st to v op P.Sub (is_op ∙ ap Some subtracts) folding (0 + 1) (λ x. unary_of U.Minus (w x)) s source e e3 (extended e1 e2 e3 0 1 (and_entry set 32 W.Own e1) (and_one g (I.Negate source a) e2))
-          (both_negated g alive places fields set k info is d st to v w s a e1 both (earlier g e3 (with_instr i e3) 1 (and_one g i e3) within)) aty.elem (type_of value).elem wide of_type
+          combined_leaves g alive places fields set of k info is d st to v op P.Sub (is_op ∙ ap Some subtracts) folding (0 + 1) (λ x. unary_of U.Minus (w x)) s source e e3 (extended e1 e2 e3 0 1 (and_entry set 32 W.Own e1) (and_one g (I.Negate source a) e2))
+          (both_negated g alive places fields set of k info is d st to v w s a e1 both (earlier g e3 (with_instr i e3) 1 (and_one g i e3) within)) aty.elem (type_of value).elem wide of_type
           (λ x. (ap (λ (m : ℕ). unary_of U.Minus m % 2 ^ 32) (is_word x) ∙ mod-eq_of_lt (unary_below U.Minus (v x) (few x)) ∙ negative_sent (v x) (few x), few x)) within))
         where
           e1 : Draft
-          e1 = for_variable g set k info e
+          e1 = for_variable g of k info e
 
           dest : Field
-          dest = next_field set info.elem.bits e
+          dest = next_field of info.elem.bits e
 
           source : Field
           source = next_field set 32 e1
@@ -381,13 +381,10 @@ module _ (g : Setting) (has : HasRegisters g) (alive : Variable → Type 0) (n :
   sends_to : (aty : ValueType) (sending : Place) (op : AssignOp) (p q : Boxed) (target left value : TExpr) (set : ℕ) → IsLike g.typed (layout g) target left → IsSendTarget set left → aty ≡ type_of target → HasItsCode g.typed g.instance alive n left → IsSent op aty.elem value → IsOperand set value → HasItsCode g.typed g.instance alive n value
       → (d : Draft) (s : CodeState) (st : State) → Starts g alive s (length d.code) d.regs (length d.fields) → Sim g alive st s → UpdateLeaves g alive fields (T.Assign' aty sending op p target q value) d s st
   unfolding IsSendTarget
-  sends_to aty sending op p q target (T.LeftIndex' ty place_of r indexes (V.File k) of) value set like is same c is_sent operand own d s st here sim =
-      subst (λ (m : ℕ). IsLike g.typed (layout g) target (T.LeftIndex' ty place_of r indexes (V.File k) m) → HasItsCode g.typed g.instance alive n (T.LeftIndex' ty place_of r indexes (V.File k) m) → UpdateLeaves g alive fields (T.Assign' aty sending op p target q value) d s st) (sym is.1)
-      (λ alike code. by is_sent alike code) like c
-    where
-      by : IsSent op aty.elem value → IsLike g.typed (layout g) target (T.LeftIndex' ty place_of r indexes (V.File k) set) → HasItsCode g.typed g.instance alive n (T.LeftIndex' ty place_of r indexes (V.File k) set) → UpdateLeaves g alive fields (T.Assign' aty sending op p target q value) d s st
-      by (inl (plain, long)) alike code = subst (λ (x : AssignOp). UpdateLeaves g alive fields (T.Assign' aty sending x p target q value) d s st) (sym plain) (sets aty ty place_of sending p q r indexes target value k set is.2 long alike is.0 same code operand own d s st here sim)
-      by (inr (folding, wide)) alike code = combines aty ty place_of sending op p q r indexes target value k set is.2 folding wide alike is.0 same code operand own d s st here sim
+  sends_to aty sending op p q target (T.LeftIndex' ty place_of r indexes (V.File k) of) value set like is same c (inl (plainly, long)) operand own d s st here sim =
+      subst (λ (x : AssignOp). UpdateLeaves g alive fields (T.Assign' aty sending x p target q value) d s st) (sym plainly) (sets aty ty place_of sending p q r indexes target value k set of is.1 long like is.0 same c operand own d s st here sim)
+  sends_to aty sending op p q target (T.LeftIndex' ty place_of r indexes (V.File k) of) value set like is same c (inr (folding, wide)) operand own d s st here sim =
+      combines aty ty place_of sending op p q r indexes target value k set of is.1 folding wide like is.0 same c operand own d s st here sim
   sends_to aty sending op p q target (T.Brackets' ty r inner) value set like is same c is_sent operand own d s st here sim =
       sends_to aty sending op p q target inner value set (like_inner g.typed (layout g) target ty r inner is.0 like) is.1 same (brackets_part g alive n places fields ty r inner c) is_sent operand own d s st here sim
   sends_to aty sending op p q target _ value set like is same c is_sent operand own d s st here sim = absurd is

@@ -7,7 +7,7 @@
 -- of `&&` and `||` does where the left one does not decide. They are
 -- assigned to such variables and folded into numbers and onto scalar variables, as scans of them and of ones with
 -- operators on these are, and they are the conditions of `where`. Folds and scans are of the active positions.
--- They are sent to such variables by such indexes, also with an operator that folds.
+-- They are sent to such variables, of any shape, by such indexes, also with an operator that folds.
 -- Scalars that change variables, by assignments, steps and `getchar`, are assigned to such variables too, also with
 -- operators.
 -- Blocks may have parallel variables without initialisers, which no expression names.
@@ -285,9 +285,9 @@ unfoldable pub IsFoldOnto : TExpr → Type 0
 IsFoldOnto (T.Assign' ty place op p target q value) = (ty ≡ type_of target) × IsScalarTarget target × ((reduction : ReduceOp) × ((op ≡ assignment_of reduction) × ((set : ℕ) × IsFolded set value)))
 IsFoldOnto _ = ⊥
 
--- what is sent to: a variable of the file under a left index, of the current shape
+-- what is sent to: a variable of the file, of any shape, under a left index of the current one
 unfoldable pub IsSendTarget : ℕ → TExpr → Type 0
-IsSendTarget set (T.LeftIndex' ty place p indexes (V.File k) of) = (ty.shape ≡ Some set) × (of ≡ set) × ArePure set indexes
+IsSendTarget set (T.LeftIndex' ty place p indexes (V.File k) of) = (ty.shape ≡ Some set) × ArePure set indexes
 IsSendTarget set (T.Brackets' ty p inner) = (ty ≡ type_of inner) × IsSendTarget set inner
 IsSendTarget set _ = ⊥
 
