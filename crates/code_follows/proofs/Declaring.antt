@@ -96,7 +96,7 @@ unfoldable pub Started : List LocalVar → ℕ → Variable → Type 0
 Started [] n x = Unit {0}
 Started (local ∷ locals) n x = (begins_constant local ≡ true → x ≡ V.Local n → ⊥) × Started locals (n + 1) x
 
-local_same : (j k : ℕ) → V.Local j ≡ V.Local k → j ≡ k
+pub local_same : (j k : ℕ) → V.Local j ≡ V.Local k → j ≡ k
 local_same j k e = ap (λ (x : Variable). elim x as (λ _. ℕ) [ V.File m ↦ 0 | V.Param m ↦ 0 | V.Local m ↦ m ]) e
 
 -- what is declared before a block's variables is alive among them

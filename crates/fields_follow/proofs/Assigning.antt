@@ -115,7 +115,7 @@ module _ (g : Setting) (has : HasRegisters g) (alive : Variable → Type 0) (n :
           go = onto g s p.t (record p.t { at = last.place; memory = written last.takes.write p.t.memory }) p.go last.go;
           at = starts_later g alive p.t (record p.t { at = last.place; memory = written last.takes.write p.t.memory }) (length e2.code) e2.regs (length e2.fields) (length f.code) f.regs (length f.fields) longer last.more.1.regs (fields_longer e2 f last.more.0 last.more.1) last.at p.at;
           registers = keeps_less g d entered s p.t (and_entry set info.elem.bits (W.File (file_number g.typed k 0)) d).regs p.registers;
-          sim = file_sim g places fields alive set variable p.t st v p.sim refl ends.0 ends.1 last.takes k 0 info is refl file last.place (fields.active set) w (λ q below. refl)
+          sim = file_sim g places fields alive set variable p.t st v p.sim refl ends.0 ends.1 last.takes k 0 info is refl file last.place (let there = last.at in let first = p.at.stands in omega (arith, there, first, longer)) (fields.active set) w (λ q below. refl)
               (λ q below on. same.0 q below (few g places fields alive set variable p.t st v p.sim refl ends.0 ends.1 last.takes q below on)) same.1;
           stays = λ u h first final q below own ends_below before low after high.
               own_stays g places fields alive set variable p.t st v p.sim refl ends.0 ends.1 last.takes k 0 info is refl file h q own

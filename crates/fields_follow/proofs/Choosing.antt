@@ -47,7 +47,7 @@ use Rattle.fields_follow.proofs.Places.{HoldsTheFields, IsOwnField, PlacesFields
 use Rattle.fields_follow.proofs.Pure.{choice_means, choice_so}
 use Rattle.fields_follow.proofs.Relations.{kind_some, relation_most}
 use Rattle.fields_follow.proofs.Sizes.{choice_parts, pure_at}
-use Rattle.fields_follow.proofs.Starts.{starts_entry, Starts, starts_next}
+use Rattle.fields_follow.proofs.Starts.{no_home, starts_entry, Starts, starts_next}
 use Rattle.fields_follow.proofs.TestFlags.{Tells, numbers_tell}
 use Rattle.fields_follow.proofs.Truths.{Stays, field_lasts, fields_sim, whole_sim}
 use Rattle.fields_follow.proofs.Values.{Gives, IsFlag, and_entry, next_field, one_more, operand_after, operand_of, taken, with_entry}
@@ -245,7 +245,7 @@ module _ (g : Setting) (has : HasRegisters g) (alive : Variable → Type 0) (n :
         named_saved = names_first g (I.StoreContext saved) saved [] (length e.code) (stands_here g (I.StoreContext saved) e within_saves refl) refl
 
         stored : Stored g places alive fields.active set saved e (I.StoreContext saved) t st (λ x. Unit {0}) (λ x. from_bool (fields.active set x))
-        stored = store_context g places alive fields.active set saved e t st own_saved refl refl within_saves gives.passes.at.stands (fields_sim g alive places fields st t gives.passes.sim)
+        stored = store_context g places alive fields.active set saved e t st own_saved (no_home g alive (length d.fields) saved.offset (let one = one_more set bits W.Own d in omega (arith, one)) here) refl refl within_saves gives.passes.at.stands (fields_sim g alive places fields st t gives.passes.sim)
 
         stored_sim : Sim g alive st stored.t
         stored_sim = whole_sim g alive places fields st stored.t stored.sim
@@ -285,6 +285,7 @@ module _ (g : Setting) (has : HasRegisters g) (alive : Variable → Type 0) (n :
               keeping = record {
                 exists = of.1;
                 own = own;
+                none = (no_home g alive (length d.fields) (length d.fields) (omega arith) here);
                 inside = omega (arith, l1, l2, l3);
                 of_set = refl;
                 own_saved = own_saved;
@@ -328,6 +329,7 @@ module _ (g : Setting) (has : HasRegisters g) (alive : Variable → Type 0) (n :
                 keeping = record {
                   exists = of.1;
                   own = own;
+                  none = (no_home g alive (length d.fields) (length d.fields) (omega arith) here);
                   inside = omega (arith, l1, l2, l3, longer_fields);
                   of_set = refl;
                   own_saved = own_saved;

@@ -27,7 +27,7 @@ use Rattle.paris_code.specs.Writes.{Write, covers, written}
 use Rattle.source_meaning.specs.State.{State}
 use Rattle.source_meaning.specs.Values.{nonzero}
 use Rattle.code_follows.proofs.Growing.{Extended, and_instr, extended}
-use Rattle.code_follows.proofs.Settings.{At, Reaches, Setting, StandsBelow, Within, and_one, at_next, begins_here, code_more, earlier, one_writes, onto, placed_instr, start}
+use Rattle.code_follows.proofs.Settings.{OpenAmong, At, Reaches, Setting, StandsBelow, Within, and_one, at_next, begins_here, code_more, earlier, one_writes, onto, placed_instr, start}
 use Rattle.constant_trees.proofs.Words.{from_bool_below}
 use Rattle.fields_follow.specs.Fields.{IsElement}
 use Rattle.fields_follow.proofs.Bits.{active_apart, field_apart}
@@ -44,6 +44,7 @@ use Rattle.fields_follow.proofs.PassingTests.{tests_on}
 use Rattle.fields_follow.proofs.Places.{HoldsTheFields, IsFileField, IsOwnField, PlacesFields, names_first, of_file, stands_here}
 use Rattle.fields_follow.proofs.Truths.{GivesTruth, either_or_both, joined_bits, truth_still}
 use Rattle.fields_follow.proofs.Writing.{TakesBehind, elsewhere, entry_and_below, entry_ends, entry_place, own_has, own_sim}
+use Rattle.fields_follow.proofs.Locals.{IsNoHome}
 
 -- ---- two writes are one
 
@@ -234,17 +235,17 @@ module _ (g : Setting) (places : PlacesFields g) (fields : HoldsTheFields g) (al
   abbrev taken_first : Draft
   taken_first = with_entry set bits W.Own d
 
-  pub own_joined : (one : GivesTruth g alive places fields taken_first s set st v a e1) → GivesTruth g alive places fields e1 one.passes.t set st w b e2 → Within g own_behind
+  pub own_joined : IsNoHome g (OpenAmong g alive) (length d.fields) → (one : GivesTruth g alive places fields taken_first s set st v a e1) → GivesTruth g alive places fields e1 one.passes.t set st w b e2 → Within g own_behind
       → GivesField g alive bits (length d.fields) d s set st (λ q. from_bool (either_or_both is_or (nonzero (v q)) (nonzero (w q)))) (next_field set bits d) own_behind
   unfolding step_of tests_on
-  own_joined one two within = record {
+  own_joined none one two within = record {
     passes = record {
       grown = (0 + (passes.grown.0 + 2), extended d taken_first own_behind 0 (passes.grown.0 + 2) (and_entry set bits W.Own d) whole);
       t = record two.passes.t { at = takes.place; memory = written takes.takes.write two.passes.t.memory };
       go = onto g s two.passes.t (record two.passes.t { at = takes.place; memory = written takes.takes.write two.passes.t.memory }) passes.go takes.go;
       at = starts_later g alive two.passes.t (record two.passes.t { at = takes.place; memory = written takes.takes.write two.passes.t.memory }) (length e2.code) e2.regs (length e2.fields) (length own_behind.code) own_behind.regs (length own_behind.fields) (omega (arith, long, behind_long)) (joined_more g is_or set (length d.fields) bits a b e2).regs (fields_longer e2 own_behind 2 (joined_more g is_or set (length d.fields) bits a b e2)) takes.at two.passes.at;
       registers = keeps_less g d taken_first s two.passes.t (and_entry set bits W.Own d).regs passes.registers;
-      sim = own_sim g places fields alive set dest two.passes.t st joins_to two.passes.sim refl ends.0 ends.1 takes.takes takes.place own;
+      sim = own_sim g places fields alive set dest two.passes.t st joins_to two.passes.sim refl ends.0 ends.1 takes.takes (length e2.code) takes.place two.passes.at.stands (let there = takes.at in let here = two.passes.at.stands in omega (arith, there, here, long, behind_long)) own none named_dest;
       stays = λ again h first last q below is_own ends_below before low after high.
           elsewhere g places fields alive set dest two.passes.t st joins_to two.passes.sim refl ends.0 ends.1 takes.takes (place g h) q
           (apart_back (place g h) (place g dest) (places.owns_apart h dest first (length e2.code) last again.0 (λ same. omega (arith, same, below)) is_own own ends.0 before after (omega (arith, low, longer)) (omega (arith, high, long, behind_long)) named_dest again.1.0 (let after_it = again.1.1 in omega (arith, after_it, long, behind_long))))
@@ -334,7 +335,7 @@ module _ (g : Setting) (places : PlacesFields g) (fields : HoldsTheFields g) (al
       still h q apart = field_apart (clears g set (length d.fields) bits some is_or a b e2 two.passes.t) two.passes.t.memory (place g h) q apart
 
       sim_between : Sim g alive st between
-      sim_between = own_sim g places fields alive set dest two.passes.t st (λ q. 0) two.passes.sim refl ends.0 ends.1 (record { write = clears g set (length d.fields) bits some is_or a b e2 two.passes.t; run = refl; writes = λ p. refl; value = λ p below active. refl; small = λ p below active. omega arith }) (two.passes.t.at + 1) own
+      sim_between = own_sim g places fields alive set dest two.passes.t st (λ q. 0) two.passes.sim refl ends.0 ends.1 (record { write = clears g set (length d.fields) bits some is_or a b e2 two.passes.t; run = refl; writes = λ p. refl; value = λ p below active. refl; small = λ p below active. omega arith }) (length e2.code) (two.passes.t.at + 1) two.passes.at.stands (omega arith) own none named_dest
 
       at_between : between.at ≤ start g + length cleared_one.code
       at_between = let there = two.passes.at.stands in omega (arith, there, long)

@@ -37,7 +37,7 @@ use Rattle.source_meaning.proofs.ConstantLaws.{Boxed}
 use Rattle.code_follows.proofs.Following.{Extends, Follows, HasRegisters, Sim, follows_same, held}
 use Rattle.code_follows.proofs.Settings.{Setting, and_one, layout}
 use Rattle.fields_follow.specs.Fragment.{ArePure, HasItsKind, HasKnownKind, IsNarrowed, IsOperation, IsPure, IsRelation, IsWide}
-use Rattle.fields_follow.proofs.Starts.{starts_entry, Starts}
+use Rattle.fields_follow.proofs.Starts.{no_home, starts_entry, Starts}
 use Rattle.fields_follow.proofs.Choosing.{choice_valued}
 use Rattle.fields_follow.proofs.Clearing.{joined_more}
 use Rattle.fields_follow.proofs.ConditionCode.{Bit, Truth, bit_not_value, joined_value, operand_at, put_in, relation_value, word_not_value}
@@ -92,7 +92,7 @@ module _ (g : Setting) (has : HasRegisters g) (alive : Variable → Type 0) (n :
   unfolding value_in
   relation_valued bits set ty place op p q left right shaped related truth d s st here sim =
       follows_same g (Given g (number set whole st) st (Gave bits set whole d s st)) s refl (relation_value g set bits ty place op p q left right d shaped related (relates_plainly op related))
-      (tests_put g has alive n ready places fields set whole d s st (λ x. is_truth op 32 (not (type_of left).elem.signed) (value_in (extents g set) st left x) (value_in (extents g set) st right x) related) whole (λ x below. refl) (itself set whole s st) bits
+      (tests_put g has alive n ready places fields set whole d s st (no_home g alive (length d.fields) (length d.fields) (omega arith) here) (λ x. is_truth op 32 (not (type_of left).elem.signed) (value_in (extents g set) st left x) (value_in (extents g set) st right x) related) whole (λ x below. refl) (itself set whole s st) bits
       (truth_of g.typed (layout g) whole (with_entry set bits W.Own d)) (truth (with_entry set bits W.Own d) s st (starts_entry g alive _ _ here) sim))
     where
       whole : TExpr
@@ -108,13 +108,13 @@ module _ (g : Setting) (has : HasRegisters g) (alive : Variable → Type 0) (n :
       tests : (bits == 1 && bits_of (kind_of inner) == 1) ≡ false → Valued_at bits set whole
       tests no_bit d s st here sim =
           follows_same g (Given g (number set whole st) st (Gave bits set whole d s st)) s refl (word_not_value g set bits ty p inner d shaped (pure_kept set inner kinded.0) no_bit)
-          (tests_put g has alive n ready places fields set whole d s st (λ x. truth_is _) whole (λ x below. refl) (itself set whole s st) bits (zero_tested (operand_at g (bits_of (kind_of inner)) inner) (with_entry set bits W.Own d))
+          (tests_put g has alive n ready places fields set whole d s st (no_home g alive (length d.fields) (length d.fields) (omega arith) here) (λ x. truth_is _) whole (λ x below. refl) (itself set whole s st) bits (zero_tested (operand_at g (bits_of (kind_of inner)) inner) (with_entry set bits W.Own d))
           (not_truth g has alive n ready places fields set ty p inner shaped kinded c done (with_entry set bits W.Own d) s st (starts_entry g alive _ _ here) sim))
 
       turns : (bits_of (kind_of inner) == 1) ≡ true → Valued_at 1 set whole
       turns bit d s st here sim =
           follows_same g (Given g (number set whole st) st (Gave 1 set whole d s st)) s refl (bit_not_value g set ty p inner d shaped (pure_kept set inner kinded.0) bit)
-          (turned_put g has alive n ready places fields set whole d s st (λ x. truth_is _) inner
+          (turned_put g has alive n ready places fields set whole d s st (no_home g alive (length d.fields) (length d.fields) (omega arith) here) (λ x. truth_is _) inner
           (record { gives = λ given. unary_means fields.scope fields.active set ty U.Not p inner (number set inner st) st shaped given; ends = λ early. unary_ended g has alive n ready places fields ty U.Not p inner s st early })
           (λ q. refl) (operand_at g 1 inner (with_entry set 1 W.Own d)) (kinded_bit g has alive n ready places fields set inner kinded bit c (done.value 1 (omega arith) (omega arith)) (with_entry set 1 W.Own d) s st (starts_entry g alive _ _ here) sim))
 
@@ -158,11 +158,11 @@ module _ (g : Setting) (has : HasRegisters g) (alive : Variable → Type 0) (n :
       last given = by (bits == 1) refl
         where
           in_one : Last 1
-          in_one f h e1 e2 a b = bit_joined g has alive n ready places fields set whole d s st truth is_or (number set left st) (number set right st) (same st) given f h e1 e2 a b
+          in_one f h e1 e2 a b = bit_joined g has alive n ready places fields set whole d s st (no_home g alive (length d.fields) (length d.fields) (omega arith) here) truth is_or (number set left st) (number set right st) (same st) given f h e1 e2 a b
 
           by : (b : Bool) → (bits == 1) ≡ b → Last bits
           by true bit = subst Last (sym (eqb-true bits 1 bit)) in_one
-          by false several = λ f h e1 e2 a b. after_same g (Q bits) (ap (put f h e2) several) (several_joined g has alive n ready places fields set whole d s st truth is_or (number set left st) (number set right st) (same st) given f h e1 e2 bits some a b)
+          by false several = λ f h e1 e2 a b. after_same g (Q bits) (ap (put f h e2) several) (several_joined g has alive n ready places fields set whole d s st (no_home g alive (length d.fields) (length d.fields) (omega arith) here) truth is_or (number set left st) (number set right st) (same st) given f h e1 e2 bits some a b)
 
   -- a conversion to `bool` is a test
   bool_code : (bits set : ℕ) (ty : ValueType) (p : Boxed) (inner : TExpr) (d : Draft) → ty.shape ≡ Some set → ty.elem.bits ≡ 1 → is_kept inner ≡ false → code bits (T.Convert' ty p inner) d ≡ then_make (tested g.typed (layout g) inner (with_entry set bits W.Own d)) (put_in (next_field set bits d))
@@ -189,7 +189,7 @@ module _ (g : Setting) (has : HasRegisters g) (alive : Variable → Type 0) (n :
   unfolding value_in
   bool_valued bits set ty p inner shaped one kinded c done d s st here sim =
       follows_same g (Given g (number set whole st) st (Gave bits set whole d s st)) s refl (bool_code bits set ty p inner d shaped one (pure_kept set inner kinded.0))
-      (tests_put g has alive n ready places fields set whole d s st (λ x. bool_bit ty.elem (type_of inner).elem (value_in (extents g set) st inner x) one) inner
+      (tests_put g has alive n ready places fields set whole d s st (no_home g alive (length d.fields) (length d.fields) (omega arith) here) (λ x. bool_bit ty.elem (type_of inner).elem (value_in (extents g set) st inner x) one) inner
       (λ x below. bool_nonzero ty.elem (type_of inner).elem (value_in (extents g set) st inner x) one (value_small g alive n places fields set inner st s sim kinded.0 c x))
       (record { gives = λ given. convert_means g has alive n ready places fields set ty p inner st shaped given; ends = λ early. convert_ended g has alive n ready places fields ty p inner s st early }) bits (tested g.typed (layout g) inner (with_entry set bits W.Own d))
       (done.tests kinded.1 (with_entry set bits W.Own d) s st (starts_entry g alive _ _ here) sim))

@@ -43,6 +43,7 @@ use Rattle.fields_follow.proofs.Places.{HoldsTheFields, PlacesFields, names_firs
 use Rattle.fields_follow.proofs.Values.{and_entry, next_field, one_more, taken, with_entry}
 use Rattle.fields_follow.proofs.TestFlags.{LeavesTests, PutsTest, Tells, compares, puts_nonzero, puts_zero, tested_behind}
 use Rattle.fields_follow.proofs.Truths.{GivesTold, GivesTruth, truth_stored}
+use Rattle.fields_follow.proofs.Starts.{no_home}
 
 -- ---- what the code is
 
@@ -238,7 +239,7 @@ module _ (g : Setting) (alive : Variable → Type 0) (places : PlacesFields g) (
       then_after g (λ _ f. Tests d s set st v f) (Truth d s set st v) part (stored_behind set) h (λ x e. stored_extends g set e) (λ x e left.
       made_after g (Truth d s set st v) (next_field set 1 e) (with_instr (I.StoreTest (next_field set 1 e)) (with_entry set 1 W.Own e)) (λ within.
       truth_stored g alive places fields set d (with_entry set 1 W.Own e) (next_field set 1 e) s st v (tests_and_entry g alive set 1 d e s st (Unit {0}) left.leaves) left.flags (fields_longer d e left.leaves.grown.0 left.leaves.grown.1) (let l = one_more set 1 W.Own e in omega (arith, l))
-      (taken g set 1 W.Own e (with_instr (I.StoreTest (next_field set 1 e)) (with_entry set 1 W.Own e)) 1 within (and_one g (I.StoreTest (next_field set 1 e)) (with_entry set 1 W.Own e))) refl refl within))) tests
+      (taken g set 1 W.Own e (with_instr (I.StoreTest (next_field set 1 e)) (with_entry set 1 W.Own e)) 1 within (and_one g (I.StoreTest (next_field set 1 e)) (with_entry set 1 W.Own e))) (no_home g alive (length e.fields) (length e.fields) (omega arith) left.leaves.at) refl refl within))) tests
 
   -- a bit that there is
   abbrev as_bit : Out → Draft → Made Field

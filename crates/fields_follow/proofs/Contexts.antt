@@ -29,7 +29,7 @@ use Rattle.code_follows.proofs.Executing.{Exits, Left, go_on}
 use Rattle.code_follows.proofs.Following.{Extends, Follows, HasRegisters, at_once, follows_same}
 use Rattle.code_follows.proofs.Growing.{Extended, and_instr, as_it_was, extended}
 use Rattle.code_follows.proofs.Parts.{ComesOn, Part, StatementPart, in_one_more}
-use Rattle.code_follows.proofs.Settings.{Setting, Within, and_one, code_more, earlier, layout}
+use Rattle.code_follows.proofs.Settings.{OpenAmong, Setting, Within, and_one, code_more, earlier, layout}
 use Rattle.code_follows.specs.Fragment.{ScalarsAmong}
 use Rattle.fields_follow.specs.Fragment.{IsCondition}
 use Rattle.fields_follow.proofs.Forms.{HasItsCode}
@@ -44,6 +44,9 @@ use Rattle.fields_follow.proofs.Narrowing.{among, among_beside, others, others_b
 use Rattle.fields_follow.proofs.Passing.{code_longer, fields_longer}
 use Rattle.fields_follow.proofs.Places.{IsOwnField}
 use Rattle.fields_follow.proofs.Outcomes.{Ended, ended_follows, ended_on}
+use Rattle.fields_follow.proofs.Locals.{behind_homes}
+use Rattle.fields_follow.proofs.Values.{one_more}
+use Rattle.paris_code.specs.declared.program.Owner.TheVariants as W
 
 -- where the condition gives numbers, the source goes on where they are not zero, and then where they are
 where_means : (scope : Scope) (a : Active) (shape : ℕ) (test : TExpr) (p : Boxed) (first : TStmt) (second : Held-TStmt-If-2) (k : ℕ) (v : ℕ → ℕ) (st : State) → evaluated scope test a st ≡ Gives (Parallel v) st
@@ -306,7 +309,7 @@ module _ (g : Setting) (has : HasRegisters g) (scope : Scope) (active : Active) 
           let led_save : Led g scope active known alive active (λ m. Kept g scope active known alive saved_in m × TestsAre g shape active v m) d save s st =
           context_led g shape d test tests scope active known alive begun s st run sim (length e.code) w_save loaded (omega (arith, one, two, three, long)) in
           let led_keep : Led g scope active known alive active (λ m. KeptTests m × TestsAre g shape active v m) d keep s st =
-          keeps_tests g scope active known alive active (λ m. Kept g scope active known alive saved_in m) (length save.code) (length (entered shape d).fields) (length keep.code) lasts_early d save s st v holds_in (length back.code) (omega arith) (omega arith) (omega (arith, two)) own_test refl loaded_test (omega (arith, two, three, long, four)) w_keep led_save in
+          keeps_tests g scope active known alive active (λ m. Kept g scope active known alive saved_in m) (length save.code) (length (entered shape d).fields) (length keep.code) lasts_early d save s st v holds_in (length back.code) (omega arith) (omega arith) (omega (arith, two)) own_test (behind_homes g (OpenAmong g alive) (length d.code) (length d.fields) holds_in.offset begun.opened (let one = one_more shape 1 W.Own d in omega (arith, one))) refl loaded_test (omega (arith, two, three, long, four)) w_keep led_save in
           let led_inner : Led g scope active known alive (among shape v active) (λ m. KeptTests m) d inner s st = narrows g scope active known alive active (λ m. KeptTests m) (length inner.code) (length inner.fields) (length e.code) lasts d keep s st shape v w_inner led_keep in
           follows_same g (Left g alive f d s) s (where_means scope active shape test p first (Some' q second) n v st run.0) refl
           (go_on g alive (λ u x. Led g scope active known alive active (λ m. KeptTests m) d x s u) f d s (executed scope first n (among shape v active) st) (executed scope second (behind n first) (others shape v active)) (behind n first) back (Makes m last)

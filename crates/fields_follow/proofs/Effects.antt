@@ -74,7 +74,7 @@ use Rattle.cstar_base.proofs.NumberLaws.{kind_bits}
 use Rattle.std.proofs.lemmas.Bool.{eqb-true}
 use Rattle.std.proofs.lemmas.Bool.Decides.{nat_tests}
 use Rattle.std.specs.Prelude.{nat_le}
-use Rattle.fields_follow.proofs.Starts.{starts_entry, Starts}
+use Rattle.fields_follow.proofs.Starts.{no_home, starts_entry, Starts}
 use Rattle.fields_follow.proofs.Variables.{file_carries}
 use Rattle.paris_code.specs.Spans.{IsNamedAt}
 
@@ -350,7 +350,7 @@ module _ (g : Setting) (has : HasRegisters g) (alive : Variable → Type 0) (n :
       (λ a e1 one. then_known g one.passes.t (meant g fields value st) (λ q. value_in (extents g set) st value q) st (λ right e. Takes op right × GivesRight g has alive n ready places fields bits (length e1.fields) e1 one.passes.t set st w right e) Q (right_by (operand bits true value) op value e1) (λ right after. right_operated op signed place f a right spare after)
       (right_after g has alive n ready places fields bits set op value known.1 isin c (λ pure. pure_after g has alive n ready places fields bits set value (kind_bits info.elem.bits info.elem.signed info.elem.kind).0 most pure c) e1 one.passes.t st one.passes.at one.passes.sim)
       (λ right after. operated_extends g op signed place f a spare right after known.0)
-      (λ given right e2 two. operated_after g has alive n ready places fields bits (length d1.fields) set op signed place f a v w d e1 e2 s st known.0 (λ divided. sym works ∙ divides_wide bits op value divided)
+      (λ given right e2 two. operated_after g has alive n ready places fields bits (length d1.fields) set op signed place f a v w d e1 e2 s st (no_home g alive (length d.fields) (length d.fields) (omega arith) here) known.0 (λ divided. sym works ∙ divides_wide bits op value divided)
       (λ q. subst (λ (x : ℕ). Keeps op signed x (w q)) works (operands_keep g has alive n ready places fields bits set op signed value st most known isin c q)) refl (let first = one_more set bits W.Own d in omega (arith, first)) (fields_longer d1 e1 one.passes.grown.0 one.passes.grown.1) one right
       (λ x same. omega arith) two.0 two.1 Q
       (λ there never e3 i within p puts. last given there never e3 i within (passes_from g alive (length d.fields) d d1 e3 s st (Unit {0}) (and_entry set bits W.Own d) p) puts) (λ there divided q none ends. fault given there divided q none ends))

@@ -24,7 +24,7 @@ use Rattle.source_meaning.specs.State.{State}
 use Rattle.source_meaning.specs.Values.{Parallel, Active, Scope}
 use Rattle.code_follows.proofs.Following.{HasRegisters, Sim, kept_later}
 use Rattle.code_follows.proofs.Growing.{Extended, extended, from_growth}
-use Rattle.code_follows.proofs.Settings.{At, Begun, Setting, Within, and_one, code_more, earlier, layout}
+use Rattle.code_follows.proofs.Settings.{OpenAmong, At, Begun, Setting, Within, and_one, code_more, earlier, layout}
 use Rattle.fields_follow.specs.Fragment.{IsCondition}
 use Rattle.fields_follow.proofs.Forms.{HasItsCode}
 use Rattle.fields_follow.proofs.Instructions.{extents}
@@ -43,6 +43,7 @@ use Rattle.fields_follow.proofs.TestFlags.{LeavesTests}
 use Rattle.fields_follow.proofs.Computing.{condition_tested}
 use Rattle.fields_follow.proofs.Values.{and_entry, next_field, one_more, taken, with_entry}
 use Rattle.fields_follow.proofs.Starts.{Starts, starts_entry}
+use Rattle.fields_follow.proofs.Locals.{behind_homes}
 
 -- code that is made where it grows
 grown_made : {A : Type 0} (d : Draft) (n : ℕ) (P : A → Type 0) (made : Made A) → GrowsOr ⊥ d n P made → (x : A) × ((e : Draft) × ((made ≡ Makes x e) × ((k : ℕ) × Extended d k e)))
@@ -170,4 +171,4 @@ module _ (g : Setting) (shape : ℕ) (d : Draft) (test : TExpr) where
       context_led run sim later w named behind_it =
           let w_after : Within g after = earlier g after saves 1 (and_one g (I.StoreContext (saved shape d)) after) w in
           saves_context g scope active known alive active known.kept g.from g.entries g.upto known.lasts d after s st (λ m. TestsAre g shape active (λ q. value_in (extents g shape) st test q) m) (saved shape d) later (let b = begun.code in let l = code_more_by in omega (arith, b, l)) begun.fields
-          (let up = w.upto in let one = code_more g (I.StoreContext (saved shape d)) after in omega (arith, up, one)) (saved_own w_after) refl named behind_it (λ m other same tests p below on. same shape p ∙ tests p below on) w (condition_leads run sim w_after)
+          (let up = w.upto in let one = code_more g (I.StoreContext (saved shape d)) after in omega (arith, up, one)) (saved_own w_after) (behind_homes g (OpenAmong g alive) (length d.code) (length d.fields) (length d.fields) begun.opened (omega arith)) refl named behind_it (λ m other same tests p below on. same shape p ∙ tests p below on) w (condition_leads run sim w_after)

@@ -41,7 +41,7 @@ use Rattle.constant_trees.proofs.Words.{converted_below}
 use Rattle.code_follows.proofs.Following.{Extends, Follows, HasRegisters, Sim, follows_same}
 use Rattle.code_follows.proofs.Growing.{Extended, extended as extended_on}
 use Rattle.code_follows.proofs.Operators.{wide_signed}
-use Rattle.code_follows.proofs.Settings.{Setting, Within, and_one, layout}
+use Rattle.code_follows.proofs.Settings.{OpenAmong, Setting, Within, and_one, layout}
 use Rattle.code_follows.proofs.Standing.{some_same}
 use Rattle.code_follows.proofs.Values.{extends_grown}
 use Rattle.code_follows.proofs.Words.{below_word, held_wide}
@@ -68,7 +68,8 @@ use Rattle.cstar_base.specs.Numbers.{converted}
 use Rattle.cstar_base.proofs.NumberLaws.{kind_bits}
 use Rattle.std.specs.Prelude.{nat_lt, unwrap_or}
 use Rattle.std.proofs.lemmas.Bool.Decides.{nat_tests}
-use Rattle.fields_follow.proofs.Starts.{starts_entry, Starts}
+use Rattle.fields_follow.proofs.Starts.{no_home, starts_entry, Starts}
+use Rattle.fields_follow.proofs.Locals.{IsNoHome}
 
 -- the operands of an operator have the same bits and signs as their types say
 pub wide_operands : (bits : ℕ) (op : Op) (left right : TExpr) → relates op ≡ false → operand_bits bits op left right ≡ operation_bits bits op right
@@ -113,9 +114,9 @@ module _ (g : Setting) (has : HasRegisters g) (alive : Variable → Type 0) (n :
   operand_grows bits e c quiet d = extends_grown g has alive _ d _ _ ((lengths_if_made g.typed g.instance (layout g)).operand bits n quiet e d c.code (ready d))
 
   -- what the last instruction writes to the entry that was taken first is the value
-  pub own_result : {flag : Type 0} (bits set : ℕ) (d e2 : Draft) (s : CodeState) (st : State) (v : ℕ → ℕ) (i : Instr) → Within g (with_instr i e2) → (p : Passes g alive (length d.fields) (with_entry set bits W.Own d) e2 s st (Unit {0})) → Puts g set i (next_field set bits d) p.t v
+  pub own_result : {flag : Type 0} (bits set : ℕ) (d e2 : Draft) (s : CodeState) (st : State) (v : ℕ → ℕ) (i : Instr) → Within g (with_instr i e2) → IsNoHome g (OpenAmong g alive) (length d.fields) → (p : Passes g alive (length d.fields) (with_entry set bits W.Own d) e2 s st (Unit {0})) → Puts g set i (next_field set bits d) p.t v
       → Answers flag bits (length d.fields) d s set st v (O.Field (next_field set bits d)) (with_instr i e2)
-  own_result bits set d e2 s st v i within p puts =
+  own_result bits set d e2 s st v i within none p puts =
       let d1 : Draft = with_entry set bits W.Own d in
       let dest : Field = next_field set bits d in
       let later : Extended d1 (p.grown.0 + 1) (with_instr i e2) = extended_on d1 e2 (with_instr i e2) p.grown.0 1 p.grown.1 (and_one g i e2) in
@@ -127,7 +128,7 @@ module _ (g : Setting) (has : HasRegisters g) (alive : Variable → Type 0) (n :
           (
             gives_from g alive bits (length d.fields) d d1 (with_instr i e2) s set st v dest (and_entry set bits W.Own d)
                 (gives_on g alive bits (length d.fields) (length d.fields) d1 e2 (with_instr i e2) s set st v dest (Unit {0}) (omega arith) p (λ b. tt)
-                (puts_own g alive places fields bits (length d.fields) set i dest e2 p.t st v (omega arith) (omega (arith, longer, first)) (taken g set bits W.Own d (with_instr i e2) (p.grown.0 + 1) within later) refl refl within p.at p.sim puts)),
+                (puts_own g alive places fields bits (length d.fields) set i dest e2 p.t st v (omega arith) (omega (arith, longer, first)) (taken g set bits W.Own d (with_instr i e2) (p.grown.0 + 1) within later) none refl refl within p.at p.sim puts)),
             λ one k info is more. places.own_file k 0 set info dest is (taken g set bits W.Own d (with_instr i e2) (p.grown.0 + 1) within later),
           ),
         ),
@@ -260,7 +261,7 @@ module _ (g : Setting) (has : HasRegisters g) (alive : Variable → Type 0) (n :
       ∙ ap (λ (b : Bool). then_make (fresh_for ty.shape bits d) (λ dest between. then_make (operand_by g.typed (layout g) (if b then bits_of (kind_of inner) else bits) (value_of g.typed (layout g) (if b then bits_of (kind_of inner) else bits) inner) true inner between) (λ x after. negated (layout g) op dest x after))) sign.1
       ∙ ap (λ (o : Option ℕ). then_make (fresh_for o bits d) (λ dest between. then_make (operand bits true inner between) (λ x after. negated (layout g) op dest x after))) is.0.0)
       (negated_after bits set ty op p (next_field set bits d) inner (length d.fields) (with_entry set bits W.Own d) s st is.0.0 most sign refl is.2 wide (unary_part g alive n places fields ty op p inner c) whole (let one = one_more set bits W.Own d in omega (arith, one)) (starts_entry g alive _ _ here) sim (Knows bits d s set st (T.Unary' ty op p inner))
-      (λ is_meant e1 i within passes puts. inl (is_meant, own_result bits set d e1 s st v i within passes (puts_same g set i (next_field set bits d) passes.t _ v (λ q below. unary_at set ty op p inner st passes.t passes.sim is c q) puts))) (λ early x f. inr early)))
+      (λ is_meant e1 i within passes puts. inl (is_meant, own_result bits set d e1 s st v i within (no_home g alive (length d.fields) (length d.fields) (omega arith) here) passes (puts_same g set i (next_field set bits d) passes.t _ v (λ q below. unary_at set ty op p inner st passes.t passes.sim is c q) puts))) (λ early x f. inr early)))
     where
       v : ℕ → ℕ
       v = λ q. word_at (extents g set) st (T.Unary' ty op p inner) q
@@ -327,7 +328,7 @@ module _ (g : Setting) (has : HasRegisters g) (alive : Variable → Type 0) (n :
       (first_given g has alive n ready places fields works bits (length d.fields) d s set st v (IsFlag whole) (IsMeant set whole st) (Ended g s (meant g fields whole st)) made (operation_most bits op right most).0
       (fields_after g has alive n ready places fields works set ty place op p q (next_field set works d) left right d s st is.0.0 known (divides_wide bits op right) (λ x. operands_keep bits set op (type_of left).elem.signed right st most known (right_of set left right is.2) parts.1 x)
       (λ x below. operand_at set right st s sim (right_of set left right is.2) is.4 parts.1 x) refl is.2 parts.0 parts.1 whole_left whole_right (operand_grows works left parts.0) (operand_grows works right parts.1) here sim (Knows works d s set st whole)
-      (λ is_meant e2 i within passes puts. inl (is_meant, own_result works set d e2 s st v i within passes (puts_same g set i (next_field set works d) passes.t _ v (λ x below. binary_at set ty place op p q left right st passes.t passes.sim is c x) puts)))
+      (λ is_meant e2 i within passes puts. inl (is_meant, own_result works set d e2 s st v i within (no_home g alive (length d.fields) (length d.fields) (omega arith) here) passes (puts_same g set i (next_field set works d) passes.t _ v (λ x below. binary_at set ty place op p q left right st passes.t passes.sim is c x) puts)))
       (λ early x f. inr early))))
     where
       whole : TExpr
@@ -356,7 +357,7 @@ module _ (g : Setting) (has : HasRegisters g) (alive : Variable → Type 0) (n :
       known_follows g s (meant g fields (T.Pcoord ty axis) st) (number set (T.Pcoord ty axis) st) st (Answers (IsFlag (T.Pcoord ty axis)) bits (length d.fields) d s set st v) (code bits (T.Pcoord ty axis) d)
       (after_same g (Knows bits d s set st (T.Pcoord ty axis)) (ap (λ (o : Option ℕ). coordinate_in o bits axis d) wide.0)
       (made_after g (Knows bits d s set st (T.Pcoord ty axis)) (O.Field dest) (with_instr i d1) (λ within.
-      let given = own_result {flag = IsFlag (T.Pcoord ty axis)} bits set d d1 s st v i within (passes_all g alive (length d.fields) d1 s st (Unit {0}) (starts_entry g alive _ _ here) sim)
+      let given = own_result {flag = IsFlag (T.Pcoord ty axis)} bits set d d1 s st v i within (no_home g alive (length d.fields) (length d.fields) (omega arith) here) (passes_all g alive (length d.fields) d1 s st (Unit {0}) (starts_entry g alive _ _ here) sim)
       (puts_same g set i dest s (λ q. coordinate (extents g set) q axis) v (λ q below. sym (held_wide ty.elem (coordinate (extents g set) q axis) wide.1 (places.few set axis q))) (puts_coordinate g set axis dest s refl (λ p below. places.few set axis p))) in
       inl (coordinate_means set axis ty st wide.0 (gives_set g alive places fields bits (length d.fields) d s set st v given.0 (with_instr i d1) given.1.1.0).1, given))))
     where
@@ -455,7 +456,7 @@ module _ (g : Setting) (has : HasRegisters g) (alive : Variable → Type 0) (n :
           known_follows g s (meant g fields e st) (number set e st) st (Answers (IsFlag e) bits (length d.fields) d s set st w) (made (nat_lt ty.elem.bits bits))
           (after_same g (Knows bits d s set st e) (ap made more ∙ ap (λ (o : Option ℕ). then_make (a_field (unwrap_or o 0) bits d) (λ dest begun. extended ty.elem.signed dest (operand ty.elem.bits true inner) begun)) is.0)
           (extended_after set ty p inner (next_field set bits d) (length d.fields) (with_entry set bits W.Own d) s st is.0 no_truth most is.2 part (whole ty.elem.bits (kind_bits ty.elem.bits ty.elem.signed ty.elem.kind).0 (kind_bits ty.elem.bits ty.elem.signed ty.elem.kind).1) (let one = one_more set bits W.Own d in omega (arith, one)) (starts_entry g alive _ _ here) sim (Knows bits d s set st e)
-          (λ is_meant e1 i within passes puts. inl (is_meant, own_result bits set d e1 s st w i within passes puts)) (λ early x f. inr early)))
+          (λ is_meant e1 i within passes puts. inl (is_meant, own_result bits set d e1 s st w i within (no_home g alive (length d.fields) (length d.fields) (omega arith) here) passes puts)) (λ early x f. inr early)))
       by false enough =
           follows_same g R s refl (ap made enough)
           (follows_like g s (meant g fields inner st) (meant g fields e st) (number set inner st) (number set e st) st (Answers (IsFlag inner) bits (length d.fields) d s set st (λ q. word_at (extents g set) st inner q)) (Answers (IsFlag e) bits (length d.fields) d s set st w) (code bits inner d)
@@ -471,7 +472,7 @@ module _ (g : Setting) (has : HasRegisters g) (alive : Variable → Type 0) (n :
       (get_gives g places fields n ty place p indexes k of set st shaped same are c.code.names.0 (get_names g.typed g.instance n of set indexes same are c.code.names.1 c.code.names.2))
       (after_same g (Answers (IsFlag e) bits (length d.fields) d s set st v) (ap (λ (o : Option ℕ). then_make (fresh_for o bits d) (λ dest begun. index_read_to g.typed (layout g) e spot dest begun)) shaped)
       (get_last g alive n places fields ty place p indexes k of set (length d.fields) bits spot (length d.fields) (with_entry set bits W.Own d) s st most shaped same are c.code.names.0 (get_names g.typed g.instance n of set indexes same are c.code.names.1 c.code.names.2) (let one = one_more set bits W.Own d in omega (arith, one)) (starts_entry g alive _ _ here) sim
-      (Answers (IsFlag e) bits (length d.fields) d s set st v) (λ e2 i within passes puts. own_result bits set d e2 s st v i within passes puts)))
+      (Answers (IsFlag e) bits (length d.fields) d s set st v) (λ e2 i within passes puts. own_result bits set d e2 s st v i within (no_home g alive (length d.fields) (length d.fields) (omega arith) here) passes puts)))
     where
       e : TExpr
       e = T.LeftIndex' ty place p indexes (V.File k) of
@@ -490,7 +491,7 @@ module _ (g : Setting) (has : HasRegisters g) (alive : Variable → Type 0) (n :
       known_follows g s (meant g fields e st) (number set e st) st (Answers (IsFlag e) bits (length d.fields) d s set st v) (code bits e d)
       (after_same g (Knows bits d s set st e) (ap (λ (o : Option ℕ). then_make (fresh_for o bits d) (λ dest begun. index_read_to g.typed (layout g) e spot dest begun)) shaped)
       (routed_last g has alive n ready places fields ty place p indexes k set (length d.fields) bits (length d.fields) (are_quiet indexes) spot (with_entry set bits W.Own d) s st most shaped goes are (all_coded g has alive n ready places fields ty place p indexes (V.File k) set c) valued c.code.names.0 c.code.names.2 refl (let one = one_more set bits W.Own d in omega (arith, one)) (starts_entry g alive _ _ here) sim
-      (Knows bits d s set st e) (λ is_meant e2 i within passes puts. inl (is_meant, own_result bits set d e2 s st v i within passes puts)) (λ early x f. inr early)))
+      (Knows bits d s set st e) (λ is_meant e2 i within passes puts. inl (is_meant, own_result bits set d e2 s st v i within (no_home g alive (length d.fields) (length d.fields) (omega arith) here) passes puts)) (λ early x f. inr early)))
     where
       e : TExpr
       e = T.LeftIndex' ty place p indexes (V.File k) set

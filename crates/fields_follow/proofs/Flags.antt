@@ -19,13 +19,15 @@ use Rattle.source_meaning.specs.State.{State}
 use Rattle.source_meaning.specs.Values.{Active}
 use Rattle.code_follows.proofs.Besides.{sim_saying}
 use Rattle.code_follows.proofs.Following.{Sim}
-use Rattle.code_follows.proofs.Settings.{At, Reaches, Setting, Within, at_next, begins_here, one_writes, placed_instr}
+use Rattle.code_follows.proofs.Settings.{OpenAmong, At, Reaches, Setting, Within, at_next, begins_here, one_writes, placed_instr}
 use Rattle.fields_follow.proofs.Bits.{active_apart, bits_written, covers_flag, field_apart, field_written, if_false, if_true}
 use Rattle.fields_follow.proofs.FileFields.{Apart, apart_back}
 use Rattle.fields_follow.proofs.Instructions.{number_in, place, shapes, wrote}
 use Rattle.fields_follow.proofs.Leaving.{EndsBelow, under}
 use Rattle.fields_follow.proofs.Named.{NamesFields}
 use Rattle.fields_follow.proofs.Places.{IsOwnField, PlacesFields, names_first, of_file, stands_here}
+use Rattle.fields_follow.proofs.Locals.{IsNoHome}
+use Rattle.fields_follow.proofs.LocalWrites.{behind_flags, behind_own_at}
 
 -- the bit of a truth value
 pub bit_is : (x : Bool) → (from_bool x % 2 == 1) ≡ x
@@ -130,7 +132,7 @@ module _ (g : Setting) (places : PlacesFields g) (alive : Variable → Type 0) (
 
   -- an instruction whose first field is an own entry, which it writes
   module _ (set : ℕ) (d : Field) (i : Instr) (others : List Field) (e : Draft) (s : CodeState) (st : State) (writes : ℕ → Bool) (value : ℕ → ℕ) (plain : step_of i ≡ Plain i) (simple : NamesFields i) (names : fields_of i ≡ d ∷ others)
-      (goes : begun g.image (placed_instr g i) s ≡ Goes (wrote g (written_to (place g d) writes value) s)) (own : IsOwnField g d) (of_set : d.set ≡ set) (within : Within g (with_instr i e)) (here : At g s (length e.code)) (sim : Sim (under g a) alive st s) where
+      (goes : begun g.image (placed_instr g i) s ≡ Goes (wrote g (written_to (place g d) writes value) s)) (own : IsOwnField g d) (none : IsNoHome g (OpenAmong g alive) d.offset) (of_set : d.set ≡ set) (within : Within g (with_instr i e)) (here : At g s (length e.code)) (sim : Sim (under g a) alive st s) where
     abbrev write : Write
     write = written_to (place g d) writes value
 
@@ -148,14 +150,14 @@ module _ (g : Setting) (places : PlacesFields g) (alive : Variable → Type 0) (
 
     -- whether a processor is active, by the set of the field
     active_here : (p : ℕ) → p < processors (shapes g) set → is_active (shapes g) s.memory d.set p ≡ a set p
-    active_here p below = ap (λ (q : ℕ). is_active (shapes g) s.memory q p) of_set ∙ sim.memory.flags set p set_exists below
+    active_here p below = ap (λ (q : ℕ). is_active (shapes g) s.memory q p) of_set ∙ sim.memory.0.flags set p set_exists below
 
     elsewhere : (f : Field) (p : ℕ) → Apart (place g d) f → field_number (written write s.memory) f p ≡ field_number s.memory f p
     elsewhere f p apart = field_apart write s.memory f p apart
 
     winner_still : (written write s.memory).winner ≡ st.winner
     unfolding written
-    winner_still = sim.memory.winner
+    winner_still = sim.memory.0.winner
 
     pub stored : (takes : ℕ → Type 0) (v : ℕ → ℕ) → ((p : ℕ) → is_active (shapes g) s.memory d.set p ≡ a set p → takes p → (writes p ≡ true) × (value p % 2 ^ d.len ≡ v p)) → Stored set d e i s st takes v
     stored takes v taken = record {
@@ -163,13 +165,16 @@ module _ (g : Setting) (places : PlacesFields g) (alive : Variable → Type 0) (
       go = one_writes g s (wrote g write s) (begins_here g i e s within plain here ∙ goes) (λ f p there. elsewhere f p (places.own_and_below d f own there));
       at = at_next g i e s (s.at + 1) here refl;
       registers = refl;
-      sim = sim_saying g alive st s (s.at + 1) (written write s.memory) (record {
-        numbers = λ k element q p info is below. elsewhere (of_file g k element) p (places.own_file k element q info d is own) ∙ sim.memory.numbers k element q p info is below;
-        small = sim.memory.small;
-        flags = λ q p within_sets below. active_apart (shapes g) write s.memory q p d_ends.1 ∙ sim.memory.flags q p within_sets below;
-        winner = winner_still;
-        bits = bits_written (shapes g) write s.memory sim.memory.bits;
-      }) sim;
+      sim = sim_saying g alive st s (s.at + 1) (written write s.memory) (
+        record {
+          numbers = λ k element q p info is below. elsewhere (of_file g k element) p (places.own_file k element q info d is own) ∙ sim.memory.0.numbers k element q p info is below;
+          small = sim.memory.0.small;
+          flags = λ q p within_sets below. active_apart (shapes g) write s.memory q p d_ends.1 ∙ sim.memory.0.flags q p within_sets below;
+          winner = winner_still;
+          bits = bits_written (shapes g) write s.memory sim.memory.0.bits;
+        },
+        behind_own_at g places (OpenAmong g alive) (length e.code) s.at (s.at + 1) d st s.memory (written write s.memory) here (omega arith) own d_ends.0 named_here none elsewhere sim.memory.1,
+      ) sim;
       exists = set_exists;
       ends = d_ends.1;
       tests = λ q p. tested_apart (shapes g) write s.memory q p d_ends.1;
@@ -180,21 +185,21 @@ module _ (g : Setting) (places : PlacesFields g) (alive : Variable → Type 0) (
     }
 
   -- the contexts are stored, at all positions
-  pub store_context : (set : ℕ) (saved : Field) (e : Draft) (s : CodeState) (st : State) → IsOwnField g saved → saved.len ≡ 1 → saved.set ≡ set → Within g (with_instr (I.StoreContext saved) e) → At g s (length e.code) → Sim (under g a) alive st s
+  pub store_context : (set : ℕ) (saved : Field) (e : Draft) (s : CodeState) (st : State) → IsOwnField g saved → IsNoHome g (OpenAmong g alive) saved.offset → saved.len ≡ 1 → saved.set ≡ set → Within g (with_instr (I.StoreContext saved) e) → At g s (length e.code) → Sim (under g a) alive st s
       → Stored set saved e (I.StoreContext saved) s st (λ p. Unit {0}) (λ p. from_bool (a set p))
   unfolding begun applied after step_of
-  store_context set saved e s st own bit of_set within here sim =
-      stored set saved (I.StoreContext saved) [] e s st (λ p. true) (λ p. from_bool (is_active (shapes g) s.memory saved.set p)) refl tt refl refl own of_set within here sim (λ p. Unit {0}) (λ p. from_bool (a set p)) (λ p active always. (
+  store_context set saved e s st own none bit of_set within here sim =
+      stored set saved (I.StoreContext saved) [] e s st (λ p. true) (λ p. from_bool (is_active (shapes g) s.memory saved.set p)) refl tt refl refl own none of_set within here sim (λ p. Unit {0}) (λ p. from_bool (a set p)) (λ p active always. (
         refl,
         bit_fits (is_active (shapes g) s.memory saved.set p) saved.len bit ∙ ap from_bool active,
       ))
 
   -- the test flags are stored, at active positions
-  pub store_test : (set : ℕ) (holds : Field) (e : Draft) (s : CodeState) (st : State) → IsOwnField g holds → holds.len ≡ 1 → holds.set ≡ set → Within g (with_instr (I.StoreTest holds) e) → At g s (length e.code) → Sim (under g a) alive st s
+  pub store_test : (set : ℕ) (holds : Field) (e : Draft) (s : CodeState) (st : State) → IsOwnField g holds → IsNoHome g (OpenAmong g alive) holds.offset → holds.len ≡ 1 → holds.set ≡ set → Within g (with_instr (I.StoreTest holds) e) → At g s (length e.code) → Sim (under g a) alive st s
       → Stored set holds e (I.StoreTest holds) s st (λ p. a set p ≡ true) (λ p. from_bool (is_tested (shapes g) s.memory set p))
   unfolding begun applied after step_of
-  store_test set holds e s st own bit of_set within here sim =
-      stored set holds (I.StoreTest holds) [] e s st (λ p. is_active (shapes g) s.memory holds.set p) (λ p. from_bool (is_tested (shapes g) s.memory holds.set p)) refl tt refl refl own of_set within here sim (λ p. a set p ≡ true)
+  store_test set holds e s st own none bit of_set within here sim =
+      stored set holds (I.StoreTest holds) [] e s st (λ p. is_active (shapes g) s.memory holds.set p) (λ p. from_bool (is_tested (shapes g) s.memory holds.set p)) refl tt refl refl own none of_set within here sim (λ p. a set p ≡ true)
       (λ p. from_bool (is_tested (shapes g) s.memory set p)) (λ p active takes. (active ∙ takes, bit_fits (is_tested (shapes g) s.memory holds.set p) holds.len bit ∙ ap (λ (q : ℕ). from_bool (is_tested (shapes g) s.memory q p)) of_set))
 
   -- ---- a flag is written
@@ -227,7 +232,7 @@ module _ (g : Setting) (places : PlacesFields g) (alive : Variable → Type 0) (
 
     same_winner : (written flag s.memory).winner ≡ st.winner
     unfolding written
-    same_winner = sim.memory.winner
+    same_winner = sim.memory.0.winner
 
     flag_written : (b : Active) → ((q p : ℕ) → q < length (shapes g) → p < processors (shapes g) q → is_active (shapes g) (written flag s.memory) q p ≡ b q p) → Turned b e i s st
     flag_written b flags = record {
@@ -235,13 +240,16 @@ module _ (g : Setting) (places : PlacesFields g) (alive : Variable → Type 0) (
       go = one_writes g s (wrote g flag s) (begins_here g i e s within plain here ∙ goes) (λ f p there. field_still f p there.ends);
       at = at_next g i e s (s.at + 1) here refl;
       registers = refl;
-      sim = sim_saying g alive st s (s.at + 1) (written flag s.memory) (record {
-        numbers = λ k element q p info is below. field_still (of_file g k element) p (places.files_end k element q info is) ∙ sim.memory.numbers k element q p info is below;
-        small = sim.memory.small;
-        flags = flags;
-        winner = same_winner;
-        bits = bits_written (shapes g) flag s.memory sim.memory.bits;
-      }) sim;
+      sim = sim_saying g alive st s (s.at + 1) (written flag s.memory) (
+        record {
+          numbers = λ k element q p info is below. field_still (of_file g k element) p (places.files_end k element q info is) ∙ sim.memory.0.numbers k element q p info is below;
+          small = sim.memory.0.small;
+          flags = flags;
+          winner = same_winner;
+          bits = bits_written (shapes g) flag s.memory sim.memory.0.bits;
+        },
+        behind_flags g places (OpenAmong g alive) s.at (s.at + 1) st s.memory (written flag s.memory) (omega arith) field_still sim.memory.1,
+      ) sim;
       stays = λ h p ends. field_still (place g h) p ends;
     }
 
@@ -259,9 +267,9 @@ module _ (g : Setting) (places : PlacesFields g) (alive : Variable → Type 0) (
         by q p exists below (inl same) =
             let there : set < length (shapes g) = subst (λ (n : ℕ). n < length (shapes g)) same exists in
             let inside : p < processors (shapes g) set = subst (λ (n : ℕ). p < processors (shapes g) n) same below in
-            let was = sim.memory.flags set p there inside in
+            let was = sim.memory.0.flags set p there inside in
             subst (λ (n : ℕ). is_active (shapes g) (to_context (shapes g) set writes value s.memory p) n p ≡ b n p) (sym same) (at_set p was (takes p inside was))
-        by q p exists below (inr differ) = context_other (shapes g) set writes value s.memory p q differ ∙ sim.memory.flags q p exists below ∙ sym (others q p differ)
+        by q p exists below (inr differ) = context_other (shapes g) set writes value s.memory p q differ ∙ sim.memory.0.flags q p exists below ∙ sym (others q p differ)
 
   -- contexts that were stored are loaded
   pub load_context : (set : ℕ) (saved : Field) (e : Draft) (s : CodeState) (st : State) (b : Active) → saved.set ≡ set → ((p : ℕ) → p < processors (shapes g) set → number_in g saved s p ≡ from_bool (b set p)) → ((q p : ℕ) → (q ≡ set → ⊥) → b q p ≡ a q p)
@@ -311,8 +319,8 @@ module _ (g : Setting) (places : PlacesFields g) (alive : Variable → Type 0) (
       let value : ℕ → ℕ = λ p. number_in g holds s p in
       let exists : set < length (shapes g) =
       subst (λ (q : ℕ). q < length (shapes g)) of_set (places.ends (length e.code) (I.LoadTest holds) holds [] (stands_here g (I.LoadTest holds) e within refl) refl tt refl).0 in (
-        flag_written holds.set (bits_at (shapes g) holds.set + 1) (I.LoadTest holds) e s st writes value refl refl (omega arith) within here sim a (λ q p there below. context_under_test (shapes g) holds.set writes value s.memory p q ∙ sim.memory.flags q p there below),
+        flag_written holds.set (bits_at (shapes g) holds.set + 1) (I.LoadTest holds) e s st writes value refl refl (omega arith) within here sim a (λ q p there below. context_under_test (shapes g) holds.set writes value s.memory p q ∙ sim.memory.0.flags q p there below),
         λ p below active. subst (λ (q : ℕ). is_tested (shapes g) (to_test (shapes g) holds.set writes value s.memory p) q p ≡ tests p) of_set
-            (test_taken (shapes g) holds.set writes value s.memory p (ap (λ (q : ℕ). is_active (shapes g) s.memory q p) of_set ∙ sim.memory.flags set p exists below ∙ active)
+            (test_taken (shapes g) holds.set writes value s.memory p (ap (λ (q : ℕ). is_active (shapes g) s.memory q p) of_set ∙ sim.memory.0.flags set p exists below ∙ active)
             ∙ ap (λ (n : ℕ). n % 2 == 1) (is p below active) ∙ bit_is (tests p)),
       )

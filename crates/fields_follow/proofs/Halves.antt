@@ -21,7 +21,7 @@ use Rattle.source_meaning.specs.State.{Outcome, State}
 use Rattle.source_meaning.specs.Values.{Active, nonzero}
 use Rattle.code_follows.proofs.Following.{Extends, HasRegisters, Keeps, Sim, extends_made, extends_then, keeps_on}
 use Rattle.code_follows.proofs.Growing.{Extended, extended}
-use Rattle.code_follows.proofs.Settings.{At, Reaches, Setting, Within, and_one, code_more, earlier, layout, onto, regs_more}
+use Rattle.code_follows.proofs.Settings.{OpenAmong, At, Reaches, Setting, Within, and_one, code_more, earlier, layout, onto, regs_more}
 use Rattle.code_follows.proofs.Branching.{decides}
 use Rattle.fields_follow.proofs.TruthValues.{by_case}
 use Rattle.fields_follow.proofs.Arms.{PutsLast, words_of}
@@ -40,6 +40,7 @@ use Rattle.fields_follow.proofs.Starts.{Starts, same_entries, starts_later}
 use Rattle.fields_follow.proofs.TestFlags.{LeavesTests, Tells, puts_nonzero, tested_behind}
 use Rattle.fields_follow.proofs.Truths.{fields_sim, whole_sim, either_or_both}
 use Rattle.fields_follow.proofs.Writing.{TakesBehind, elsewhere, instr_takes, own_has, own_sim}
+use Rattle.fields_follow.proofs.Locals.{IsNoHome}
 
 -- which positions are active in the first half, and in the second
 abbrev pub half : Bool → ℕ → (ℕ → ℕ) → Active → Active
@@ -187,6 +188,7 @@ module _ (g : Setting) (alive : Variable → Type 0) (places : PlacesFields g) (
     pub record Keeping (d : Draft) (s : CodeState) : Type 0 where
       pub exists : set < length (shapes g)
       pub own : IsOwnField g f
+      pub none : IsNoHome g (OpenAmong g alive) offset
       pub inside : offset < length d.fields
       pub of_set : saved.set ≡ set
       pub own_saved : IsOwnField g saved
@@ -236,7 +238,7 @@ module _ (g : Setting) (alive : Variable → Type 0) (places : PlacesFields g) (
         put_state = record p.t { at = taken.place; memory = written taken.takes.write p.t.memory }
 
         put_sim : Sim (under g b) alive st put_state
-        put_sim = own_sim (under g b) (places_under g b places) (fields_under g b fields.scope fields.same_extents) alive set f p.t st w p.sim refl ends_here.0 ends_here.1 taken.takes taken.place r.own
+        put_sim = own_sim (under g b) (places_under g b places) (fields_under g b fields.scope fields.same_extents) alive set f p.t st w p.sim refl ends_here.0 ends_here.1 taken.takes (length e.code) taken.place p.at.stands (let there = taken.at in let here = p.at.stands in let one = put_more in omega (arith, there, here, one)) r.own r.none named_here
 
         put_has : HasNumbers (under g b) bits set f put_state w
         put_has = own_has (under g b) (places_under g b places) (fields_under g b fields.scope fields.same_extents) alive set f p.t st w p.sim refl ends_here.0 ends_here.1 taken.takes taken.place
@@ -269,12 +271,12 @@ module _ (g : Setting) (alive : Variable → Type 0) (places : PlacesFields g) (
             let two = l.1 in
             let three = l.2 in
             let inside = r.inside in
-            field_kept taken.takes.write p.t.memory (place g f) q (taken.takes.writes q ∙ p.sim.memory.flags set q r.exists below ∙ off)
+            field_kept taken.takes.write p.t.memory (place g f) q (taken.takes.writes q ∙ p.sim.memory.0.flags set q r.exists below ∙ off)
             ∙ p.stays tt f first (length e.code) q (omega (arith, inside, two)) r.own ends_here.1 named (omega (arith, early, one)) named_here (omega arith)
             ∙ x.stays f first (length e.code) q inside r.own ends_here.1 named early named_here (omega (arith, three))
 
         put_there : (q : ℕ) → q < processors (shapes g) set → b set q ≡ true → (number_in g f put_state q ≡ w q % 2 ^ bits) × (w q < 2 ^ 32)
-        put_there q below on = let now : is_active (shapes g) put_state.memory set q ≡ true = put_sim.memory.flags set q r.exists below ∙ on in (put_has.are q below now, put_has.small q below now)
+        put_there q below on = let now : is_active (shapes g) put_state.memory set q ≡ true = put_sim.memory.0.flags set q r.exists below ∙ on in (put_has.are q below now, put_has.small q below now)
 
         pub halved : Halved set f saved b w d last_draft s st
         halved = record {

@@ -37,6 +37,8 @@ use Rattle.fields_follow.proofs.Passing.{Passes, names_second, passes_all, passe
 use Rattle.fields_follow.proofs.Places.{HoldsTheFields, IsOwnField, PlacesFields, names_first, of_file, stands_here}
 use Rattle.fields_follow.proofs.Writing.{with_memory}
 use Rattle.fields_follow.proofs.Starts.{Starts, starts_next}
+use Rattle.fields_follow.proofs.Locals.{IsNoHome}
+use Rattle.fields_follow.proofs.LocalWrites.{behind_own_at}
 
 module _ (g : Setting) where
   -- a field of so many bits of a set has the lowest bits of these words at every position
@@ -122,11 +124,11 @@ module _ (g : Setting) where
     unfolding step_of
     hop_plain axis k d a = refl
 
-    hop_passes : (bits bound set axis k : ℕ) (d a : Field) (e : Draft) (s : CodeState) (st : State) (v : ℕ → ℕ) → bound ≤ d.offset → IsOwnField g d → d.set ≡ set → d.len ≡ bits → HasAxis set axis → HasEverywhere bits set a s v
+    hop_passes : (bits bound set axis k : ℕ) (d a : Field) (e : Draft) (s : CodeState) (st : State) (v : ℕ → ℕ) → bound ≤ d.offset → IsOwnField g d → IsNoHome g (OpenAmong g alive) d.offset → d.set ≡ set → d.len ≡ bits → HasAxis set axis → HasEverywhere bits set a s v
         → Within g (with_instr (hop_instr axis k d a) e) → IsNamedAt g.unit d.offset (length (with_instr (hop_instr axis k d a) e).code) → Starts g alive s (length e.code) e.regs (length e.fields) → Sim g alive st s
         → (p : Passes g alive bound e (with_instr (hop_instr axis k d a) e) s st (Unit {0})) × HasEverywhere bits set d p.t (λ q. v (neighbour set axis k q))
     unfolding written
-    hop_passes bits bound set axis k d a e s st v newer own of_set long_d grid h within again here sim = (
+    hop_passes bits bound set axis k d a e s st v newer own none of_set long_d grid h within again here sim = (
       record {
         grown = (1, and_one g i e);
         t = wrote g w s;
@@ -139,7 +141,9 @@ module _ (g : Setting) where
           flags = λ q p exists below. active_apart (shapes g) w s.memory q p ends.1 ∙ was.flags q p exists below;
           winner = was.winner;
           bits = bits_written (shapes g) w s.memory was.bits;
-        }) sim;
+        })
+            (behind_own_at g places (OpenAmong g alive) (length e.code) s.at (s.at + 1) d st s.memory (written w s.memory) here.stands (omega arith) own ends.0 (names_first g i d (a ∷ []) (length e.code) there refl) none (λ f p apart. field_apart w s.memory f p apart)
+            (fields.locals (OpenAmong g alive) s.at st s.memory sim.memory)) sim;
         stays = λ used f first last p below is_own below_flags before low after high.
             field_apart w s.memory (place g f) p
             (apart_back (place g f) (place g d) (places.owns_apart f d first (length e.code) last (length (with_instr i e).code) (λ same. omega (arith, same, below, newer)) is_own own ends.0 before after (omega (arith, low)) (omega (arith, high, long)) (names_first g i d (a ∷ []) (length e.code) there refl) again (omega (arith, long))));
@@ -175,7 +179,7 @@ module _ (g : Setting) where
 
     -- a fresh field of the set
     abbrev IsFresh : ℕ → ℕ → ℕ → Field → Type 0
-    IsFresh bits bound set f = (bound ≤ f.offset) × IsOwnField g f × (f.set ≡ set) × (f.len ≡ bits)
+    IsFresh bits bound set f = (bound ≤ f.offset) × IsOwnField g f × (f.set ≡ set) × (f.len ≡ bits) × IsNoHome g (OpenAmong g alive) f.offset
 
     hop_by : (bits bound set axis k : ℕ) (c : Konst) (d a : Field) (e : Draft) (s : CodeState) (st : State) (v : ℕ → ℕ) → c ≡ K.Imm k → IsFresh bits bound set d → HasAxis set axis → HasEverywhere bits set a s v
         → Within g (with_instr (I.GetFromNewsAlways d a axis c) e) → IsNamedAt g.unit d.offset (length (with_instr (I.GetFromNewsAlways d a axis c) e).code) → Starts g alive s (length e.code) e.regs (length e.fields) → Sim g alive st s
@@ -184,7 +188,7 @@ module _ (g : Setting) where
         subst
         (λ (c : Konst). Within g (with_instr (I.GetFromNewsAlways d a axis c) e) → IsNamedAt g.unit d.offset (length (with_instr (I.GetFromNewsAlways d a axis c) e).code)
         → (p : Passes g alive bound e (with_instr (I.GetFromNewsAlways d a axis c) e) s st (Unit {0})) × HasEverywhere bits set d p.t (λ q. v (neighbour set axis (konst_number c []) q)))
-        (sym is) (λ within again. hop_passes bits bound set axis k d a e s st v fresh.0 fresh.1 fresh.2 fresh.3 grid h within again here sim) within again
+        (sym is) (λ within again. hop_passes bits bound set axis k d a e s st v fresh.0 fresh.1 fresh.4 fresh.2 fresh.3 grid h within again here sim) within again
 
     -- where the destination has no more bits than what is read, the last step goes there itself; else the type of the
     -- variable has the words, and they are extended

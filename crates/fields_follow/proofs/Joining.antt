@@ -48,7 +48,7 @@ module _ (g : Setting) (made : IsTranslated g.typed g.words g.before g.after g.i
     owns_apart_at = λ f h first at differ own other exists begins early late here. apart_at g made at first f h (own_field f own) (own_field h other) differ exists begins early late here;
     own_and_below = λ f below own there. own_and_below g made f below (own_field f own) there;
     file_and_below = λ k element set info below is there. file_and_below g made k info set element below is there;
-    own_below_called = λ f first at last index own exists ends before early after late stands. own_below_called g made f first at last index (own_field f own) exists ends before early after late stands;
+    own_below_called = λ f first at index own exists ends before early late stands. own_below_called g made f first at index (own_field f own) exists ends before early late stands;
     few = few_coordinates g.typed g.words g.before g.after g.image made;
     address_ends = λ at d set over there. address_fits g.image (start g + at) (at_bits g made d) set over (made.sound.each (start g + at) (I.MakeAddress (at_bits g made d) set over) there);
     geometry = λ set exists. grid_geometry g.typed g.words g.before g.after g.image made set exists;

@@ -17,10 +17,11 @@ use Rattle.code_follows.proofs.Besides.{sim_saying, under_held}
 use Rattle.code_follows.proofs.Following.{Finishes, IsKept, Sim}
 use Rattle.code_follows.proofs.Settings.{OpenAmong, Held, SameBelow, Setting, Within}
 use Rattle.fields_follow.specs.Fragment.{IsCondition, IsParallelVariable, IsFold, IsParallelEffect}
-use Rattle.fields_follow.proofs.Fields.{HoldsFields, HoldsNumbers, fields_held}
+use Rattle.fields_follow.proofs.Fields.{HoldsNumbers, fields_held}
 use Rattle.fields_follow.proofs.Instructions.{SameExtents, place, shapes}
 use Rattle.fields_follow.proofs.Leaving.{EndsBelow, under}
 use Rattle.fields_follow.proofs.Places.{IsOwnField, PlacesFields}
+use Rattle.fields_follow.proofs.Locals.{locals_again}
 
 module _ (g : Setting) where
   -- What code leaves that is between these places, where there are so many entries at first: what stands in own entries
@@ -55,18 +56,18 @@ module _ (g : Setting) where
   flags_last places f takes flags first last from entries upto own exists ends inside before low after high = record {
     code = λ m other stays same has p below taken. stays f first last p inside own ends before low after high ∙ has p below taken;
     calls = λ index at stands early late m other same has p below taken.
-        same (place g f) p (places.own_below_called f first at last index own exists ends before (omega (arith, low, early)) after (omega (arith, late, high)) stands) ∙ has p below taken;
+        same (place g f) p (places.own_below_called f first at index own exists ends before (omega (arith, low, early)) (λ span held. let most = (held.named last after).1 in omega (arith, late, high, most)) stands) ∙ has p below taken;
   }
 
   -- where these positions are active, the memory holds the numbers of the file's variables, and this is kept of it
   abbrev pub held_under : Active → (kept : BitMemory → Type 0) → Held
   held_under a kept = record {
-    holds = λ live at st m. HoldsFields g.typed g.image a st m × kept m;
+    holds = λ live at st m. (fields_held g a).holds live at st m × kept m;
     ends = HoldsNumbers g.typed g.image;
-    finally = λ live at st m h. h.0.numbers;
-    still = λ live at st u m same winner h. ((fields_held g.typed g.image a).still live at st u m same winner h.0, h.1);
-    onward = λ live at to st m behind h. h;
-    fewer = λ more less at st m among h. h;
+    finally = λ live at st m h. h.0.0.numbers;
+    still = λ live at st u m same winner h. ((fields_held g a).still live at st u m same winner h.0, h.1);
+    onward = λ live at to st m behind h. ((fields_held g a).onward live at to st m behind h.0, h.1);
+    fewer = λ more less at st m among h. ((fields_held g a).fewer more less at st m among h.0, h.1);
   }
 
 -- What is known of a unit of such a program, where these positions are active: what is kept of the memory beside the
@@ -80,8 +81,8 @@ pub record KnowsFields (g : Setting) (scope : Scope) (a : Active) : Type 1 where
   pub locals : (info : VarInfo) → g.may.beside.locals info → IsParallelVariable info
   pub kept : BitMemory → Type 0
   pub lasts : Lasts g g.from g.entries g.upto kept
-  pub opens : (live : ℕ → Type 0) (at : ℕ) (st : State) (m : BitMemory) → g.held.holds live at st m → HoldsFields g.typed g.image a st m × kept m
-  pub closes : (live : ℕ → Type 0) (at : ℕ) (st : State) (m : BitMemory) → HoldsFields g.typed g.image a st m → kept m → g.held.holds live at st m
+  pub opens : (live : ℕ → Type 0) (at : ℕ) (st : State) (m : BitMemory) → g.held.holds live at st m → (fields_held g a).holds live at st m × kept m
+  pub closes : (live : ℕ → Type 0) (at : ℕ) (st : State) (m : BitMemory) → (fields_held g a).holds live at st m → kept m → g.held.holds live at st m
   pub ends : (st : State) (m : BitMemory) → HoldsNumbers g.typed g.image st m → g.held.ends st m
 
 module _ (g : Setting) (scope : Scope) (a : Active) (k : KnowsFields g scope a) where
@@ -111,8 +112,8 @@ module _ (g : Setting) (scope : Scope) (a : Active) (k : KnowsFields g scope a) 
       locals = k.locals;
       kept = kept;
       lasts = record { code = lasts.code; calls = lasts.calls };
-      opens = λ live at st m h. h;
-      closes = λ live at st m holds has. (holds, has);
+      opens = λ live at st m h. ((h.0.0, locals_again g live at st m h.0.1), h.1);
+      closes = λ live at st m holds has. ((holds.0, locals_again g live at st m holds.1), has);
       ends = λ st m h. h;
     }
 

@@ -14,7 +14,7 @@ use Rattle.source_meaning.specs.State.{State}
 use Rattle.source_meaning.specs.Values.{Active, Scope, nonzero}
 use Rattle.code_follows.proofs.Following.{Keeps, Ran, Sim, keeps_all}
 use Rattle.code_follows.proofs.Growing.{Extended, as_it_was, extended}
-use Rattle.code_follows.proofs.Settings.{At, Reaches, Setting, Within, and_one, onto, stay}
+use Rattle.code_follows.proofs.Settings.{OpenAmong, At, Reaches, Setting, Within, and_one, onto, stay}
 use Rattle.fields_follow.proofs.Flags.{Stored, Turned, load_context, load_test, narrow_context, set_context, store_context, store_test, turn_context}
 use Rattle.fields_follow.proofs.Instructions.{shapes}
 use Rattle.fields_follow.proofs.Knowing.{HasFlags, KnowsFields, Lasts, kept_open, sim_close, sim_open}
@@ -23,6 +23,7 @@ use Rattle.fields_follow.proofs.Narrowing.{widened_beside, widened_there, among,
 use Rattle.fields_follow.proofs.Places.{IsOwnField, PlacesFields, names_first, stands_here}
 use Rattle.fields_follow.proofs.Values.{and_entry, with_entry}
 use Rattle.source_meaning.specs.Narrowing.{widened as all_active}
+use Rattle.fields_follow.proofs.Locals.{IsNoHome}
 
 module _ (g : Setting) where
   -- an instruction that stands next names its only field
@@ -109,19 +110,19 @@ module _ (g : Setting) (scope : Scope) (active : Active) (known : KnowsFields g 
 
   module _ (a : Active) (kept : BitMemory → Type 0) (from entries upto : ℕ) (lasts : Lasts g from entries upto kept) (d e : Draft) (s : CodeState) (u : State) where
     -- the context of a set is saved
-    pub saves_context : (tests : BitMemory → Type 0) (saved : Field) (later : ℕ) → from ≤ length e.code → entries ≤ saved.offset → length e.code < upto → IsOwnField g saved → saved.len ≡ 1 → IsNamedAt g.unit saved.offset later → length e.code < later
+    pub saves_context : (tests : BitMemory → Type 0) (saved : Field) (later : ℕ) → from ≤ length e.code → entries ≤ saved.offset → length e.code < upto → IsOwnField g saved → IsNoHome g (OpenAmong g alive) saved.offset → saved.len ≡ 1 → IsNamedAt g.unit saved.offset later → length e.code < later
         → ((m other : BitMemory) → ((q p : ℕ) → is_tested (shapes g) other q p ≡ is_tested (shapes g) m q p) → tests m → tests other) → Within g (with_instr (I.StoreContext saved) e)
         → Led a (λ m. kept m × tests m) d e s u → Led a (λ m. (kept m × HasContext g a saved m) × tests m) d (with_instr (I.StoreContext saved) e) s u
-    saves_context tests saved later low newer high own bit named behind same within x =
+    saves_context tests saved later low newer high own none bit named behind same within x =
         led_stored a kept tests (λ p. Unit {0}) (λ p. from_bool (a saved.set p)) (λ p. a saved.set p) saved (I.StoreContext saved) from entries upto later d e s u lasts low newer high named behind same x
-        (store_context g places alive a saved.set saved e x.t u own bit refl within x.at x.sim) (λ p below taken. refl)
+        (store_context g places alive a saved.set saved e x.t u own none bit refl within x.at x.sim) (λ p below taken. refl)
 
     -- the test flags of a set are kept, at the active positions
-    pub keeps_tests : (v : ℕ → ℕ) (holds : Field) (later : ℕ) → from ≤ length e.code → entries ≤ holds.offset → length e.code < upto → IsOwnField g holds → holds.len ≡ 1 → IsNamedAt g.unit holds.offset later → length e.code < later → Within g (with_instr (I.StoreTest holds) e)
+    pub keeps_tests : (v : ℕ → ℕ) (holds : Field) (later : ℕ) → from ≤ length e.code → entries ≤ holds.offset → length e.code < upto → IsOwnField g holds → IsNoHome g (OpenAmong g alive) holds.offset → holds.len ≡ 1 → IsNamedAt g.unit holds.offset later → length e.code < later → Within g (with_instr (I.StoreTest holds) e)
         → Led a (λ m. kept m × TestsAre g holds.set a v m) d e s u → Led a (λ m. (kept m × HasTests g a v holds m) × TestsAre g holds.set a v m) d (with_instr (I.StoreTest holds) e) s u
-    keeps_tests v holds later low newer high own bit named behind within x =
+    keeps_tests v holds later low newer high own none bit named behind within x =
         led_stored a kept (TestsAre g holds.set a v) (λ p. a holds.set p ≡ true) (λ p. from_bool (is_tested (shapes g) x.t.memory holds.set p)) (λ p. nonzero (v p)) holds (I.StoreTest holds) from entries upto later d e s u lasts low newer high named behind
-        (λ m other same tests p below on. same holds.set p ∙ tests p below on) x (store_test g places alive a holds.set holds e x.t u own bit refl within x.at x.sim) (λ p below on. ap from_bool (x.has.1 p below on))
+        (λ m other same tests p below on. same holds.set p ∙ tests p below on) x (store_test g places alive a holds.set holds e x.t u own none bit refl within x.at x.sim) (λ p below on. ap from_bool (x.has.1 p below on))
 
     -- positions where the numbers are zero become inactive, or those where they are not
     pub narrows : (shape : ℕ) (v : ℕ → ℕ) → Within g (with_instr (I.LogandContextWithTest shape) e) → Led a (λ m. kept m × TestsAre g shape a v m) d e s u → Led (among shape v a) kept d (with_instr (I.LogandContextWithTest shape) e) s u

@@ -11,14 +11,15 @@ use Rattle.paris_code.specs.Spans.{IsNamedAt}
 use Rattle.source_meaning.specs.Expressions.{evaluated}
 use Rattle.source_meaning.specs.State.{State}
 use Rattle.source_meaning.specs.Values.{Active, Scope}
-use Rattle.code_follows.proofs.Besides.{registers_under as registers_there}
+use Rattle.code_follows.proofs.Besides.{sim_saying, registers_under as registers_there}
 use Rattle.code_follows.proofs.Following.{Follows, HasRegisters, IsKept, Keeps, Sim}
 use Rattle.code_follows.proofs.Growing.{Extended}
-use Rattle.code_follows.proofs.Settings.{Reaches, Setting, Within, layout}
+use Rattle.code_follows.proofs.Settings.{OpenAmong, Reaches, Setting, Within, layout}
 use Rattle.fields_follow.proofs.Fields.{fields_held}
 use Rattle.fields_follow.proofs.Instructions.{SameExtents, number_in, place, shapes}
 use Rattle.fields_follow.proofs.Places.{HoldsTheFields, IsOwnField, PlacesFields}
 use Rattle.fields_follow.proofs.Starts.{Starts}
+use Rattle.fields_follow.proofs.Locals.{locals_again}
 
 module _ (g : Setting) where
   -- the field ends below the flags of its set
@@ -48,14 +49,14 @@ module _ (g : Setting) where
 
   -- the same unit where these positions are active
   abbrev pub under : Active → Setting
-  under a = record g { held = fields_held g.typed g.image a }
+  under a = record g { held = fields_held g a }
 
   pub places_under : (a : Active) → PlacesFields g → PlacesFields (under a)
   places_under a p = record { ends = p.ends; scans = p.scans; exists = p.exists; files_end = p.files_end; file = p.file; files_apart = p.files_apart; own_file = p.own_file; owns_apart = p.owns_apart; owns_apart_at = p.owns_apart_at; own_and_below = p.own_and_below; file_and_below = p.file_and_below; own_below_called = p.own_below_called; few = p.few; address_ends = p.address_ends; geometry = p.geometry; grids = p.grids }
 
   -- what the memory holds of it is the fields' numbers
   abbrev pub fields_under : (a : Active) (scope : Scope) → SameExtents g scope → HoldsTheFields (under a)
-  fields_under a scope same = record { scope = scope; same_extents = same; active = a; opens = λ live at st m h. h; closes = λ live at st m h. h; ends = λ st m h. h }
+  fields_under a scope same = record { scope = scope; same_extents = same; active = a; opens = λ live at st m h. h.0; locals = λ live at st m h. locals_again g live at st m h.1; closes = λ live at st m h held. (h, locals_again g live at st m held); ends = λ st m h. h }
 
   pub within_under : {d : Draft} (a : Active) → Within g d → Within (under a) d
   within_under a w = record { more = w.more; code = w.code; entries = w.entries; fields = w.fields; homes = w.homes; homes_are = w.homes_are; regs = w.regs; own = w.own; upto = w.upto }
@@ -64,7 +65,7 @@ module _ (g : Setting) where
   reaches_again a r = record { by = r.by; below = r.below }
 
   pub registers_under : (a : Active) → HasRegisters g → HasRegisters (under a)
-  registers_under a h = registers_there g (fields_held g.typed g.image a) g.from g.entries g.upto h
+  registers_under a h = registers_there g (fields_held g a) g.from g.entries g.upto h
 
   -- the code starts there as it does in the unit
   pub starts_under : (a : Active) (alive : Variable → Type 0) (s : CodeState) (place regs entries : ℕ) → Starts g alive s place regs entries → Starts (under a) alive s place regs entries
@@ -77,3 +78,7 @@ module _ (g : Setting) where
   pub keeps_again : (a : Active) (d : Draft) (s t : CodeState) → Keeps (under a) d s t → Keeps g d s t
   unfolding IsKept
   keeps_again a d s t keeps = keeps
+
+-- what is so under one context and then another is so under the last
+pub sim_last : (g : Setting) (a b : Active) (alive : Variable → Type 0) (st : State) (s : CodeState) → Sim (under (under g a) b) alive st s → Sim (under g b) alive st s
+sim_last g a b alive st s h = sim_saying g alive st s s.at s.memory (h.memory.0, locals_again g (OpenAmong g alive) s.at st s.memory h.memory.1) h

@@ -12,12 +12,14 @@ use Rattle.paris_code.specs.declared.program.Virtual.{Virtual}
 use Rattle.paris_code.specs.Memory.{BitMemory, field_number, processors}
 use Rattle.paris_code.specs.Proper.{IsOwn}
 use Rattle.paris_code.specs.Shapes.{bits_at}
-use Rattle.paris_code.specs.Spans.{IsInUse, IsNamedAt, Span}
+use Rattle.paris_code.specs.Spans.{IsInUse, IsNamedAt, JumpsTo, LiesWithin, Span, StandsAt}
 use Rattle.source_meaning.specs.State.{State}
 use Rattle.code_follows.proofs.Growing.{Extended}
-use Rattle.code_follows.proofs.Settings.{HasHome, Setting, Within, earlier, layout, start}
+use Rattle.code_follows.proofs.Settings.{AreNamedBefore, AreOpenAt, Held, HasHome, Setting, Within, earlier, layout, start}
 use Rattle.code_follows.proofs.Standing.{some_same}
 use Rattle.fields_follow.proofs.Instructions.{place, shapes}
+use Rattle.paris_code.specs.declared.instr.Instr.{Instr}
+use Rattle.std.proofs.lemmas.Bool.{cases_lt}
 
 -- what a list has, a longer one has too
 kept_get : {A : Type 0} (xs ys : List A) (i : ℕ) (x : A) → slice_get xs i ≡ Some x → slice_get (xs ++ ys) i ≡ Some x
@@ -52,7 +54,22 @@ module _ (g : Setting) where
   abbrev pub HoldsLocals : (ℕ → Type 0) → ℕ → State → BitMemory → Type 0
   HoldsLocals lives at st m = (k : ℕ) → lives k → (info : VarInfo) × ((f : Field) × (IsLocalField k info f × HoldsLocal k info f at st m))
 
+  -- the entry is none of an open variable's
+  abbrev pub IsNoHome : (ℕ → Type 0) → ℕ → Type 0
+  IsNoHome lives entry = (k home : ℕ) → lives k → HasHome g k home → home ≡ entry → ⊥
+
   -- ---- a variable has one field
+
+  pub one_home : (k a b : ℕ) → HasHome g k a → HasHome g k b → a ≡ b
+  one_home k a b one other =
+      some_same a b (sym one.1.1 ∙ ap (λ (n : LocalName). slice_get g.unit.homes.items n.home) (some_same one.0 other.0 (sym one.1.0 ∙ other.1.0)) ∙ other.1.1)
+
+  -- so an entry behind those that there are where they are open is none of theirs
+  pub behind_homes : (lives : ℕ → Type 0) (place entries entry : ℕ) → AreOpenAt g lives place entries → entries ≤ entry → IsNoHome lives entry
+  behind_homes lives place entries entry opened high k home living has same =
+      let (own, (is, (named, inside))) = opened k living in
+      let equal = one_home k own home is has in
+      omega (arith, inside, high, same, equal)
 
   pub same_local : (k : ℕ) (info of : VarInfo) (f h : Field) → IsLocalField k info f → IsLocalField k of h → (info ≡ of) × (f ≡ h)
   same_local k info of f h one other = (
@@ -154,6 +171,49 @@ module _ (g : Setting) where
         ),
       )
 
+  -- where a jump leads, if they are named before that place: an entry that is in use there is so up to a jump back
+  pub locals_landed : (lives : ℕ → Type 0) (place target : ℕ) (jump : Instr) → StandsAt g.unit place jump → JumpsTo jump target → AreNamedBefore g lives target → (st : State) (m : BitMemory) → HoldsLocals lives (start g + place) st m → HoldsLocals lives (target + start g) st m
+  locals_landed lives place target jump stands leads named st m h k living =
+      let (info, (f, (is, holds))) = h k living in
+      let (entry, (home, (first, (names, before)))) = named k living in
+      let same : entry ≡ f.offset = one_home k entry f.offset home is.home in
+      let there : IsNamedAt g.unit f.offset first = subst (λ (n : ℕ). IsNamedAt g.unit n first) same names in (
+        info,
+        (
+          f,
+          (
+            is,
+            record {
+              first = first;
+              named = there;
+              before = omega (arith, before);
+              exists = holds.exists;
+              ends = holds.ends;
+              small = holds.small;
+              numbers = λ used p below. holds.numbers (λ span is_span. late f.offset first there before used span is_span) p below;
+            },
+          ),
+        ),
+      )
+    where
+      late : (entry first : ℕ) → IsNamedAt g.unit entry first → first < target → StillUsed entry (target + start g) → (span : Span) → IsInUse g.unit entry W.Own span → start g + place ≤ start g + span.last
+      late entry first there before used span is_span = by (cases_lt place target)
+        where
+          begins : span.first ≤ first
+          begins = (is_span.named first there).0
+
+          ends : target + start g ≤ start g + span.last
+          ends = used span is_span
+
+          by : (place < target) ⊎ (target ≤ place) → start g + place ≤ start g + span.last
+          by (inl forward) = omega (arith, forward, ends)
+          by (inr back) =
+              lies (is_span.stretches (record { first = target; last = place }) (jump, stands, leads, back) (omega (arith, begins, before, back), omega (arith, ends)))
+            where
+              lies : LiesWithin (record { first = target; last = place }) span ⊎ LiesWithin span (record { first = target; last = place }) → start g + place ≤ start g + span.last
+              lies (inl within) = let high = within.1 in omega (arith, high)
+              lies (inr within) = let low = within.0 in absurd (omega (arith, low, begins, before))
+
   -- of fewer variables
   pub locals_fewer : (more less : ℕ → Type 0) (at : ℕ) (st : State) (m : BitMemory) → ((k : ℕ) → less k → more k) → HoldsLocals more at st m → HoldsLocals less at st m
   locals_fewer more less at st m fewer h k living = h k (fewer k living)
@@ -161,3 +221,18 @@ module _ (g : Setting) where
   -- an entry that an instruction names is in use up to it
   pub used_up_to : (entry later at : ℕ) → IsNamedAt g.unit entry later → at ≤ start g + later → StillUsed entry at
   used_up_to entry later at named behind span used = let late = (used.named later named).1 in omega (arith, late, behind)
+
+-- the same unit holds the same of them, whatever else is held and is said of it
+pub locals_again : (g : Setting) {held more : Held} {from entries upto first fields last : ℕ} (lives : ℕ → Type 0) (at : ℕ) (st : State) (m : BitMemory) → HoldsLocals (record g { held = held; from = from; entries = entries; upto = upto }) lives at st m
+    → HoldsLocals (record g { held = more; from = first; entries = fields; upto = last }) lives at st m
+locals_again g lives at st m h k living =
+    let (info, (f, (is, holds))) = h k living in (
+      info,
+      (
+        f,
+        (
+          record { known = is.known; parallel = is.parallel; home = is.home; own = is.own; len = is.len },
+          record { first = holds.first; named = holds.named; before = holds.before; exists = holds.exists; ends = holds.ends; small = holds.small; numbers = holds.numbers },
+        ),
+      ),
+    )

@@ -1,5 +1,5 @@
 -- The code that clears a parallel variable of a block makes its own entry 0 at every position.
-use Rattle.std.proofs.Common.{◌≡◌, ◌∙◌, ℕ, ◌+◌, ◌<◌, ◌≤◌, ◌^◌, ◌&&◌, ◌⊎◌, inl, inr, Bool, false, if◌then◌else◌, nat_lt, List, [], ◌∷◌, ◌++◌, append_assoc, length, slice_get, take, Option, Some, None, refl, sym, ap, subst, arith}
+use Rattle.std.proofs.Common.{◌≢◌, true, ◌≡◌, ◌∙◌, ℕ, ◌+◌, ◌<◌, ◌≤◌, ◌^◌, ◌&&◌, ◌⊎◌, inl, inr, Bool, false, if◌then◌else◌, nat_lt, List, [], ◌∷◌, ◌++◌, append_assoc, length, slice_get, take, Option, Some, None, refl, sym, ap, subst, arith}
 use Rattle.std.specs.Prelude.{nat_le}
 use Rattle.std.proofs.lemmas.Bool.{cases_eq}
 use Rattle.std.proofs.lemmas.Bool.Decides.{nat_tests}
@@ -35,7 +35,7 @@ use Rattle.code_follows.proofs.Numbered.{numbered_at}
 use Rattle.fields_follow.proofs.Passing.{fields_longer}
 use Rattle.code_follows.proofs.Settings.{HasHome, IsOpenIn, OpenAmong, At, Begun, SameBelow, Setting, StandsBelow, Within, and_one, at_next, begins_here, code_more, layout, one_writes, placed_instr}
 use Rattle.code_follows.proofs.Standing.{some_same}
-use Rattle.fields_follow.proofs.Bits.{active_apart, bits_written, field_apart}
+use Rattle.fields_follow.proofs.Bits.{field_written, active_apart, bits_written, field_apart}
 use Rattle.fields_follow.proofs.Fields.{HoldsFields}
 use Rattle.fields_follow.proofs.FileFields.{Apart, apart_back}
 use Rattle.fields_follow.proofs.Instructions.{place, shapes, wrote}
@@ -43,6 +43,11 @@ use Rattle.fields_follow.proofs.Knowing.{KnowsFields, StaysNamed}
 use Rattle.fields_follow.proofs.Leaving.{EndsBelow}
 use Rattle.fields_follow.proofs.Places.{IsOwnField, PlacesFields, names_first, of_file, stands_here}
 use Rattle.fields_follow.proofs.Values.{and_entry, next_field, one_more, taken, with_entry}
+use Rattle.fields_follow.proofs.Locals.{HoldsLocal, HoldsLocals, IsLocalField, behind_homes, locals_fewer, locals_on}
+use Rattle.fields_follow.proofs.LocalWrites.{behind_own_at}
+use Rattle.std.proofs.lemmas.Nat.{pow_pos}
+use Rattle.std.proofs.Math.Nat.{mod-eq_of_lt}
+use Rattle.code_follows.proofs.Declaring.{local_same}
 
 -- the home of the variable is no code
 and_home : (d : Draft) → Extended d 0 (with_home d)
@@ -157,7 +162,7 @@ module _ (g : Setting) (scope : Scope) (active : Active) (known : KnowsFields g 
       let longer = fields_longer taken_for behind 1 (and_one g clear taken_for) in
       (dest.offset, (home numbers declared within, ((length taken_for.code, (there within, omega (arith, more))), omega (arith, first, longer))))
 
-  module _ (before : Variable → Type 0) (s : CodeState) (st : State) (free : Begun g before d) (at : At g s (length d.code)) (sim : Sim g before st s) (within : Within g behind) where
+  module _ (numbers : NumbersVariables g.instance (layout g)) (declared : HasDeclared g.typed g.instance (layout g) n d) (before : Variable → Type 0) (s : CodeState) (st : State) (free : Begun g before d) (at : At g s (length d.code)) (sim : Sim g before st s) (within : Within g behind) where
     write : Write
     write = elementwise (shapes g) (I.MoveZeroAlways (place g dest)) [] s.memory
 
@@ -200,6 +205,69 @@ module _ (g : Setting) (scope : Scope) (active : Active) (known : KnowsFields g 
       bits = bits_written (shapes g) write s.memory was.bits;
     }
 
+    -- the others have entries of their own
+    abbrev Others : ℕ → Type 0
+    Others k = OpenAmong g before k × (n ≢ k)
+
+    same_parallel : (k p : ℕ) → n ≢ k → (zeroed n 1 st).parallel (V.Local k) 0 p ≡ st.parallel (V.Local k) 0 p
+    unfolding zeroed is_among
+    same_parallel k p differ = ap (λ (b : Bool). if b then 0 else st.parallel (V.Local k) 0 p) other
+      where
+        other : (nat_le n k && nat_lt k (n + 1)) ≡ false
+        other = grind (arith, nat_tests, differ)
+
+    others_held : HoldsLocals g (OpenAmong g before) s.at st s.memory → HoldsLocals g Others (s.at + 1) (zeroed n 1 st) (written write s.memory)
+    others_held h =
+        locals_on g Others (s.at + 1) (s.at + 1) st (zeroed n 1 st) (written write s.memory) (written write s.memory) (omega arith) (λ k of f living is holds used p low. refl) (λ k living p. same_parallel k p living.1)
+        (behind_own_at g places Others (length taken_for.code) s.at (s.at + 1) dest st s.memory (written write s.memory) here (omega arith) own ends.0 (there within)
+        (λ k entry living home same. behind_homes g (OpenAmong g before) (length d.code) (length d.fields) dest.offset free.opened (let equal = fields_same in omega (arith, equal)) k entry living.0 home same) still (locals_fewer g (OpenAmong g before) Others s.at st s.memory (λ k living. living.0) h))
+
+    -- and it is 0 in its own
+    zero_there : (p : ℕ) → (zeroed n 1 st).parallel (V.Local n) 0 p ≡ 0
+    unfolding zeroed is_among
+    zero_there p = ap (λ (b : Bool). if b then 0 else st.parallel (V.Local n) 0 p) inside
+      where
+        inside : (nat_le n n && nat_lt n (n + 1)) ≡ true
+        inside = grind (arith, nat_tests)
+
+    zero_written : (p : ℕ) → field_number (written write s.memory) (place g dest) p ≡ 0
+    unfolding write
+    zero_written p = field_written write s.memory p refl ∙ mod-eq_of_lt (pow_pos bits)
+
+    its_own : IsLocalField g n info dest
+    its_own = record { known = named; parallel = parallel; home = home numbers declared within; own = own; len = refl }
+
+    all_held : HoldsLocals g (OpenAmong g before) s.at st s.memory → HoldsLocals g (OpenAmong g (λ x. before x ⊎ (x ≡ V.Local n))) (s.at + 1) (zeroed n 1 st) (written write s.memory)
+    all_held h k is_open = by (cases_eq n k) is_open.0
+      where
+        Holding : ℕ → Type 0
+        Holding j = (of : VarInfo) × ((f : Field) × (IsLocalField g j of f × HoldsLocal g j of f (s.at + 1) (zeroed n 1 st) (written write s.memory)))
+
+        mine : Holding n
+        mine = (
+          info,
+          (
+            dest,
+            (
+              its_own,
+              record {
+                first = length taken_for.code;
+                named = there within;
+                before = omega (arith, here);
+                exists = ends.0;
+                ends = ends.1;
+                small = λ p. subst (λ (w : ℕ). w < 2 ^ info.elem.bits) (sym (zero_there p)) (pow_pos info.elem.bits);
+                numbers = λ used p low. zero_written p ∙ sym (zero_there p);
+              },
+            ),
+          ),
+        )
+
+        by : (n ≡ k) ⊎ (n ≢ k) → before (V.Local k) ⊎ (V.Local k ≡ V.Local n) → Holding k
+        by (inl same) any = subst Holding same mine
+        by (inr differ) (inl living) = others_held h k ((living, is_open.1), differ)
+        by (inr differ) (inr same) = absurd (differ (sym (local_same k n same)))
+
     clears_it : Ran g (λ x. before x ⊎ (x ≡ V.Local n)) d s (zeroed n 1 st) behind
     unfolding step_of
     clears_it =
@@ -209,7 +277,7 @@ module _ (g : Setting) (scope : Scope) (active : Active) (known : KnowsFields g 
           t = wrote g write s;
           go = one_writes g s (wrote g write s) (begins_here g clear taken_for s within refl here ∙ goes) below;
           at = at_next g clear taken_for s (s.at + 1) here refl;
-          sim = sim_cleared g n info set named parallel before st s (s.at + 1) (written write s.memory) (known.closes (OpenAmong g (λ x. before x ⊎ (x ≡ V.Local n))) (s.at + 1) (zeroed n 1 st) (written write s.memory) (holds opened.0) (known.lasts.code s.memory (written write s.memory) stays below opened.1)) sim;
+          sim = sim_cleared g n info set named parallel before st s (s.at + 1) (written write s.memory) (known.closes (OpenAmong g (λ x. before x ⊎ (x ≡ V.Local n))) (s.at + 1) (zeroed n 1 st) (written write s.memory) (holds opened.0.0, all_held opened.0.1) (known.lasts.code s.memory (written write s.memory) stays below opened.1)) sim;
           keeps = λ r kept. refl;
         }
 
@@ -233,5 +301,5 @@ locals_clear g scope active known at_start local n d may named numbers declared 
       count = 0 + (0 + 1);
       grown = grown g scope active known n local.info set named parallel d;
       opened = λ within. is_open g scope active known n local.info set named parallel d numbers declared within;
-      runs = λ before s st free at sim within. clears_it g scope active known n local.info set named parallel d before s st free at sim within;
+      runs = λ before s st free at sim within. clears_it g scope active known n local.info set named parallel d numbers declared before s st free at sim within;
     }

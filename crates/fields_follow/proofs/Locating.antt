@@ -37,7 +37,7 @@ use Rattle.vp_sets.specs.Positions.{position_count}
 use Rattle.vp_sets.proofs.PositionLaws.{geometry_parts}
 use Rattle.code_follows.proofs.Following.{Finishes, HasRegisters, Sim}
 use Rattle.code_follows.proofs.Growing.{Extended}
-use Rattle.code_follows.proofs.Settings.{At, Setting, Within, and_one, code_more, earlier, layout, next_stands}
+use Rattle.code_follows.proofs.Settings.{OpenAmong, At, Setting, Within, and_one, code_more, earlier, layout, next_stands}
 use Rattle.fields_follow.specs.Fragment.{ArePure}
 use Rattle.fields_follow.proofs.Checks.{check_ends, check_passes}
 use Rattle.code_lengths.specs.Ready.{IsReadyButForFields}
@@ -51,6 +51,7 @@ use Rattle.fields_follow.proofs.Places.{HoldsTheFields, IsOwnField, PlacesFields
 use Rattle.fields_follow.proofs.Routing.{as_many, indexes_at, outside_at, target_of}
 use Rattle.fields_follow.proofs.Sizes.{value_small}
 use Rattle.fields_follow.proofs.Writing.{PutsNext}
+use Rattle.fields_follow.proofs.Locals.{IsNoHome}
 
 -- nothing passes below a number where the least that does is none
 least_clear : (f : ℕ → Bool) (n k : ℕ) → least_below f n ≡ None → k < n → f k ≡ false
@@ -220,13 +221,13 @@ module _ (g : Setting) where
 
       -- both
       pub located_after : {k : _} (set of bound : ℕ) (place_of : Place) (row : Row_of-TExpr k) (outs : List Out) (dest : Field) (d e : Draft) (s : CodeState) (st : State) (Q : Draft → Type 0) → ArePure set row → Coded row → length (items-the_row-TExpr _ row) ≡ length (extents g of) → of < length (shapes g)
-          → dest.len ≡ 32 → dest.set ≡ set → bound ≤ dest.offset → dest.offset < length e.fields → IsOwnField g dest → PartsStand g alive bound d s set st (words_of g set st row) outs e
+          → dest.len ≡ 32 → dest.set ≡ set → bound ≤ dest.offset → dest.offset < length e.fields → IsOwnField g dest → IsNoHome g (OpenAmong g alive) dest.offset → PartsStand g alive bound d s set st (words_of g set st row) outs e
           → Within g (with_step (MakesAddress dest of (coordinates_in outs)) (with_step (ChecksTarget of place_of (signed_coordinates (items-the_row-TExpr _ row) (coordinates_in outs))) e))
           → (outside_at fields.scope fields.active set of (indexes_at (extents g set) st row) ≡ None → (f : Draft) → GivesField g alive 32 bound d s set st (target_of (extents g of) (extents g set) st row) dest f → Q f)
           → ((q : ℕ) → outside_at fields.scope fields.active set of (indexes_at (extents g set) st row) ≡ Some (Some q) → Finishes g (Source.Fault Index place_of (Some q)) st s → (f : Draft) → Q f)
           → Q (with_step (MakesAddress dest of (coordinates_in outs)) (with_step (ChecksTarget of place_of (signed_coordinates (items-the_row-TExpr _ row) (coordinates_in outs))) e))
       unfolding check_passes
-      located_after set of bound place_of row outs dest d e s st Q are coded many also long of_set newer older own a within known faults = by least refl
+      located_after set of bound place_of row outs dest d e s st Q are coded many also long of_set newer older own none a within known faults = by least refl
         where
           coordinates : List Coordinate
           coordinates = coordinates_in outs
@@ -320,12 +321,15 @@ module _ (g : Setting) where
               begins_there g (length e.code) (I.CheckTarget of place_of target.over) t target.moved_there a.passes.at.stands ∙ check_begun of place_of target.over t
               ∙ ap (λ (x : Option ℕ). elim x as (λ _. Next) [ None ↦ Goes (Machine.onward t) | Some q ↦ Machine.Ends (Machine.Fault Index place_of (Some q)) (Machine.onward t) ]) is
 
+          no_open : IsNoHome g (OpenAmong g alive) dest.offset
+          no_open = none
+
           by : (o : Option ℕ) → least ≡ o → Q (with_step making (with_step checking e))
           by None none =
               let clear : outside_at fields.scope fields.active set of given ≡ None = outside ∙ ap failing_at none in
               let goes : Passes g alive bound d checked s st (Unit {0}) = check_passes g alive check bound d e s st sure (stepped None none) in
               subst Q same_made (known clear made
               (gives_on g alive 32 bound bound d checked made s set st (target_of (extents g of) (extents g set) st row) dest (Unit {0}) (omega arith) goes (λ b. tt)
-              (next_own g alive places fields 32 bound set make dest checked goes.t st (target_of (extents g of) (extents g set) st row) newer (let more = fields_longer e checked 1 (and_one g check e) in omega (arith, older, more)) own of_set long goes.at goes.sim
+              (next_own g alive places fields 32 bound set make dest checked goes.t st (target_of (extents g of) (extents g set) st row) newer (let more = fields_longer e checked 1 (and_one g check e) in omega (arith, older, more)) own no_open of_set long goes.at goes.sim
               (address_next set of st goes.t row outs dest checked of_set exists also are coded goes.sim (have_on set t (words_of g set st row) outs have) clear goes.at.stands address))))
           by (Some q) some = faults q (outside ∙ ap failing_at some) (check_ends g alive check bound d e s st sure Index place_of q (stepped (Some q) some)) (with_step making (with_step checking e))

@@ -50,7 +50,7 @@ use Rattle.fields_follow.proofs.Passing.{After, Passes, after_same, first_words,
 use Rattle.fields_follow.proofs.Places.{HoldsTheFields, IsFileField, PlacesFields}
 use Rattle.fields_follow.proofs.Totals.{held_below}
 use Rattle.fields_follow.proofs.Values.{and_entry, next_field, one_more, taken, with_entry}
-use Rattle.fields_follow.proofs.Starts.{starts_entry, Starts}
+use Rattle.fields_follow.proofs.Starts.{no_home, starts_entry, Starts}
 use Rattle.fields_follow.proofs.Variables.{Carries, file_carries, file_numbers}
 
 -- such a get goes by NEWS
@@ -227,8 +227,8 @@ module _ (g : Setting) where
         moves within =
             moves_last g places fields alive ty.elem f read reads bound set steps hop numbers d3 s st (steps_move g set positive indexes are long)
             (λ q below. held_has ty.elem (st.parallel (V.File k) 0 q) (small_there g alive places fields set k info st s is sim q))
-            (let one = one_more set info.elem.bits (owner_of k) d in omega (arith, less, one), taken g set read W.Own d1 made (0 + more.0) within behind2, refl, refl)
-            (let one = one_more set info.elem.bits (owner_of k) d in let two = one_more set read W.Own d1 in omega (arith, less, one, two), taken g set read W.Own d2 made more.0 within more.1, refl, refl)
+            (let one = one_more set info.elem.bits (owner_of k) d in omega (arith, less, one), taken g set read W.Own d1 made (0 + more.0) within behind2, refl, refl, no_home g alive (length d.fields) (length d1.fields) (let one = one_more set info.elem.bits (owner_of k) d in omega (arith, one)) here)
+            (let one = one_more set info.elem.bits (owner_of k) d in let two = one_more set read W.Own d1 in omega (arith, less, one, two), taken g set read W.Own d2 made more.0 within more.1, refl, refl, no_home g alive (length d.fields) (length d2.fields) (let one = one_more set info.elem.bits (owner_of k) d in let two = one_more set read W.Own d1 in omega (arith, one, two)) here)
             (file_everywhere read set k info (next_field set read d) s st is (taken g set info.elem.bits (owner_of k) d made (0 + (0 + more.0)) within behind1) refl refl fits sim) within (starts_entry g alive _ _ (starts_entry g alive _ _ (starts_entry g alive _ _ here))) sim
 
         found : (q : ℕ) → q < processors (shapes g) set → numbers (origin g set steps q) ≡ word_at (extents g set) st (T.LeftIndex' ty place p indexes (V.File k) of) q

@@ -40,7 +40,7 @@ use Rattle.source_meaning.specs.Values.{Parallel}
 use Rattle.source_meaning.proofs.ConstantLaws.{Boxed}
 use Rattle.code_follows.proofs.Following.{Extends, Finishes, Follows, HasRegisters, Sim, extends_made, extends_then, follows_same}
 use Rattle.code_follows.proofs.Growing.{as_it_was, extended}
-use Rattle.code_follows.proofs.Settings.{Setting, Within, and_one, code_more, earlier, layout}
+use Rattle.code_follows.proofs.Settings.{OpenAmong, Setting, Within, and_one, code_more, earlier, layout}
 use Rattle.fields_follow.specs.Fragment.{IsDivisor, IsOperation, IsPromoted, IsPure}
 use Rattle.fields_follow.proofs.Dividing.{divided_after, left_ended, never_zero, operator_ends, operator_gives, right_ended, zero_at}
 use Rattle.fields_follow.proofs.Forms.{HasItsCode, HasItsWord, divisor_word, pure_word}
@@ -53,7 +53,8 @@ use Rattle.fields_follow.proofs.Places.{HoldsTheFields, PlacesFields, stands_her
 use Rattle.fields_follow.proofs.Promoted.{IsComputed, computed_after, promoted_stands}
 use Rattle.fields_follow.proofs.Spreading.{GivesWord, HasBoth, spread_behind}
 use Rattle.fields_follow.proofs.Values.{Gives, IsFlag, Valued, code_of, next_field, one_more, operand_after, operand_of, taken, with_entry}
-use Rattle.fields_follow.proofs.Starts.{starts_entry, Starts}
+use Rattle.fields_follow.proofs.Starts.{no_home, starts_entry, Starts}
+use Rattle.fields_follow.proofs.Locals.{IsNoHome}
 
 -- the instruction that operates on a field and what the right operand is
 abbrev pub operating : Op → Bool → Field → Field → Right → Instr
@@ -153,9 +154,9 @@ module _ (g : Setting) where
     IsValued bits set e = Valued g has alive n ready places fields bits set e (λ d. code_of g has alive n ready places fields bits e d)
 
     -- a word at every position of a fresh entry, behind the code that gives it
-    pub word_spread : (bits set : ℕ) (d e : Draft) (k : Konst) (v : ℕ → ℕ) (s : CodeState) (st : State) → GivesWord g alive (length d.fields) (with_entry set bits W.Own d) s st v k e → Within g (with_instr (I.MoveConstant (next_field set bits d) k) e)
+    pub word_spread : (bits set : ℕ) (d e : Draft) (k : Konst) (v : ℕ → ℕ) (s : CodeState) (st : State) → IsNoHome g (OpenAmong g alive) (length d.fields) → GivesWord g alive (length d.fields) (with_entry set bits W.Own d) s st v k e → Within g (with_instr (I.MoveConstant (next_field set bits d) k) e)
         → GivesField g alive bits (length d.fields) (with_entry set bits W.Own d) s set st v (next_field set bits d) (with_instr (I.MoveConstant (next_field set bits d) k) e)
-    word_spread bits set d e k v s st h within =
+    word_spread bits set d e k v s st none h within =
         let d1 : Draft = with_entry set bits W.Own d in
         let i : Instr = I.MoveConstant (next_field set bits d) k in
         let same_all : (λ (q : ℕ). word_in g k h.passes.t) ≡ v = λ j q. sym (h.same q) j in
@@ -164,7 +165,7 @@ module _ (g : Setting) where
         subst (λ (w : ℕ → ℕ). GivesField g alive bits (length d.fields) d1 s set st w (next_field set bits d) (with_instr i e)) same_all
         (gives_on g alive bits (length d.fields) (length d.fields) d1 e (with_instr i e) s set st (λ q. word_in g k h.passes.t) (next_field set bits d) (Unit {0}) (omega arith) h.passes (λ behind. tt)
         (puts_own g alive places fields bits (length d.fields) set i (next_field set bits d) e h.passes.t st (λ q. word_in g k h.passes.t) (omega arith) (omega (arith, first, more))
-        (taken g set bits W.Own d (with_instr i e) (h.passes.grown.0 + 1) within (extended d1 e (with_instr i e) h.passes.grown.0 1 h.passes.grown.1 (and_one g i e))) refl refl within h.passes.at h.passes.sim (puts_constant g set (next_field set bits d) k h.passes.t h.small)))
+        (taken g set bits W.Own d (with_instr i e) (h.passes.grown.0 + 1) within (extended d1 e (with_instr i e) h.passes.grown.0 1 h.passes.grown.1 (and_one g i e))) none refl refl within h.passes.at h.passes.sim (puts_constant g set (next_field set bits d) k h.passes.t h.small)))
 
     -- a constant has its word wherever the code stands
     pub constant_given : (bound : ℕ) (set : ℕ) (e : TExpr) (h : HasItsWord e) (d : Draft) (s : CodeState) (st : State) → Starts g alive s (length d.code) d.regs (length d.fields) → Sim g alive st s → GivesWord g alive bound d s st (λ q. word_at (extents g set) st e q) (K.Imm h.word) d
@@ -217,12 +218,12 @@ module _ (g : Setting) where
         by : HasItsWord e ⊎ IsComputed g alive n set e → Follows g (Given g v st Q) s (meant g fields e st) (spread_into (operand bits quiet e) e dest d1)
         by (inl h) =
             given_follows g s (meant g fields e st) v st Q (spread_into (operand bits quiet e) e dest d1) (h.means fields.scope fields.active (extents g set) st)
-            (after_same g Q (ap code h.is) (made_after g Q dest (with_instr (I.MoveConstant dest (K.Imm h.word)) d1) (λ within. word_spread bits set d d1 (K.Imm h.word) (λ q. word_at (extents g set) st e q) s st (constant_given (length d.fields) set e h d1 s st (starts_entry g alive _ _ here) sim) within)))
+            (after_same g Q (ap code h.is) (made_after g Q dest (with_instr (I.MoveConstant dest (K.Imm h.word)) d1) (λ within. word_spread bits set d d1 (K.Imm h.word) (λ q. word_at (extents g set) st e q) s st (no_home g alive (length d.fields) (length d.fields) (omega arith) here) (constant_given (length d.fields) set e h d1 s st (starts_entry g alive _ _ here) sim) within)))
         by (inr h) =
             follows_same g (Given g v st Q) s refl (ap code h.no_word)
             (given_through g s (meant g fields e st) v st P Q (operand bits quiet e d1) (λ x after. in_a_field x dest after) (λ x after. in_field_extends x dest after)
             (λ part said. then_after g P Q part (λ x after. in_a_field x dest after) said (λ x after. in_field_extends x dest after) (λ x after (r, (is, gives)). after_same g Q (ap (λ (o : Out). in_a_field o dest after) is)
-            (made_after g Q dest (with_instr (I.MoveConstant dest (K.Reg r)) after) (λ within. word_spread bits set d after (K.Reg r) (λ q. word_at (extents g set) st e q) s st gives within))))
+            (made_after g Q dest (with_instr (I.MoveConstant dest (K.Reg r)) after) (λ within. word_spread bits set d after (K.Reg r) (λ q. word_at (extents g set) st e q) s st (no_home g alive (length d.fields) (length d.fields) (omega arith) here) gives within))))
             (computed_after g alive n has ready fields set bits (length d.fields) quiet e h d1 s st (starts_entry g alive _ _ here) sim))
 
     -- the right operand stands in a field, or is a word that is the same at every position
@@ -326,13 +327,13 @@ module _ (g : Setting) where
 
     -- The instruction that operates on both: it puts the operator's numbers wherever it stands, and what stood
     -- before both is as it was. Where it divides, the divisor is checked before it.
-    pub operated_after : (bits bound set : ℕ) (op : Op) (signed : Bool) (place : Place) (dest a : Field) (v w : ℕ → ℕ) (d e1 e2 : Draft) (s : CodeState) (st : State) → relates op ≡ false → (divides op ≡ true → bits ≡ 32) → ((q : ℕ) → Keeps op signed bits (w q)) → dest.len ≡ bits → length d.fields ≤ bound → bound ≤ length e1.fields
+    pub operated_after : (bits bound set : ℕ) (op : Op) (signed : Bool) (place : Place) (dest a : Field) (v w : ℕ → ℕ) (d e1 e2 : Draft) (s : CodeState) (st : State) → IsNoHome g (OpenAmong g alive) (length d.fields) → relates op ≡ false → (divides op ≡ true → bits ≡ 32) → ((q : ℕ) → Keeps op signed bits (w q)) → dest.len ≡ bits → length d.fields ≤ bound → bound ≤ length e1.fields
         → (left : GivesField g alive bits bound (with_entry set bits W.Own d) s set st v a e1) (right : Right) → Spares bits set bound d right → Takes op right → GivesRight bits (length e1.fields) e1 left.passes.t set st w right e2 → (Q : Out → Draft → Type 0)
         → (set < length (shapes g) → (divides op ≡ true → zero_at g fields set w ≡ None) → (e3 : Draft) (i : Instr) → Within g (with_instr i e3) → (p : Passes g alive (length d.fields) (with_entry set bits W.Own d) e3 s st (Unit {0})) → Puts g set i dest p.t (λ q. outcome op 32 (not signed) (v q) (w q)) → Q (O.Field dest) (with_instr i e3))
         → (set < length (shapes g) → divides op ≡ true → (q : ℕ) → zero_at g fields set w ≡ Some q → Finishes g (Source.Fault DivZero place (Some q)) st s → (x : Out) (f : Draft) → Q x f)
         → After g Q (right_operated op signed place dest a right (next_field set bits d) e2)
     unfolding step_of passes_on passes_less word_in
-    operated_after bits bound set op signed place dest a v w d e1 e2 s st operates wide keeps long low less left right spares takes given Q last fault = by (divides op) refl right spares takes given
+    operated_after bits bound set op signed place dest a v w d e1 e2 s st none_open operates wide keeps long low less left right spares takes given Q last fault = by (divides op) refl right spares takes given
       where
         d1 : Draft
         d1 = with_entry set bits W.Own d
@@ -411,7 +412,7 @@ module _ (g : Setting) where
             let within3 : Within g e3 = earlier g e3 checks 1 (and_one g (I.CheckDivisor place spare) e3) (earlier g checks (with_instr i checks) 1 (and_one g i checks) within) in
             let long_checks = code_more g (I.CheckDivisor place spare) e3 in
             checked spare e3 within divided
-            (spread_behind g alive places fields bits set bound a (K.Reg r) v w d e1 e2 s st (spares (K.Reg r) refl) less left (subst (λ (x : Konst). GivesWord g alive (length e1.fields) e1 left.passes.t st w x e2) is_k gives) (length checks.code) within3
+            (spread_behind g alive places fields bits set bound a (K.Reg r) v w d e1 e2 s st none_open (spares (K.Reg r) refl) less left (subst (λ (x : Konst). GivesWord g alive (length e1.fields) e1 left.passes.t st w x e2) is_k gives) (length checks.code) within3
             (names_second g i dest a (spare ∷ []) (length checks.code) stands refl) (names_third g i dest a spare [] (length checks.code) stands refl) (omega (arith, long_checks)))))
           where
             e3 : Draft
@@ -484,7 +485,7 @@ module _ (g : Setting) where
             then_known g one.passes.t (meant g fields right st) w st (λ b f. Spares bits set bound d b × (Takes op b × GivesRight bits (length e1.fields) e1 one.passes.t set st (λ x. word_at (extents g set) st right x) b f)) Q (right_by (operand bits true right) op right e1) (λ b after. operates a b after) follows
             (λ b after. operated_extends op signed place dest a spare b after is.0)
             (λ is_right b e2 two.
-            operated_after bits bound set op signed place dest a (λ x. word_at (extents g set) st left x) (λ x. word_at (extents g set) st right x) d e1 e2 s st is.0 wide keeps long low less one b two.0 two.1.0 two.1.1 Q
+            operated_after bits bound set op signed place dest a (λ x. word_at (extents g set) st left x) (λ x. word_at (extents g set) st right x) d e1 e2 s st (no_home g alive (length d.fields) (length d.fields) (omega arith) here) is.0 wide keeps long low less one b two.0 two.1.0 two.1.1 Q
             (λ there never e3 i within passes puts. last (operator_gives g fields set ty place op p q left right v w (λ x. word_at (extents g set) st right x) st shaped there words never is_left is_right) e3 i within passes puts)
             (λ there divided x none ends. ended (record { early = Source.Fault DivZero place (Some x); state = st; is = operator_ends g fields set ty place op p q left right v w (λ y. word_at (extents g set) st right y) st x shaped there words divided none is_left is_right; finishes = ends })))
             (λ early z f. ended (right_ended g fields ty place op p q left right v s one.passes.t st one.passes.go is_left early) z f)

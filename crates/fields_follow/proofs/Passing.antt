@@ -24,6 +24,7 @@ use Rattle.fields_follow.proofs.Places.{HoldsTheFields, IsOwnField, PlacesFields
 use Rattle.fields_follow.proofs.Variables.{Carries}
 use Rattle.fields_follow.proofs.Writing.{PutsNext, next_written, puts_next}
 use Rattle.fields_follow.proofs.Starts.{Starts, starts_next}
+use Rattle.fields_follow.proofs.Locals.{IsNoHome}
 
 longer : {A : Type 0} (xs ys zs : List A) → ys ≡ xs ++ zs → length xs ≤ length ys
 longer xs ys zs e = let l : length ys ≡ length xs + length zs = ap length e ∙ length-append xs zs in omega (arith, l)
@@ -299,10 +300,10 @@ module _ (g : Setting) where
           by (inr variable) = in_variable_has bits set f st v b.t variable b.sim behind.0 behind.1.0 (there_behind b.t e2 behind.0 b.at.stands behind.1.1)
 
       -- an instruction by which an own entry takes numbers
-      pub next_own : (bits bound : ℕ) (set : ℕ) (i : Instr) (d : Field) (e : Draft) (s : CodeState) (st : State) (v : ℕ → ℕ) → bound ≤ d.offset → d.offset < length e.fields → IsOwnField g d → d.set ≡ set → d.len ≡ bits
+      pub next_own : (bits bound : ℕ) (set : ℕ) (i : Instr) (d : Field) (e : Draft) (s : CodeState) (st : State) (v : ℕ → ℕ) → bound ≤ d.offset → d.offset < length e.fields → IsOwnField g d → IsNoHome g (OpenAmong g alive) d.offset → d.set ≡ set → d.len ≡ bits
           → Starts g alive s (length e.code) e.regs (length e.fields) → Sim g alive st s → PutsNext g places fields alive set i d e s v → GivesField bits bound e s set st v d (with_instr i e)
-      next_own bits bound set i d e s st v newer older own of_set long here sim next =
-          let w = next_written g places fields alive set i d e s st v here.stands sim of_set next own in
+      next_own bits bound set i d e s st v newer older own none of_set long here sim next =
+          let w = next_written g places fields alive set i d e s st v here.stands sim of_set next own none in
           let x : Extended e 1 (with_instr i e) = and_one g i e in
           let longer : length (with_instr i e).code ≡ length e.code + 1 = code_more g i e in
           record {
@@ -330,6 +331,6 @@ module _ (g : Setting) where
             });
           }
 
-      pub puts_own : (bits bound : ℕ) (set : ℕ) (i : Instr) (d : Field) (e : Draft) (s : CodeState) (st : State) (v : ℕ → ℕ) → bound ≤ d.offset → d.offset < length e.fields → IsOwnField g d → d.set ≡ set → d.len ≡ bits
+      pub puts_own : (bits bound : ℕ) (set : ℕ) (i : Instr) (d : Field) (e : Draft) (s : CodeState) (st : State) (v : ℕ → ℕ) → bound ≤ d.offset → d.offset < length e.fields → IsOwnField g d → IsNoHome g (OpenAmong g alive) d.offset → d.set ≡ set → d.len ≡ bits
           → Within g (with_instr i e) → Starts g alive s (length e.code) e.regs (length e.fields) → Sim g alive st s → Puts g set i d s v → GivesField bits bound e s set st v d (with_instr i e)
-      puts_own bits bound set i d e s st v newer older own of_set long within here sim puts = next_own bits bound set i d e s st v newer older own of_set long here sim (puts_next g places fields alive set i d e s v within here.stands puts)
+      puts_own bits bound set i d e s st v newer older own none of_set long within here sim puts = next_own bits bound set i d e s st v newer older own none of_set long here sim (puts_next g places fields alive set i d e s v within here.stands puts)

@@ -29,6 +29,7 @@ use Rattle.fields_follow.specs.Fields.{IsElement, file_field, file_number}
 use Rattle.fields_follow.proofs.FileFields.{Apart}
 use Rattle.fields_follow.proofs.Instructions.{SameExtents, extents, place, shapes}
 use Rattle.fields_follow.proofs.Named.{NamesFields}
+use Rattle.fields_follow.proofs.Locals.{HoldsLocals}
 
 module _ (g : Setting) where
   -- the field of an element of a variable of the file
@@ -64,7 +65,7 @@ module _ (g : Setting) where
     pub owns_apart_at : (f h : Field) (first at : ℕ) → (f.offset ≡ h.offset → ⊥) → IsOwnField f → IsOwnField h → h.set < length (shapes g) → IsNamedAt g.unit f.offset first → first < at → ((span : Span) → IsInUse g.unit f.offset W.Own span → at + 1 ≤ span.last) → IsNamedAt g.unit h.offset at → Apart (place g f) (place g h)
     pub own_and_below : (f below : Field) → IsOwnField f → StandsBelow g.image g.placed g.number below → Apart (place g f) below
     pub file_and_below : (k element set : ℕ) (info : VarInfo) (below : Field) → IsElement g.typed k info set element → StandsBelow g.image g.placed g.number below → Apart (of_file k element) below
-    pub own_below_called : (f : Field) (first at last index : ℕ) → IsOwnField f → f.set < length (shapes g) → (place g f).offset + f.len ≤ bits_at (shapes g) f.set → IsNamedAt g.unit f.offset first → first < at → IsNamedAt g.unit f.offset last → at ≤ last → StandsAt g.unit at (I.FrontCall index)
+    pub own_below_called : (f : Field) (first at index : ℕ) → IsOwnField f → f.set < length (shapes g) → (place g f).offset + f.len ≤ bits_at (shapes g) f.set → IsNamedAt g.unit f.offset first → first < at → ((span : Span) → IsInUse g.unit f.offset W.Own span → at ≤ span.last) → StandsAt g.unit at (I.FrontCall index)
         → StandsBelow g.image g.placed index (place g f)
     pub few : (set axis p : ℕ) → coordinate (extents g set) p axis < 2 ^ 32
     pub address_ends : (at : ℕ) (d : Field) (set : ℕ) (over : _) → slice_get g.image.code.items (start g + at) ≡ Some (I.MakeAddress (place g d) set over) → (d.set < length (shapes g)) × ((place g d).offset + d.len ≤ bits_at (shapes g) d.set)
@@ -78,7 +79,8 @@ module _ (g : Setting) where
     pub same_extents : SameExtents g scope
     pub active : Active
     pub opens : (live : ℕ → Type 0) (at : ℕ) (st : State) (m : BitMemory) → g.held.holds live at st m → HoldsFields g.typed g.image active st m
-    pub closes : (live : ℕ → Type 0) (at : ℕ) (st : State) (m : BitMemory) → HoldsFields g.typed g.image active st m → g.held.holds live at st m
+    pub locals : (live : ℕ → Type 0) (at : ℕ) (st : State) (m : BitMemory) → g.held.holds live at st m → HoldsLocals g live at st m
+    pub closes : (live : ℕ → Type 0) (at : ℕ) (st : State) (m : BitMemory) → HoldsFields g.typed g.image active st m → HoldsLocals g live at st m → g.held.holds live at st m
     pub ends : (st : State) (m : BitMemory) → HoldsNumbers g.typed g.image st m → g.held.ends st m
 
   -- the instruction that the draft gets next stands in the unit

@@ -206,13 +206,13 @@ module _ (g : Setting) (made : IsTranslated g.typed g.words g.before g.after g.i
       by final (inr differ) = inl differ
       by final (inl same) = inr (inl (there.files (file_number g.typed k e) final.last (ap (λ (v : _). slice_get v.items (file_number g.typed k e)) (sym made.linked.finals) ∙ final.there) same))
 
-  -- an own entry that is named before a call and behind it stands below the entries of what is called
-  pub own_below_called : (f : Field) (first at last index : ℕ) → IsOwnField f → f.set < length shapes → (at_bits f).offset + f.len ≤ bits_at shapes f.set → IsNamedAt g.unit f.offset first → first < at → IsNamedAt g.unit f.offset last → at ≤ last → StandsAt g.unit at (I.FrontCall index)
+  -- an own entry that is in use before a call and behind it stands below the entries of what is called
+  pub own_below_called : (f : Field) (first at index : ℕ) → IsOwnField f → f.set < length shapes → (at_bits f).offset + f.len ≤ bits_at shapes f.set → IsNamedAt g.unit f.offset first → first < at → ((span : Span) → IsInUse g.unit f.offset W.Own span → at ≤ span.last) → StandsAt g.unit at (I.FrontCall index)
       → StandsBelow g.image g.placed index (at_bits f)
-  own_below_called f first at last index own exists ends before early after late stands = record {
+  own_below_called f first at index own exists ends before early late stands = record {
     exists = there;
     low =
-        let under = g.placed.under g.number f.offset f.set own.whole at g.unit g.is_unit there own.own (slice_get_within g.unit.code.items at (I.FrontCall index) stands) (lasts_used f.offset at (record { first = first; last = last; named_first = before; named_last = after; before = early; behind = late })) in
+        let under = g.placed.under g.number f.offset f.set own.whole at g.unit g.is_unit there own.own (slice_get_within g.unit.code.items at (I.FrontCall index) stands) used in
         let behind = g.placed.behind g.number index at f.set g.unit g.is_unit stands there in
         let fits = own.fits in
         omega (arith, under, behind, fits);
@@ -222,3 +222,9 @@ module _ (g : Setting) (made : IsTranslated g.typed g.words g.before g.after g.i
     where
       there : f.set < length g.before.shapes.items
       there = let long = sets_long g.typed g.words g.before g.after g.image made in omega (arith, long, exists)
+
+      used : IsUsed g.before g.number g.unit f.offset at
+      used = inr (
+        ((first, before), (λ span held. let a = (held.named first before).0 in let b = late span held in (omega (arith, a, early), b))),
+        (λ made_here. let a = (made_here.in_use.named first before).0 in let b = made_here.begins in omega (arith, a, b, early)),
+      )

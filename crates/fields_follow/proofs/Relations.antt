@@ -42,7 +42,7 @@ use Rattle.source_meaning.proofs.ConstantLaws.{Boxed}
 use Rattle.code_follows.proofs.Following.{Extends, Follows, HasRegisters, Sim, extends_then}
 use Rattle.code_follows.proofs.Growing.{and_instr}
 use Rattle.code_follows.proofs.Operators.{wide_signed}
-use Rattle.code_follows.proofs.Settings.{stay, Setting, Within, and_one, earlier, layout, one}
+use Rattle.code_follows.proofs.Settings.{OpenAmong, stay, Setting, Within, and_one, earlier, layout, one}
 use Rattle.fields_follow.specs.Fragment.{IsPure}
 use Rattle.fields_follow.proofs.Expressions.{constant_at, operand_at, operand_grows}
 use Rattle.fields_follow.proofs.NarrowKinds.{AreRelated, HaveTheirKinds, narrow_compares, relation_has}
@@ -58,7 +58,8 @@ use Rattle.fields_follow.proofs.Spreading.{GivesWord, HasBoth, spread_behind}
 use Rattle.fields_follow.proofs.Values.{Valued, and_entry, code_of, next_field, one_more, operand_of, with_entry}
 use Rattle.fields_follow.proofs.TestFlags.{ComparesAs, LeavesTests, compares, is_truth, puts_compare, tested_last}
 use Rattle.fields_follow.proofs.Totals.{held_below}
-use Rattle.fields_follow.proofs.Starts.{starts_entry, Starts}
+use Rattle.fields_follow.proofs.Starts.{no_home, starts_entry, Starts}
+use Rattle.fields_follow.proofs.Locals.{IsNoHome}
 
 -- the two sides of a relation are operands
 pub relation_operands : (set : ℕ) (left right : TExpr) → HaveTheirKinds set left right → AreOperands set left right
@@ -128,12 +129,12 @@ module _ (g : Setting) (has : HasRegisters g) (alive : Variable → Type 0) (n :
       numbers = still_numbers g alive places fields bits bound (length e1.fields) d1 s set st v a e1 e2 (Behind g b e2) left right.passes behind_b (omega arith) behind_a
 
   -- the left operand stands in a field, and the right one is a word, which is spread first
-  word_compared : (bits set : ℕ) (relation : Compare) (a : Field) (k : Konst) (v w u : ℕ → ℕ) (d e1 e2 : Draft) (s : CodeState) (st : State) → Compares bits set relation v w u
+  word_compared : (bits set : ℕ) (relation : Compare) (a : Field) (k : Konst) (v w u : ℕ → ℕ) (d e1 e2 : Draft) (s : CodeState) (st : State) → IsNoHome g (OpenAmong g alive) (length d.fields) → Compares bits set relation v w u
       → (left : GivesField g alive bits (length (with_entry set bits W.Own d).fields) (with_entry set bits W.Own d) s set st v a e1) → GivesWord g alive (length e1.fields) e1 left.passes.t st w k e2
       → Within g (with_instr (I.Compare relation a (next_field set bits d)) (with_instr (I.MoveConstant (next_field set bits d) k) e2))
       → Tests d s set st u (with_instr (I.Compare relation a (next_field set bits d)) (with_instr (I.MoveConstant (next_field set bits d) k) e2))
   unfolding step_of passes_from
-  word_compared bits set relation a k v w u d e1 e2 s st same left right within =
+  word_compared bits set relation a k v w u d e1 e2 s st none same left right within =
       tested_last g alive fields places (length d.fields) set d e3 compare s st u (Unit {0}) (omega arith) (passes_from g alive (length d.fields) d d1 e3 s st (Unit {0}) (and_entry set bits W.Own d) both.passes) tt both.left.exists within
       (puts_compare g bits set relation a spare both.passes.t v w u same both.left both.right)
     where
@@ -154,7 +155,7 @@ module _ (g : Setting) (has : HasRegisters g) (alive : Variable → Type 0) (n :
 
       both : HasBoth g alive bits set (length d.fields) a spare d1 e3 s st v w
       both =
-          spread_behind g alive places fields bits set (length d1.fields) a k v w d e1 e2 s st (omega arith) (fields_longer d1 e1 left.passes.grown.0 left.passes.grown.1) left right (length e3.code) (earlier g e3 (with_instr compare e3) 1 (and_one g compare e3) within) (names_first g compare a (spare ∷ []) (length e3.code) there refl)
+          spread_behind g alive places fields bits set (length d1.fields) a k v w d e1 e2 s st none (omega arith) (fields_longer d1 e1 left.passes.grown.0 left.passes.grown.1) left right (length e3.code) (earlier g e3 (with_instr compare e3) 1 (and_one g compare e3) within) (names_first g compare a (spare ∷ []) (length e3.code) there refl)
           (names_second g compare a spare [] (length e3.code) there refl) (omega arith)
 
   -- the comparison, wherever the operands stand
@@ -263,7 +264,7 @@ module _ (g : Setting) (has : HasRegisters g) (alive : Variable → Type 0) (n :
             (made_after g (Known g s o u st Q) tt (with_instr (I.Compare c.relation a f) e2) (λ within. inl (is_given, field_compared bits set c.relation (length d1.fields) a f v w u d e1 e2 s st words_compare (let more = one_more set bits W.Own d in omega (arith, more)) (fields_longer d1 e1 one.passes.grown.0 one.passes.grown.1) one gives within)))
         by is_given a e1 one b e2 (inr (k, (same, gives))) =
             after_same g (Known g s o u st Q) (ap (λ (x : Right). compared (M.Compare c.relation) a x spare e2) same)
-            (made_after g (Known g s o u st Q) tt (with_instr (I.Compare c.relation a spare) (with_instr (I.MoveConstant spare k) e2)) (λ within. inl (is_given, word_compared bits set c.relation a k v w u d e1 e2 s st words_compare one gives within)))
+            (made_after g (Known g s o u st Q) tt (with_instr (I.Compare c.relation a spare) (with_instr (I.MoveConstant spare k) e2)) (λ within. inl (is_given, word_compared bits set c.relation a k v w u d e1 e2 s st (no_home g alive (length d.fields) (length d.fields) (omega arith) here) words_compare one gives within)))
     chosen o gives left_ends right_ends (inr (promoted, pure)) =
         then_known g s (meant g fields left st) (number left) st (GivesField g alive bits (length d.fields) d1 s set st v) (Known g s o u st Q) (spread_into (operand bits (is_quiet right) left) left spare d1) (λ a e. next a e)
         (promoted_left g has alive n ready places fields bits set left (is_quiet right) promoted c_left d s st here sim) next_extends

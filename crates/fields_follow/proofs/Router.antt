@@ -60,7 +60,7 @@ use Rattle.fields_follow.proofs.Passing.{After, Behind, GivesField, Passes, afte
 use Rattle.fields_follow.proofs.Places.{HoldsTheFields, PlacesFields, stands_here}
 use Rattle.fields_follow.proofs.RouterCode.{behind_indexes, for_got, got, got_field, plain_get, router_code, wide_get}
 use Rattle.fields_follow.proofs.Routing.{indexes_at, outside_at, routed_faults, routed_gives, routed_value, target_of}
-use Rattle.fields_follow.proofs.Starts.{starts_entry, Starts}
+use Rattle.fields_follow.proofs.Starts.{no_home, starts_entry, Starts}
 use Rattle.fields_follow.proofs.Values.{and_entry, next_field, one_more, taken, with_entry}
 
 module _ (g : Setting) where
@@ -226,7 +226,7 @@ module _ (g : Setting) where
           gives : GivesField g alive info.elem.bits bound e2 t set st (λ q. words (to q)) field e3
           gives =
               puts_own g alive places fields info.elem.bits bound set get field e2 t st (λ q. words (to q)) (let one = one_more set info.elem.bits (owner_of g k) e in omega (arith, less, one)) (let two = one_more set info.elem.bits W.Own e1 in omega (arith, two))
-              (taken g set info.elem.bits W.Own e1 e3 1 within3 (and_one g get e2)) refl refl within3 (starts_entry g alive _ _ (starts_entry g alive _ _ a.passes.at)) a.passes.sim
+              (taken g set info.elem.bits W.Own e1 e3 1 within3 (and_one g get e2)) (no_home g alive (length e.fields) (length e1.fields) (let one = one_more set info.elem.bits (owner_of g k) e in omega (arith, one)) a.passes.at) refl refl within3 (starts_entry g alive _ _ (starts_entry g alive _ _ a.passes.at)) a.passes.sim
               (puts_get info.elem.bits set field at source t to words refl (named named_later) leads (there (0 + 1) e3 longer within3 info.elem.bits (omega arith)))
 
       got_last : Within g (got g set k info ty.elem f at e) → Q (O.Field f) (got g set k info ty.elem f at e)
@@ -312,7 +312,7 @@ module _ (g : Setting) where
             after_same g Q (ap (λ (b : Bool). if b then Makes (O.Field f) (whole (each_located place_of set items (map index_coordinate parts) at between)) else Fails) (fields_somewhere g parts stand.shaped))
             (made_after g Q (O.Field f) (whole located) (λ within.
             located_after g alive places fields has n ready set set bound place_of indexes parts at d1 between s st (λ x. Within g (whole x) → Q (O.Field f) (whole x)) are coded many exists refl refl less (let longer = fields_longer d1 between stand.passes.grown.0 stand.passes.grown.1 in omega (arith, longer, first))
-            (taken g set 32 W.Own d (whole located) (stand.passes.grown.0 + (1 + 1 + (0 + more.0))) within (extended d1 between (whole located) stand.passes.grown.0 (1 + 1 + (0 + more.0)) stand.passes.grown.1 behind)) stand
+            (taken g set 32 W.Own d (whole located) (stand.passes.grown.0 + (1 + 1 + (0 + more.0))) within (extended d1 between (whole located) stand.passes.grown.0 (1 + 1 + (0 + more.0)) stand.passes.grown.1 behind)) (no_home g alive (length d.fields) (length d.fields) (omega arith) here) stand
             (earlier g located (whole located) (0 + more.0) (extended located (for_variable g set k info located) (whole located) 0 more.0 (and_entry set info.elem.bits (owner_of g k) located) more.1) within)
             (λ clear x gives w.
             got_last ty k set bits offset bound info at to d1 x s st Q most refl is (let l1 = fields_longer d1 x gives.passes.grown.0 gives.passes.grown.1 in omega (arith, less, first, l1)) gives

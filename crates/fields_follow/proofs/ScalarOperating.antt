@@ -53,7 +53,7 @@ use Rattle.fields_follow.proofs.Outcomes.{Ended, outcome_follows}
 use Rattle.fields_follow.proofs.Places.{HoldsTheFields, PlacesFields}
 use Rattle.fields_follow.proofs.Promoted.{Spreads, changing_stands, everywhere}
 use Rattle.fields_follow.proofs.Scalars.{GivesChanged, changed_follows}
-use Rattle.fields_follow.proofs.Starts.{starts_entry, Starts}
+use Rattle.fields_follow.proofs.Starts.{no_home, starts_entry, Starts}
 use Rattle.fields_follow.proofs.Updates.{IsFileTarget, assigned_divides, assigned_is, file_target, divides_as, updated_is}
 use Rattle.fields_follow.proofs.Values.{next_field, with_entry, and_entry, one_more}
 use Rattle.std.proofs.lemmas.Nat.{pow_pos, mod_below}
@@ -165,7 +165,7 @@ module _ (g : Setting) (has : HasRegisters g) (alive : Variable → Type 0) (n :
           follows_same g Q s (ap (λ (z : Value). k z u) is_w) (ap (λ (o : Out). next o e) is_r)
           (outcome_follows g s o (Parallel stored) left (λ z e3. Leaves g alive d e3 s left) Q last (λ z e3 said. said)
           (after_within P e last (operated_extends g x signed place f f spare (Rt.Word (K.Reg r)) e operation.0) (λ within_e.
-          operated_after g has alive n ready places fields bits (length d2.fields) set x signed place f f old (λ z. cw) d1 e e s u operation.0 (λ divided. sym works_there ∙ divides_wide bits x value divided) (λ z. keeps) refl (let one = one_more set bits W.Own d1 in omega (arith, one)) (fields_longer d2 e word.passes.grown.0 word.passes.grown.1)
+          operated_after g has alive n ready places fields bits (length d2.fields) set x signed place f f old (λ z. cw) d1 e e s u (no_home g alive (length d.fields) (length d1.fields) (let one = one_more set bits (W.File (file_number g.typed h.k 0)) d in omega (arith, one)) here) operation.0 (λ divided. sym works_there ∙ divides_wide bits x value divided) (λ z. keeps) refl (let one = one_more set bits W.Own d1 in omega (arith, one)) (fields_longer d2 e word.passes.grown.0 word.passes.grown.1)
           (record {
             passes = record { grown = word.passes.grown; t = word.passes.t; go = word.passes.go; at = word.passes.at; registers = word.passes.registers; sim = word.passes.sim; stays = λ used. word.passes.stays tt };
             stands = inr (record { x = V.File h.k; info = h.info; carries = file_carries g alive places fields set h.k h.info f h.is (entry_for g has alive n ready places fields set h.k h.info h.is d s u e (0 + word.passes.grown.0) (extended d1 d2 e 0 word.passes.grown.0 (and_entry set bits W.Own d1) word.passes.grown.1) within_e) refl refl; len = refl; fits = omega arith; same = λ z below. (refl, held_below h.info.elem (u.parallel (V.File h.k) 0 z)) });

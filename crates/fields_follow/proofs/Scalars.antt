@@ -31,6 +31,7 @@ use Rattle.fields_follow.proofs.Places.{HoldsTheFields}
 use Rattle.fields_follow.proofs.Spreading.{GivesWord}
 use Rattle.fields_follow.proofs.Starts.{Starts}
 use Rattle.fields_follow.proofs.Totals.{held_below}
+use Rattle.fields_follow.proofs.Locals.{locals_landed}
 
 module _ (g : Setting) (has : HasRegisters g) (fields : HoldsTheFields g) (m : BitMemory) where
   -- the memory is this one
@@ -72,7 +73,7 @@ module _ (g : Setting) (has : HasRegisters g) (fields : HoldsTheFields g) (m : B
     effect = λ index given none. absurd none;
     returns = λ elem none. absurd none;
     beside = λ registers. record { effects = λ alive files n ready e none. absurd none; folds = λ alive files n ready e none. absurd none };
-    lasts = λ live target behind named place jump stands jumps st memory h. (fields.closes live _ st memory (fields.opens live _ st memory h.0), h.1);
+    lasts = λ live target behind named place jump stands jumps st memory h. (fields.closes live _ st memory (fields.opens live _ st memory h.0) (locals_landed g live place target jump stands jumps named st memory (fields.locals live _ st memory h.0)), h.1);
   }
 
   within_calm : (e : Draft) → Within g e → Within calm e

@@ -59,7 +59,7 @@ use Rattle.fields_follow.proofs.ScanForms.{scan_shape}
 use Rattle.fields_follow.proofs.ScanOperands.{right_keeps, scan_right}
 use Rattle.fields_follow.proofs.Scanned.{scan_valued, scan_words, scanned_last, scanned_small}
 use Rattle.fields_follow.proofs.Scanning.{ScanGives, scanned_in}
-use Rattle.fields_follow.proofs.Starts.{starts_entry, Starts}
+use Rattle.fields_follow.proofs.Starts.{no_home, starts_entry, Starts}
 use Rattle.fields_follow.proofs.Totals.{held_below}
 use Rattle.fields_follow.proofs.Updates.{IsFileTarget, assign_ends, assign_means, assigned_divides, assigned_is, divides_as, divides_never, file_target, updated_is}
 use Rattle.fields_follow.proofs.Values.{and_entry, next_field, one_more, with_entry}
@@ -85,7 +85,7 @@ module _ (g : Setting) (has : HasRegisters g) (alive : Variable → Type 0) (n :
       (λ a e1 one. then_known g one.passes.t (meant g fields value st) w st (RightField g has alive n ready places fields bits e1 one.passes.t set st w) Q (right_by (operand true) op value e1) (λ right after. right_operated op signed place f a right spare after)
       (scan_right g has alive n ready places fields set bits op value scans (scan_valued g has alive n ready places fields set bits value (kind_bits info.elem.bits info.elem.signed info.elem.kind).0 most scans c) e1 one.passes.t st one.passes.at one.passes.sim)
       (λ right after. operated_extends g op signed place f a spare right after known.0)
-      (λ given right e2 two. operated_after g has alive n ready places fields bits (length d1.fields) set op signed place f a v w d e1 e2 s st known.0 (λ divided. sym works ∙ divides_wide bits op value divided)
+      (λ given right e2 two. operated_after g has alive n ready places fields bits (length d1.fields) set op signed place f a v w d e1 e2 s st (no_home g alive (length d.fields) (length d.fields) (omega arith) here) known.0 (λ divided. sym works ∙ divides_wide bits op value divided)
       (λ q. subst (λ (x : ℕ). Keeps op signed x (w q)) works (right_keeps g has alive n ready places fields set bits op signed value st s sim most known (inl scans) wide c q)) refl (let first = one_more set bits W.Own d in omega (arith, first)) (fields_longer d1 e1 one.passes.grown.0 one.passes.grown.1) one right
       (λ x same. omega arith) (λ word same divided. let wrong = sym two.1.0 ∙ same in cc) (inl two) Q
       (λ there never e3 i within p puts. last given there never e3 i within (passes_from g alive (length d.fields) d d1 e3 s st (Unit {0}) (and_entry set bits W.Own d) p) puts) (λ there divided q none ends. fault given there divided q none ends))

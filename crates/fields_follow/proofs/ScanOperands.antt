@@ -48,7 +48,7 @@ use Rattle.fields_follow.proofs.Passing.{After, GivesField, Passes, after_same, 
 use Rattle.fields_follow.proofs.Places.{HoldsTheFields, PlacesFields}
 use Rattle.fields_follow.proofs.ScanForms.{operand_number, scan_constant, scan_own, scan_word}
 use Rattle.fields_follow.proofs.Scanning.{scanned_in}
-use Rattle.fields_follow.proofs.Starts.{starts_entry, Starts}
+use Rattle.fields_follow.proofs.Starts.{no_home, starts_entry, Starts}
 use Rattle.fields_follow.proofs.Values.{Gives, IsFlag, next_field, one_more, operand_of, with_entry}
 
 module _ (g : Setting) (has : HasRegisters g) (alive : Variable → Type 0) (n : ℕ) (ready : (d : Draft) → IsReadyButForFields g.typed g.instance (layout g) n d) (places : PlacesFields g) (fields : HoldsTheFields g) (set : ℕ) where
@@ -203,7 +203,7 @@ module _ (g : Setting) (has : HasRegisters g) (alive : Variable → Type 0) (n :
           then_known g one.passes.t (meant g fields right st) w st (λ b f. Spares g has alive n ready places fields bits set bound d b × IsRight bits op right e1 one.passes.t st b f) Q (right_by (operand bits true right) op right e1) (λ b after. operates a b after) follows
           (λ b after. operated_extends g op signed place dest a spare b after is.0)
           (λ is_right b e2 two.
-          operated_after g has alive n ready places fields bits bound set op signed place dest a v w d e1 e2 s st is.0 wide keeps long low less one b two.0 two.1.0 two.1.1 Q
+          operated_after g has alive n ready places fields bits bound set op signed place dest a v w d e1 e2 s st (no_home g alive (length d.fields) (length d.fields) (omega arith) here) is.0 wide keeps long low less one b two.0 two.1.0 two.1.1 Q
           (λ there never e3 i within passes puts. last (operator_gives g fields set ty place op p q left right v w w st shaped there (λ x below. refl) never is_left is_right) e3 i within passes puts)
           (λ there divided x none ends. ended (record { early = Source.Fault DivZero place (Some x); state = st; is = operator_ends g fields set ty place op p q left right v w w st x shaped there (λ y below. refl) divided none is_left is_right; finishes = ends })))
           (λ early z f. ended (right_ended g fields ty place op p q left right v s one.passes.t st one.passes.go is_left early) z f)

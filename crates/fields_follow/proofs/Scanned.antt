@@ -60,7 +60,7 @@ use Rattle.fields_follow.proofs.ScanOperands.{GivesScan, ScanValued, own_numbers
 use Rattle.fields_follow.proofs.Scans.{PutsScan, SourceGiven, ones_message, scan_message, source_part}
 use Rattle.fields_follow.proofs.Meaning.{as_shaped, either, unary_means}
 use Rattle.fields_follow.proofs.Sizes.{binary_parts, brackets_part, convert_part, operand_small, unary_part, value_small}
-use Rattle.fields_follow.proofs.Starts.{starts_entry, Starts}
+use Rattle.fields_follow.proofs.Starts.{no_home, starts_entry, Starts}
 use Rattle.fields_follow.proofs.Values.{IsFlag, and_entry, first_given, next_field, one_more, with_entry}
 
 no_flag : (elem : Elem) → elem.bits ≡ 32 → (elem.bits == 1) ≡ false
@@ -90,7 +90,7 @@ module _ (g : Setting) (has : HasRegisters g) (alive : Variable → Type 0) (n :
       known_follows g s (meant g fields e st) (λ q. number e st q) st (ScanGiven bits e d s st) (lowest bits (made (with_entry set 32 W.Own d)))
       (first_given g has alive n ready places fields 32 bits (length d.fields) d s set st (λ q. number e st q) (IsFlag e) (ScanGives g alive places fields set e st) (Ended g s (meant g fields e st)) (made (with_entry set 32 W.Own d)) most
       (whole (length d.fields) (with_entry set 32 W.Own d) s st (let one = one_more set 32 W.Own d in omega (arith, one)) (starts_entry g alive _ _ here) sim (λ out f. (ScanGives g alive places fields set e st × ScanGiven 32 e d s st out f) ⊎ Ended g s (meant g fields e st))
-      (λ given e2 i within passes puts. inl (given, own_result g has alive n ready places fields 32 set d e2 s st (λ q. number e st q) i within passes puts)) (λ early x f. inr early)))
+      (λ given e2 i within passes puts. inl (given, own_result g has alive n ready places fields 32 set d e2 s st (λ q. number e st q) i within (no_home g alive (length d.fields) (length d.fields) (omega arith) here) passes puts)) (λ early x f. inr early)))
 
   -- its numbers are those of its type
   pub scan_words : (e : TExpr) (st : State) (s : CodeState) → Sim g alive st s → IsScan set e → HasItsCode g.typed g.instance alive n e → (q : ℕ) → number e st q < 2 ^ 32
@@ -199,7 +199,7 @@ module _ (g : Setting) (has : HasRegisters g) (alive : Variable → Type 0) (n :
       ∙ ap (λ (b : Bool). then_make (fresh_for ty.shape bits d) (λ dest between. then_make (operand_by g.typed (layout g) (if b then bits_of (kind_of operand) else bits) (value_of g.typed (layout g) (if b then bits_of (kind_of operand) else bits) operand) true operand between) (λ x after. negated (layout g) op dest x after))) sign.1
       ∙ ap (λ (o : Option ℕ). then_make (fresh_for o bits d) (λ dest between. then_make (next_of g.typed (layout g) bits true operand between) (λ x after. negated (layout g) op dest x after))) is.0.0)
       (signed_from bits op (next_field set bits d) operand (length d.fields) (with_entry set bits W.Own d) s st most sign refl is.2 valued (let one = one_more set bits W.Own d in omega (arith, one)) (starts_entry g alive _ _ here) sim Q
-      (λ given e1 i within passes puts. inl (signed_gives ty op p operand st is.0.0 given, own_result g has alive n ready places fields bits set d e1 s st (λ q. number e st q) i within passes puts)) (λ early x f. inr (unary_ended g has alive n ready places fields ty op p operand s st early))))
+      (λ given e1 i within passes puts. inl (signed_gives ty op p operand st is.0.0 given, own_result g has alive n ready places fields bits set d e1 s st (λ q. number e st q) i within (no_home g alive (length d.fields) (length d.fields) (omega arith) here) passes puts)) (λ early x f. inr (unary_ended g has alive n ready places fields ty op p operand s st early))))
     where
       e : TExpr
       e = T.Unary' ty op p operand
@@ -258,7 +258,7 @@ module _ (g : Setting) (has : HasRegisters g) (alive : Variable → Type 0) (n :
       (first_given g has alive n ready places fields works bits (length d.fields) d s set st (λ x. number e st x) (IsFlag e) (ScanGives g alive places fields set e st) (Ended g s (meant g fields e st)) _ (operation_most bits op right most).0
       (sides_after g has alive n ready places fields set works ty place op p q (next_field set works d) left right d s st more (operation_most bits op right most).1 is.0.0 is.1 (divides_wide bits op right) (λ x. right_keeps g has alive n ready places fields set bits op (type_of left).elem.signed right st s sim most is.1 (right_side set left right is.2) is.4 parts.1 x) refl
       is.2 is.3 is.4 parts.0 parts.1 left_valued right_valued here sim (λ out f. (ScanGives g alive places fields set e st × ScanGiven works e d s st out f) ⊎ Ended g s (meant g fields e st))
-      (λ given e2 i within passes puts. inl (given, own_result g has alive n ready places fields works set d e2 s st (λ x. number e st x) i within passes puts)) (λ early x f. inr early))))
+      (λ given e2 i within passes puts. inl (given, own_result g has alive n ready places fields works set d e2 s st (λ x. number e st x) i within (no_home g alive (length d.fields) (length d.fields) (omega arith) here) passes puts)) (λ early x f. inr early))))
     where
       e : TExpr
       e = T.Binary' ty place op p left q right

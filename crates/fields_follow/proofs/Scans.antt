@@ -57,7 +57,7 @@ use Rattle.fields_follow.proofs.Outcomes.{Ended, Given, meant, then_known}
 use Rattle.fields_follow.proofs.Passing.{fields_longer, After, Behind, GivesField, Passes, after_same, flags_of, gives_from, gives_numbers, made_after, names_second, passes_less, puts_own}
 use Rattle.fields_follow.proofs.Places.{HoldsTheFields, IsFileField, IsOwnField, PlacesFields, stands_here}
 use Rattle.fields_follow.proofs.Scanning.{ScanGives, file_segments, ones_give, puts_scan, scan_ended, scan_gives, scan_instr, scan_numbers, scanned_in}
-use Rattle.fields_follow.proofs.Starts.{starts_entry, Starts, starts_later}
+use Rattle.fields_follow.proofs.Starts.{no_home, starts_entry, Starts, starts_later}
 use Rattle.fields_follow.proofs.Values.{and_entry, next_field, one_more, taken, with_entry}
 
 some_shape : (o : Option ℕ) → is_none o ≡ false → (s : ℕ) × (o ≡ Some s)
@@ -261,6 +261,6 @@ module _ (g : Setting) (has : HasRegisters g) (alive : Variable → Type 0) (n :
         let own : IsOwnField g (one_field d) = taken g set 32 W.Own d (with_instr (ones_instr d) (bits_of_ones d).after) (1 + (0 + 1)) within (extended d1 e (with_instr (ones_instr d) (bits_of_ones d).after) 1 (0 + 1) (and_one g (one_instr d) d1) behind) in
         let gives : GivesField g alive 32 (length d.fields) d s set st (λ q. 1) (one_field d) e =
         gives_from g alive 32 (length d.fields) d d1 e s set st (λ q. 1) (one_field d) (and_entry set 32 W.Own d)
-        (puts_own g alive places fields 32 (length d.fields) set (one_instr d) (one_field d) d1 s st (λ q. 1) (omega arith) (let one = one_more set 32 W.Own d in omega (arith, one)) own refl refl early (starts_entry g alive _ _ here) sim (puts_constant g set (one_field d) (K.Imm 1) s (omega arith))) in
+        (puts_own g alive places fields 32 (length d.fields) set (one_instr d) (one_field d) d1 s st (λ q. 1) (omega arith) (let one = one_more set 32 W.Own d in omega (arith, one)) own (no_home g alive (length d.fields) (length d.fields) (omega arith) here) refl refl early (starts_entry g alive _ _ here) sim (puts_constant g set (one_field d) (K.Imm 1) s (omega arith))) in
         let (passes, puts) = scanned_behind g alive n places fields set axis C.Add (not ty.elem.signed) direction mode bit way (λ same. absurd (let wrong = same in cc)) f (one_field d) (length d.fields) d e s st (λ q. 1) on (λ q. omega arith) gives (bits_of_ones d) within in
         last (ones_give g alive places fields set ty axis direction way mode bit st wide.0) (bits_of_ones d).after (ones_instr d) within (passes_less g alive bound (length d.fields) d (bits_of_ones d).after s st (Unit {0}) less passes) puts))

@@ -27,6 +27,7 @@ use Rattle.fields_follow.proofs.Passing.{Passes}
 use Rattle.fields_follow.proofs.Places.{HoldsTheFields, IsFileField, PlacesFields, of_file}
 use Rattle.fields_follow.proofs.Starts.{starts_next}
 use Rattle.fields_follow.proofs.Writing.{entry_and_below, entry_ends, entry_place, with_memory}
+use Rattle.fields_follow.proofs.LocalWrites.{behind_file}
 
 module _ (g : Setting) (places : PlacesFields g) (fields : HoldsTheFields g) (alive : Variable → Type 0) (set k : ℕ) (info : VarInfo) (is : IsElement g.typed k info set 0) (d : Field) (own : IsFileField g k 0 d) (of_set : d.set ≡ set) (long : info.elem.bits ≡ d.len)
     (s : CodeState) (st : State) (sim : Sim g alive st s) (w : Write) (run : w.run ≡ place g d) (passes : ℕ → Bool) (value : ℕ → ℕ) (small : (p : ℕ) → value p < 2 ^ info.elem.bits) where
@@ -75,16 +76,17 @@ module _ (g : Setting) (places : PlacesFields g) (fields : HoldsTheFields g) (al
       by true = small p
       by false = was.small k 0 set p info is
 
-  sent_sim : HasThem → (at : ℕ) → Sim g alive u (record s { at = at; memory = behind })
-  unfolding with_positions
-  sent_sim has at =
+  sent_sim : HasThem → (at : ℕ) → s.at ≤ at → Sim g alive u (record s { at = at; memory = behind })
+  unfolding with_positions is_same
+  sent_sim has at later =
       with_memory g places fields alive st u s at w refl refl refl refl refl (record {
         numbers = λ j other q p of which below. numbers j other q p of which below (cases_eq k j) (cases_eq other 0);
         small = λ j other q p of which. few j other q p of which (cases_eq k j) (cases_eq other 0);
         flags = λ q p within below. active_apart (shapes g) w s.memory q p (subst (λ (f : Field). f.offset + f.len ≤ bits_at (shapes g) f.set) (sym run) (entry_ends g places fields alive set k 0 info d is long own of_set).1) ∙ was.flags q p within below;
         winner = winner_still;
         bits = bits_written (shapes g) w s.memory was.bits;
-      }) sim
+      })
+      (behind_file g places (OpenAmong g alive) k 0 set s.at at info st u s.memory behind is later (λ f p apart. elsewhere f p (subst (λ (h : Field). Apart h f) (sym at_file) apart)) (λ j living p. refl) (fields.locals (OpenAmong g alive) s.at st s.memory sim.memory)) sim
     where
       Same : ℕ → ℕ → ℕ → Type 0
       Same j other p = field_number behind (of_file g j other) p ≡ u.parallel (V.File j) other p
@@ -118,7 +120,7 @@ sent_leaves g places fields alive set k info is f own of_set long d e i s st wit
   go = onto g s p.t (wrote g w p.t) p.go (one_writes g p.t (wrote g w p.t) (begins_here g i e p.t within plain p.at.stands ∙ goes) (λ h q there. apart_there h q (entry_and_below g places fields alive set k 0 info f is long own of_set h there)));
   at = starts_next g alive i e p.t (wrote g w p.t) (at_next g i e p.t (p.t.at + 1) p.at.stands refl) p.at;
   registers = p.registers;
-  sim = sent_sim g places fields alive set k info is f own of_set long p.t st p.sim w run passes value small has (p.t.at + 1);
+  sim = sent_sim g places fields alive set k info is f own of_set long p.t st p.sim w run passes value small has (p.t.at + 1) (omega arith);
   stays = λ u h first last q below own_h ends before low after high.
       apart_there (place g h) q (subst (λ (x : Field). Apart x (place g h)) (sym (entry_place g places fields alive set k 0 info f is long own of_set)) (apart_back (place g h) (of_file g k 0) (places.own_file k 0 set info h is own_h)))
       ∙ p.stays tt h first last q below own_h ends before low after (let longer = code_more g i e in omega (arith, high, longer));

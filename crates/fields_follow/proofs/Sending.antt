@@ -47,7 +47,7 @@ use Rattle.fields_follow.proofs.News.{for_variable, owner_of}
 use Rattle.fields_follow.proofs.Places.{HoldsTheFields, IsFileField, PlacesFields, stands_here}
 use Rattle.fields_follow.proofs.SendMeans.{sent_from, set_few}
 use Rattle.fields_follow.proofs.SendWrites.{sent_leaves}
-use Rattle.fields_follow.proofs.Starts.{starts_entry}
+use Rattle.fields_follow.proofs.Starts.{no_home, starts_entry}
 use Rattle.fields_follow.proofs.Values.{and_entry, next_field, one_more, taken, with_entry}
 use Rattle.fields_follow.proofs.Writing.{entry_place}
 
@@ -225,7 +225,7 @@ module _ (g : Setting) (alive : Variable → Type 0) (places : PlacesFields g) (
     value =
         gives_on g alive 32 (length b.x.fields) (length b.x.fields) b.x e2 (with_instr i e2) b.address.passes.t set st (λ q. unary_of U.Minus (w q)) source (Unit {0}) (omega arith) before (λ later. tt)
         (puts_own g alive places fields 32 (length b.x.fields) set i source e2 before.t st (λ q. unary_of U.Minus (w q)) (fields_longer b.x e b.value.passes.grown.0 b.value.passes.grown.1) (let one = one_more set 32 W.Own e in omega (arith, one))
-        (taken g set 32 W.Own e (with_instr i e2) 1 within (and_one g i e2)) refl refl within before.at before.sim (puts_negate g 32 set source a before.t w (omega arith) refl (gives_numbers g alive places fields 32 (length b.x.fields) b.x b.address.passes.t set st w a e b.value a_behind)));
+        (taken g set 32 W.Own e (with_instr i e2) 1 within (and_one g i e2)) (no_home g alive (length e.fields) (length e.fields) (omega arith) b.value.passes.at) refl refl within before.at before.sim (puts_negate g 32 set source a before.t w (omega arith) refl (gives_numbers g alive places fields 32 (length b.x.fields) b.x b.address.passes.t set st w a e b.value a_behind)));
   }
     where
       source : Field

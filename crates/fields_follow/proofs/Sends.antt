@@ -79,7 +79,7 @@ use Rattle.fields_follow.proofs.Parts.{AllBehind, AllStand, AreFields, PartsStan
 use Rattle.fields_follow.proofs.Places.{HoldsTheFields, PlacesFields}
 use Rattle.fields_follow.proofs.Routing.{indexes_at, outside_at, target_of}
 use Rattle.fields_follow.proofs.SendMeans.{send_means, sent_from, target_ends, targets_fault, targets_given, targets_of, value_ends}
-use Rattle.fields_follow.proofs.Starts.{Starts, starts_entry}
+use Rattle.fields_follow.proofs.Starts.{Starts, no_home, starts_entry}
 use Rattle.fields_follow.proofs.Updates.{divides_never}
 use Rattle.fields_follow.proofs.Values.{and_entry, next_field, one_more, taken, with_entry}
 
@@ -225,7 +225,7 @@ module _ (g : Setting) (has : HasRegisters g) (alive : Variable → Type 0) (n :
           (after_same g (λ _ x. Located x) (ap (λ (b : Bool). if b then Makes (S.Indexed (O.Field address)) (placed parts between) else Fails) (fields_somewhere g parts stand.shaped))
           (made_after g (λ _ x. Located x) (S.Indexed (O.Field address)) (placed parts between) (λ within.
           located_after g alive places fields has n ready set of bound place_of indexes parts address first_draft between s st Located are coded many exists refl refl (omega arith) (let longer = fields_longer first_draft between stand.passes.grown.0 stand.passes.grown.1 in omega (arith, longer, first))
-          (taken g set 32 W.Own d (placed parts between) (stand.passes.grown.0 + (1 + 1)) within (extended first_draft between (placed parts between) stand.passes.grown.0 (1 + 1) stand.passes.grown.1 (placed_more parts between))) stand within
+          (taken g set 32 W.Own d (placed parts between) (stand.passes.grown.0 + (1 + 1)) within (extended first_draft between (placed parts between) stand.passes.grown.0 (1 + 1) stand.passes.grown.1 (placed_more parts between))) (no_home g alive (length d.fields) (length d.fields) (omega arith) here) stand within
           (λ clear x gives. inl (knows known clear, gives))
           (λ y some ends x. inr (record { early = Source.Fault Index place_of (Some y); state = st; is = targets_fault fields.scope fields.active ty place_of r indexes (V.File k) set of given st y shaped known some; finishes = ends })))))
           (λ _ after. value_extends after) (λ _ x so. send_then x so)

@@ -12,13 +12,14 @@ use Rattle.paris_code.specs.Memory.{is_active, processors}
 use Rattle.paris_code.specs.Spans.{IsNamedAt}
 use Rattle.source_meaning.specs.State.{State}
 use Rattle.code_follows.proofs.Growing.{extended}
-use Rattle.code_follows.proofs.Settings.{Setting, Within, and_one, code_more}
+use Rattle.code_follows.proofs.Settings.{OpenAmong, Setting, Within, and_one, code_more}
 use Rattle.fields_follow.proofs.Instructions.{HasNumbers, puts_constant, shapes, word_in}
 use Rattle.fields_follow.proofs.Passing.{Behind, GivesField, Passes, Stands, code_longer, first_there, flags_of, in_variable_has, passes_less, passes_on, still_numbers}
 use Rattle.fields_follow.proofs.Places.{HoldsTheFields, IsOwnField, PlacesFields}
 use Rattle.fields_follow.proofs.Values.{next_field, one_more, taken, with_entry}
 use Rattle.fields_follow.proofs.Writing.{Written, own_written}
 use Rattle.fields_follow.proofs.Starts.{starts_next}
+use Rattle.fields_follow.proofs.Locals.{IsNoHome}
 
 module _ (g : Setting) (alive : Variable → Type 0) where
   -- code gives a word that is the same at every position
@@ -35,12 +36,12 @@ module _ (g : Setting) (alive : Variable → Type 0) where
 
   module _ (places : PlacesFields g) (fields : HoldsTheFields g) where
     -- where both are named later, in the field that was taken first
-    pub spread_behind : (bits set bound : ℕ) (a : Field) (k : Konst) (v w : ℕ → ℕ) (d e1 e2 : Draft) (s : CodeState) (st : State) → length (with_entry set bits W.Own d).fields ≤ bound → bound ≤ length e1.fields
+    pub spread_behind : (bits set bound : ℕ) (a : Field) (k : Konst) (v w : ℕ → ℕ) (d e1 e2 : Draft) (s : CodeState) (st : State) → IsNoHome g (OpenAmong g alive) (length d.fields) → length (with_entry set bits W.Own d).fields ≤ bound → bound ≤ length e1.fields
         → (left : GivesField g alive bits bound (with_entry set bits W.Own d) s set st v a e1) → GivesWord (length e1.fields) e1 left.passes.t st w k e2
         → (later : ℕ) → Within g (with_instr (I.MoveConstant (next_field set bits d) k) e2) → IsNamedAt g.unit a.offset later → IsNamedAt g.unit (next_field set bits d).offset later → length (with_instr (I.MoveConstant (next_field set bits d) k) e2).code ≤ later
         → HasBoth bits set (length d.fields) a (next_field set bits d) (with_entry set bits W.Own d) (with_instr (I.MoveConstant (next_field set bits d) k) e2) s st v w
     unfolding step_of passes_on passes_less
-    spread_behind bits set bound a k v w d e1 e2 s st low less left right later within named_a named_spare behind_both = record {
+    spread_behind bits set bound a k v w d e1 e2 s st none low less left right later within named_a named_spare behind_both = record {
       passes = passes_on g alive (length d.fields) (length d.fields) d1 e2 e3 s st (Unit {0}) (Unit {0}) (Unit {0}) (omega arith) (passes_less g alive (length d.fields) bound d1 e2 s st (Unit {0}) (omega (arith, first, low)) both) spreads (λ u. tt) (λ u. tt);
       left = still left.stands;
       right = subst (λ (x : ℕ → ℕ). HasNumbers g bits set spare moved.t x) same_all moved.has;
@@ -82,7 +83,7 @@ module _ (g : Setting) (alive : Variable → Type 0) where
         again = (later, (named_spare, omega (arith, long, behind_both)))
 
         moved : Written g places fields alive set spare e2 move right.passes.t st (λ q. word_in g k right.passes.t) Again
-        moved = own_written g places fields alive set move spare e2 right.passes.t st (λ q. word_in g k right.passes.t) within right.passes.at.stands right.passes.sim refl (puts_constant g set spare k right.passes.t right.small) own
+        moved = own_written g places fields alive set move spare e2 right.passes.t st (λ q. word_in g k right.passes.t) within right.passes.at.stands right.passes.sim refl (puts_constant g set spare k right.passes.t right.small) own none
 
         spreads : Passes g alive (length d.fields) e2 e3 right.passes.t st (Unit {0})
         spreads = record {

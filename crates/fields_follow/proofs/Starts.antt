@@ -8,6 +8,7 @@ use Rattle.paris_code.specs.declared.instr.Instr.{Instr}
 use Rattle.paris_code.specs.declared.program.Virtual.{Virtual}
 use Rattle.paris_code.specs.Code.{CodeState}
 use Rattle.code_follows.proofs.Settings.{AreOpenAt, At, OpenAmong, Setting, code_more, open_later, regs_more}
+use Rattle.fields_follow.proofs.Locals.{IsNoHome, behind_homes}
 
 module _ (g : Setting) (alive : Variable → Type 0) where
   -- the code stands at this place, where so many registers are taken and there are so many entries
@@ -47,3 +48,7 @@ module _ (g : Setting) (alive : Variable → Type 0) where
       let same = regs_more g i d in
       let entries = same_entries i d in
       starts_later s t (length d.code) d.regs (length d.fields) (length (with_instr i d).code) (with_instr i d).regs (length (with_instr i d).fields) (omega (arith, longer)) (omega (arith, same)) (omega (arith, entries)) there here
+
+  -- an entry behind those that there are is the home of no variable that is open
+  pub no_home : {s : CodeState} {place regs : ℕ} (entries entry : ℕ) → entries ≤ entry → Starts s place regs entries → IsNoHome g (OpenAmong g alive) entry
+  no_home {s} {place} {regs} entries entry high here = behind_homes g (OpenAmong g alive) place entries entry here.opened high

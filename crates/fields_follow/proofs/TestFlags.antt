@@ -34,6 +34,7 @@ use Rattle.fields_follow.proofs.Passing.{Passes}
 use Rattle.fields_follow.proofs.PassingTests.{tests_passed}
 use Rattle.fields_follow.proofs.Places.{HoldsTheFields, PlacesFields, of_file}
 use Rattle.fields_follow.proofs.Starts.{starts_next}
+use Rattle.fields_follow.proofs.LocalWrites.{behind_flags}
 
 -- a relation of the machine holds where that of the language does
 pub record ComparesAs (op : Op) (signed : Bool) : Type 0 where
@@ -140,7 +141,8 @@ module _ (g : Setting) where
           flags = λ q x there below. context_under_test (shapes g) set writes puts.takes p.t.memory x q ∙ was.flags q x there below;
           winner = same_winner;
           bits = bits_written (shapes g) flag p.t.memory was.bits;
-        })) p.sim;
+        })
+            (behind_flags g places (OpenAmong g alive) p.t.at (p.t.at + 1) st p.t.memory (written flag p.t.memory) (omega arith) (λ h q ends. field_apart flag p.t.memory h q (above_fields g places alive fields.active set (bits_at (shapes g) set + 1) h (omega arith) ends)) (fields.locals (OpenAmong g alive) p.t.at st p.t.memory p.sim.memory))) p.sim;
         stays = λ u h first last q below own ends before low after high.
             still (place g h) q ends
             ∙ p.stays wanted h first last q below own ends before low after (let l = code_more g i e in omega (arith, high, l));

@@ -25,7 +25,7 @@ use Rattle.source_meaning.specs.State.{State}
 use Rattle.source_meaning.specs.Values.{Parallel, nonzero}
 use Rattle.code_follows.proofs.Following.{Extends, Follows, HasRegisters, Sim, held}
 use Rattle.code_follows.proofs.Growing.{extended}
-use Rattle.code_follows.proofs.Settings.{Setting, Within, and_one, layout}
+use Rattle.code_follows.proofs.Settings.{OpenAmong, Setting, Within, and_one, layout}
 use Rattle.fields_follow.proofs.Clearing.{joined_behind, joined_more, own_joined}
 use Rattle.fields_follow.proofs.ConditionCode.{Bit, Truth, flag_after, joined_in, put_in, stored_behind, turned_in}
 use Rattle.fields_follow.proofs.Expressions.{Answers, own_result}
@@ -41,6 +41,7 @@ use Rattle.fields_follow.proofs.TruthPuts.{at_once, bit_moved, flag_stored, puts
 use Rattle.fields_follow.proofs.TruthValues.{bit_converted}
 use Rattle.fields_follow.proofs.Truths.{either_or_both, truth_still}
 use Rattle.fields_follow.proofs.Values.{IsFlag, next_field, one_more, taken, with_entry}
+use Rattle.fields_follow.proofs.Locals.{IsNoHome}
 
 -- it is its own word
 pub truth_held : (elem : Elem) (w : ℕ) → w ≡ from_bool (nonzero w) → held elem w ≡ w
@@ -71,7 +72,7 @@ module _ (g : Setting) (has : HasRegisters g) (alive : Variable → Type 0) (n :
     pub ends : Ended g s (meant g fields inner st) → Ended g s (meant g fields e st)
 
   -- numbers that are truth values are there as words
-  module _ (set : ℕ) (e : TExpr) (d : Draft) (s : CodeState) (st : State) (truth : (q : ℕ) → value_in (extents g set) st e q ≡ from_bool (nonzero (value_in (extents g set) st e q))) where
+  module _ (set : ℕ) (e : TExpr) (d : Draft) (s : CodeState) (st : State) (none : IsNoHome g (OpenAmong g alive) (length d.fields)) (truth : (q : ℕ) → value_in (extents g set) st e q ≡ from_bool (nonzero (value_in (extents g set) st e q))) where
     abbrev Q : ℕ → Out → Draft → Type 0
     Q bits = Known g s (meant g fields e st) (number set e st) st (Gave bits set e d s st)
 
@@ -102,7 +103,7 @@ module _ (g : Setting) (has : HasRegisters g) (alive : Variable → Type 0) (n :
           let on = active left.leaves.t left.leaves.sim exists in
           inl (
             comes.gives given,
-            own_result g has alive n ready places fields 1 set d e2 s st (λ q. word_at (extents g set) st e q) i within (passes_of (length d.fields) (with_entry set 1 W.Own d) e2 s st (Unit {0}) (taken_less 1) left.leaves tt)
+            own_result g has alive n ready places fields 1 set d e2 s st (λ q. word_at (extents g set) st e q) i within none (passes_of (length d.fields) (with_entry set 1 W.Own d) e2 s st (Unit {0}) (taken_less 1) left.leaves tt)
                 (as_words (λ v. Puts g set i dest left.leaves.t v) (puts_flags g set (length d.fields) left.leaves.t (number set e st) (λ q below active_there. left.flags q below (on q below active_there) ∙ same_truth q below) truth)),
           )))
           (λ early x e2. inr (comes.ends early))))
@@ -125,7 +126,7 @@ module _ (g : Setting) (has : HasRegisters g) (alive : Variable → Type 0) (n :
           let on = active bit.passes.t bit.passes.sim bit.exists in
           inl (
             comes.gives given,
-            own_result g has alive n ready places fields bits set d e2 s st (λ q. word_at (extents g set) st e q) i within
+            own_result g has alive n ready places fields bits set d e2 s st (λ q. word_at (extents g set) st e q) i within none
                 (passes_of (length d.fields) (with_entry set bits W.Own d) e2 s st (Behind g kept e2) (taken_less bits) bit.passes behind)
                 (as_words (λ v. Puts g set i dest bit.passes.t v) (puts_bit g set dest kept bit.passes.t (number set e st) bit.len (λ q below active_there. bit.are behind q below (on q below active_there) ∙ ap from_bool (same_truth q below)) truth)),
           )))
@@ -154,7 +155,7 @@ module _ (g : Setting) (has : HasRegisters g) (alive : Variable → Type 0) (n :
         let on = active bit.passes.t bit.passes.sim bit.exists in
         inl (
           comes.gives given,
-          own_result g has alive n ready places fields 1 set d e2 s st (λ q. word_at (extents g set) st e q) i within
+          own_result g has alive n ready places fields 1 set d e2 s st (λ q. word_at (extents g set) st e q) i within none
               (passes_of (length d.fields) (with_entry set 1 W.Own d) e2 s st (Behind g a e2) (taken_less 1) bit.passes behind)
               (as_words (λ v. Puts g set i dest bit.passes.t v) (subst (λ (v : ℕ → ℕ). Puts g set i dest bit.passes.t v) (λ j q. same q j) (puts_turned g set (length d.fields) a bit.passes.t (number set inner st) (λ q below active_there. bit.are behind q below (on q below active_there))))),
         ))))
@@ -182,7 +183,7 @@ module _ (g : Setting) (has : HasRegisters g) (alive : Variable → Type 0) (n :
           let on = active two.passes.t two.passes.sim two.exists in
           inl (
             is_given,
-            own_result g has alive n ready places fields 1 set d e2 s st (λ q. word_at (extents g set) st e q) i within (passes_of (length d.fields) d1 e2 s st (Unit {0}) (taken_less 1) passes tt)
+            own_result g has alive n ready places fields 1 set d e2 s st (λ q. word_at (extents g set) st e q) i within none (passes_of (length d.fields) d1 e2 s st (Unit {0}) (taken_less 1) passes tt)
                 (as_words (λ v. Puts g set i dest two.passes.t v) (subst (λ (v : ℕ → ℕ). Puts g set i dest two.passes.t v) (λ j q. same q j)
                 (puts_joined g is_or set (length d.fields) f h two.passes.t v w (λ q below active_there. truth_still g alive places fields d1 e1 e2 s set st v f (Behind g h e2) (length e2.code) one two.passes behind_h named_f (omega arith) q below ∙ one.are early_f q below (on q below active_there))
                 (λ q below active_there. two.are behind_h q below (on q below active_there))))),
@@ -200,7 +201,7 @@ module _ (g : Setting) (has : HasRegisters g) (alive : Variable → Type 0) (n :
       pub several_joined : (bits : ℕ) → 0 < bits → (one : Truth g alive places fields (with_entry set bits W.Own d) s set st v f e1) → Truth g alive places fields e1 one.passes.t set st w h e2
           → After g (Q bits) (Makes (O.Field (next_field set bits d)) (joined_behind is_or set (length d.fields) bits f h e2))
       several_joined bits some one two = made_after g (Q bits) (O.Field (next_field set bits d)) behind (λ within.
-          let given = own_joined g places fields alive set bits some is_or f h d e1 e2 s st v w one two within in
+          let given = own_joined g places fields alive set bits some is_or f h d e1 e2 s st v w none one two within in
           inl (is_given, (next_field set bits d, (refl, (as_words (λ v. GivesField g alive bits (length d.fields) d s set st v (next_field set bits d) behind) (subst (λ (v : ℕ → ℕ). GivesField g alive bits (length d.fields) d s set st v (next_field set bits d) behind) (λ j q. same q j) given), λ flag k info is more. places.own_file k 0 set info (next_field set bits d) is (own within))))))
         where
           behind : Draft

@@ -34,6 +34,7 @@ use Rattle.fields_follow.proofs.Places.{HoldsTheFields, IsOwnField, PlacesFields
 use Rattle.fields_follow.proofs.TestFlags.{Tells, numbers_tell}
 use Rattle.fields_follow.proofs.Values.{IsApart}
 use Rattle.fields_follow.proofs.Starts.{starts_next}
+use Rattle.fields_follow.proofs.Locals.{IsNoHome, locals_again}
 
 zero_bit : (b : Bool) → (from_bool (not b) == 0) ≡ b
 zero_bit true = refl
@@ -57,10 +58,10 @@ joined_bits false false false len = refl
 module _ (g : Setting) (alive : Variable → Type 0) (places : PlacesFields g) (fields : HoldsTheFields g) where
   -- what the state is for the fields alone
   pub fields_sim : (st : State) (s : CodeState) → Sim g alive st s → Sim (under g fields.active) alive st s
-  fields_sim st s h = sim_saying g alive st s s.at s.memory (fields.opens (OpenAmong g alive) s.at st s.memory h.memory) h
+  fields_sim st s h = sim_saying g alive st s s.at s.memory (fields.opens (OpenAmong g alive) s.at st s.memory h.memory, locals_again g (OpenAmong g alive) s.at st s.memory (fields.locals (OpenAmong g alive) s.at st s.memory h.memory)) h
 
   pub whole_sim : (st : State) (s : CodeState) → Sim (under g fields.active) alive st s → Sim g alive st s
-  whole_sim st s h = sim_saying g alive st s s.at s.memory (fields.closes (OpenAmong g alive) s.at st s.memory h.memory) h
+  whole_sim st s h = sim_saying g alive st s s.at s.memory (fields.closes (OpenAmong g alive) s.at st s.memory h.memory.0 (locals_again g (OpenAmong g alive) s.at st s.memory h.memory.1)) h
 
   -- Code of conditions gives a field that is zero where these numbers are, if an instruction behind it names the field.
   pub record GivesTold (d : Draft) (s : CodeState) (set : ℕ) (st : State) (v : ℕ → ℕ) (f : Field) (e : Draft) : Type 0 where
@@ -149,7 +150,7 @@ module _ (g : Setting) (alive : Variable → Type 0) (places : PlacesFields g) (
       }
 
   -- behind code of conditions, an instruction by which an own entry that is new takes these bits
-  module _ (set : ℕ) (d e : Draft) (i : Instr) (f : Field) (others : List Field) (s : CodeState) (st : State) (v value : ℕ → ℕ) (used : Type 0) (p : PassesTests g alive d e s st used) (wanted : used) (newer : length d.fields ≤ f.offset) (older : f.offset < length e.fields) (own : IsOwnField g f)
+  module _ (set : ℕ) (d e : Draft) (i : Instr) (f : Field) (others : List Field) (s : CodeState) (st : State) (v value : ℕ → ℕ) (used : Type 0) (p : PassesTests g alive d e s st used) (wanted : used) (newer : length d.fields ≤ f.offset) (older : f.offset < length e.fields) (own : IsOwnField g f) (none : IsNoHome g (OpenAmong g alive) f.offset)
       (of_set : f.set ≡ set) (len : f.len ≡ 1) (plain : step_of i ≡ Plain i) (simple : NamesFields i) (names : fields_of i ≡ f ∷ others)
       (goes : begun g.image (placed_instr g i) p.t ≡ Goes (wrote g (written_to (place g f) (λ q. is_active (shapes g) p.t.memory f.set q) value) p.t)) (within : Within g (with_instr i e)) where
     abbrev Takes : ℕ → Type 0
@@ -181,13 +182,13 @@ module _ (g : Setting) (alive : Variable → Type 0) (places : PlacesFields g) (
         long = code_more g i e
 
         w : Stored g places alive fields.active set f e i p.t st Takes (λ q. from_bool (nonzero (v q)))
-        w = stored g places alive fields.active set f i others e p.t st (λ q. is_active (shapes g) p.t.memory f.set q) value plain simple names goes own of_set within p.at.stands (fields_sim st p.t p.sim) Takes (λ q. from_bool (nonzero (v q)))
+        w = stored g places alive fields.active set f i others e p.t st (λ q. is_active (shapes g) p.t.memory f.set q) value plain simple names goes own none of_set within p.at.stands (fields_sim st p.t p.sim) Takes (λ q. from_bool (nonzero (v q)))
             (λ q active takes. (active ∙ takes.1, ap (λ (n : ℕ). value q % 2 ^ n) len ∙ bits q takes.0 takes.1))
 
   -- the test flags, stored
   pub truth_stored : (set : ℕ) (d e : Draft) (f : Field) (s : CodeState) (st : State) (v : ℕ → ℕ) (p : PassesTests g alive d e s st (Unit {0})) → ((q : ℕ) → q < processors (shapes g) set → fields.active set q ≡ true → is_tested (shapes g) p.t.memory set q ≡ nonzero (v q))
-      → length d.fields ≤ f.offset → f.offset < length e.fields → IsOwnField g f → f.set ≡ set → f.len ≡ 1 → Within g (with_instr (I.StoreTest f) e) → GivesTruth d s set st v f (with_instr (I.StoreTest f) e)
+      → length d.fields ≤ f.offset → f.offset < length e.fields → IsOwnField g f → IsNoHome g (OpenAmong g alive) f.offset → f.set ≡ set → f.len ≡ 1 → Within g (with_instr (I.StoreTest f) e) → GivesTruth d s set st v f (with_instr (I.StoreTest f) e)
   unfolding begun applied after step_of
-  truth_stored set d e f s st v p flags newer older own of_set len within =
-      put_truth set d e (I.StoreTest f) f [] s st v (λ q. from_bool (is_tested (shapes g) p.t.memory f.set q)) (Unit {0}) p tt newer older own of_set len refl tt refl refl within
+  truth_stored set d e f s st v p flags newer older own none of_set len within =
+      put_truth set d e (I.StoreTest f) f [] s st v (λ q. from_bool (is_tested (shapes g) p.t.memory f.set q)) (Unit {0}) p tt newer older own none of_set len refl tt refl refl within
       (λ q below on. bit_fits (is_tested (shapes g) p.t.memory f.set q) 1 refl ∙ ap (λ (n : ℕ). from_bool (is_tested (shapes g) p.t.memory n q)) of_set ∙ ap from_bool (flags q below on))

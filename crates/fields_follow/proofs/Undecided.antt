@@ -47,13 +47,13 @@ use Rattle.fields_follow.proofs.Flags.{Stored, store_context}
 use Rattle.fields_follow.proofs.Forms.{HasItsCode, pure_kept, HasItsWord, promoted_kept}
 use Rattle.fields_follow.proofs.Halves.{Halved, IsMeantUnder, Keeping, Leads, Narrows, after_delayed, after_under, ended_within, half, half_beside, halved, named_apart, narrowed_more, narrows, halved_same, passed_by, open_both, shut_both, undecided}
 use Rattle.fields_follow.proofs.Instructions.{Puts, extents, number_in, puts_constant, shapes, word_in}
-use Rattle.fields_follow.proofs.Leaving.{fields_under, keeps_again, places_under, reaches_again, registers_under, starts_again, starts_under, under, within_under, EndsBelow}
+use Rattle.fields_follow.proofs.Leaving.{sim_last, fields_under, keeps_again, places_under, reaches_again, registers_under, starts_again, starts_under, under, within_under, EndsBelow}
 use Rattle.fields_follow.proofs.Meaning.{value_in}
 use Rattle.fields_follow.proofs.Outcomes.{Ended, Given, Known, after_all, ended_back, follows_known, known_follows, meant, then_known}
 use Rattle.fields_follow.proofs.Passing.{After, after_same, code_longer, fields_longer, flags_of, made_after, passes_all, then_after}
 use Rattle.fields_follow.proofs.Places.{HoldsTheFields, IsOwnField, PlacesFields, names_first, stands_here}
 use Rattle.fields_follow.proofs.Sizes.{pure_at, promoted_small}
-use Rattle.fields_follow.proofs.Starts.{starts_entry, Starts, starts_later, starts_next}
+use Rattle.fields_follow.proofs.Starts.{no_home, starts_entry, Starts, starts_later, starts_next}
 use Rattle.fields_follow.proofs.TestFlags.{LeavesTests}
 use Rattle.fields_follow.proofs.Testing.{IsTested}
 use Rattle.fields_follow.proofs.Truths.{either_or_both, fields_sim, whole_sim}
@@ -205,7 +205,7 @@ module _ (g : Setting) (has : HasRegisters g) (alive : Variable → Type 0) (n :
         -- the field begins as what a decided left operand gives
         first : Written g places fields alive set f (begun d) (sets f is_or) s st (λ x. from_bool is_or) Again
         unfolding word_in
-        first = own_written g places fields alive set (sets f is_or) f (begun d) s st (λ x. from_bool is_or) within here.stands sim refl (puts_constant g set f (K.Imm (from_bool is_or)) s (from_bool_below is_or)) own
+        first = own_written g places fields alive set (sets f is_or) f (begun d) s st (λ x. from_bool is_or) within here.stands sim refl (puts_constant g set f (K.Imm (from_bool is_or)) s (from_bool_below is_or)) own (no_home g alive (length d.fields) (length d.fields) (omega arith) here)
 
         first_here : Starts g alive first.t (length (tests_from d).code) (tests_from d).regs (length (tests_from d).fields)
         first_here = starts_next g alive (sets f is_or) (begun d) s first.t first.at (starts_entry g alive _ _ (starts_entry g alive _ _ here))
@@ -239,7 +239,7 @@ module _ (g : Setting) (has : HasRegisters g) (alive : Variable → Type 0) (n :
             within_saves = earlier g saves (narrow saves) 1 (narrow_more saves) within_narrow
 
             stored : Stored g places alive fields.active set saved e (I.StoreContext saved) l.leaves.t st (λ x. Unit {0}) (λ x. from_bool (fields.active set x))
-            stored = store_context g places alive fields.active set saved e l.leaves.t st own_saved refl refl within_saves l.leaves.at.stands (fields_sim g alive places fields st l.leaves.t l.leaves.sim)
+            stored = store_context g places alive fields.active set saved e l.leaves.t st own_saved (no_home g alive (length d.fields) saved.offset (let one = one_more set bits W.Own d in omega (arith, one)) here) refl refl within_saves l.leaves.at.stands (fields_sim g alive places fields st l.leaves.t l.leaves.sim)
 
             named_saved : IsNamedAt g.unit saved.offset (length e.code)
             unfolding step_of
@@ -274,6 +274,7 @@ module _ (g : Setting) (has : HasRegisters g) (alive : Variable → Type 0) (n :
                 record {
                   exists = stored.exists;
                   own = own;
+                  none = no_home g alive (length d.fields) (length d.fields) (omega arith) here;
                   inside = omega (arith, l1, l2, l3, l4);
                   of_set = refl;
                   own_saved = own_saved;
@@ -407,7 +408,7 @@ module _ (g : Setting) (has : HasRegisters g) (alive : Variable → Type 0) (n :
                     registers = λ y kept.
                         ap (λ (registers : List ℕ). slice_index registers y) right_there.registers
                         ∙ keeps_on g saves (narrow saves) 1 stored.t left_there.t r.leaves.t left_there.more (λ z kept_so. ap (λ (registers : List ℕ). slice_index registers z) left_there.registers) (keeps_again g among_left (narrow saves) left_there.t r.leaves.t r.leaves.registers) y kept;
-                    sim = right_there.sim;
+                    sim = sim_last g among_left among_both alive st right_there.t right_there.sim;
                     stays = λ h begin later x inside own_h ends named early behind late.
                         right_there.stays h x ends
                         ∙ r.leaves.stays tt h begin later x (omega (arith, inside, three)) own_h ends named (omega (arith, early, one)) behind (omega (arith, late, two)) ∙ left_there.stays h x ends;

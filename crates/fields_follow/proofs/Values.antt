@@ -47,7 +47,7 @@ use Rattle.fields_follow.proofs.Outcomes.{Given, given_follows, meant}
 use Rattle.fields_follow.proofs.Passing.{After, Behind, GivesField, after_same, fields_longer, gives_first, gives_from, gives_set, in_variable_has, made_after, names_second, passes_all, passes_from, puts_own}
 use Rattle.fields_follow.proofs.Places.{HoldsTheFields, IsFileField, IsOwnField, PlacesFields, entry_is, of_file, stands_here}
 use Rattle.fields_follow.proofs.Totals.{held_below}
-use Rattle.fields_follow.proofs.Starts.{starts_entry, starts_wider, Starts}
+use Rattle.fields_follow.proofs.Starts.{no_home, starts_entry, starts_wider, Starts}
 use Rattle.fields_follow.proofs.Variables.{Carries, file_carries}
 use Rattle.paris_code.specs.Spans.{IsNamedAt}
 
@@ -252,7 +252,7 @@ module _ (g : Setting) where
         let named : IsNamedAt g.unit source.offset (length d2.code) = names_second g i dest source [] (length d2.code) (stands_here g i d2 within refl) refl in
         let behind : s.at ≤ start g + length d2.code = (let at = starts.stands in omega (arith, at)) in
         let numbers = variable_has set x info source s st carries (length d2.code) named behind sim in
-        let h = puts_own g alive places fields bits (length d.fields) set i dest d2 s st v (omega arith) (let one = one_more set bits W.Own d in let two = fields_longer d1 d2 0 found.grown in omega (arith, one, two)) own refl refl within starts sim
+        let h = puts_own g alive places fields bits (length d.fields) set i dest d2 s st v (omega arith) (let one = one_more set bits W.Own d in let two = fields_longer d1 d2 0 found.grown in omega (arith, one, two)) own (no_home g alive (length d.fields) (length d.fields) (omega arith) here) refl refl within starts sim
         (puts_extended g info.elem set dest source s v most (λ q below on. numbers.1 q below) numbers.0) in (
           dest,
           (

@@ -23,7 +23,7 @@ use Rattle.code_follows.proofs.Executing.{Exits, Left}
 use Rattle.code_follows.proofs.Following.{at_once, follows_same}
 use Rattle.code_follows.proofs.Growing.{Extended, and_instr}
 use Rattle.code_follows.proofs.Parts.{ComesOn, Part, StatementPart, in_one_more}
-use Rattle.code_follows.proofs.Settings.{Setting, Within, and_one, code_more, earlier, layout}
+use Rattle.code_follows.proofs.Settings.{OpenAmong, Setting, Within, and_one, code_more, earlier, layout}
 use Rattle.fields_follow.proofs.Knowing.{KnowsFields, Lasts}
 use Rattle.fields_follow.proofs.Saving.{Kept, arrives, kept_lasts, own_below, part_closed}
 use Rattle.fields_follow.proofs.Leading.{Led, led_entry, led_nowhere, led_weaker, named_next, saves_context, widens}
@@ -31,6 +31,7 @@ use Rattle.fields_follow.proofs.Narrowing.{widened_beside}
 use Rattle.fields_follow.proofs.Passing.{code_longer, fields_longer}
 use Rattle.fields_follow.proofs.Places.{IsOwnField}
 use Rattle.fields_follow.proofs.Values.{next_field, one_more, taken, with_entry}
+use Rattle.fields_follow.proofs.Locals.{behind_homes}
 
 module _ (g : Setting) (scope : Scope) (active : Active) (known : KnowsFields g scope active) (alive : Variable → Type 0) (n : ℕ) where
   -- the context is saved, all positions become active, and behind the part it is loaded
@@ -56,7 +57,7 @@ module _ (g : Setting) (scope : Scope) (active : Active) (known : KnowsFields g 
       let led_start : Led g scope active known alive active (λ m. known.kept m × Unit {0}) d start s st =
       led_entry g scope active known alive active (λ m. known.kept m × Unit {0}) shape 1 W.Own d d s st (led_weaker g scope active known alive active known.kept (λ m. known.kept m × Unit {0}) d d s st (λ m kept. (kept, tt)) (led_nowhere g scope active known alive d s st at sim)) in
       let led_stores : Led g scope active known alive active (λ m. Kept g scope active known alive saved m × Unit {0}) d stores s st =
-      saves_context g scope active known alive active known.kept g.from g.entries g.upto known.lasts d start s st (λ m. Unit {0}) saved (length e.code) begun.code begun.fields (let up = w_stores.upto in omega (arith, up, stored)) own refl last (omega (arith, stored, set, long)) (λ m other same kept. kept) w_stores led_start in
+      saves_context g scope active known alive active known.kept g.from g.entries g.upto known.lasts d start s st (λ m. Unit {0}) saved (length e.code) begun.code begun.fields (let up = w_stores.upto in omega (arith, up, stored)) own (behind_homes g (OpenAmong g alive) (length d.code) (length d.fields) (length d.fields) begun.opened (omega arith)) refl last (omega (arith, stored, set, long)) (λ m other same kept. kept) w_stores led_start in
       let led_inner : Led g scope active known alive (all_active shape active) (λ m. Kept g scope active known alive saved m) d inner s st =
       widens g scope active known alive active (λ m. Kept g scope active known alive saved m) (length inner.code) (length inner.fields) (length e.code) lasts d stores s st shape w_inner (led_weaker g scope active known alive active (λ m. Kept g scope active known alive saved m × Unit {0}) (λ m. Kept g scope active known alive saved m) d stores s st (λ m kept. kept.0) led_stores) in
       arrives g scope active known alive (λ m. Kept g scope active known alive saved m) f d s o (Makes (behind n body) (with_instr (I.LoadContext saved) e)) (λ m kept. kept.0)

@@ -25,6 +25,8 @@ use Rattle.fields_follow.specs.Fields.{IsElement}
 use Rattle.fields_follow.proofs.FileFields.{Apart, apart_back}
 use Rattle.fields_follow.proofs.Instructions.{HasNumbers, Puts, number_in, place, shapes, wrote}
 use Rattle.fields_follow.proofs.Places.{HoldsTheFields, IsFileField, IsOwnField, PlacesFields, names_first, of_file, stands_here}
+use Rattle.fields_follow.proofs.Locals.{HoldsLocals, IsNoHome}
+use Rattle.fields_follow.proofs.LocalWrites.{behind_file, behind_own_at}
 
 module _ (g : Setting) where
   -- a write of a field, by which it takes the lowest bits of these words where it is active
@@ -61,8 +63,8 @@ module _ (g : Setting) (places : PlacesFields g) (fields : HoldsTheFields g) (al
   Opened st m = HoldsFields g.typed g.image fields.active st m
 
   -- the same memory for a state, whatever the parallel variables are in it
-  pub with_memory : (st u : State) (s : CodeState) (at : ℕ) (w : Write) → u.scalar ≡ st.scalar → u.turns ≡ st.turns → u.output ≡ st.output → u.input ≡ st.input → u.rest ≡ st.rest → Opened u (written w s.memory) → Sim g alive st s → Sim g alive u (record s { at = at; memory = written w s.memory })
-  with_memory st u s at w scalar turns output input rest opened h = record {
+  pub with_memory : (st u : State) (s : CodeState) (at : ℕ) (w : Write) → u.scalar ≡ st.scalar → u.turns ≡ st.turns → u.output ≡ st.output → u.input ≡ st.input → u.rest ≡ st.rest → Opened u (written w s.memory) → HoldsLocals g (OpenAmong g alive) at u (written w s.memory) → Sim g alive st s → Sim g alive u (record s { at = at; memory = written w s.memory })
+  with_memory st u s at w scalar turns output input rest opened locals h = record {
     registers = h.registers;
     scalars = λ x info known is. h.scalars x info known is ∙ ap (λ (f : Variable → ℕ). held info.elem (f x)) (sym scalar);
     small = λ x info known is. subst (λ (f : Variable → ℕ). f x < 2 ^ info.elem.bits) (sym scalar) (h.small x info known is);
@@ -73,7 +75,7 @@ module _ (g : Setting) (places : PlacesFields g) (fields : HoldsTheFields g) (al
     returns = h.returns;
     few = subst (λ (n : ℕ). n ≤ g.most) (sym turns) h.few;
     bytes = subst (λ (b : List ℕ). AreBytes b) (sym input) h.bytes;
-    memory = fields.closes (OpenAmong g alive) at u (written w s.memory) opened;
+    memory = fields.closes (OpenAmong g alive) at u (written w s.memory) opened locals;
   }
 
   -- Behind an instruction that stands next: the destination has the numbers, and if its answer is used, what stands in
@@ -136,15 +138,15 @@ module _ (g : Setting) (places : PlacesFields g) (fields : HoldsTheFields g) (al
     winner_still = was.winner
 
     -- where it is that of an own entry, the state is as it was, and the entry has the numbers
-    pub own_sim : (at : ℕ) → IsOwnField g d → Sim g alive st (record s { at = at; memory = behind })
-    own_sim at own =
+    pub own_sim : (place to : ℕ) → At g s place → s.at + 1 ≤ to → IsOwnField g d → IsNoHome g (OpenAmong g alive) d.offset → IsNamedAt g.unit d.offset place → Sim g alive st (record s { at = to; memory = behind })
+    own_sim there at here later own none named =
         with_memory st st s at takes.write refl refl refl refl refl (record {
           numbers = λ k element q p info is below. elsewhere (of_file g k element) p (places.own_file k element q info d is own) ∙ was.numbers k element q p info is below;
           small = was.small;
           flags = active_still;
           winner = winner_still;
           bits = bits_written (shapes g) takes.write s.memory was.bits;
-        }) sim
+        }) (behind_own_at g places (OpenAmong g alive) there s.at at d st s.memory behind here later own exists named none elsewhere (fields.locals (OpenAmong g alive) s.at st s.memory sim.memory)) sim
 
     pub own_has : (at : ℕ) → HasNumbers g d.len set d (record s { at = at; memory = behind }) v
     own_has at = record {
@@ -165,17 +167,19 @@ module _ (g : Setting) (places : PlacesFields g) (fields : HoldsTheFields g) (al
       pub own_stays : (h : Field) (p : ℕ) → IsOwnField g h → field_number behind (place g h) p ≡ field_number s.memory (place g h) p
       own_stays h p is_own = elsewhere (place g h) p (subst (λ (f : Field). Apart f (place g h)) (sym at_file) (apart_back (place g h) (of_file g k element) (places.own_file k element set info h is is_own)))
 
-      pub file_sim : (at : ℕ) (passes : ℕ → Bool) (w : ℕ → ℕ) → ((p : ℕ) → p < processors (shapes g) set → passes p ≡ fields.active set p) → ((p : ℕ) → p < processors (shapes g) set → fields.active set p ≡ true → w p ≡ v p % 2 ^ d.len) → ((p : ℕ) → w p < 2 ^ info.elem.bits)
+      pub file_sim : (at : ℕ) → s.at ≤ at → (passes : ℕ → Bool) (w : ℕ → ℕ) → ((p : ℕ) → p < processors (shapes g) set → passes p ≡ fields.active set p) → ((p : ℕ) → p < processors (shapes g) set → fields.active set p ≡ true → w p ≡ v p % 2 ^ d.len) → ((p : ℕ) → w p < 2 ^ info.elem.bits)
           → Sim g alive (with_positions (V.File k) element passes w st) (record s { at = at; memory = behind })
       unfolding with_positions is_same
-      file_sim at passes w passing same_numbers few_bits =
+      file_sim at later passes w passing same_numbers few_bits =
           with_memory st (with_positions (V.File k) element passes w st) s at takes.write refl refl refl refl refl (record {
             numbers = λ j other q p of which below. by_element j other q p of which below (cases_eq k j) (cases_eq other element);
             small = λ j other q p of which. small_still j other q p of which (cases_eq k j) (cases_eq other element);
             flags = active_still;
             winner = winner_still;
             bits = bits_written (shapes g) takes.write s.memory was.bits;
-          }) sim
+          })
+          (behind_file g places (OpenAmong g alive) k element set s.at at info st (with_positions (V.File k) element passes w st) s.memory behind is later (λ f p apart. elsewhere f p (subst (λ (h : Field). Apart h f) (sym at_file) apart)) (λ j living p. refl)
+          (fields.locals (OpenAmong g alive) s.at st s.memory sim.memory)) sim
         where
           -- the variable behind it, at one of its active positions and elsewhere
           here_is : (j other p : ℕ) (old : ℕ) → k ≡ j → other ≡ element → passes p ≡ true → (if (k == j) && (other == element) && passes p then w p else old) ≡ w p
@@ -255,8 +259,8 @@ module _ (g : Setting) (places : PlacesFields g) (fields : HoldsTheFields g) (al
       there = stands_here g i e within puts.plain
 
   -- an own entry takes the numbers
-  pub next_written : (set : ℕ) (i : Instr) (d : Field) (e : Draft) (s : CodeState) (st : State) (v : ℕ → ℕ) → At g s (length e.code) → Sim g alive st s → d.set ≡ set → PutsNext set i d e s v → IsOwnField g d → Written set d e i s st v ((later : ℕ) × (IsNamedAt g.unit d.offset later × (length e.code < later)))
-  next_written set i d e s st v here sim of_set next own = record {
+  pub next_written : (set : ℕ) (i : Instr) (d : Field) (e : Draft) (s : CodeState) (st : State) (v : ℕ → ℕ) → At g s (length e.code) → Sim g alive st s → d.set ≡ set → PutsNext set i d e s v → IsOwnField g d → IsNoHome g (OpenAmong g alive) d.offset → Written set d e i s st v ((later : ℕ) × (IsNamedAt g.unit d.offset later × (length e.code < later)))
+  next_written set i d e s st v here sim of_set next own none = record {
     t = wrote g takes.write s;
     go = one_writes g s (wrote g takes.write s) next.goes (λ f p there. still f p (places.own_and_below d f own there));
     at = at_next g i e s (s.at + 1) here refl;
@@ -267,7 +271,9 @@ module _ (g : Setting) (places : PlacesFields g) (fields : HoldsTheFields g) (al
       flags = active;
       winner = winner_still set d s st v sim of_set next.ends.0 next.ends.1 takes;
       bits = bits_written (shapes g) takes.write s.memory (fields.opens (OpenAmong g alive) s.at st s.memory sim.memory).bits;
-    }) sim;
+    })
+        (behind_own_at g places (OpenAmong g alive) (length e.code) s.at (s.at + 1) d st s.memory (written takes.write s.memory) here (omega arith) own next.ends.0 (names_first g i d next.others (length e.code) next.there next.names) none still
+        (fields.locals (OpenAmong g alive) s.at st s.memory sim.memory)) sim;
     has = record {
       of_set = of_set;
       exists = exists;
@@ -292,6 +298,6 @@ module _ (g : Setting) (places : PlacesFields g) (fields : HoldsTheFields g) (al
       still = elsewhere set d s st v sim of_set next.ends.0 next.ends.1 takes
 
   -- so it is where an instruction puts them
-  pub own_written : (set : ℕ) (i : Instr) (d : Field) (e : Draft) (s : CodeState) (st : State) (v : ℕ → ℕ) → Within g (with_instr i e) → At g s (length e.code) → Sim g alive st s → d.set ≡ set → Puts g set i d s v → IsOwnField g d
+  pub own_written : (set : ℕ) (i : Instr) (d : Field) (e : Draft) (s : CodeState) (st : State) (v : ℕ → ℕ) → Within g (with_instr i e) → At g s (length e.code) → Sim g alive st s → d.set ≡ set → Puts g set i d s v → IsOwnField g d → IsNoHome g (OpenAmong g alive) d.offset
       → Written set d e i s st v ((later : ℕ) × (IsNamedAt g.unit d.offset later × (length e.code < later)))
-  own_written set i d e s st v within here sim of_set puts own = next_written set i d e s st v here sim of_set (puts_next set i d e s v within here puts) own
+  own_written set i d e s st v within here sim of_set puts own none = next_written set i d e s st v here sim of_set (puts_next set i d e s v within here puts) own none
