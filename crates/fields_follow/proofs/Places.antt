@@ -47,7 +47,7 @@ module _ (g : Setting) where
   -- entry of an element is at its field, which ends below them too, and is apart from those of other elements and
   -- from own entries; two own entries are apart where each is named at an instruction, or before it, and behind it, or where
   -- the one is in use before an instruction and behind it and the other is named there;
-  -- both are apart from what stands below the unit's entries, as an own entry that is named before a call and behind it
+  -- both are apart from what stands below the unit's entries, as an own entry that is in use before a call and behind it
   -- stands below those of what is called; and the coordinates of any number are words, and the shapes are grids with the
   -- extents of the source. A field that takes an address ends below the flags too. A scan goes along an axis of its set,
   -- and its bit is of that set.
