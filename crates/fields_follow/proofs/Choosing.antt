@@ -451,7 +451,7 @@ module _ (g : Setting) (has : HasRegisters g) (alive : Variable → Type 0) (n :
           known_follows g s (meant g fields whole st) (number set whole st) st (Answers g has alive n ready places fields (IsFlag whole) bits (length d.fields) d s set st (words whole)) (value_of g.typed (layout g) bits whole d)
           (after_same g Q (choice_code d)
           (then_known g s (meant g fields test st) v st (Gives g has alive n ready places fields (IsFlag test) known (length begun.fields) begun s set st (words test)) Q (tested begun) (λ x e. behind f saved x e)
-          (operand_after g has alive n ready places fields known set test (is_quiet first) kinded.0 parts.0.code.names test_valued begun s st (starts_entry g alive _ _ (starts_entry g alive _ _ here)) sim) (λ x e. behind_grows f saved x e)
+          (operand_after g has alive n ready places fields known set test (is_quiet first) kinded.0 parts.0 test_valued begun s st (starts_entry g alive _ _ (starts_entry g alive _ _ here)) sim) (λ x e. behind_grows f saved x e)
           (λ is_meant x e (a, (is_a, (gives, apart))).
           after_same g Q (ap (λ (o : Out). behind f saved o e) is_a ∙ behind_is f saved a e ∙ ap (λ (m : ℕ). halves f saved m a (with_instr (I.StoreContext saved) e)) (gives_set g alive places fields known (length begun.fields) begun s set st (words test) a e gives).0)
           (chosen is_meant first_valued second_valued a e gives))

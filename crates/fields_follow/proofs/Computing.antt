@@ -42,7 +42,7 @@ use Rattle.fields_follow.proofs.Choosing.{choice_valued}
 use Rattle.fields_follow.proofs.Clearing.{joined_more}
 use Rattle.fields_follow.proofs.ConditionCode.{Bit, Truth, bit_not_value, joined_value, operand_at, put_in, relation_value, word_not_value}
 use Rattle.fields_follow.proofs.Conditions.{HaveTheirCode, and_codes, conditions_join, joined_free, or_codes}
-use Rattle.fields_follow.proofs.Expressions.{Answers, answers_alike, binary_after, convert_after, convert_ended, convert_means, coordinate_after, left_index_after, named, unary_after, unary_ended}
+use Rattle.fields_follow.proofs.Expressions.{Answers, answers_alike, binary_after, convert_after, convert_ended, convert_means, coordinate_after, left_index_after, unary_after, unary_ended}
 use Rattle.fields_follow.proofs.Forms.{HasItsCode, IsRead, pure_kept}
 use Rattle.fields_follow.proofs.Instructions.{alike_same, extents, shapes}
 use Rattle.fields_follow.proofs.Leaving.{fields_under, places_under, registers_under, under}
@@ -250,8 +250,12 @@ mutual
 
   done : (g : Setting) (has : HasRegisters g) (alive : Variable → Type 0) (n : ℕ) (ready : (d : Draft) → IsReadyButForFields g.typed g.instance (layout g) n d) (places : PlacesFields g) (fields : HoldsTheFields g) (set : ℕ) (e : TExpr) → IsPure set e → HasItsCode g.typed g.instance alive n e → IsDone g has alive n ready places fields set e
   done g has alive n ready places fields set (T.Variable ty (V.File k)) is c = record {
-    value = λ bits some most. variable_after g has alive n ready places fields bits set (V.File k) ty most tt is (named g has alive n ready places fields ty k c);
-    tests = λ known. truth_tested g has alive n ready places fields set (T.Variable ty (V.File k)) refl (variable_tested g has alive n ready places fields set k ty is (named g has alive n ready places fields ty k c));
+    value = λ bits some most. variable_after g has alive n ready places fields bits set (V.File k) ty most tt is c;
+    tests = λ known. truth_tested g has alive n ready places fields set (T.Variable ty (V.File k)) refl (variable_tested g has alive n ready places fields set (V.File k) ty tt is c);
+  }
+  done g has alive n ready places fields set (T.Variable ty (V.Local k)) is c = record {
+    value = λ bits some most. variable_after g has alive n ready places fields bits set (V.Local k) ty most tt is c;
+    tests = λ known. truth_tested g has alive n ready places fields set (T.Variable ty (V.Local k)) refl (variable_tested g has alive n ready places fields set (V.Local k) ty tt is c);
   }
   done g has alive n ready places fields set (T.Brackets' ty p inner) is c =
       let part = done g has alive n ready places fields set inner is.1 (brackets_part g alive n places fields ty p inner c) in
@@ -308,7 +312,7 @@ module _ (g : Setting) (has : HasRegisters g) (alive : Variable → Type 0) (n :
   whole_after bits set e quiet some most pure wide c d s st here sim =
       given_weaker g s (meant g fields e st) (λ q. value_in (extents g set) st e q) st (Gave g has alive n ready places fields bits set e d s st) (λ out f. (h : Field) × ((out ≡ O.Field h) × GivesField g alive bits (length d.fields) d s set st (λ q. value_in (extents g set) st e q) h f)) (operand g has alive n ready places fields bits quiet e d)
       (λ out f (h, (is, (gives, apart))). (h, (is, gives_alike g alive places fields bits (length d.fields) d s set st (λ q. word_at (extents g set) st e q) (λ q. value_in (extents g set) st e q) h f (alike_same g bits set _ _ (λ q below few. sym (pure_at g alive n places fields set e st s sim pure wide c q))) gives)))
-      (operand_after g has alive n ready places fields bits set e quiet pure c.code.names (pure_after bits set e some most pure c) d s st here sim)
+      (operand_after g has alive n ready places fields bits set e quiet pure c (pure_after bits set e some most pure c) d s st here sim)
 
   -- the code of the test of a value
   pub condition_tested : (set : ℕ) (e : TExpr) → HasItsKind set e → HasItsCode g.typed g.instance alive n e → (d : Draft) (s : CodeState) (st : State) → Starts g alive s (length d.code) d.regs (length d.fields) → Sim g alive st s

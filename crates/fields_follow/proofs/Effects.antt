@@ -26,11 +26,11 @@ use Rattle.lower_expr.specs.Kinds.{done_as, operand_bits, operation_bits, reads_
 use Rattle.lower_expr.specs.Operands.{are_quiet, is_plus, is_quiet, operand_by}
 use Rattle.lower_expr.specs.Spots.{field_loaded, loaded, variable_spot}
 use Rattle.lower_expr.specs.Steps.{is_kept, put_value, right_operated, word_for, word_put}
+use Rattle.lower_base.specs.Layouts.{field_of}
 use Rattle.lower_expr.specs.Values.{arm_by, extended, field_binary_of, fields_by, joined_of, next_of, read_to, right_by, scalar_choice_of, spot_of, tested, truth_put, value_of}
 use Rattle.paris_code.specs.declared.instr.Instr.{Instr}
 use Rattle.paris_code.specs.declared.instr.Instr.TheVariants as I
 use Rattle.paris_code.specs.declared.operands.Field.{Field}
-use Rattle.paris_code.specs.declared.program.Owner.{Owner}
 use Rattle.paris_code.specs.declared.program.Owner.TheVariants as W
 use Rattle.paris_code.specs.Code.{CodeState}
 use Rattle.source_meaning.specs.Expressions.{evaluated}
@@ -43,11 +43,12 @@ use Rattle.code_follows.proofs.Following.{Finishes, HasRegisters, Sim, extends_t
 use Rattle.code_follows.proofs.Growing.{Extended}
 use Rattle.code_follows.proofs.Words.{held_wide}
 use Rattle.code_follows.proofs.Settings.{Setting, Within, and_one, layout, start}
+use Rattle.code_follows.specs.Fragment.{NamesAmong}
 use Rattle.fields_follow.specs.Fragment.{ArePure, AreWrapping, HasKnownKind, IsOperand, IsOperation, IsPromoted, IsPure, IsRelation, IsWide}
 use Rattle.fields_follow.proofs.Arms.{PutsLast as Puts_last, field_at, promoted_last, value_last}
 use Rattle.fields_follow.proofs.Extents.{get_names}
-use Rattle.fields_follow.specs.Fields.{IsElement, file_number}
-use Rattle.fields_follow.proofs.Forms.{HasItsCode, HasItsWord, element_is, field_is, pure_kept, pure_word}
+use Rattle.fields_follow.specs.Fields.{IsElement}
+use Rattle.fields_follow.proofs.Forms.{HasItsCode, HasItsWord, IsRead, pure_kept, pure_word}
 use Rattle.fields_follow.proofs.Dividing.{zero_at}
 use Rattle.fields_follow.proofs.Outcomes.{Ended, ended_back, meant, then_known}
 use Rattle.fields_follow.proofs.Pure.{get_gives}
@@ -65,7 +66,7 @@ use Rattle.fields_follow.proofs.Places.{HoldsTheFields, IsFileField, PlacesField
 use Rattle.fields_follow.proofs.Promoted.{IsComputed, promoted_stands}
 use Rattle.fields_follow.proofs.Sizes.{binary_parts, brackets_part, convert_part, unary_part}
 use Rattle.fields_follow.proofs.Totals.{held_below}
-use Rattle.fields_follow.proofs.Values.{and_entry, next_field, one_more, operand_of, taken, variable_has, with_entry}
+use Rattle.fields_follow.proofs.Values.{FindsOrFails, and_entry, finds_read, next_field, one_more, operand_of, starts_found, variable_has, with_entry}
 use Rattle.fields_follow.proofs.Expressions.{IsMeant, binary_at, convert_alike, convert_ended, convert_means, coordinate_means, operand_at, unary_ended, extended_after, negated_after, operand_grows, operands_keep, plus_alike, signed_as, unary_at, wide_operands}
 use Rattle.fields_follow.proofs.Computing.{each_after, pure_after}
 use Rattle.fields_follow.proofs.TruthValues.{IsPlain}
@@ -75,7 +76,7 @@ use Rattle.std.proofs.lemmas.Bool.{eqb-true}
 use Rattle.std.proofs.lemmas.Bool.Decides.{nat_tests}
 use Rattle.std.specs.Prelude.{nat_le}
 use Rattle.fields_follow.proofs.Starts.{no_home, starts_entry, Starts}
-use Rattle.fields_follow.proofs.Variables.{file_carries}
+use Rattle.fields_follow.proofs.Variables.{Carries, file_carries}
 use Rattle.paris_code.specs.Spans.{IsNamedAt}
 
 module _ (g : Setting) (has : HasRegisters g) (alive : Variable → Type 0) (n : ℕ) (ready : (d : Draft) → IsReadyButForFields g.typed g.instance (layout g) n d) (places : PlacesFields g) (fields : HoldsTheFields g) where
@@ -97,26 +98,39 @@ module _ (g : Setting) (has : HasRegisters g) (alive : Variable → Type 0) (n :
   PutsWords set offset bits e = PutsLast set (field_at set offset bits) e (λ d. computed_to g.typed (layout g) (O.Field (field_at set offset bits)) e d)
 
   -- a copy of a variable, cut or extended
-  copied_last : (set k offset bits : ℕ) (ty : ValueType) → bits ≤ 32 → ty.shape ≡ Some set → HasVariable g.typed g.instance n (V.File k) (plain ty) → PutsWords set offset bits (T.Variable ty (V.File k))
-  unfolding computed_to read_to spot_of variable_spot loaded in_field field_loaded then_make an_entry passes_from value_in evaluated step_of
-  copied_last set k offset bits ty most shaped v d s st here sim Q last ended =
-      let f : Field = field_at set offset bits in
-      let info : VarInfo = variable_info v.word (plain ty) v.start in
-      let is : IsElement g.typed k info set 0 = element_is g.typed g.instance n k set ty shaped v in
-      let owner : Owner = W.File (file_number g.typed k 0) in
-      let d2 : Draft = with_entry set info.elem.bits owner d in
-      let source : Field = next_field set info.elem.bits d in
-      let i : Instr = I.Move ty.elem.signed f source in
-      after_same g Q
-      (ap (λ (y : ValueType). computed_to g.typed (layout g) (O.Field f) (T.Variable y (V.File k)) d) (as_shaped ty set shaped)
-      ∙ ap (λ (m : Made Field). then_make m (λ h after. Makes (O.Field f) (with_instr (I.Move ty.elem.signed f h) after))) (field_is g k 0 set info d is))
-      (made_after g Q (O.Field f) (with_instr i d2) (λ within.
-      let file : IsFileField g k 0 source = taken g set info.elem.bits owner d (with_instr i d2) 1 within (and_one g i d2) in
-      let named : IsNamedAt g.unit source.offset (length d2.code) = names_second g i f source [] (length d2.code) (stands_here g i d2 within refl) refl in
-      let behind : s.at ≤ start g + length d2.code = (let at = here.stands in omega (arith, at)) in
-      let numbers = variable_has g has alive n ready places fields set (V.File k) info source s st (file_carries g alive places fields set k info source is file refl refl) (length d2.code) named behind sim in
-      last (ap (λ (x : Value). Source.Gives x st) (read_is fields.scope fields.active ty set (V.File k) st shaped)) d2 i within (passes_from g alive (length d.fields) d d2 d2 s st (Unit {0}) (and_entry set info.elem.bits owner d) (passes_all g alive (length d.fields) d2 s st (Unit {0}) (starts_entry g alive _ _ here) sim))
-      (puts_extended g info.elem set f source s (λ q. held info.elem (st.parallel (V.File k) 0 q)) most (λ q below on. numbers.1 q below) numbers.0)))
+  copied_last : (set offset bits : ℕ) (x : Variable) (ty : ValueType) → bits ≤ 32 → IsRead x → ty.shape ≡ Some set → HasItsCode g.typed g.instance alive n (T.Variable ty x) → PutsWords set offset bits (T.Variable ty x)
+  unfolding computed_to read_to spot_of variable_spot loaded in_field field_loaded then_make passes_from value_in evaluated step_of NamesVariables NamesAmong After
+  copied_last set offset bits x ty most read shaped c d s st here sim Q last ended =
+      after_same g Q (ap (λ (y : ValueType). computed_to g.typed (layout g) (O.Field f) (T.Variable y x) d) (as_shaped ty set shaped))
+      (by (finds_read g has alive n ready places fields set x info d read c.among v.named shaped refl s st sim))
+    where
+      f : Field
+      f = field_at set offset bits
+
+      v : HasVariable g.typed g.instance n x (plain ty)
+      v = c.code.names
+
+      info : VarInfo
+      info = variable_info v.word (plain ty) v.start
+
+      code : Made Field → Made Out
+      code m = then_make m (λ h after. Makes (O.Field f) (with_instr (I.Move ty.elem.signed f h) after))
+
+      by : FindsOrFails g has alive n ready places fields set x info d → After g Q (code (field_of g.typed (layout g) x 0 d))
+      by (inl fails) = after_same g Q (ap code fails) tt
+      by (inr found) =
+          let d2 : Draft = found.e in
+          let source : Field = found.f in
+          let i : Instr = I.Move ty.elem.signed f source in
+          let starts : Starts g alive s (length d2.code) d2.regs (length d2.fields) = starts_found g has alive n ready places fields set x info d s found here in
+          after_same g Q (ap code found.is)
+          (made_after g Q (O.Field f) (with_instr i d2) (λ within.
+          let carries : Carries g alive x info set source = found.carries (with_instr i d2) 1 (and_one g i d2) within in
+          let named : IsNamedAt g.unit source.offset (length d2.code) = names_second g i f source [] (length d2.code) (stands_here g i d2 within refl) refl in
+          let behind : s.at ≤ start g + length d2.code = (let at = starts.stands in omega (arith, at)) in
+          let numbers = variable_has g has alive n ready places fields set x info source s st carries (length d2.code) named behind sim in
+          last (ap (λ (y : Value). Source.Gives y st) (read_is fields.scope fields.active ty set x st shaped)) d2 i within (passes_from g alive (length d.fields) d d2 d2 s st (Unit {0}) found.grown (passes_all g alive (length d.fields) d2 s st (Unit {0}) starts sim))
+          (puts_extended g info.elem set f source s (λ q. held info.elem (st.parallel x 0 q)) most (λ q below on. numbers.1 q below) numbers.0)))
 
   -- what is put for one expression is put for another with the same words
   puts_like : (set offset bits : ℕ) (made : Draft → Made Out) (e other : TExpr) → ((st : State) → IsGiven set e st → IsGiven set other st) → ((s : CodeState) (st : State) → Ended g s (meant g fields e st) → Ended g s (meant g fields other st))
@@ -280,8 +294,9 @@ module _ (g : Setting) (has : HasRegisters g) (alive : Variable → Type 0) (n :
 
   -- a value that is no truth value
   pub computed_last : (set offset bits : ℕ) (e : TExpr) → 0 < bits → bits ≤ 32 → IsPure set e → IsPlain bits e → HasItsCode g.typed g.instance alive n e → PutsWords set offset bits e
-  unfolding IsPure IsPlain computed_to value_in NamesVariables evaluated
-  computed_last set offset bits (T.Variable ty (V.File k)) some most is plain c = copied_last set k offset bits ty most is c.code.names
+  unfolding IsPure IsPlain IsRead computed_to value_in NamesVariables evaluated
+  computed_last set offset bits (T.Variable ty (V.File k)) some most is plain c = copied_last set offset bits (V.File k) ty most tt is c
+  computed_last set offset bits (T.Variable ty (V.Local k)) some most is plain c = copied_last set offset bits (V.Local k) ty most tt is c
   computed_last set offset bits (T.Brackets' ty p inner) some most is plain c =
       puts_like set offset bits (λ d. computed_to g.typed (layout g) (O.Field (field_at set offset bits)) inner d) inner (T.Brackets' ty p inner) (λ st given. given) (λ s st early. early) (λ st s sim. alike_same g bits set _ _ (λ q below few. ap (λ (y : ValueType). held y.elem (value_in (extents g set) st inner q)) is.0))
       (computed_last set offset bits inner some most is.1 plain (brackets_part g alive n places fields ty p inner c))

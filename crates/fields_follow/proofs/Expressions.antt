@@ -11,7 +11,7 @@ use Rattle.cstar_tree.specs.declared.typed.ValueType.{ValueType}
 use Rattle.cstar_tree.specs.declared.typed.Variable.{Variable}
 use Rattle.cstar_tree.specs.declared.typed.Variable.TheVariants as V
 use Rattle.cstar_tree.specs.Typed.{type_of}
-use Rattle.code_lengths.specs.Naming.{HasVariable, NamesVariables, plain}
+use Rattle.code_lengths.specs.Naming.{NamesVariables, plain}
 use Rattle.code_lengths.specs.Ready.{IsReadyButForFields}
 use Rattle.code_lengths.proofs.Agreeing.{lengths_if_made}
 use Rattle.lower_base.specs.declared.emit.Out.{Out}
@@ -149,10 +149,6 @@ module _ (g : Setting) (has : HasRegisters g) (alive : Variable → Type 0) (n :
       works : ℕ
       works = operation_bits bits op right
 
-  pub named : (ty : ValueType) (k : ℕ) → HasItsCode g.typed g.instance alive n (T.Variable ty (V.File k)) → HasVariable g.typed g.instance n (V.File k) (plain ty)
-  unfolding NamesVariables
-  named ty k c = c.code.names
-
   -- the instruction of a unary operator
   abbrev pub negating : UnaryOp → Field → Field → Instr
   negating U.Minus dest a = I.Negate dest a
@@ -185,7 +181,7 @@ module _ (g : Setting) (has : HasRegisters g) (alive : Variable → Type 0) (n :
   unfolding step_of
   from_operand bits set inner dest i next bound d s st w plain both grows is_next puts pure c whole less here sim Q last ended =
       then_known g s (meant g fields inner st) (number set inner st) st (Answers (IsFlag inner) bits (length d.fields) d s set st v) Q (operand bits true inner d) (λ x after. next x after)
-      (operand_after g has alive n ready places fields bits set inner true pure c.code.names whole d s st here sim) grows
+      (operand_after g has alive n ready places fields bits set inner true pure c whole d s st here sim) grows
       (λ is_meant x e1 (a, (is, (gives, apart))). after_same g Q (ap (λ (o : Out). next o e1) is ∙ is_next a e1) (made_after g Q (O.Field dest) (with_instr (i a) e1) (λ within.
       let there : StandsAt g.unit (length e1.code) (i a) = stands_here g (i a) e1 within (plain a) in
       let behind : Behind g a e1 = (length e1.code, (names_second g (i a) dest a [] (length e1.code) there (both a), omega arith)) in

@@ -47,6 +47,7 @@ use Rattle.cstar_tree.specs.declared.typed.Variable.{Variable}
 pub pure_shape : (set : ℕ) (e : TExpr) → IsPure set e → (type_of e).shape ≡ Some set
 unfolding IsPure
 pure_shape set (T.Variable ty (V.File k)) is = is
+pure_shape set (T.Variable ty (V.Local k)) is = is
 pure_shape set (T.Brackets' ty p inner) is = ap (λ (y : ValueType). y.shape) is.0 ∙ pure_shape set inner is.1
 pure_shape set (T.Unary' ty op p operand) is = is.0.0
 pure_shape set (T.LogicalOr' ty p left q right) is = is.0.0
@@ -80,6 +81,7 @@ shaped o set is = ap is_none is
 pub pure_kept : (set : ℕ) (e : TExpr) → IsPure set e → is_kept e ≡ false
 unfolding IsPure is_kept
 pure_kept set (T.Variable ty (V.File k)) is = shaped ty.shape set is
+pure_kept set (T.Variable ty (V.Local k)) is = shaped ty.shape set is
 pure_kept set (T.Brackets' ty p inner) is = pure_kept set inner is.1
 pure_kept set (T.Unary' ty op p operand) is = shaped ty.shape set is.0.0
 pure_kept set (T.LogicalOr' ty p left q right) is = shaped ty.shape set is.0.0
@@ -101,6 +103,7 @@ promoted_kept set _ is = absurd is
 pub pure_constant : (set : ℕ) (e : TExpr) → IsPure set e → is_constant e ≡ false
 unfolding IsPure is_constant
 pure_constant set (T.Variable ty (V.File k)) is = refl
+pure_constant set (T.Variable ty (V.Local k)) is = refl
 pure_constant set (T.Brackets' ty p inner) is = ap (λ (b : Bool). b && ty.elem.bits == (type_of inner).elem.bits && is_constant inner) (ap (λ (y : ValueType). is_none y.shape) is.0 ∙ shaped (type_of inner).shape set (pure_shape set inner is.1))
 pure_constant set (T.Unary' ty op p operand) is = ap (λ (b : Bool). b && ty.elem.bits == 32 && is_constant operand) (shaped ty.shape set is.0.0)
 pure_constant set (T.LogicalOr' ty p left q right) is = ap (λ (b : Bool). b && ty.elem.bits == 32 && is_constant left && is_constant right) (shaped ty.shape set is.0.0)
@@ -133,6 +136,7 @@ promoted_not_held set l e is = not_held l e (promoted_constant set e is)
 pub pure_word : (set : ℕ) (e : TExpr) → IsPure set e → word_of e ≡ None
 unfolding IsPure word_of
 pure_word set (T.Variable ty (V.File k)) is = refl
+pure_word set (T.Variable ty (V.Local k)) is = refl
 pure_word set (T.Brackets' ty p inner) is = pure_word set inner is.1
 pure_word set (T.Unary' ty op p operand) is = refl
 pure_word set (T.LogicalOr' ty p left q right) is = refl
@@ -144,17 +148,19 @@ pure_word set (T.Pcoord ty axis) is = refl
 pure_word set (T.LeftIndex' ty place p indexes (V.File k) of) is = refl
 pure_word set _ is = absurd is
 
--- a variable that expressions read: one of the file
+-- a variable that expressions read: one of the file or of a block
 unfoldable pub IsRead : Variable → Type 0
 IsRead (V.File k) = Unit {0}
+IsRead (V.Local k) = Unit {0}
 IsRead _ = ⊥
 
 -- the variable in whose field so many bits of the value stand, which never fails
-pub record StandsInVariable (t : Typed) (i : Instance) (bits set : ℕ) (e : TExpr) : Type 0 where
+pub record StandsInVariable (t : Typed) (i : Instance) (alive : Variable → Type 0) (bits set : ℕ) (e : TExpr) : Type 0 where
   pub x : Variable
   pub info : VarInfo
   pub own : own_of bits e ≡ Some (record { shape = Some set; variable = x })
   pub read : IsRead x
+  pub living : alive x
   pub known : variable_named t i x ≡ Some info
   pub parallel : info.shape ≡ Some set
   pub one : info.array ≡ None
@@ -199,46 +205,53 @@ flag_converted elem (Some kind) no_truth one = by (has_all elem kind) refl
     by true all = sym (ap (λ (b : Bool). bits_of (if b then Some kind else narrow elem)) all) ∙ one
     by false less = let wrong = flag_elem elem (sym (ap (λ (b : Bool). bits_of (if b then Some kind else narrow elem)) less) ∙ one) in absurd (grind (arith, nat_tests, wrong, no_truth))
 
-pub pure_own : (t : Typed) (i : Instance) (n bits set : ℕ) (e : TExpr) → IsPure set e → NamesVariables t i n e → StandsInVariable t i bits set e ⊎ (own_of bits e ≡ None)
-unfolding IsPure own_of NamesVariables value_in is_unchanged evaluated then_do convert_to each at kind_of IsRead
-pure_own t i n bits set (T.Variable ty (V.File k)) is v = by (nat_le bits ty.elem.bits) refl
+-- a variable of enough bits
+variable_own : (t : Typed) (i : Instance) (alive : Variable → Type 0) (n bits set : ℕ) (ty : ValueType) (x : Variable) → IsRead x → alive x → ty.shape ≡ Some set → HasVariable t i n x (plain ty) → StandsInVariable t i alive bits set (T.Variable ty x) ⊎ (own_of bits (T.Variable ty x) ≡ None)
+unfolding own_of value_in evaluated kind_of
+variable_own t i alive n bits set ty x read living is v = by (nat_le bits ty.elem.bits) refl
   where
     own : Own
-    own = record { shape = ty.shape; variable = V.File k }
+    own = record { shape = ty.shape; variable = x }
 
-    by : (b : Bool) → nat_le bits ty.elem.bits ≡ b → StandsInVariable t i bits set (T.Variable ty (V.File k)) ⊎ ((if is_none ty.shape || nat_le bits ty.elem.bits then Some own else None) ≡ None)
+    by : (b : Bool) → nat_le bits ty.elem.bits ≡ b → StandsInVariable t i alive bits set (T.Variable ty x) ⊎ ((if is_none ty.shape || nat_le bits ty.elem.bits then Some own else None) ≡ None)
     by true enough = inl (record {
-      x = V.File k;
+      x = x;
       info = variable_info v.word (plain ty) v.start;
-      own = either_some (is_none ty.shape) (nat_le bits ty.elem.bits) own enough ∙ ap (λ (o : Option ℕ). Some (record { shape = o; variable = V.File k })) is;
-      read = tt;
+      own = either_some (is_none ty.shape) (nat_le bits ty.elem.bits) own enough ∙ ap (λ (o : Option ℕ). Some (record { shape = o; variable = x })) is;
+      read = read;
+      living = living;
       known = v.named;
       parallel = is;
       one = refl;
       fits = grind (arith, nat_tests, enough);
       value = λ extents st q. refl;
       flag = λ one. flag_elem ty.elem one;
-      means = λ scope active extents st. ap (λ (v : Value). Gives v st) (read_is scope active ty set (V.File k) st is);
+      means = λ scope active extents st. ap (λ (v : Value). Gives v st) (read_is scope active ty set x st is);
     })
     by false less = inr (ap (λ (b : Bool). if b || nat_le bits ty.elem.bits then Some own else None) (shaped ty.shape set is) ∙ ap (λ (b : Bool). if b then Some own else None) less)
-pure_own t i n bits set (T.Brackets' ty p inner) is v = by (pure_own t i n bits set inner is.1 v)
+
+pub pure_own : (t : Typed) (i : Instance) (alive : Variable → Type 0) (n bits set : ℕ) (e : TExpr) → IsPure set e → NamesVariables t i n e → NamesAmong alive e → StandsInVariable t i alive bits set e ⊎ (own_of bits e ≡ None)
+unfolding IsPure own_of NamesVariables NamesAmong value_in is_unchanged evaluated then_do convert_to each at kind_of IsRead
+pure_own t i alive n bits set (T.Variable ty (V.File k)) is v among = variable_own t i alive n bits set ty (V.File k) tt among is v
+pure_own t i alive n bits set (T.Variable ty (V.Local k)) is v among = variable_own t i alive n bits set ty (V.Local k) tt among is v
+pure_own t i alive n bits set (T.Brackets' ty p inner) is v among = by (pure_own t i alive n bits set inner is.1 v among)
   where
-    by : StandsInVariable t i bits set inner ⊎ (own_of bits inner ≡ None) → StandsInVariable t i bits set (T.Brackets' ty p inner) ⊎ (own_of bits inner ≡ None)
-    by (inl h) = inl (record { x = h.x; info = h.info; own = h.own; read = h.read; known = h.known; parallel = h.parallel; one = h.one; fits = h.fits; value = λ extents st q. ap (λ (y : ValueType). word_of_type y.elem (value_in extents st inner q) % 2 ^ bits) is.0 ∙ h.value extents st q; flag = h.flag; means = h.means })
+    by : StandsInVariable t i alive bits set inner ⊎ (own_of bits inner ≡ None) → StandsInVariable t i alive bits set (T.Brackets' ty p inner) ⊎ (own_of bits inner ≡ None)
+    by (inl h) = inl (record { x = h.x; info = h.info; own = h.own; read = h.read; living = h.living; known = h.known; parallel = h.parallel; one = h.one; fits = h.fits; value = λ extents st q. ap (λ (y : ValueType). word_of_type y.elem (value_in extents st inner q) % 2 ^ bits) is.0 ∙ h.value extents st q; flag = h.flag; means = h.means })
     by (inr h) = inr h
-pure_own t i n bits set (T.Unary' ty op p operand) is v = inr refl
-pure_own t i n bits set (T.LogicalOr' ty p left q right) is v = inr refl
-pure_own t i n bits set (T.LogicalAnd' ty p left q right) is v = inr refl
-pure_own t i n bits set (T.Binary' ty place op p left q right) is v = inr refl
-pure_own t i n bits set (T.Choice' ty p test q first r second) is v = inr refl
-pure_own t i n bits set (T.Convert' ty p operand) is v = by (is_unchanged bits ty.elem (is_kept operand)) refl (pure_own t i n bits set operand is.2 v)
+pure_own t i alive n bits set (T.Unary' ty op p operand) is v among = inr refl
+pure_own t i alive n bits set (T.LogicalOr' ty p left q right) is v among = inr refl
+pure_own t i alive n bits set (T.LogicalAnd' ty p left q right) is v among = inr refl
+pure_own t i alive n bits set (T.Binary' ty place op p left q right) is v among = inr refl
+pure_own t i alive n bits set (T.Choice' ty p test q first r second) is v among = inr refl
+pure_own t i alive n bits set (T.Convert' ty p operand) is v among = by (is_unchanged bits ty.elem (is_kept operand)) refl (pure_own t i alive n bits set operand is.2 v among)
   where
     unchanged : is_unchanged bits ty.elem (is_kept operand) ≡ true → (bits ≤ ty.elem.bits) × ((ty.elem.bits == 1) ≡ false)
     unchanged e =
         let both : (nat_le bits ty.elem.bits && not (ty.elem.bits == 1)) ≡ true = ap (λ (b : Bool). if b then ty.elem.bits == 32 else nat_le bits ty.elem.bits && not (ty.elem.bits == 1)) (sym (pure_kept set operand is.2)) ∙ e in
         (grind (arith, nat_tests, both), grind (arith, nat_tests, both))
 
-    by : (b : Bool) → is_unchanged bits ty.elem (is_kept operand) ≡ b → StandsInVariable t i bits set operand ⊎ (own_of bits operand ≡ None) → StandsInVariable t i bits set (T.Convert' ty p operand) ⊎ ((if is_unchanged bits ty.elem (is_kept operand) then own_of bits operand else None) ≡ None)
+    by : (b : Bool) → is_unchanged bits ty.elem (is_kept operand) ≡ b → StandsInVariable t i alive bits set operand ⊎ (own_of bits operand ≡ None) → StandsInVariable t i alive bits set (T.Convert' ty p operand) ⊎ ((if is_unchanged bits ty.elem (is_kept operand) then own_of bits operand else None) ≡ None)
     by true e (inl h) =
         let so = unchanged e in
         inl (record {
@@ -246,6 +259,7 @@ pure_own t i n bits set (T.Convert' ty p operand) is v = by (is_unchanged bits t
           info = h.info;
           own = ap (λ (c : Bool). if c then own_of bits operand else None) e ∙ h.own;
           read = h.read;
+          living = h.living;
           known = h.known;
           parallel = h.parallel;
           one = h.one;
@@ -258,9 +272,9 @@ pure_own t i n bits set (T.Convert' ty p operand) is v = by (is_unchanged bits t
         })
     by true e (inr h) = inr (ap (λ (c : Bool). if c then own_of bits operand else None) e ∙ h)
     by false e any = inr (ap (λ (c : Bool). if c then own_of bits operand else None) e)
-pure_own t i n bits set (T.Pcoord ty axis) is v = inr refl
-pure_own t i n bits set (T.LeftIndex' ty place p indexes (V.File k) of) is v = inr refl
-pure_own t i n bits set _ is v = absurd is
+pure_own t i alive n bits set (T.Pcoord ty axis) is v among = inr refl
+pure_own t i alive n bits set (T.LeftIndex' ty place p indexes (V.File k) of) is v among = inr refl
+pure_own t i alive n bits set _ is v among = absurd is
 
 -- a promoted scalar that is a constant, whose word is known
 pub record HasItsWord (e : TExpr) : Type 0 where

@@ -1,6 +1,6 @@
 -- One of the two halves of `?:`: positions where its condition does not hold, or where it does, become inactive, an operand
 -- is put in a field where the others are active, and the old context is loaded.
-use Rattle.std.proofs.Common.{◌≡◌, ◌∙◌, ℕ, ◌+◌, ◌<◌, ◌≤◌, ◌%◌, ◌^◌, ◌⊎◌, inl, inr, Bool, true, false, not, [], List, length, slice_index, refl, sym, ap, subst, arith}
+use Rattle.std.proofs.Common.{◌≡◌, ◌∙◌, ℕ, ◌+◌, ◌<◌, ◌≤◌, ◌%◌, ◌^◌, ◌⊎◌, inl, inr, Bool, true, false, not, [], List, length, slice_index, refl, sym, ap, subst, arith, ◌&&◌, ◌||◌, if◌then◌else◌}
 use Rattle.std.specs.Int.{from_bool}
 use Rattle.cstar_tree.specs.declared.typed.TExpr.{TExpr}
 use Rattle.cstar_tree.specs.declared.typed.Variable.{Variable}
@@ -22,6 +22,8 @@ use Rattle.source_meaning.specs.Values.{Active, nonzero}
 use Rattle.code_follows.proofs.Following.{Extends, HasRegisters, Keeps, Sim, extends_made, extends_then, keeps_on}
 use Rattle.code_follows.proofs.Growing.{Extended, extended}
 use Rattle.code_follows.proofs.Settings.{OpenAmong, At, Reaches, Setting, Within, and_one, code_more, earlier, layout, onto, regs_more}
+use Rattle.code_follows.proofs.Branching.{decides}
+use Rattle.fields_follow.proofs.TruthValues.{by_case}
 use Rattle.fields_follow.proofs.Arms.{PutsLast, words_of}
 use Rattle.fields_follow.proofs.Bits.{field_kept}
 use Rattle.fields_follow.proofs.Expressions.{IsMeant}
@@ -36,7 +38,7 @@ use Rattle.fields_follow.proofs.PassingTests.{tests_passed}
 use Rattle.fields_follow.proofs.Places.{HoldsTheFields, IsOwnField, PlacesFields, names_first, stands_here}
 use Rattle.fields_follow.proofs.Starts.{Starts, same_entries, starts_later}
 use Rattle.fields_follow.proofs.TestFlags.{LeavesTests, Tells, puts_nonzero, tested_behind}
-use Rattle.fields_follow.proofs.Truths.{fields_sim, whole_sim}
+use Rattle.fields_follow.proofs.Truths.{fields_sim, whole_sim, either_or_both}
 use Rattle.fields_follow.proofs.Writing.{TakesBehind, elsewhere, instr_takes, own_has, own_sim}
 use Rattle.fields_follow.proofs.Locals.{IsNoHome}
 
@@ -49,6 +51,46 @@ half true set v a = others set v a
 pub half_beside : (second : Bool) (set : ℕ) (v : ℕ → ℕ) (a : Active) (q p : ℕ) → (q ≡ set → ⊥) → a q p ≡ half second set v a q p
 half_beside false set v a q p differ = sym (among_beside set v a q p differ)
 half_beside true set v a q p differ = sym (others_beside set v a q p differ)
+
+-- neither operand decides where both halves are active
+pub undecided : (is_or : Bool) (set : ℕ) (v w : ℕ → ℕ) (a : Active) (x : ℕ) → a set x ≡ true → (c : Bool) → half is_or set w (half is_or set v a) set x ≡ c → either_or_both is_or (nonzero (v x)) (nonzero (w x)) ≡ (if c then not is_or else is_or)
+undecided false set v w a x on c is = by (nonzero (v x)) refl
+  where
+    plain : (c : Bool) → c ≡ (if c then true else false)
+    plain true = refl
+    plain false = refl
+
+    by : (b : Bool) → nonzero (v x) ≡ b → (nonzero (v x) && nonzero (w x)) ≡ (if c then true else false)
+    by true some = ap (λ (t : Bool). t && nonzero (w x)) some ∙ sym (among_active set w (among set v a) x (among_active set v a x on ∙ some)) ∙ is ∙ plain c
+    by false none =
+        ap (λ (t : Bool). t && nonzero (w x)) none
+        ∙ ap (λ (t : Bool). if t then true else false) (sym (among_inactive set w (among set v a) x (among_active set v a x on ∙ none)) ∙ is)
+undecided true set v w a x on c is = by (nonzero (v x)) refl
+  where
+    turned : (b c : Bool) → not b ≡ c → b ≡ (if c then false else true)
+    turned true true e = cc
+    turned true false e = refl
+    turned false true e = refl
+    turned false false e = cc
+
+    by : (b : Bool) → nonzero (v x) ≡ b → (nonzero (v x) || nonzero (w x)) ≡ (if c then false else true)
+    by true some =
+        ap (λ (t : Bool). t || nonzero (w x)) some
+        ∙ ap (λ (t : Bool). if t then false else true) (sym (others_inactive set w (others set v a) x (others_active set v a x on ∙ ap not some)) ∙ is)
+    by false none = ap (λ (t : Bool). t || nonzero (w x)) none ∙ turned (nonzero (w x)) c (sym (others_active set w (others set v a) x (others_active set v a x on ∙ ap not none)) ∙ is)
+
+-- a scalar decides everywhere or nowhere
+pub open_both : (is_or : Bool) (set : ℕ) (w : ℕ → ℕ) (a : Active) (x : ℕ) (b : Bool) → nonzero (w x) ≡ b → decides is_or b ≡ false → half is_or set w a set x ≡ a set x
+open_both false set w a x true is free = by_case (a set x) (λ on. among_active set w a x on ∙ is ∙ sym on) (λ off. among_inactive set w a x off ∙ sym off)
+open_both true set w a x false is free = by_case (a set x) (λ on. others_active set w a x on ∙ ap not is ∙ sym on) (λ off. others_inactive set w a x off ∙ sym off)
+open_both false set w a x false is free = cc
+open_both true set w a x true is free = cc
+
+pub shut_both : (is_or : Bool) (set : ℕ) (w : ℕ → ℕ) (a : Active) (x : ℕ) (b : Bool) → nonzero (w x) ≡ b → decides is_or b ≡ true → half is_or set w a set x ≡ false
+shut_both false set w a x false is shut = by_case (a set x) (λ on. among_active set w a x on ∙ is) (λ off. among_inactive set w a x off)
+shut_both true set w a x true is shut = by_case (a set x) (λ on. others_active set w a x on ∙ ap not is) (λ off. others_inactive set w a x off)
+shut_both false set w a x true is shut = cc
+shut_both true set w a x false is shut = cc
 
 module _ (g : Setting) where
   -- what is said of code holds where the draft before it is within the unit

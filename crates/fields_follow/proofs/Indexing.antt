@@ -87,7 +87,7 @@ module _ (g : Setting) (has : HasRegisters g) (alive : Variable → Type 0) (n :
       made_after g (KnowsAll set bound d s st end_of-TExpr vs) outs e (λ within. inl (refl, subst (λ (ws : List (ℕ → ℕ)). PartsStand g alive bound d s set st ws outs e) (append_nothing vs) a))
   parts_after (more_of-TExpr index rest) quiet set bound d s st vs outs e are coded valued less a =
       then_known g t (meant g fields index st) v st (Gives g has alive n ready places fields (IsFlag index) 32 (length e.fields) e t set st w) Q (operand_of g has alive n ready places fields 32 quiet index e) (λ out after. code_of_all quiet rest (outs ++ out ∷ []) after)
-      (operand_after g has alive n ready places fields 32 set index quiet are.0 coded.0.code.names valued.0 e t st a.passes.at a.passes.sim)
+      (operand_after g has alive n ready places fields 32 set index quiet are.0 coded.0 valued.0 e t st a.passes.at a.passes.sim)
       (λ out after. values_extend quiet rest coded.1 (outs ++ out ∷ []) after)
       (λ is out f (h, (is_h, (gives, apart))). after_same g Q (ap (λ (o : Out). code_of_all quiet rest (outs ++ o ∷ []) f) is_h)
       (after_weaker g (KnowsAll set bound d s st rest (vs ++ w ∷ [])) Q (code_of_all quiet rest (outs ++ O.Field h ∷ []) f) (λ given last known. by is given last known)

@@ -40,7 +40,6 @@ pub mod Leaving
 pub mod Lengths
 pub mod Listed
 pub mod Locals
-pub mod LocalFields
 pub mod LocalWrites
 pub mod LocalsCleared
 pub mod Locating

@@ -81,6 +81,7 @@ module _ (g : Setting) (alive : Variable → Type 0) (n : ℕ) (places : PlacesF
   pub kind_has : (set : ℕ) (e : TExpr) (st : State) (s : CodeState) → Sim g alive st s → IsPure set e → IsNarrowed e → HasItsCode g.typed g.instance alive n e → (q : ℕ) → (kind : Elem) → kind_of e ≡ Some kind → HasWord kind (word_at (extents g set) st e q)
   unfolding IsPure IsNarrowed kind_of value_in binary_kind
   kind_has set (T.Variable ty (V.File k)) st s sim is so c q kind is_kind = narrow_has ty.elem kind _ (value_small g alive n places fields set (T.Variable ty (V.File k)) st s sim is c q) is_kind
+  kind_has set (T.Variable ty (V.Local k)) st s sim is so c q kind is_kind = narrow_has ty.elem kind _ (value_small g alive n places fields set (T.Variable ty (V.Local k)) st s sim is c q) is_kind
   kind_has set (T.LeftIndex' ty place p indexes (V.File k) of) st s sim is so c q kind is_kind =
       narrow_has ty.elem kind _ (value_small g alive n places fields set (T.LeftIndex' ty place p indexes (V.File k) of) st s sim is c q) is_kind
   kind_has set (T.Brackets' ty p inner) st s sim is so c q kind is_kind =

@@ -180,7 +180,7 @@ module _ (g : Setting) where
         follows_same g (Given g v st Q) s refl (ap (λ (o : Option ℕ). elim o as (λ _. Made Field) [ Some word ↦ Makes dest (with_instr (I.MoveConstant dest (K.Imm word)) d) | None ↦ then_make (operand bits quiet e d) (λ x after. in_a_field x dest after) ]) (pure_word set e pure))
         (given_through g s (meant g fields e st) v st P Q (operand bits quiet e d) (λ x after. in_a_field x dest after) (λ x after. in_field_extends x dest after)
         (λ part h. then_after g P Q part (λ x after. in_a_field x dest after) h (λ x after. in_field_extends x dest after) (λ x after (f, (is, (gives, apart))). after_same g Q (ap (λ (o : Out). in_a_field o dest after) is) (made_after g Q f after (λ within. gives))))
-        (operand_after g has alive n ready places fields bits set e quiet pure c.code.names whole d s st here sim))
+        (operand_after g has alive n ready places fields bits set e quiet pure c whole d s st here sim))
       where
         v : ℕ → ℕ
         v = λ q. value_in (extents g set) st e q
@@ -243,7 +243,7 @@ module _ (g : Setting) where
         (ap (λ (o : Option ℕ). elim (then_value o (λ w. if divides op && w == 0 then None else Some w)) as (λ _. Made Right) [ Some word ↦ Makes (R.Word (K.Imm word)) d | None ↦ then_make (operand bits true e d) next ]) (pure_word set e pure))
         (given_through g s (meant g fields e st) v st P Q (operand bits true e d) next (λ x after. given (right_given x) after)
         (λ part h. then_after g P Q part next h (λ x after. given (right_given x) after) (λ x after (f, (is, (gives, apart))). after_same g Q (ap (λ (o : Out). next o after) is) (made_after g Q (R.Field f) after (λ within. (f, (refl, gives))))))
-        (operand_after g has alive n ready places fields bits set e true pure c.code.names whole d s st here sim))
+        (operand_after g has alive n ready places fields bits set e true pure c whole d s st here sim))
       where
         v : ℕ → ℕ
         v = λ q. value_in (extents g set) st e q

@@ -123,6 +123,7 @@ module _ (scope : Scope) where
   pub pure_means : (active : Active) (set : ℕ) (e : TExpr) (st : State) → IsPure set e → ignores_context e ≡ true → evaluated scope e active st ≡ Gives (Parallel (λ q. value_in (scope.extents set) st e q)) st
   unfolding IsPure ignores_context evaluated value_in then_do at convert_to each own_coordinate
   pure_means active set (T.Variable ty (V.File k)) st is free = ap (λ (v : Value). Gives v st) (read_is scope active ty set (V.File k) st is)
+  pure_means active set (T.Variable ty (V.Local k)) st is free = ap (λ (v : Value). Gives v st) (read_is scope active ty set (V.Local k) st is)
   pure_means active set (T.Brackets' ty p inner) st is free = pure_means active set inner st is.1 free
   pure_means active set (T.Unary' ty op p operand) st is free = unary_means scope active set ty op p operand (λ q. value_in (scope.extents set) st operand q) st is.0.0 (pure_means active set operand st is.2 free)
   pure_means active set (T.Binary' ty place op p left q right) st is free =

@@ -104,6 +104,7 @@ mutual
 
   pub pure_quiet : (set : ℕ) (e : TExpr) → IsPure set e → is_quiet e ≡ true
   pure_quiet set (T.Variable ty (V.File k)) is = refl
+  pure_quiet set (T.Variable ty (V.Local k)) is = refl
   pure_quiet set (T.Brackets' ty p inner) is = pure_quiet set inner is.1
   pure_quiet set (T.Unary' ty op p operand) is = pure_quiet set operand is.2
   pure_quiet set (T.LogicalOr' ty p left q right) is = both (is_quiet left) (is_quiet right) (pure_quiet set left is.1.0) (either (λ h. pure_quiet set right h.0) (λ h. promoted_quiet set right h.0) is.2)

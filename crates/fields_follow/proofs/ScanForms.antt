@@ -159,6 +159,7 @@ module _ (g : Setting) (alive : Variable → Type 0) (places : PlacesFields g) (
       ∙ ap (λ (b : ℕ). outcome op 32 (not (type_of left).elem.signed) (value_in (extents g set) st left q) b) (either (λ h. pure_number right st q h) (λ h. promoted_number right st q h) (right_of set left right is.2))
   pure_number (T.Convert' ty p operand) st q is = ap (λ (w : ℕ). converted ty.elem (type_of operand).elem w) (pure_number operand st q is.2)
   pure_number (T.Variable ty (V.File k)) st q is = refl
+  pure_number (T.Variable ty (V.Local k)) st q is = refl
   pure_number (T.Unary' ty op p operand) st q is = ap (λ (w : ℕ). unary_of op w) (pure_number operand st q is.2)
   pure_number (T.LogicalOr' ty p left r right) st q is = refl
   pure_number (T.LogicalAnd' ty p left r right) st q is = refl

@@ -33,6 +33,7 @@ use Rattle.fields_follow.proofs.Instructions.{extents, operation_below}
 use Rattle.fields_follow.proofs.Meaning.{computed_in, nobody, nowhere, scalar_in, value_in, word_at, given_in}
 use Rattle.fields_follow.proofs.Passing.{small_there}
 use Rattle.fields_follow.proofs.Places.{HoldsTheFields, PlacesFields}
+use Rattle.fields_follow.proofs.Variables.{local_held}
 use Rattle.std.proofs.lemmas.Nat.{pow_pos}
 use Rattle.fields_follow.proofs.Calm.{IsCalmly, calm_gives}
 use Rattle.source_meaning.specs.Constants.{constant_of}
@@ -87,7 +88,9 @@ module _ (g : Setting) (alive : Variable → Type 0) (n : ℕ) (places : PlacesF
   promoted_small set _ st s sim is c q = absurd is
 
   pub value_small : (set : ℕ) (e : TExpr) (st : State) (s : CodeState) → Sim g alive st s → IsPure set e → HasItsCode g.typed g.instance alive n e → (q : ℕ) → value_in (extents g set) st e q < 2 ^ (type_of e).elem.bits
-  unfolding IsPure value_in unary_of negates NamesVariables
+  unfolding IsPure value_in unary_of negates NamesVariables NamesAmong
+  value_small set (T.Variable ty (V.Local k)) st s sim is c q =
+      (local_held g alive fields k (variable_info c.code.names.word (plain ty) c.code.names.start) set c.among c.code.names.named is st s sim).holds.small q
   value_small set (T.Variable ty (V.File k)) st s sim is c q =
       small_there g alive places fields set k (variable_info c.code.names.word (plain ty) c.code.names.start) st s (element_is g.typed g.instance n k set ty is c.code.names) sim q
   value_small set (T.Brackets' ty p inner) st s sim is c q = subst (λ (y : ValueType). value_in (extents g set) st inner q < 2 ^ y.elem.bits) (sym is.0) (value_small set inner st s sim is.1 (brackets_part ty p inner c) q)

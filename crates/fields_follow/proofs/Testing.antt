@@ -1,5 +1,5 @@
 -- The code of a condition leaves the test flags.
-use Rattle.std.proofs.Common.{[], ◌&&◌, ◌||◌, subst, ◌+◌, ◌%◌, ◌≡◌, ◌∙◌, ℕ, ◌<◌, ◌≤◌, ◌^◌, ◌==◌, Bool, true, false, List, length, Option, Some, None, refl, sym, ap, arith, if◌then◌else◌}
+use Rattle.std.proofs.Common.{[], ◌&&◌, ◌||◌, subst, ◌+◌, ◌%◌, ◌≡◌, ◌∙◌, ℕ, ◌<◌, ◌≤◌, ◌^◌, ◌==◌, Bool, true, false, List, length, Option, Some, None, refl, sym, ap, arith, if◌then◌else◌, inl, inr}
 use Rattle.cstar_base.specs.declared.operators.Op.{Op}
 use Rattle.cstar_base.specs.declared.operators.Place.{Place}
 use Rattle.cstar_tree.specs.declared.typed.TExpr.{TExpr}
@@ -8,16 +8,15 @@ use Rattle.cstar_tree.specs.declared.typed.UnaryOp.TheVariants as U
 use Rattle.cstar_tree.specs.declared.typed.ValueType.{ValueType}
 use Rattle.cstar_tree.specs.declared.typed.VarInfo.{VarInfo}
 use Rattle.cstar_tree.specs.declared.typed.Variable.{Variable}
-use Rattle.cstar_tree.specs.declared.typed.Variable.TheVariants as V
 use Rattle.cstar_tree.specs.StatementTypes.{variable_info}
 use Rattle.cstar_tree.specs.Typed.{type_of}
 use Rattle.code_lengths.specs.Lowerable.{InField}
-use Rattle.code_lengths.specs.Naming.{HasVariable, plain}
+use Rattle.code_lengths.specs.Naming.{HasVariable, NamesVariables, plain}
 use Rattle.code_lengths.specs.Ready.{IsReadyButForFields}
 use Rattle.code_lengths.proofs.Agreeing.{lengths_if_made}
 use Rattle.lower_base.specs.declared.emit.Out.{Out}
 use Rattle.lower_base.specs.declared.emit.Out.TheVariants as O
-use Rattle.lower_base.specs.Drafts.{Draft, Made, Makes, an_entry, in_field, step as step_of, then_make, with_instr}
+use Rattle.lower_base.specs.Drafts.{Draft, Made, Makes, in_field, step as step_of, then_make, with_instr}
 use Rattle.lower_base.specs.Kinds.{bits_of, kind_of}
 use Rattle.lower_expr.specs.Kinds.{relation_kind}
 use Rattle.lower_expr.specs.Joined.{flag_by, is_flag}
@@ -26,13 +25,12 @@ use Rattle.lower_expr.specs.Steps.{has_truth}
 use Rattle.lower_expr.specs.Values.{condition_by, condition_of, flag_of, next_of, nonzero_tested, tested, tested_by, truth_of, value_of}
 use Rattle.paris_code.specs.declared.instr.Instr.TheVariants as I
 use Rattle.paris_code.specs.declared.operands.Field.{Field}
-use Rattle.paris_code.specs.declared.program.Owner.TheVariants as W
 use Rattle.paris_code.specs.Code.{CodeState}
 use Rattle.source_meaning.specs.Constants.{is_constant}
 use Rattle.source_meaning.specs.Expressions.{evaluated}
 use Rattle.source_meaning.specs.Narrowing.{and_then, or_then, where_nonzero, where_zero}
 use Rattle.source_meaning.specs.State as Source
-use Rattle.source_meaning.specs.State.{Outcome, State, then_do}
+use Rattle.source_meaning.specs.State.{Outcome, State}
 use Rattle.source_meaning.specs.Values.{Active, Parallel, Value, at, nonzero, unary_of}
 use Rattle.source_meaning.proofs.ConstantLaws.{Boxed}
 use Rattle.std.proofs.Math.Nat.{mod-eq_of_lt}
@@ -40,27 +38,27 @@ use Rattle.std.specs.Int.{from_bool}
 use Rattle.std.proofs.lemmas.Bool.{eqb-true}
 use Rattle.code_follows.proofs.Following.{Extends, Follows, HasRegisters, Sim, extends_then, follows_same, held}
 use Rattle.code_follows.proofs.Values.{extends_grown}
-use Rattle.code_follows.proofs.Settings.{Setting, and_one, layout, start, start}
-use Rattle.fields_follow.specs.Fields.{IsElement, file_number}
+use Rattle.code_follows.proofs.Settings.{Setting, and_one, layout, start}
+use Rattle.code_follows.specs.Fragment.{NamesAmong}
 use Rattle.fields_follow.specs.Fragment.{HasItsKind, HasKnownKind, IsPure}
-use Rattle.fields_follow.proofs.Starts.{starts_entry, Starts}
+use Rattle.fields_follow.proofs.Starts.{Starts}
 use Rattle.fields_follow.proofs.ConditionCode.{Bit, Told, Truth, bit_taken, flag_after, flag_extends, nonzero_after, operand_at, zero_after}
 use Rattle.fields_follow.proofs.Conditions.{HaveTheirCode}
 use Rattle.fields_follow.proofs.Expressions.{unary_ended}
-use Rattle.fields_follow.proofs.Forms.{HasItsCode, element_is, field_is, not_held, pure_constant, pure_kept}
+use Rattle.fields_follow.proofs.Forms.{HasItsCode, IsRead, not_held, pure_constant, pure_kept}
 use Rattle.fields_follow.proofs.Instructions.{extents, place, shapes}
 use Rattle.fields_follow.proofs.Lengths.{held_first}
 use Rattle.fields_follow.proofs.Meaning.{read_is, unary_means, value_in, word_at}
 use Rattle.fields_follow.proofs.Lengths.{relates_plainly}
 use Rattle.fields_follow.proofs.Outcomes.{Ended, Given, ended_on, follows_given, follows_like, given_follows, given_weaker, meant, then_known}
-use Rattle.fields_follow.proofs.Passing.{After, after_same, made_after, passes_all, passes_from, small_there, then_after}
+use Rattle.fields_follow.proofs.Passing.{After, after_same, made_after, passes_all, passes_from, then_after}
 use Rattle.fields_follow.proofs.Places.{HoldsTheFields, PlacesFields, names_first, stands_here}
-use Rattle.fields_follow.proofs.Variables.{Carries, file_carries}
+use Rattle.fields_follow.proofs.Variables.{Carries}
 use Rattle.paris_code.specs.Spans.{IsNamedAt}
 use Rattle.fields_follow.proofs.Pure.{and_means, and_so, or_means, or_so, pure_means}
 use Rattle.fields_follow.proofs.NarrowKinds.{AreRelated, zero_told}
 use Rattle.fields_follow.proofs.Sizes.{binary_parts}
-use Rattle.fields_follow.proofs.Values.{Gives, IsFlag, Valued, and_entry, code_of, next_field, operand_after, operand_of, taken, variable_has, with_entry}
+use Rattle.fields_follow.proofs.Values.{FindsOrFails, Gives, IsFlag, Valued, code_of, finds_read, starts_found, operand_after, operand_of, variable_has}
 use Rattle.fields_follow.proofs.TestFlags.{LeavesTests, numbers_tell, puts_nonzero, tested_last}
 use Rattle.fields_follow.proofs.Truths.{field_told, field_truth}
 use Rattle.fields_follow.proofs.Relations.{kind_some, relation_after, relation_code, relation_most}
@@ -101,42 +99,48 @@ module _ (g : Setting) (has : HasRegisters g) (alive : Variable → Type 0) (n :
       let bits : ℕ = bits_of (kind_of e) in
       given_weaker g s (meant g fields e st) (numbers_of set e st) st (Gives g has alive n ready places fields (IsFlag e) bits (length d.fields) d s set st (λ q. word_at (extents g set) st e q)) (Told g alive places fields d s set st (numbers_of set e st)) (operand bits true e d)
       (λ x e1 (a, (is, (gives, apart))). (a, (is, field_told g alive places fields bits d s set st (λ q. word_at (extents g set) st e q) (numbers_of set e st) a e1 (λ q below. zero_told g alive n places fields set e st s sim kinded c q) gives)))
-      (operand_after g has alive n ready places fields bits set e true kinded.0 c.code.names whole d s st here sim)
+      (operand_after g has alive n ready places fields bits set e true kinded.0 c whole d s st here sim)
 
-  -- a variable of the file, where it stands
-  pub variable_tested : (set k : ℕ) (ty : ValueType) → ty.shape ≡ Some set → HasVariable g.typed g.instance n (V.File k) (plain ty) → (d : Draft) (s : CodeState) (st : State) → Starts g alive s (length d.code) d.regs (length d.fields) → Sim g alive st s
-      → Follows g (Given g (λ q. st.parallel (V.File k) 0 q) st (λ _ f. LeavesTests g alive fields d s set st (λ q. st.parallel (V.File k) 0 q) f)) s (meant g fields (T.Variable ty (V.File k)) st) (truth_of g.typed (layout g) (T.Variable ty (V.File k)) d)
-  unfolding truth_of then_make an_entry step_of passes_from evaluated
-  variable_tested set k ty shaped v d s st here sim =
-      given_follows g s (meant g fields (T.Variable ty (V.File k)) st) (λ q. st.parallel (V.File k) 0 q) st (λ _ f. LeavesTests g alive fields d s set st number f) (truth_of g.typed (layout g) (T.Variable ty (V.File k)) d)
-      (ap (λ (x : Value). Source.Gives x st) (read_is fields.scope fields.active ty set (V.File k) st shaped))
-      (after_same g (λ _ f. LeavesTests g alive fields d s set st number f) (ap (λ (m : Made Field). then_make m (λ source after. Makes tt (with_instr (I.NeZero source) after))) (field_is g k 0 set info d is))
-      (made_after g (λ _ f. LeavesTests g alive fields d s set st number f) tt (with_instr (I.NeZero source) d1) (λ within.
-      let carries : Carries g alive (V.File k) info set source = file_carries g alive places fields set k info source is (taken g set info.elem.bits (W.File (file_number g.typed k 0)) d (with_instr (I.NeZero source) d1) 1 within (and_one g (I.NeZero source) d1)) refl refl in
-      let named : IsNamedAt g.unit source.offset (length d1.code) = names_first g (I.NeZero source) source [] (length d1.code) (stands_here g (I.NeZero source) d1 within refl) refl in
-      let behind : s.at ≤ start g + length d1.code = (let at = here.stands in omega (arith, at)) in
-      let numbers = variable_has g has alive n ready places fields set (V.File k) info source s st carries (length d1.code) named behind sim in
-      tested_last g alive fields places (length d.fields) set d d1 (I.NeZero source) s st number (Unit {0}) (omega arith)
-      (passes_from g alive (length d.fields) d d1 d1 s st (Unit {0}) (and_entry set info.elem.bits (W.File (file_number g.typed k 0)) d) (passes_all g alive (length d.fields) d1 s st (Unit {0}) (starts_entry g alive _ _ here) sim)) tt numbers.0.exists within
-      (puts_nonzero g set source s number (numbers_tell g info.elem.bits set source s (λ q. held info.elem (number q)) number (λ q below. ap (λ (m : ℕ). m == 0) (held_first info.elem (number q) info.elem.bits (small q) (omega arith) ∙ mod-eq_of_lt (small q))) numbers.0)))))
+  -- a variable, where it stands
+  pub variable_tested : (set : ℕ) (x : Variable) (ty : ValueType) → IsRead x → ty.shape ≡ Some set → HasItsCode g.typed g.instance alive n (T.Variable ty x) → (d : Draft) (s : CodeState) (st : State) → Starts g alive s (length d.code) d.regs (length d.fields) → Sim g alive st s
+      → Follows g (Given g (λ q. st.parallel x 0 q) st (λ _ f. LeavesTests g alive fields d s set st (λ q. st.parallel x 0 q) f)) s (meant g fields (T.Variable ty x) st) (truth_of g.typed (layout g) (T.Variable ty x) d)
+  unfolding truth_of then_make step_of passes_from evaluated NamesVariables NamesAmong After
+  variable_tested set x ty read shaped c d s st here sim =
+      given_follows g s (meant g fields (T.Variable ty x) st) (λ q. st.parallel x 0 q) st Q (truth_of g.typed (layout g) (T.Variable ty x) d)
+      (ap (λ (x : Value). Source.Gives x st) (read_is fields.scope fields.active ty set x st shaped))
+      (by (finds_read g has alive n ready places fields set x info d read c.among v.named shaped refl s st sim))
     where
       number : ℕ → ℕ
-      number = λ q. st.parallel (V.File k) 0 q
+      number = λ q. st.parallel x 0 q
+
+      v : HasVariable g.typed g.instance n x (plain ty)
+      v = c.code.names
 
       info : VarInfo
       info = variable_info v.word (plain ty) v.start
 
-      is : IsElement g.typed k info set 0
-      is = element_is g.typed g.instance n k set ty shaped v
+      Q : Unit {0} → Draft → Type 0
+      Q = λ _ f. LeavesTests g alive fields d s set st number f
 
-      small : (q : ℕ) → number q < 2 ^ info.elem.bits
-      small q = small_there g alive places fields set k info st s is sim q
+      code : Made Field → Made (Unit {0})
+      code m = then_make m (λ source after. Makes tt (with_instr (I.NeZero source) after))
 
-      source : Field
-      source = next_field set info.elem.bits d
-
-      d1 : Draft
-      d1 = with_entry set info.elem.bits (W.File (file_number g.typed k 0)) d
+      by : FindsOrFails g has alive n ready places fields set x info d → After g Q (truth_of g.typed (layout g) (T.Variable ty x) d)
+      by (inl fails) = after_same g Q (ap code fails) tt
+      by (inr found) =
+          let d1 : Draft = found.e in
+          let source : Field = found.f in
+          let starts : Starts g alive s (length d1.code) d1.regs (length d1.fields) = starts_found g has alive n ready places fields set x info d s found here in
+          after_same g Q (ap code found.is)
+          (made_after g Q tt (with_instr (I.NeZero source) d1) (λ within.
+          let carries : Carries g alive x info set source = found.carries (with_instr (I.NeZero source) d1) 1 (and_one g (I.NeZero source) d1) within in
+          let named : IsNamedAt g.unit source.offset (length d1.code) = names_first g (I.NeZero source) source [] (length d1.code) (stands_here g (I.NeZero source) d1 within refl) refl in
+          let behind : s.at ≤ start g + length d1.code = (let at = starts.stands in omega (arith, at)) in
+          let numbers = variable_has g has alive n ready places fields set x info source s st carries (length d1.code) named behind sim in
+          let small : (q : ℕ) → number q < 2 ^ info.elem.bits = λ q. carries.small st s sim q in
+          tested_last g alive fields places (length d.fields) set d d1 (I.NeZero source) s st number (Unit {0}) (omega arith)
+          (passes_from g alive (length d.fields) d d1 d1 s st (Unit {0}) found.grown (passes_all g alive (length d.fields) d1 s st (Unit {0}) starts sim)) tt numbers.0.exists within
+          (puts_nonzero g set source s number (numbers_tell g info.elem.bits set source s (λ q. held info.elem (number q)) number (λ q below. ap (λ (m : ℕ). m == 0) (held_first info.elem (number q) info.elem.bits (small q) (omega arith) ∙ mod-eq_of_lt (small q))) numbers.0))))
 
   -- a value that the test flag does not tell without it
   pub pure_tested : (set : ℕ) (e : TExpr) → IsPure set e → has_truth e ≡ false → HasItsCode g.typed g.instance alive n e → ((bits : ℕ) → 0 < bits → bits ≤ 32 → IsValued bits set e) → HasKnownKind e → IsTested set e
@@ -160,7 +164,7 @@ module _ (g : Setting) (has : HasRegisters g) (alive : Variable → Type 0) (n :
               (λ q below. ap (λ (m : ℕ). word_at (extents g set) st e q % 2 ^ m == 0) (sym is_one) ∙ zero_told g alive n places fields set e st s sim kinded c q) (apart is_one) gives,
         ),
       ))
-      (operand_after g has alive n ready places fields 1 set e true kinded.0 c.code.names whole d s st here sim)
+      (operand_after g has alive n ready places fields 1 set e true kinded.0 c whole d s st here sim)
 
   -- ---- brackets, relations and `!`
 

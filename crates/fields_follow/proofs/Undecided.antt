@@ -1,7 +1,7 @@
 -- The code of `&&` and `||` whose right operand does not ignore the context. A field begins as what a decided left operand
 -- gives; under a context that is saved, the right operand is tested where the left one does not decide, and where it does
 -- not decide either, the field takes the other truth value.
-use Rattle.std.proofs.Common.{◌⊎◌, ◌≡◌, ◌∙◌, ℕ, ◌+◌, ◌<◌, ◌≤◌, ◌%◌, ◌^◌, ◌&&◌, ◌||◌, inl, inr, Bool, true, false, not, List, [], length, slice_index, Option, Some, refl, sym, ap, subst, arith, if◌then◌else◌, None}
+use Rattle.std.proofs.Common.{◌⊎◌, ◌≡◌, ◌∙◌, ℕ, ◌+◌, ◌<◌, ◌≤◌, ◌%◌, ◌^◌, inl, inr, Bool, true, false, not, List, [], length, slice_index, Option, Some, refl, sym, ap, subst, arith, if◌then◌else◌, None}
 use Rattle.std.specs.Int.{from_bool}
 use Rattle.cstar_tree.specs.declared.typed.TExpr.{TExpr}
 use Rattle.cstar_tree.specs.declared.typed.ValueType.{ValueType}
@@ -45,11 +45,10 @@ use Rattle.fields_follow.proofs.Conditions.{HaveTheirCode, joined_right}
 use Rattle.fields_follow.proofs.Expressions.{Answers, IsMeant, operand_grows}
 use Rattle.fields_follow.proofs.Flags.{Stored, store_context}
 use Rattle.fields_follow.proofs.Forms.{HasItsCode, pure_kept, HasItsWord, promoted_kept}
-use Rattle.fields_follow.proofs.Halves.{Halved, IsMeantUnder, Keeping, Leads, Narrows, after_delayed, after_under, ended_within, half, half_beside, halved, named_apart, narrowed_more, narrows, halved_same, passed_by}
+use Rattle.fields_follow.proofs.Halves.{Halved, IsMeantUnder, Keeping, Leads, Narrows, after_delayed, after_under, ended_within, half, half_beside, halved, named_apart, narrowed_more, narrows, halved_same, passed_by, open_both, shut_both, undecided}
 use Rattle.fields_follow.proofs.Instructions.{Puts, extents, number_in, puts_constant, shapes, word_in}
 use Rattle.fields_follow.proofs.Leaving.{sim_last, fields_under, keeps_again, places_under, reaches_again, registers_under, starts_again, starts_under, under, within_under, EndsBelow}
 use Rattle.fields_follow.proofs.Meaning.{value_in}
-use Rattle.fields_follow.proofs.Narrowing.{among, among_active, among_inactive, others, others_active, others_inactive}
 use Rattle.fields_follow.proofs.Outcomes.{Ended, Given, Known, after_all, ended_back, follows_known, known_follows, meant, then_known}
 use Rattle.fields_follow.proofs.Passing.{After, after_same, code_longer, fields_longer, flags_of, made_after, passes_all, then_after}
 use Rattle.fields_follow.proofs.Places.{HoldsTheFields, IsOwnField, PlacesFields, names_first, stands_here}
@@ -60,33 +59,6 @@ use Rattle.fields_follow.proofs.Testing.{IsTested}
 use Rattle.fields_follow.proofs.Truths.{either_or_both, fields_sim, whole_sim}
 use Rattle.fields_follow.proofs.Values.{IsFlag, and_entry, next_field, one_more, taken, with_entry}
 use Rattle.fields_follow.proofs.Writing.{Written, own_written}
-
--- neither operand decides where both halves are active
-undecided : (is_or : Bool) (set : ℕ) (v w : ℕ → ℕ) (a : Active) (x : ℕ) → a set x ≡ true → (c : Bool) → half is_or set w (half is_or set v a) set x ≡ c → either_or_both is_or (nonzero (v x)) (nonzero (w x)) ≡ (if c then not is_or else is_or)
-undecided false set v w a x on c is = by (nonzero (v x)) refl
-  where
-    plain : (c : Bool) → c ≡ (if c then true else false)
-    plain true = refl
-    plain false = refl
-
-    by : (b : Bool) → nonzero (v x) ≡ b → (nonzero (v x) && nonzero (w x)) ≡ (if c then true else false)
-    by true some = ap (λ (t : Bool). t && nonzero (w x)) some ∙ sym (among_active set w (among set v a) x (among_active set v a x on ∙ some)) ∙ is ∙ plain c
-    by false none =
-        ap (λ (t : Bool). t && nonzero (w x)) none
-        ∙ ap (λ (t : Bool). if t then true else false) (sym (among_inactive set w (among set v a) x (among_active set v a x on ∙ none)) ∙ is)
-undecided true set v w a x on c is = by (nonzero (v x)) refl
-  where
-    turned : (b c : Bool) → not b ≡ c → b ≡ (if c then false else true)
-    turned true true e = cc
-    turned true false e = refl
-    turned false true e = refl
-    turned false false e = cc
-
-    by : (b : Bool) → nonzero (v x) ≡ b → (nonzero (v x) || nonzero (w x)) ≡ (if c then false else true)
-    by true some =
-        ap (λ (t : Bool). t || nonzero (w x)) some
-        ∙ ap (λ (t : Bool). if t then false else true) (sym (others_inactive set w (others set v a) x (others_active set v a x on ∙ ap not some)) ∙ is)
-    by false none = ap (λ (t : Bool). t || nonzero (w x)) none ∙ turned (nonzero (w x)) c (sym (others_active set w (others set v a) x (others_active set v a x on ∙ ap not none)) ∙ is)
 
 -- what is made behind a piece that only goes on
 abbrev goes_on : (Draft → Draft) → Unit {0} → Draft → Made (Unit {0})
@@ -101,19 +73,6 @@ twice_behind : (m : Made Out) (step : Out → Draft → Made (Unit {0})) (next :
 unfolding then_make
 twice_behind (Makes x e) step next = refl
 twice_behind Fails step next = refl
-
--- a scalar decides everywhere or nowhere
-open_both : (is_or : Bool) (set : ℕ) (w : ℕ → ℕ) (a : Active) (x : ℕ) (b : Bool) → nonzero (w x) ≡ b → decides is_or b ≡ false → half is_or set w a set x ≡ a set x
-open_both false set w a x true is free = by_case (a set x) (λ on. among_active set w a x on ∙ is ∙ sym on) (λ off. among_inactive set w a x off ∙ sym off)
-open_both true set w a x false is free = by_case (a set x) (λ on. others_active set w a x on ∙ ap not is ∙ sym on) (λ off. others_inactive set w a x off ∙ sym off)
-open_both false set w a x false is free = cc
-open_both true set w a x true is free = cc
-
-shut_both : (is_or : Bool) (set : ℕ) (w : ℕ → ℕ) (a : Active) (x : ℕ) (b : Bool) → nonzero (w x) ≡ b → decides is_or b ≡ true → half is_or set w a set x ≡ false
-shut_both false set w a x false is shut = by_case (a set x) (λ on. among_active set w a x on ∙ is) (λ off. among_inactive set w a x off)
-shut_both true set w a x true is shut = by_case (a set x) (λ on. others_active set w a x on ∙ ap not is) (λ off. others_inactive set w a x off)
-shut_both false set w a x true is shut = cc
-shut_both true set w a x false is shut = cc
 
 module _ (g : Setting) (has : HasRegisters g) (alive : Variable → Type 0) (n : ℕ) (ready : (d : Draft) → IsReadyButForFields g.typed g.instance (layout g) n d) (places : PlacesFields g) (fields : HoldsTheFields g) where
   abbrev number : ℕ → TExpr → State → ℕ → ℕ

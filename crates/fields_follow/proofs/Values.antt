@@ -33,22 +33,24 @@ use Rattle.source_meaning.specs.Expressions.{evaluated}
 use Rattle.source_meaning.specs.State as Source
 use Rattle.source_meaning.specs.State.{State}
 use Rattle.source_meaning.specs.Values.{Value}
+use Rattle.code_follows.specs.Fragment.{NamesAmong}
 use Rattle.code_follows.proofs.Following.{Follows, HasRegisters, Sim, follows_same, held}
 use Rattle.code_follows.proofs.Growing.{Extended, and_instr, as_it_was}
 use Rattle.code_follows.proofs.Settings.{Setting, Within, and_one, layout, start}
 use Rattle.fields_follow.specs.Fragment.{IsPure}
 use Rattle.fields_follow.specs.Fields.{IsElement, file_number}
 use Rattle.fields_follow.proofs.FileFields.{Apart}
-use Rattle.fields_follow.proofs.Forms.{IsRead, StandsInVariable, field_is, pure_not_held, pure_own, whole_element}
+use Rattle.fields_follow.proofs.Forms.{HasItsCode, IsRead, StandsInVariable, field_is, pure_not_held, pure_own, whole_element}
 use Rattle.fields_follow.proofs.Instructions.{HasNumbers, extents, place, puts_extended, shapes}
 use Rattle.fields_follow.proofs.Lengths.{held_has}
+use Rattle.fields_follow.proofs.Locals.{IsLocalField, local_is}
 use Rattle.fields_follow.proofs.Meaning.{as_shaped, read_is, value_in, word_at}
 use Rattle.fields_follow.proofs.Outcomes.{Given, given_follows, meant}
 use Rattle.fields_follow.proofs.Passing.{After, Behind, GivesField, after_same, fields_longer, gives_first, gives_from, gives_set, in_variable_has, made_after, names_second, passes_all, passes_from, puts_own}
 use Rattle.fields_follow.proofs.Places.{HoldsTheFields, IsFileField, IsOwnField, PlacesFields, entry_is, of_file, stands_here}
 use Rattle.fields_follow.proofs.Totals.{held_below}
 use Rattle.fields_follow.proofs.Starts.{no_home, starts_entry, starts_wider, Starts}
-use Rattle.fields_follow.proofs.Variables.{Carries, file_carries}
+use Rattle.fields_follow.proofs.Variables.{Carries, file_carries, local_carries, local_held}
 use Rattle.paris_code.specs.Spans.{IsNamedAt}
 
 -- one entry more
@@ -147,25 +149,45 @@ module _ (g : Setting) where
         entry : (after : Draft) (m : ℕ) → Extended d1 m after → Within g after → IsFileField g k 0 f
         entry after m more within = taken set info.elem.bits owner d after m within more
 
+    -- that of one of a block which is alive is its own entry, and no entry is added
+    local_finds : (k : ℕ) (info : VarInfo) (f : Field) → alive (V.Local k) → IsLocalField g k info f → (d : Draft) (s : CodeState) (st : State) → Sim g alive st s → FindsOrFails f.set (V.Local k) info d
+    local_finds k info f living is d s st sim = by (local_is g k info f d is)
+      where
+        by : (field_of g.typed (layout g) (V.Local k) 0 d ≡ Fails) ⊎ ((h : Field) × ((field_of g.typed (layout g) (V.Local k) 0 d ≡ Makes h d) × ((e : Draft) (m : ℕ) → Extended d m e → Within g e → h ≡ f))) → FindsOrFails f.set (V.Local k) info d
+        by (inl fails) = inl fails
+        by (inr (h, (found, same))) = inr (record {
+          e = d;
+          f = h;
+          is = found;
+          grown = as_it_was d;
+          code = refl;
+          regs = refl;
+          carries = λ after m more within. subst (λ (x : Field). Carries g alive (V.Local k) info f.set x) (sym (same after m more within)) (local_carries g alive fields k info f living is st s sim);
+          apart = λ after m more within one j of of_is wider. places.own_file j 0 f.set of h of_is (subst (λ (x : Field). IsOwnField g x) (sym (same after m more within)) is.own);
+        })
+
     -- so those are that expressions read
-    pub finds_read : (set : ℕ) (x : Variable) (info : VarInfo) (d : Draft) → IsRead x → variable_named g.typed g.instance x ≡ Some info → info.shape ≡ Some set → info.array ≡ None → FindsOrFails set x info d
+    pub finds_read : (set : ℕ) (x : Variable) (info : VarInfo) (d : Draft) → IsRead x → alive x → variable_named g.typed g.instance x ≡ Some info → info.shape ≡ Some set → info.array ≡ None → (s : CodeState) (st : State) → Sim g alive st s → FindsOrFails set x info d
     unfolding IsRead
-    finds_read set (V.File k) info d read known shaped one = inr (file_finds set k info d (whole_element g.typed g.instance k set info known shaped one))
-    finds_read set _ info d read known shaped one = absurd read
+    finds_read set (V.File k) info d read living known shaped one s st sim = inr (file_finds set k info d (whole_element g.typed g.instance k set info known shaped one))
+    finds_read set (V.Local k) info d read living known shaped one s st sim =
+        let there = local_held g alive fields k info set living known shaped st s sim in
+        subst (λ (m : ℕ). FindsOrFails m (V.Local k) info d) there.of_set (local_finds k info there.f living there.is d s st sim)
+    finds_read set _ info d read living known shaped one s st sim = absurd read
 
     -- code that goes on from the entry starts where it did
-    starts_found : (set : ℕ) (x : Variable) (info : VarInfo) (d : Draft) (s : CodeState) → (found : Finds set x info d) → Starts g alive s (length d.code) d.regs (length d.fields) → Starts g alive s (length found.e.code) found.e.regs (length found.e.fields)
+    pub starts_found : (set : ℕ) (x : Variable) (info : VarInfo) (d : Draft) (s : CodeState) → (found : Finds set x info d) → Starts g alive s (length d.code) d.regs (length d.fields) → Starts g alive s (length found.e.code) found.e.regs (length found.e.fields)
     starts_found set x info d s found here =
         let longer = fields_longer d found.e 0 found.grown in
         starts_wider g alive s (length found.e.code) found.e.regs (length d.fields) (length found.e.fields) longer
         (subst (λ (c : List Step). Starts g alive s (length c) found.e.regs (length d.fields)) (sym found.code) (subst (λ (r : ℕ). Starts g alive s (length d.code) r (length d.fields)) (sym found.regs) here))
 
     -- a variable where it stands
-    pub standing_after : (bits set : ℕ) (e : TExpr) → (h : StandsInVariable g.typed g.instance bits set e) → Valued bits set e (λ d. standing g.typed (layout g) bits (record { shape = Some set; variable = h.x }) d)
+    pub standing_after : (bits set : ℕ) (e : TExpr) → (h : StandsInVariable g.typed g.instance alive bits set e) → Valued bits set e (λ d. standing g.typed (layout g) bits (record { shape = Some set; variable = h.x }) d)
     unfolding standing first_bits then_make After
     standing_after bits set e h d s st here sim =
         given_follows g s (meant g fields e st) (λ q. value_in (extents g set) st e q) st Q (standing g.typed (layout g) bits (record { shape = Some set; variable = h.x }) d) (h.means fields.scope fields.active (extents g set) st)
-        (by (finds_read set h.x h.info d h.read h.known h.parallel h.one))
+        (by (finds_read set h.x h.info d h.read h.living h.known h.parallel h.one s st sim))
       where
         Q : Out → Draft → Type 0
         Q = Gives (IsFlag e) bits (length d.fields) d s set st (λ q. word_at (extents g set) st e q)
@@ -200,17 +222,17 @@ module _ (g : Setting) where
             )))
 
     -- what needs no field of its own is used where it stands, if all is quiet
-    pub operand_after : (bits set : ℕ) (e : TExpr) (quiet : Bool) → IsPure set e → NamesVariables g.typed g.instance n e → Valued bits set e (λ d. code_of bits e d) → Valued bits set e (λ d. operand_of bits quiet e d)
+    pub operand_after : (bits set : ℕ) (e : TExpr) (quiet : Bool) → IsPure set e → HasItsCode g.typed g.instance alive n e → Valued bits set e (λ d. code_of bits e d) → Valued bits set e (λ d. operand_of bits quiet e d)
     unfolding operand_by in_place
-    operand_after bits set e quiet is names whole d s st here sim =
+    operand_after bits set e quiet is c whole d s st here sim =
         follows_same g R s refl
         (ap (λ (o : Option ℕ). elim o as (λ _. Made Out) [ Some r ↦ Makes (O.Scalar r) d | None ↦ elim (if quiet then own_of bits e else None) as (λ _. Made Out) [ Some own ↦ standing g.typed (layout g) bits own d | None ↦ code_of bits e d ] ]) (pure_not_held set (layout g) e is))
-        (by quiet (pure_own g.typed g.instance n bits set e is names))
+        (by quiet (pure_own g.typed g.instance alive n bits set e is c.code.names c.among))
       where
         R : Value → State → Out → Draft → Type 0
         R = Given g (λ q. value_in (extents g set) st e q) st (Gives (IsFlag e) bits (length d.fields) d s set st (λ q. word_at (extents g set) st e q))
 
-        by : (quiet : Bool) → StandsInVariable g.typed g.instance bits set e ⊎ (own_of bits e ≡ None) → Follows g R s (meant g fields e st) (elim (if quiet then own_of bits e else None) as (λ _. Made Out) [ Some own ↦ standing g.typed (layout g) bits own d | None ↦ code_of bits e d ])
+        by : (quiet : Bool) → StandsInVariable g.typed g.instance alive bits set e ⊎ (own_of bits e ≡ None) → Follows g R s (meant g fields e st) (elim (if quiet then own_of bits e else None) as (λ _. Made Out) [ Some own ↦ standing g.typed (layout g) bits own d | None ↦ code_of bits e d ])
         by true (inl h) = follows_same g R s refl (ap (λ (o : Option Own). elim o as (λ _. Made Out) [ Some own ↦ standing g.typed (layout g) bits own d | None ↦ code_of bits e d ]) h.own) (standing_after bits set e h d s st here sim)
         by true (inr none) = follows_same g R s refl (ap (λ (o : Option Own). elim o as (λ _. Made Out) [ Some own ↦ standing g.typed (layout g) bits own d | None ↦ code_of bits e d ]) none) (whole d s st here sim)
         by false any = whole d s st here sim
@@ -265,13 +287,14 @@ module _ (g : Setting) where
           ),
         )))
 
-    pub variable_after : (bits set : ℕ) (x : Variable) (ty : ValueType) → bits ≤ 32 → IsRead x → ty.shape ≡ Some set → HasVariable g.typed g.instance n x (plain ty) → Valued bits set (T.Variable ty x) (λ d. code_of bits (T.Variable ty x) d)
-    unfolding value_of read_by read_to fresh_for an_entry then_make variable_spot loaded in_field value_in evaluated
-    variable_after bits set x ty most read shaped v d s st here sim =
+    pub variable_after : (bits set : ℕ) (x : Variable) (ty : ValueType) → bits ≤ 32 → IsRead x → ty.shape ≡ Some set → HasItsCode g.typed g.instance alive n (T.Variable ty x) → Valued bits set (T.Variable ty x) (λ d. code_of bits (T.Variable ty x) d)
+    unfolding value_of read_by read_to fresh_for an_entry then_make variable_spot loaded in_field value_in evaluated NamesVariables NamesAmong
+    variable_after bits set x ty most read shaped c d s st here sim =
+        let v : HasVariable g.typed g.instance n x (plain ty) = c.code.names in
         given_follows g s (meant g fields (T.Variable ty x) st) (λ q. st.parallel x 0 q) st (Gives (IsFlag (T.Variable ty x)) bits (length d.fields) d s set st (λ q. held ty.elem (st.parallel x 0 q))) (code_of bits (T.Variable ty x) d)
         (ap (λ (y : Value). Source.Gives y st) (read_is fields.scope fields.active ty set x st shaped))
         (after_same g (Gives (IsFlag (T.Variable ty x)) bits (length d.fields) d s set st (λ q. held ty.elem (st.parallel x 0 q))) (ap (λ (y : ValueType). code_of bits (T.Variable y x) d) (as_shaped ty set shaped))
-        (field_copied bits set x (variable_info v.word (plain ty) v.start) most d (finds_read set x (variable_info v.word (plain ty) v.start) (with_entry set bits W.Own d) read v.named shaped refl) s st here sim (IsFlag (T.Variable ty x))))
+        (field_copied bits set x (variable_info v.word (plain ty) v.start) most d (finds_read set x (variable_info v.word (plain ty) v.start) (with_entry set bits W.Own d) read c.among v.named shaped refl s st sim) s st here sim (IsFlag (T.Variable ty x))))
 
     -- the first bits of a field that has more
     pub first_given : (bits fewer bound : ℕ) (d : Draft) (s : CodeState) (set : ℕ) (st : State) (v : ℕ → ℕ) (flag P E : Type 0) (made : Made Out) → fewer ≤ bits → After g (λ out e. (P × Gives flag bits bound d s set st v out e) ⊎ E) made → After g (λ out e. (P × Gives flag fewer bound d s set st v out e) ⊎ E) (lowest fewer made)

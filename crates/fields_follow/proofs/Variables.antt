@@ -1,8 +1,9 @@
 -- The field in which a parallel variable stands, as code that names it relies on it.
-use Rattle.std.proofs.Common.{refl, ◌≡◌, ◌∙◌, ℕ, ◌+◌, ◌<◌, ◌≤◌, ◌^◌, length, sym, ap, subst}
+use Rattle.std.proofs.Common.{refl, ◌≡◌, ◌∙◌, ℕ, ◌+◌, ◌<◌, ◌≤◌, ◌^◌, length, Some, sym, ap, subst}
 use Rattle.cstar_tree.specs.declared.typed.VarInfo.{VarInfo}
 use Rattle.cstar_tree.specs.declared.typed.Variable.{Variable}
 use Rattle.cstar_tree.specs.declared.typed.Variable.TheVariants as V
+use Rattle.code_lengths.specs.Naming.{variable_named}
 use Rattle.paris_code.specs.declared.operands.Field.{Field}
 use Rattle.paris_code.specs.Code.{CodeState}
 use Rattle.paris_code.specs.Memory.{field_number, processors}
@@ -11,9 +12,10 @@ use Rattle.paris_code.specs.Spans.{IsNamedAt}
 use Rattle.source_meaning.specs.State.{State}
 use Rattle.code_follows.proofs.Following.{Sim}
 use Rattle.code_follows.proofs.Settings.{OpenAmong, Setting, start}
+use Rattle.code_follows.proofs.Standing.{some_same}
 use Rattle.fields_follow.specs.Fields.{IsElement}
 use Rattle.fields_follow.proofs.Instructions.{number_in, place, shapes}
-use Rattle.fields_follow.proofs.Locals.{HoldsLocal, HoldsLocals, IsLocalField, same_local, used_up_to}
+use Rattle.fields_follow.proofs.Locals.{HoldsLocal, IsLocalField, same_local, used_up_to}
 use Rattle.fields_follow.proofs.Places.{HoldsTheFields, IsFileField, PlacesFields, of_file}
 
 module _ (g : Setting) (alive : Variable → Type 0) where
@@ -48,9 +50,27 @@ module _ (g : Setting) (alive : Variable → Type 0) where
       at_file : place g f ≡ of_file g k 0
       at_file = places.file k 0 info f (subst (λ (n : ℕ). IsElement g.typed k info n 0) (sym of_set) is) (sym len) file
 
-  -- where what is held tells the variables of blocks that live, the own entry of one of them carries it
-  pub local_carries : (lives : ℕ → Type 0) → ((st : State) (t : CodeState) → Sim g alive st t → HoldsLocals g lives t.at st t.memory) → (k : ℕ) → lives k → (info : VarInfo) (f : Field) → IsLocalField g k info f → (st : State) (s : CodeState) → Sim g alive st s → Carries (V.Local k) info f.set f
-  local_carries lives holds k living info f is st s sim = record {
+  -- What is held of a parallel variable of a block that is alive: it has its own entry.
+  pub record HasLocal (k : ℕ) (info : VarInfo) (set : ℕ) (st : State) (t : CodeState) : Type 0 where
+    pub f : Field
+    pub of_set : f.set ≡ set
+    pub is : IsLocalField g k info f
+    pub holds : HoldsLocal g k info f t.at st t.memory
+
+  pub local_held : HoldsTheFields g → (k : ℕ) (info : VarInfo) (set : ℕ) → alive (V.Local k) → variable_named g.typed g.instance (V.Local k) ≡ Some info → info.shape ≡ Some set → (st : State) (t : CodeState) → Sim g alive st t → HasLocal k info set st t
+  local_held fields k info set living known shaped st t sim =
+      let (of, (f, (is, holds))) = fields.locals (OpenAmong g alive) t.at st t.memory sim.memory k (living, (info, (set, (known, shaped)))) in
+      let same : of ≡ info = some_same of info (sym is.known ∙ known) in
+      record {
+        f = f;
+        of_set = some_same f.set set (sym is.parallel ∙ ap (λ (i : VarInfo). i.shape) same ∙ shaped);
+        is = subst (λ (i : VarInfo). IsLocalField g k i f) same is;
+        holds = subst (λ (i : VarInfo). HoldsLocal g k i f t.at st t.memory) same holds;
+      }
+
+  -- so that entry carries it
+  pub local_carries : HoldsTheFields g → (k : ℕ) (info : VarInfo) (f : Field) → alive (V.Local k) → IsLocalField g k info f → (st : State) (s : CodeState) → Sim g alive st s → Carries (V.Local k) info f.set f
+  local_carries fields k info f living is st s sim = record {
     of_set = refl;
     exists = (local_holds st s sim).exists;
     len = is.len;
@@ -61,6 +81,5 @@ module _ (g : Setting) (alive : Variable → Type 0) where
     where
       local_holds : (st : State) (t : CodeState) → Sim g alive st t → HoldsLocal g k info f t.at st t.memory
       local_holds st t sim =
-          let (of, (h, (other, there))) = holds st t sim k living in
-          let same = same_local g k info of f h is other in
-          subst (λ (x : VarInfo). HoldsLocal g k x f t.at st t.memory) (sym same.0) (subst (λ (x : Field). HoldsLocal g k of x t.at st t.memory) (sym same.1) there)
+          let there = local_held fields k info f.set living is.known is.parallel st t sim in
+          subst (λ (h : Field). HoldsLocal g k info h t.at st t.memory) (same_local g k info info there.f f there.is is).1 there.holds

@@ -1,18 +1,16 @@
 -- The programs with parallel variables of which it is said so far that their code means them. Their parallel
--- expressions are pure ones, of variables of the file of all types, gets from neighbours round the ends of the grid and by
--- indexes that are such expressions, own coordinates, truth values of such expressions, and promoted scalars, which are
--- computed by operators, conversions, casts and `?:`, and change nothing; they fail where a divisor is 0 at an active
--- position, or that of a scalar is, or where an index does not lie within its extent at one, and nowhere else. The
--- condition of `?:` may be parallel too: each of the other operands then fails only where it is chosen, as the right one
--- of `&&` and `||` does where the left one does not decide. They are
--- assigned to such variables and folded into numbers and onto scalar variables, as scans of them and of ones with
--- operators on these are, and they are the conditions of `where`. Folds and scans are of the active positions.
--- They are sent to such variables, of any shape, by such indexes, also with an operator that folds.
--- Scalars that change variables, by assignments, steps and `getchar`, are assigned to such variables too, also with
--- operators.
--- Blocks may have parallel variables without initialisers, which no expression names.
--- Under `where` and `everywhere` stand the statements of scalar programs with these, also calls, `return` and jumps that
--- lead out of them.
+-- expressions are pure ones, of variables of the file and of blocks of all types, gets of the file's ones from
+-- neighbours round the ends of the grid and by indexes that are such expressions, own coordinates, truth values of such
+-- expressions, and promoted scalars, which are computed by operators, conversions, casts and `?:`, and change nothing;
+-- they fail where a divisor is 0 at an active position, or that of a scalar is, or where an index does not lie within
+-- its extent at one, and nowhere else. The condition of `?:` may be parallel too: each of the other operands then fails
+-- only where it is chosen, as the right one of `&&` and `||` does where the left one does not decide. They are assigned
+-- to variables of the file and folded into numbers and onto scalar variables, as scans of them and of ones with
+-- operators on these are, and they are the conditions of `where`. Folds and scans are of the active positions. They are
+-- sent to variables of the file, of any shape, by such indexes, also with an operator that folds. Scalars that change
+-- variables, by assignments, steps and `getchar`, are assigned to variables of the file too, also with operators.
+-- Blocks may have parallel variables without initialisers, to which nothing is assigned. Under `where` and `everywhere`
+-- stand the statements of scalar programs with these, also calls, `return` and jumps that lead out of them.
 use Rattle.std.specs.Prelude.{ℕ, ◌≡◌, ◌<◌, ◌≤◌, ◌+◌, ◌^◌, ◌⊎◌, ◌==◌, true, false, Option, Some, None}
 use Rattle.cstar_base.specs.declared.elem.Elem.{Elem}
 use Rattle.cstar_base.specs.declared.operators.Combiner.TheVariants as C
@@ -164,6 +162,7 @@ IsRelation set op left right = (relates op ≡ true) × (HasKnownKind left ⊎ I
 unfoldable mutual
   pub IsPure : ℕ → TExpr → Type 0
   IsPure set (T.Variable ty (V.File k)) = ty.shape ≡ Some set
+  IsPure set (T.Variable ty (V.Local k)) = ty.shape ≡ Some set
   IsPure set (T.Brackets' ty p inner) = (ty ≡ type_of inner) × IsPure set inner
   IsPure set (T.Unary' ty op p operand) = IsWide set ty × (((negates op ≡ false) × IsWide set (type_of operand)) ⊎ ((negates op ≡ true) × HasKnownKind operand)) × IsPure set operand
   IsPure set (T.LogicalOr' ty p left q right) = IsWide set ty × (IsPure set left × HasKnownKind left) × ((IsPure set right × HasKnownKind right) ⊎ (IsPromoted set right × (word_of right ≡ None)))
@@ -308,9 +307,9 @@ IsParallelEffect e = IsUpdate e ⊎ (IsFoldOnto e ⊎ (IsScanAssigned e ⊎ (IsC
 abbrev pub IsParallelVariable : VarInfo → Type 0
 IsParallelVariable info = (set : ℕ) × ((info.shape ≡ Some set) × (info.array ≡ None))
 
--- A program of functions on scalars, without recursion, and of parallel variables of the file: such updates are
--- statements, also within `with` and under contexts, as such folds onto variables are, other such folds stand within
--- scalar expressions, and such conditions narrow which positions are active.
+-- A program of functions on scalars, without recursion, and of parallel variables of the file and of blocks: such
+-- updates are statements, also within `with` and under contexts, as such folds onto variables are, other such folds
+-- stand within scalar expressions, and such conditions narrow which positions are active.
 abbrev pub fields_beside : Beside
 fields_beside = record {
   effects = IsParallelEffect;
