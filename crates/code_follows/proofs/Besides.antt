@@ -21,7 +21,7 @@ use Rattle.source_meaning.specs.Values.{Active, Scope, Value}
 use Rattle.code_follows.specs.Fragment.{NamesAmong}
 use Rattle.code_follows.proofs.Following.{Follows, HasRegisters, Ran, Sim}
 use Rattle.code_follows.proofs.Growing.{Extended}
-use Rattle.code_follows.proofs.Settings.{OpenAmong, At, Begun, Held, IsOpenIn, Setting, Within, layout}
+use Rattle.code_follows.proofs.Settings.{OpenAmong, At, Begun, Held, IsNewIn, Setting, Within, layout}
 use Rattle.code_follows.proofs.Values.{Dest}
 
 module _ (g : Setting) (has : HasRegisters g) (scope : Scope) (active : Active) where
@@ -44,7 +44,7 @@ module _ (g : Setting) where
     pub is : cleared (layout g) at_start local n d ≡ Makes tt e
     pub count : ℕ
     pub grown : Extended d count e
-    pub opened : Within g e → IsOpenIn g n e
+    pub opened : Within g e → IsNewIn g n d e
     pub runs : (before : Variable → Type 0) (s : CodeState) (st : State) → Begun g before d → At g s (length d.code) → Sim g before st s → Within g e → Ran g (λ x. before x ⊎ (x ≡ V.Local n)) d s (zeroed n 1 st) e
 
   -- so it is of each that the program may have

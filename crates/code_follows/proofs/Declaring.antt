@@ -1,5 +1,5 @@
 -- The variables of blocks.
-use Rattle.std.proofs.Common.{◌≡◌, ◌∙◌, ℕ, suc, ◌+◌, ◌<◌, ◌≤◌, ◌^◌, ◌&&◌, ◌==◌, if◌then◌else◌, nat_lt, Bool, true, false, List, [], ◌∷◌, ◌++◌, map, length, Option, Some, None, refl, sym, ap, subst, arith, slice_get, ◌⊎◌, inl, inr, eqb-true}
+use Rattle.std.proofs.Common.{◌≡◌, ◌≢◌, ◌∙◌, ℕ, suc, ◌+◌, ◌<◌, ◌≤◌, ◌^◌, ◌&&◌, ◌==◌, if◌then◌else◌, nat_lt, Bool, true, false, List, [], ◌∷◌, ◌++◌, map, length, Option, Some, None, refl, sym, ap, subst, arith, slice_get, ◌⊎◌, inl, inr, eqb-true}
 use Rattle.std.specs.Prelude.{nat_le, ◌||◌}
 use Rattle.std.specs.List.{All}
 use Rattle.std.proofs.lemmas.Bool.Decides.{nat_tests}
@@ -28,7 +28,7 @@ use Rattle.code_follows.proofs.Declared.{clears_declare}
 use Rattle.code_follows.proofs.Executing.{ran_from}
 use Rattle.code_follows.proofs.Following.{HasRegisters, IsScalar, Keeps, Ran, Sim, held, input_of, keeps_all, variable_kept}
 use Rattle.code_follows.proofs.Growing.{Extended, as_it_was, extended}
-use Rattle.code_follows.proofs.Settings.{IsOpenIn, IsParallelLocal, OpenAmong, At, Begun, begun_fewer, Setting, Within, and_one, at_next, begins_here, begun_later, earlier, layout, one, regs_more, stay, SameFields}
+use Rattle.code_follows.proofs.Settings.{HasHome, IsNewIn, IsOpenIn, IsParallelLocal, OpenAmong, At, Begun, begun_fewer, one_home, open_fewer, Setting, Within, and_one, at_next, begins_here, begun_later, earlier, layout, one, regs_more, stay, SameFields}
 use Rattle.code_follows.proofs.Standing.{some_same}
 use Rattle.code_follows.proofs.Stores.{below_free, same_is, sim_begun, same_itself}
 use Rattle.std.proofs.lemmas.Nat.{pow_pos}
@@ -255,22 +255,39 @@ none_among n (V.Local k) h = let none : (nat_le n k && nat_lt k (n + 0)) ≡ fal
 
 module _ (g : Setting) where
   -- one variable more is alive
-  begun_more : (before : Variable → Type 0) (n : ℕ) (d e : Draft) (m : ℕ) → Extended d m e → ((k : ℕ) → OpenAmong g (λ x. x ≡ V.Local n) k → IsOpenIn g k e) → Begun g before d → Begun g (λ x. before x ⊎ (x ≡ V.Local n)) e
-  begun_more before n d e m x new b = record { regs = later.regs; code = later.code; fields = later.fields; opened = λ k is_open. by k is_open.0 is_open.1 }
+  begun_more : (before : Variable → Type 0) (n : ℕ) (d e : Draft) (m : ℕ) → Extended d m e → (OpenAmong g (λ x. x ≡ V.Local n) n → IsNewIn g n d e) → Begun g before d → Begun g (λ x. before x ⊎ (x ≡ V.Local n)) e
+  begun_more before n d e m x new b = record { regs = later.regs; code = later.code; fields = later.fields; opened = (λ k is_open. by k is_open.0 is_open.1, λ j k one other first second differ. apart j k one other first.0 second.0 first.1 second.1 differ) }
     where
       later : Begun g before e
       later = begun_later g before d e m x b
 
+      new_one : (k : ℕ) → V.Local k ≡ V.Local n → IsParallelLocal g k → IsNewIn g k d e
+      new_one k same is = subst (λ (j : ℕ). IsNewIn g j d e) (sym (local_same k n same)) (new (refl, subst (λ (j : ℕ). IsParallelLocal g j) (local_same k n same) is))
+
       by : (k : ℕ) → before (V.Local k) ⊎ (V.Local k ≡ V.Local n) → IsParallelLocal g k → IsOpenIn g k e
-      by k (inl h) is = later.opened k (h, is)
-      by k (inr same) is = new k (same, is)
+      by k (inl h) is = later.opened.0 k (h, is)
+      by k (inr same) is = (new_one k same is).0
+
+      -- the entry of one that was alive is among those that there were, and the new one's is not
+      old_and_new : (j k one other : ℕ) → OpenAmong g before j → IsNewIn g k d e → HasHome g j one → HasHome g k other → one ≢ other
+      old_and_new j k one other living is_new first second same =
+          let (entry, (home, (named, inside))) = b.opened.0 j living in
+          let high = is_new.1 other second in
+          let equal = one_home g j entry one home first in
+          omega (arith, inside, high, same, equal)
+
+      apart : (j k one other : ℕ) → before (V.Local j) ⊎ (V.Local j ≡ V.Local n) → before (V.Local k) ⊎ (V.Local k ≡ V.Local n) → IsParallelLocal g j → IsParallelLocal g k → j ≢ k → HasHome g j one → HasHome g k other → one ≢ other
+      apart j k one other (inl h) (inl i) is also differ first second = b.opened.1 j k one other (h, is) (i, also) differ first second
+      apart j k one other (inl h) (inr same) is also differ first second = old_and_new j k one other (h, is) (new_one k same also) first second
+      apart j k one other (inr same) (inl i) is also differ first second = λ equal. old_and_new k j other one (i, also) (new_one j same is) second first (sym equal)
+      apart j k one other (inr same) (inr likewise) is also differ first second = absurd (differ (local_same j n same ∙ sym (local_same k n likewise)))
 
   -- a scalar one has no entry, and a parallel one has its own
   pub begun_scalar : (before : Variable → Type 0) (n : ℕ) (info : VarInfo) → IsScalar g (V.Local n) info → (d e : Draft) (m : ℕ) → Extended d m e → Begun g before d → Begun g (λ x. before x ⊎ (x ≡ V.Local n)) e
-  begun_scalar before n info scalar d e m x b = begun_more before n d e m x (λ k is_open. absurd (other_one g n info scalar (λ y. y ≡ V.Local n) k is_open (local_same k n is_open.0))) b
+  begun_scalar before n info scalar d e m x b = begun_more before n d e m x (λ is_open. absurd (other_one g n info scalar (λ y. y ≡ V.Local n) n is_open refl)) b
 
-  pub begun_parallel : (before : Variable → Type 0) (n : ℕ) (d e : Draft) (m : ℕ) → Extended d m e → IsOpenIn g n e → Begun g before d → Begun g (λ x. before x ⊎ (x ≡ V.Local n)) e
-  begun_parallel before n d e m x opened b = begun_more before n d e m x (λ k is_open. subst (λ (j : ℕ). IsOpenIn g j e) (sym (local_same k n is_open.0)) opened) b
+  pub begun_parallel : (before : Variable → Type 0) (n : ℕ) (d e : Draft) (m : ℕ) → Extended d m e → IsNewIn g n d e → Begun g before d → Begun g (λ x. before x ⊎ (x ≡ V.Local n)) e
+  begun_parallel before n d e m x opened b = begun_more before n d e m x (λ is_open. opened) b
 
   -- where the first of a block's variables is a scalar one, the others are open
   pub begun_others : (before now : Variable → Type 0) (n len : ℕ) (info : VarInfo) → IsScalar g (V.Local n) info → (e : Draft) → ((x : Variable) → (x ≡ V.Local n → ⊥) → (before x ⊎ (is_among (n + 1) len x ≡ true)) ⊎ (x ≡ V.Local n) → now x) → Begun g now e → Begun g (λ x. OrAmong before n (suc len) x) e
@@ -278,7 +295,8 @@ module _ (g : Setting) where
     regs = b.regs;
     code = b.code;
     fields = b.fields;
-    opened = λ k is_open. b.opened k (among (V.Local k) (λ same. other_one g n info scalar (λ x. OrAmong before n (suc len) x) k is_open (local_same k n same)) (first_or_later before n len (V.Local k) is_open.0), is_open.1);
+    opened = open_fewer g (OpenAmong g now) (OpenAmong g (λ x. OrAmong before n (suc len) x)) (length e.code) (length e.fields)
+        (λ k is_open. (among (V.Local k) (λ same. other_one g n info scalar (λ x. OrAmong before n (suc len) x) k is_open (local_same k n same)) (first_or_later before n len (V.Local k) is_open.0), is_open.1)) b.opened;
   }
 
 module _ (g : Setting) (has : HasRegisters g) where

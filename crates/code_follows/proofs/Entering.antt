@@ -285,7 +285,7 @@ module _ (t : Typed) (image : Image) {beside : Beside} (p : IsProgramBeside besi
           let runs : Follows inner (Left inner OfFileOrParam out begin s) s (executed where_it_is body 0 active opening_state) (body_of t (layout_of t (words t image p codable compiled) number) f body begin) =
           subst (λ (made : Made ℕ). Follows inner (Left inner OfFileOrParam out begin s) s (executed where_it_is body 0 active opening_state) made) (sym (as_block locals q row))
           (statement_follows where_it_is (λ g. besides.follows g where_it_is) inner active around [] OfFileOrParam (λ k. tt) 0 before_all body isin.0 out begin s opening_state
-          (framed t image p codable compiled inside number b is open_calls m) (stands_here t image p codable compiled inside number b is open_calls m ((calls_follow inside inner.from inner.entries inner.upto active known).lasts (OpenAmong inner OfFileOrParam) 0 (omega arith) (λ k is_open. absurd is_open.0))) (declares t image p codable compiled inside number b is open_calls m begin (blank_homes t image (scalars t image p codable compiled) codable compiled number b)) (record { regs = let regs = blank_regs t image (scalars t image p codable compiled) codable compiled number b in omega (arith, regs); code = omega arith; fields = omega arith; opened = λ k is_open. absurd is_open.0 }) stands sim c) in
+          (framed t image p codable compiled inside number b is open_calls m) (stands_here t image p codable compiled inside number b is open_calls m ((calls_follow inside inner.from inner.entries inner.upto active known).lasts (OpenAmong inner OfFileOrParam) 0 (omega arith) (λ k is_open. absurd is_open.0))) (declares t image p codable compiled inside number b is open_calls m begin (blank_homes t image (scalars t image p codable compiled) codable compiled number b)) (record { regs = let regs = blank_regs t image (scalars t image p codable compiled) codable compiled number b in omega (arith, regs); code = omega arith; fields = omega arith; opened = (λ k is_open. absurd is_open.0, λ j k one other is_open. absurd is_open.0) }) stands sim c) in
           let made = body_made t image p codable compiled inside number b is open_calls m (body_of t (layout_of t (words t image p codable compiled) number) f body begin) (made_so body body_is) in
           let never : ends_in_return b.body ≡ true → NeverOnward (executed where_it_is body 0 active opening_state) =
           λ ends. never_second (initialised where_it_is active 0 locals.items _) _ (λ u. body_never where_it_is active locals q row (sym (ap (λ (x : TStmt). ends_in_return x) body_is) ∙ ends) (0 + length locals.items) u) in

@@ -286,7 +286,7 @@ module _ (t : Typed) (image : Image) {beside : Beside} (p : IsProgramBeside besi
       let grown : (j : ℕ) × Extended first.e j made.e = subst (λ (m : Made ℕ). Extends main_setting first.e m) made.is_made (begun_grows main_setting has_it wide one numbers is_ready here active calls_in_main (never_rises active) [] locals.items row out 0 first.e h.0.0 settled initial own_row framed_so among_so declared) in
       let cleared_in : Within main_setting first.e = earlier main_setting first.e made.e grown.0 grown.1 ends.inside in
       let opens = opened_so (earlier main_setting begun_there first.e first.count first.grown cleared_in) in
-      let free : Begun main_setting alive begun_there = record { regs = omega (arith, regs); code = omega arith; fields = omega arith; opened = λ k is_open. absurd (is_open.0 k refl is_open.1.0 is_open.1.1.0 is_open.1.1.1.0 is_open.1.1.1.1) } in
+      let free : Begun main_setting alive begun_there = record { regs = omega (arith, regs); code = omega arith; fields = omega arith; opened = (λ k is_open. absurd (is_open.0 k refl is_open.1.0 is_open.1.1.0 is_open.1.1.1.0 is_open.1.1.1.1), λ j k one other is_open. absurd (is_open.0 j refl is_open.1.0 is_open.1.1.0 is_open.1.1.1.0 is_open.1.1.1.1)) } in
       let ran = first.runs opens.there in_main (λ k. locals_zero k) free opens.at opens.sim cleared_in in
       let now : Variable → Type 0 = λ x. Now main_setting has_it wide one is_ready here active calls_in_main locals.items 0 x in
       let sim : Sim main_setting now (begun_body locals.items row) ran.t = sim_fewer main_setting (λ x. alive x ⊎ (is_among 0 (length locals.items) x ≡ true)) now (begun_body locals.items row) ran.t (λ x info named h. was_alive (length locals.items) x h.0) ran.sim in

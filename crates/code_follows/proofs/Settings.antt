@@ -1,5 +1,5 @@
 -- A unit of a compiled program, and how the code of its image stands for its drafts.
-use Rattle.std.proofs.Common.{◌≡◌, ◌∙◌, ℕ, suc, ◌+◌, ◌<◌, ◌≤◌, List, [], ◌∷◌, ◌++◌, length, map, slice_get, Option, Some, refl, ap, arith, append_assoc, length-append, Bool}
+use Rattle.std.proofs.Common.{◌≡◌, ◌≢◌, ◌∙◌, ℕ, suc, ◌+◌, ◌<◌, ◌≤◌, List, [], ◌∷◌, ◌++◌, length, map, slice_get, Option, Some, refl, sym, ap, arith, append_assoc, length-append, Bool}
 use Rattle.std.specs.List.{slice_index_or}
 use Rattle.cstar_link.specs.Linked.{code_from, moved_by}
 use Rattle.cstar_tree.specs.declared.typed.Instance.{Instance}
@@ -29,7 +29,7 @@ use Rattle.paris_code.specs.Spans.{IsNamedAt, JumpsTo, StandsAt}
 use Rattle.source_meaning.specs.State.{State}
 use Rattle.code_follows.specs.Fragment.{May}
 use Rattle.code_follows.proofs.Growing.{Extended, and_instr, as_it_was}
-use Rattle.code_follows.proofs.Standing.{StandsOver, stands, stands_over, start_in}
+use Rattle.code_follows.proofs.Standing.{StandsOver, some_same, stands, stands_over, start_in}
 
 -- the parallel variables of the file have the same numbers, and so have those of blocks that are open
 abbrev pub SameFields : (ℕ → Type 0) → State → State → Type 0
@@ -113,7 +113,12 @@ module _ (g : Setting) where
   abbrev pub HasHome : ℕ → ℕ → Type 0
   HasHome k entry = (name : LocalName) × ((slice_get layout.locals k ≡ Some name) × (slice_get g.unit.homes.items name.home ≡ Some entry))
 
-  -- it is named before a place of the unit
+  -- it has no other
+  pub one_home : (k a b : ℕ) → HasHome k a → HasHome k b → a ≡ b
+  one_home k a b one other =
+      some_same a b (sym one.1.1 ∙ ap (λ (n : LocalName). slice_get g.unit.homes.items n.home) (some_same one.0 other.0 (sym one.1.0 ∙ other.1.0)) ∙ other.1.1)
+
+  -- an entry is named before a place of the unit
   abbrev pub IsNamedBefore : ℕ → ℕ → Type 0
   IsNamedBefore entry place = (first : ℕ) × (IsNamedAt g.unit entry first × (first < place))
 
@@ -162,22 +167,36 @@ module _ (g : Setting) where
   abbrev pub IsOpenAt : ℕ → ℕ → ℕ → Type 0
   IsOpenAt place entries k = (entry : ℕ) × (HasHome k entry × (IsNamedBefore entry place × (entry < entries)))
 
+  -- no two of these variables have the same entry
+  abbrev pub HaveTheirOwn : (ℕ → Type 0) → Type 0
+  HaveTheirOwn live = (j k one other : ℕ) → live j → live k → j ≢ k → HasHome j one → HasHome k other → one ≢ other
+
+  -- so it is of variables that are open: each has such an entry
   abbrev pub AreOpenAt : (ℕ → Type 0) → ℕ → ℕ → Type 0
-  AreOpenAt live place entries = (k : ℕ) → live k → IsOpenAt place entries k
+  AreOpenAt live place entries = ((k : ℕ) → live k → IsOpenAt place entries k) × HaveTheirOwn live
 
   -- it has an entry of the draft, which its code names
   abbrev pub IsOpenIn : ℕ → Draft → Type 0
   IsOpenIn k d = IsOpenAt (length d.code) (length d.fields) k
 
-  -- so it is at a later place, and where there are more entries
+  -- and an earlier draft has none for it
+  abbrev pub IsNewIn : ℕ → Draft → Draft → Type 0
+  IsNewIn k d e = IsOpenIn k e × ((entry : ℕ) → HasHome k entry → length d.fields ≤ entry)
+
+  -- what is open is so at a later place, and where there are more entries
   pub open_later : (live : ℕ → Type 0) (place later entries more : ℕ) → place ≤ later → entries ≤ more → AreOpenAt live place entries → AreOpenAt live later more
-  open_later live place later entries more behind longer opened k living =
-      let (entry, (home, ((first, (named, before)), inside))) = opened k living in
-      (entry, (home, ((first, (named, omega (arith, before, behind))), omega (arith, inside, longer))))
+  open_later live place later entries more behind longer opened = (λ k living. later_one k (opened.0 k living), opened.1)
+    where
+      later_one : (k : ℕ) → IsOpenAt place entries k → IsOpenAt later more k
+      later_one k (entry, (home, ((first, (named, before)), inside))) = (entry, (home, ((first, (named, omega (arith, before, behind))), omega (arith, inside, longer))))
+
+  -- and so are fewer
+  pub open_fewer : (more less : ℕ → Type 0) (place entries : ℕ) → ((k : ℕ) → less k → more k) → AreOpenAt more place entries → AreOpenAt less place entries
+  open_fewer more less place entries among opened = (λ k living. opened.0 k (among k living), λ j k one other first second. opened.1 j k one other (among j first) (among k second))
 
   pub open_named : (live : ℕ → Type 0) (place later entries : ℕ) → place ≤ later → AreOpenAt live place entries → AreNamedBefore live later
   open_named live place later entries behind opened k living =
-      let (entry, (home, ((first, (named, before)), inside))) = opened k living in
+      let (entry, (home, ((first, (named, before)), inside))) = opened.0 k living in
       (entry, (home, (first, (named, omega (arith, before, behind)))))
 
   -- the code of a draft has begun: it stands behind the place, its values behind the registers before them, its
@@ -193,7 +212,7 @@ module _ (g : Setting) where
 
   -- so it has where fewer variables are alive
   pub begun_fewer : (more fewer : Variable → Type 0) (d : Draft) → ((x : Variable) → fewer x → more x) → Begun more d → Begun fewer d
-  begun_fewer more fewer d among b = record { regs = b.regs; code = b.code; fields = b.fields; opened = λ k is_open. b.opened k (among (V.Local k) is_open.0, is_open.1) }
+  begun_fewer more fewer d among b = record { regs = b.regs; code = b.code; fields = b.fields; opened = open_fewer (OpenAmong more) (OpenAmong fewer) (length d.code) (length d.fields) (λ k is_open. (among (V.Local k) is_open.0, is_open.1)) b.opened }
 
   -- a function is called at a place between those of which is spoken
   pub record CallStands (index : ℕ) : Type 0 where

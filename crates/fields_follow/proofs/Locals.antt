@@ -15,7 +15,7 @@ use Rattle.paris_code.specs.Shapes.{bits_at}
 use Rattle.paris_code.specs.Spans.{IsInUse, IsNamedAt, JumpsTo, LiesWithin, Span, StandsAt}
 use Rattle.source_meaning.specs.State.{State}
 use Rattle.code_follows.proofs.Growing.{Extended}
-use Rattle.code_follows.proofs.Settings.{AreNamedBefore, AreOpenAt, Held, HasHome, Setting, Within, earlier, layout, start}
+use Rattle.code_follows.proofs.Settings.{AreNamedBefore, AreOpenAt, Held, HasHome, Setting, Within, earlier, layout, one_home, start}
 use Rattle.code_follows.proofs.Standing.{some_same}
 use Rattle.fields_follow.proofs.Instructions.{place, shapes}
 use Rattle.paris_code.specs.declared.instr.Instr.{Instr}
@@ -60,15 +60,11 @@ module _ (g : Setting) where
 
   -- ---- a variable has one field
 
-  pub one_home : (k a b : ℕ) → HasHome g k a → HasHome g k b → a ≡ b
-  one_home k a b one other =
-      some_same a b (sym one.1.1 ∙ ap (λ (n : LocalName). slice_get g.unit.homes.items n.home) (some_same one.0 other.0 (sym one.1.0 ∙ other.1.0)) ∙ other.1.1)
-
-  -- so an entry behind those that there are where they are open is none of theirs
+  -- an entry behind those that there are where they are open is none of theirs
   pub behind_homes : (lives : ℕ → Type 0) (place entries entry : ℕ) → AreOpenAt g lives place entries → entries ≤ entry → IsNoHome lives entry
   behind_homes lives place entries entry opened high k home living has same =
-      let (own, (is, (named, inside))) = opened k living in
-      let equal = one_home k own home is has in
+      let (own, (is, (named, inside))) = opened.0 k living in
+      let equal = one_home g k own home is has in
       omega (arith, inside, high, same, equal)
 
   pub same_local : (k : ℕ) (info of : VarInfo) (f h : Field) → IsLocalField k info f → IsLocalField k of h → (info ≡ of) × (f ≡ h)
@@ -176,7 +172,7 @@ module _ (g : Setting) where
   locals_landed lives place target jump stands leads named st m h k living =
       let (info, (f, (is, holds))) = h k living in
       let (entry, (home, (first, (names, before)))) = named k living in
-      let same : entry ≡ f.offset = one_home k entry f.offset home is.home in
+      let same : entry ≡ f.offset = one_home g k entry f.offset home is.home in
       let there : IsNamedAt g.unit f.offset first = subst (λ (n : ℕ). IsNamedAt g.unit n first) same names in (
         info,
         (

@@ -33,7 +33,7 @@ use Rattle.code_follows.proofs.Following.{IsScalar, Ran, Sim, held}
 use Rattle.code_follows.proofs.Growing.{Extended, extended}
 use Rattle.code_follows.proofs.Numbered.{numbered_at}
 use Rattle.fields_follow.proofs.Passing.{fields_longer}
-use Rattle.code_follows.proofs.Settings.{HasHome, IsOpenIn, OpenAmong, At, Begun, SameBelow, Setting, StandsBelow, Within, and_one, at_next, begins_here, code_more, layout, one_writes, placed_instr}
+use Rattle.code_follows.proofs.Settings.{HasHome, IsNewIn, OpenAmong, At, Begun, SameBelow, Setting, StandsBelow, Within, and_one, at_next, begins_here, code_more, layout, one_home, one_writes, placed_instr}
 use Rattle.code_follows.proofs.Standing.{some_same}
 use Rattle.fields_follow.proofs.Bits.{field_written, active_apart, bits_written, field_apart}
 use Rattle.fields_follow.proofs.Fields.{HoldsFields}
@@ -155,12 +155,14 @@ module _ (g : Setting) (scope : Scope) (active : Active) (known : KnowsFields g 
       before_it = homes_of (take n (variables_of g.instance.body))
 
   -- so the variable is open behind it
-  is_open : NumbersVariables g.instance (layout g) → HasDeclared g.typed g.instance (layout g) n d → Within g behind → IsOpenIn g n behind
+  is_open : NumbersVariables g.instance (layout g) → HasDeclared g.typed g.instance (layout g) n d → Within g behind → IsNewIn g n d behind
   is_open numbers declared within =
       let more = code_more g clear taken_for in
       let first = one_more set bits W.Own (with_home d) in
       let longer = fields_longer taken_for behind 1 (and_one g clear taken_for) in
-      (dest.offset, (home numbers declared within, ((length taken_for.code, (there within, omega (arith, more))), omega (arith, first, longer))))
+      let its_own = home numbers declared within in
+      let same = fields_same in
+      ((dest.offset, (its_own, ((length taken_for.code, (there within, omega (arith, more))), omega (arith, first, longer)))), λ entry has. let equal = one_home g n dest.offset entry its_own has in omega (arith, equal, same))
 
   module _ (numbers : NumbersVariables g.instance (layout g)) (declared : HasDeclared g.typed g.instance (layout g) n d) (before : Variable → Type 0) (s : CodeState) (st : State) (free : Begun g before d) (at : At g s (length d.code)) (sim : Sim g before st s) (within : Within g behind) where
     write : Write
