@@ -233,10 +233,10 @@ module _ (g : Setting) (has : HasRegisters g) (alive : Variable → Type 0) (n :
       shaped = ap (λ (y : ValueType). y.shape) same ∙ h.shape
 
       stored_then : IsGiven → o ≡ assigned fields.scope fields.active place op ty (type_of value) (OfElement (V.File h.k) 0 set) (Parallel number) st
-      stored_then given = assign_means fields.scope fields.active set ty place op p q target value h.k number st (h.means fields.scope fields.active st) given
+      stored_then given = assign_means fields.scope fields.active set ty place op p q target value (V.File h.k) number st (h.means fields.scope fields.active st) given
 
       plain_given : assign_op_of op ≡ None → IsGiven → o ≡ Gives (Parallel w) u
-      plain_given none given = stored_then given ∙ assigned_is fields.scope fields.active set h.k place op ty (type_of value) number st shaped (λ x. divides_never op (number x) none)
+      plain_given none given = stored_then given ∙ assigned_is fields.scope fields.active set (V.File h.k) place op ty (type_of value) number st shaped (λ x. divides_never op (number x) none)
 
       -- with an operator, where that divides by no 0
       WithOperator : Op → Type 0
@@ -248,7 +248,7 @@ module _ (g : Setting) (has : HasRegisters g) (alive : Variable → Type 0) (n :
       divided_so : (x : Op) → WithOperator x → IsGiven → set < length (shapes g) → divides x ≡ true → o ≡ by_zero (zero_at g fields set (λ y. word_at (extents g set) st value y))
       divided_so x (is, (known, is_operand)) given there divided =
           stored_then given
-          ∙ assigned_divides fields.scope fields.active set h.k place op ty (type_of value) number st shaped (λ y. divides_as op x (number y) is ∙ ap (λ (c : Bool). c && number y == 0) divided)
+          ∙ assigned_divides fields.scope fields.active set (V.File h.k) place op ty (type_of value) number st shaped (λ y. divides_as op x (number y) is ∙ ap (λ (c : Bool). c && number y == 0) divided)
           ∙ ap by_zero (zero_there g fields set number (λ y. word_at (extents g set) st value y) there (λ y below. operand_at g has alive n ready places fields set value st s sim is_operand (operand_shape set value is_operand, known.1) c y))
 
       operator_given : (x : Op) → WithOperator x → IsGiven → set < length (shapes g) → (divides x ≡ true → zero_at g fields set (λ y. word_at (extents g set) st value y) ≡ None) → o ≡ Gives (Parallel w) u
@@ -256,13 +256,13 @@ module _ (g : Setting) (has : HasRegisters g) (alive : Variable → Type 0) (n :
         where
           by : (b : Bool) → divides x ≡ b → o ≡ Gives (Parallel w) u
           by true divided = divided_so x so given there divided ∙ ap by_zero (never divided)
-          by false plain = stored_then given ∙ assigned_is fields.scope fields.active set h.k place op ty (type_of value) number st shaped (λ y. divides_as op x (number y) so.0 ∙ ap (λ (c : Bool). c && number y == 0) plain)
+          by false plain = stored_then given ∙ assigned_is fields.scope fields.active set (V.File h.k) place op ty (type_of value) number st shaped (λ y. divides_as op x (number y) so.0 ∙ ap (λ (c : Bool). c && number y == 0) plain)
 
       value_ended : Ended g s (meant g fields value st) → Ended g s o
       value_ended early = record {
         early = early.early;
         state = early.state;
-        is = assign_ends fields.scope fields.active set ty place op p q target value h.k early.early early.state st (h.means fields.scope fields.active st) early.is;
+        is = assign_ends fields.scope fields.active set ty place op p q target value (V.File h.k) early.early early.state st (h.means fields.scope fields.active st) early.is;
         finishes = early.finishes;
       }
 
@@ -425,7 +425,7 @@ module _ (g : Setting) (has : HasRegisters g) (alive : Variable → Type 0) (n :
           ∙ updated_is (step_op op) (stepping op) elem (promoted elem) (old x) 1 (step_assigns op) (ap (λ (e : Elem). e.bits == 1) (sym is_elem) ∙ no_truth) (promoted_wide elem) (operation_below (stepping op) signed (held elem (old x)) 1 (step_known op) (held_below elem (old x)) (omega arith))
 
       means : (v : Value) × (meant g fields (T.Step' ty op order p target) st ≡ Gives v u)
-      means = step_means fields.scope fields.active set ty op order p target h.k st (ap (λ (y : ValueType). y.shape) same ∙ h.shape) (h.means fields.scope fields.active st)
+      means = step_means fields.scope fields.active set ty op order p target (V.File h.k) st (ap (λ (y : ValueType). y.shape) same ∙ h.shape) (h.means fields.scope fields.active st)
 
       Q : Out → Draft → Type 0
       Q out e = ((meant g fields (T.Step' ty op order p target) st ≡ Gives means.0 u) × Leaves g alive d e s u) ⊎ Ended g s (meant g fields (T.Step' ty op order p target) st)

@@ -129,7 +129,7 @@ module _ (g : Setting) (has : HasRegisters g) (alive : Variable → Type 0) (n :
 
       gives : (x : Value) (u : State) (out : Out) (e : Draft) → R x u out e → Follows g Q s (k x u) (put_value (O.Field f) out e)
       gives x u out e (w, (is_w, (few, (r, (is_r, word))))) =
-          follows_same g Q s (ap (λ (y : Value). k y u) is_w ∙ assigned_is fields.scope fields.active set h.k place op ty (type_of value) (λ y. w) u (ap (λ (y : ValueType). y.shape) same ∙ h.shape) (λ y. divides_never op w none)) (ap (λ (o : Out). put_value (O.Field f) o e) is_r)
+          follows_same g Q s (ap (λ (y : Value). k y u) is_w ∙ assigned_is fields.scope fields.active set (V.File h.k) place op ty (type_of value) (λ y. w) u (ap (λ (y : ValueType). y.shape) same ∙ h.shape) (λ y. divides_never op w none)) (ap (λ (o : Out). put_value (O.Field f) o e) is_r)
           (made_follows Q s (Parallel stored) (with_positions (V.File h.k) 0 (fields.active set) stored u) (O.Field f) (with_instr (I.MoveConstant f (K.Reg r)) e) (λ within.
           leaves_value g has alive n ready places fields set h.k h.info h.is d s u (λ y. held (type_of v.operand).elem w) stored ((λ y below small. is_stored y ∙ sym (held_first (type_of v.operand).elem w bits few (omega (arith, of_value)) ∙ mod-eq_of_lt less)), λ y. subst (λ (m : ℕ). m < 2 ^ bits) (sym (is_stored y)) less)
           e (I.MoveConstant f (K.Reg r)) within word.passes (subst (λ (z : ℕ → ℕ). Puts g set (I.MoveConstant f (K.Reg r)) f word.passes.t z) (λ i y. sym (word.same y) i) (puts_constant g set f (K.Reg r) word.passes.t word.small))))

@@ -218,7 +218,7 @@ module _ (g : Setting) (has : HasRegisters g) (alive : Variable → Type 0) (n :
 
           divided_so : set < length (shapes g) → divides x ≡ true → o ≡ by_zero (zero_at g fields set (λ z. cw))
           divided_so there divided =
-              assigned_divides fields.scope fields.active set h.k place op ty (type_of value) (λ z. w) u shaped (λ z. divides_as op x w is_op ∙ ap (λ (b : Bool). b && w == 0) divided)
+              assigned_divides fields.scope fields.active set (V.File h.k) place op ty (type_of value) (λ z. w) u shaped (λ z. divides_as op x w is_op ∙ ap (λ (b : Bool). b && w == 0) divided)
               ∙ ap by_zero (zero_there g fields set (λ z. w) (λ z. cw) there (λ z below. is_cw))
 
           stores : set < length (shapes g) → (divides x ≡ true → zero_at g fields set (λ z. cw) ≡ None) → o ≡ Gives (Parallel stored) left
@@ -226,7 +226,7 @@ module _ (g : Setting) (has : HasRegisters g) (alive : Variable → Type 0) (n :
             where
               by : (b : Bool) → divides x ≡ b → o ≡ Gives (Parallel stored) left
               by true divided = divided_so there divided ∙ ap by_zero (never divided)
-              by false plain = assigned_is fields.scope fields.active set h.k place op ty (type_of value) (λ z. w) u shaped (λ z. divides_as op x w is_op ∙ ap (λ (b : Bool). b && w == 0) plain)
+              by false plain = assigned_is fields.scope fields.active set (V.File h.k) place op ty (type_of value) (λ z. w) u shaped (λ z. divides_as op x w is_op ∙ ap (λ (b : Bool). b && w == 0) plain)
 
           keeps : Keeps x signed bits cw
           keeps = subst (λ (m : ℕ). Keeps x signed m cw) works_there (operation_keeps bits x signed value cw most (λ imm is_imm. let wrong = sym v.no_word ∙ is_imm in cc) (whole_keeps x signed cw operation.0))

@@ -169,10 +169,10 @@ module _ (g : Setting) (has : HasRegisters g) (alive : Variable → Type 0) (n :
       shaped = ap (λ (y : ValueType). y.shape) same ∙ h.shape
 
       stored_then : IsGiven → o ≡ assigned fields.scope fields.active place op ty (type_of value) (OfElement (V.File h.k) 0 set) (Parallel number) st
-      stored_then given = assign_means fields.scope fields.active set ty place op p q target value h.k number st (h.means fields.scope fields.active st) given
+      stored_then given = assign_means fields.scope fields.active set ty place op p q target value (V.File h.k) number st (h.means fields.scope fields.active st) given
 
       plain_given : assign_op_of op ≡ None → IsGiven → o ≡ Gives (Parallel w) u
-      plain_given none given = stored_then given ∙ assigned_is fields.scope fields.active set h.k place op ty (type_of value) number st shaped (λ x. divides_never op (number x) none)
+      plain_given none given = stored_then given ∙ assigned_is fields.scope fields.active set (V.File h.k) place op ty (type_of value) number st shaped (λ x. divides_never op (number x) none)
 
       by_zero : Option ℕ → Outcome Value
       by_zero z = elim z as (λ _. Outcome Value) [ None ↦ Gives (Parallel w) u | Some y ↦ Source.Ends (Source.Fault DivZero place (Some y)) st ]
@@ -180,7 +180,7 @@ module _ (g : Setting) (has : HasRegisters g) (alive : Variable → Type 0) (n :
       divided_so : (x : Op) → assign_op_of op ≡ Some x → IsGiven → set < length (shapes g) → divides x ≡ true → o ≡ by_zero (zero_at g fields set number)
       divided_so x is given there divided =
           stored_then given
-          ∙ assigned_divides fields.scope fields.active set h.k place op ty (type_of value) number st shaped (λ y. divides_as op x (number y) is ∙ ap (λ (c : Bool). c && number y == 0) divided)
+          ∙ assigned_divides fields.scope fields.active set (V.File h.k) place op ty (type_of value) number st shaped (λ y. divides_as op x (number y) is ∙ ap (λ (c : Bool). c && number y == 0) divided)
           ∙ ap by_zero (zero_there g fields set number number there (λ y below. refl))
 
       operator_given : (x : Op) → assign_op_of op ≡ Some x → IsGiven → set < length (shapes g) → (divides x ≡ true → zero_at g fields set number ≡ None) → o ≡ Gives (Parallel w) u
@@ -188,13 +188,13 @@ module _ (g : Setting) (has : HasRegisters g) (alive : Variable → Type 0) (n :
         where
           by : (b : Bool) → divides x ≡ b → o ≡ Gives (Parallel w) u
           by true divided = divided_so x is given there divided ∙ ap by_zero (never divided)
-          by false plain = stored_then given ∙ assigned_is fields.scope fields.active set h.k place op ty (type_of value) number st shaped (λ y. divides_as op x (number y) is ∙ ap (λ (c : Bool). c && number y == 0) plain)
+          by false plain = stored_then given ∙ assigned_is fields.scope fields.active set (V.File h.k) place op ty (type_of value) number st shaped (λ y. divides_as op x (number y) is ∙ ap (λ (c : Bool). c && number y == 0) plain)
 
       ends : Ended g s (meant g fields value st) → Ended g s o
       ends early = record {
         early = early.early;
         state = early.state;
-        is = assign_ends fields.scope fields.active set ty place op p q target value h.k early.early early.state st (h.means fields.scope fields.active st) early.is;
+        is = assign_ends fields.scope fields.active set ty place op p q target value (V.File h.k) early.early early.state st (h.means fields.scope fields.active st) early.is;
         finishes = early.finishes;
       }
 

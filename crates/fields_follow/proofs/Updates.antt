@@ -20,6 +20,7 @@ use Rattle.cstar_tree.specs.declared.typed.TExpr as T
 use Rattle.cstar_tree.specs.declared.typed.Typed.{Typed}
 use Rattle.cstar_tree.specs.declared.typed.ValueType.{ValueType}
 use Rattle.cstar_tree.specs.declared.typed.VarInfo.{VarInfo}
+use Rattle.cstar_tree.specs.declared.typed.Variable.{Variable}
 use Rattle.cstar_tree.specs.declared.typed.Variable.TheVariants as V
 use Rattle.cstar_tree.specs.StatementTypes.{variable_info}
 use Rattle.cstar_tree.specs.Typed.{type_of}
@@ -170,56 +171,56 @@ file_target t i n set _ is v = absurd is
 
 module _ (scope : Scope) (active : Active) where
   -- the state with what is stored
-  abbrev pub stores : ℕ → ℕ → AssignOp → ValueType → ValueType → (ℕ → ℕ) → State → Outcome Value
-  stores set k op to from v st =
-      Gives (Parallel (λ p. updated op to.elem from.elem (st.parallel (V.File k) 0 p) (v p))) (with_positions (V.File k) 0 (active set) (λ p. updated op to.elem from.elem (st.parallel (V.File k) 0 p) (v p)) st)
+  abbrev pub stores : ℕ → Variable → AssignOp → ValueType → ValueType → (ℕ → ℕ) → State → Outcome Value
+  stores set x op to from v st =
+      Gives (Parallel (λ p. updated op to.elem from.elem (st.parallel x 0 p) (v p))) (with_positions x 0 (active set) (λ p. updated op to.elem from.elem (st.parallel x 0 p) (v p)) st)
 
   -- what an assignment stores, unless it divides by 0
-  assigned_so : (set k : ℕ) (place : Place) (op : AssignOp) (to from : ValueType) (v : ℕ → ℕ) (st : State) → to.shape ≡ Some set
-      → assigned scope active place op to from (OfElement (V.File k) 0 set) (Parallel v) st ≡ unless (failing scope active (Some set) (λ p. divides_by_zero op (v p))) DivZero place st (stores set k op to from v st)
+  assigned_so : (set : ℕ) (x : Variable) (place : Place) (op : AssignOp) (to from : ValueType) (v : ℕ → ℕ) (st : State) → to.shape ≡ Some set
+      → assigned scope active place op to from (OfElement x 0 set) (Parallel v) st ≡ unless (failing scope active (Some set) (λ p. divides_by_zero op (v p))) DivZero place st (stores set x op to from v st)
   unfolding assigned assign_to new_value read stored each at
-  assigned_so set k place op to from v st shaped = ap (λ (y : ValueType). assigned scope active place op y from (OfElement (V.File k) 0 set) (Parallel v) st) (as_shaped to set shaped)
+  assigned_so set x place op to from v st shaped = ap (λ (y : ValueType). assigned scope active place op y from (OfElement x 0 set) (Parallel v) st) (as_shaped to set shaped)
 
-  pub assigned_is : (set k : ℕ) (place : Place) (op : AssignOp) (to from : ValueType) (v : ℕ → ℕ) (st : State) → to.shape ≡ Some set → ((q : ℕ) → divides_by_zero op (v q) ≡ false) → assigned scope active place op to from (OfElement (V.File k) 0 set) (Parallel v) st ≡ stores set k op to from v st
+  pub assigned_is : (set : ℕ) (x : Variable) (place : Place) (op : AssignOp) (to from : ValueType) (v : ℕ → ℕ) (st : State) → to.shape ≡ Some set → ((q : ℕ) → divides_by_zero op (v q) ≡ false) → assigned scope active place op to from (OfElement x 0 set) (Parallel v) st ≡ stores set x op to from v st
   unfolding failing unless
-  assigned_is set k place op to from v st shaped never =
-      assigned_so set k place op to from v st shaped
-      ∙ ap (λ (f : ℕ → Bool). unless (elim (least_below (λ p. active set p && f p) (positions scope set)) [ None ↦ None | Some p ↦ Some (Some p) ]) DivZero place st (stores set k op to from v st)) (λ j p. never p j)
-      ∙ ap (λ (o : Option ℕ). unless (elim o [ None ↦ None | Some p ↦ Some (Some p) ]) DivZero place st (stores set k op to from v st)) (none_fails (active set) (positions scope set))
+  assigned_is set x place op to from v st shaped never =
+      assigned_so set x place op to from v st shaped
+      ∙ ap (λ (f : ℕ → Bool). unless (elim (least_below (λ p. active set p && f p) (positions scope set)) [ None ↦ None | Some p ↦ Some (Some p) ]) DivZero place st (stores set x op to from v st)) (λ j p. never p j)
+      ∙ ap (λ (o : Option ℕ). unless (elim o [ None ↦ None | Some p ↦ Some (Some p) ]) DivZero place st (stores set x op to from v st)) (none_fails (active set) (positions scope set))
 
-  pub assigned_divides : (set k : ℕ) (place : Place) (op : AssignOp) (to from : ValueType) (v : ℕ → ℕ) (st : State) → to.shape ≡ Some set → ((q : ℕ) → divides_by_zero op (v q) ≡ (v q == 0))
-      → assigned scope active place op to from (OfElement (V.File k) 0 set) (Parallel v) st ≡ (elim (least_below (λ p. active set p && v p == 0) (positions scope set)) as (λ _. Outcome Value) [ None ↦ stores set k op to from v st | Some p ↦ Ends (Fault DivZero place (Some p)) st ])
+  pub assigned_divides : (set : ℕ) (x : Variable) (place : Place) (op : AssignOp) (to from : ValueType) (v : ℕ → ℕ) (st : State) → to.shape ≡ Some set → ((q : ℕ) → divides_by_zero op (v q) ≡ (v q == 0))
+      → assigned scope active place op to from (OfElement x 0 set) (Parallel v) st ≡ (elim (least_below (λ p. active set p && v p == 0) (positions scope set)) as (λ _. Outcome Value) [ None ↦ stores set x op to from v st | Some p ↦ Ends (Fault DivZero place (Some p)) st ])
   unfolding failing unless
-  assigned_divides set k place op to from v st shaped divides_so =
-      assigned_so set k place op to from v st shaped
-      ∙ ap (λ (f : ℕ → Bool). unless (elim (least_below (λ p. active set p && f p) (positions scope set)) [ None ↦ None | Some p ↦ Some (Some p) ]) DivZero place st (stores set k op to from v st)) (λ j p. divides_so p j)
+  assigned_divides set x place op to from v st shaped divides_so =
+      assigned_so set x place op to from v st shaped
+      ∙ ap (λ (f : ℕ → Bool). unless (elim (least_below (λ p. active set p && f p) (positions scope set)) [ None ↦ None | Some p ↦ Some (Some p) ]) DivZero place st (stores set x op to from v st)) (λ j p. divides_so p j)
       ∙ by (least_below (λ p. active set p && v p == 0) (positions scope set))
     where
-      by : (o : Option ℕ) → unless (elim o [ None ↦ None | Some p ↦ Some (Some p) ]) DivZero place st (stores set k op to from v st) ≡ (elim o as (λ _. Outcome Value) [ None ↦ stores set k op to from v st | Some p ↦ Ends (Fault DivZero place (Some p)) st ])
+      by : (o : Option ℕ) → unless (elim o [ None ↦ None | Some p ↦ Some (Some p) ]) DivZero place st (stores set x op to from v st) ≡ (elim o as (λ _. Outcome Value) [ None ↦ stores set x op to from v st | Some p ↦ Ends (Fault DivZero place (Some p)) st ])
       by None = refl
       by (Some p) = refl
 
-  pub assign_means : (set : ℕ) (ty : ValueType) (place : Place) (op : AssignOp) (p q : Boxed) (target value : TExpr) (k : ℕ) (v : ℕ → ℕ) (st : State) → located scope target active st ≡ Gives (OfElement (V.File k) 0 set) st → evaluated scope value active st ≡ Gives (Parallel v) st
-      → evaluated scope (T.Assign' ty place op p target q value) active st ≡ assigned scope active place op ty (type_of value) (OfElement (V.File k) 0 set) (Parallel v) st
+  pub assign_means : (set : ℕ) (ty : ValueType) (place : Place) (op : AssignOp) (p q : Boxed) (target value : TExpr) (x : Variable) (v : ℕ → ℕ) (st : State) → located scope target active st ≡ Gives (OfElement x 0 set) st → evaluated scope value active st ≡ Gives (Parallel v) st
+      → evaluated scope (T.Assign' ty place op p target q value) active st ≡ assigned scope active place op ty (type_of value) (OfElement x 0 set) (Parallel v) st
   unfolding evaluated then_do
-  assign_means set ty place op p q target value k v st there gives =
-      ap (λ (o : Outcome Target). then_do o (λ place_of between. then_do (evaluated scope value active between) (λ x after. assigned scope active place op ty (type_of value) place_of x after))) there
-      ∙ ap (λ (o : Outcome Value). then_do o (λ x after. assigned scope active place op ty (type_of value) (OfElement (V.File k) 0 set) x after)) gives
+  assign_means set ty place op p q target value x v st there gives =
+      ap (λ (o : Outcome Target). then_do o (λ place_of between. then_do (evaluated scope value active between) (λ w after. assigned scope active place op ty (type_of value) place_of w after))) there
+      ∙ ap (λ (o : Outcome Value). then_do o (λ w after. assigned scope active place op ty (type_of value) (OfElement x 0 set) w after)) gives
 
   -- it ends where its value does
-  pub assign_ends : (set : ℕ) (ty : ValueType) (place : Place) (op : AssignOp) (p q : Boxed) (target value : TExpr) (k : ℕ) (early : Early) (u st : State) → located scope target active st ≡ Gives (OfElement (V.File k) 0 set) st → evaluated scope value active st ≡ Ends early u
+  pub assign_ends : (set : ℕ) (ty : ValueType) (place : Place) (op : AssignOp) (p q : Boxed) (target value : TExpr) (x : Variable) (early : Early) (u st : State) → located scope target active st ≡ Gives (OfElement x 0 set) st → evaluated scope value active st ≡ Ends early u
       → evaluated scope (T.Assign' ty place op p target q value) active st ≡ Ends early u
   unfolding evaluated then_do
-  assign_ends set ty place op p q target value k early u st there ends =
-      ap (λ (o : Outcome Target). then_do o (λ place_of between. then_do (evaluated scope value active between) (λ x after. assigned scope active place op ty (type_of value) place_of x after))) there
-      ∙ ap (λ (o : Outcome Value). then_do o (λ x after. assigned scope active place op ty (type_of value) (OfElement (V.File k) 0 set) x after)) ends
+  assign_ends set ty place op p q target value x early u st there ends =
+      ap (λ (o : Outcome Target). then_do o (λ place_of between. then_do (evaluated scope value active between) (λ w after. assigned scope active place op ty (type_of value) place_of w after))) there
+      ∙ ap (λ (o : Outcome Value). then_do o (λ w after. assigned scope active place op ty (type_of value) (OfElement x 0 set) w after)) ends
 
   -- and a step
-  pub step_means : (set : ℕ) (ty : ValueType) (op : StepOp) (order : StepOrder) (p : Boxed) (target : TExpr) (k : ℕ) (st : State) → ty.shape ≡ Some set → located scope target active st ≡ Gives (OfElement (V.File k) 0 set) st
-      → (v : Value) × (evaluated scope (T.Step' ty op order p target) active st ≡ Gives v (with_positions (V.File k) 0 (active set) (λ x. updated (step_op op) ty.elem (promoted ty.elem) (st.parallel (V.File k) 0 x) 1) st))
+  pub step_means : (set : ℕ) (ty : ValueType) (op : StepOp) (order : StepOrder) (p : Boxed) (target : TExpr) (x : Variable) (st : State) → ty.shape ≡ Some set → located scope target active st ≡ Gives (OfElement x 0 set) st
+      → (v : Value) × (evaluated scope (T.Step' ty op order p target) active st ≡ Gives v (with_positions x 0 (active set) (λ q. updated (step_op op) ty.elem (promoted ty.elem) (st.parallel x 0 q) 1) st))
   unfolding evaluated then_do stepped assign_to new_value read stored each at
-  step_means set ty op order p target k st shaped there = (
-    step_value order (Parallel (λ x. st.parallel (V.File k) 0 x)) (Parallel (λ x. updated (step_op op) ty.elem (promoted ty.elem) (st.parallel (V.File k) 0 x) 1)),
+  step_means set ty op order p target x st shaped there = (
+    step_value order (Parallel (λ q. st.parallel x 0 q)) (Parallel (λ q. updated (step_op op) ty.elem (promoted ty.elem) (st.parallel x 0 q) 1)),
     ap (λ (o : Outcome Target). then_do o (λ place_of after. stepped scope active op order ty place_of after)) there
-        ∙ ap (λ (y : ValueType). stepped scope active op order y (OfElement (V.File k) 0 set) st) (as_shaped ty set shaped),
+        ∙ ap (λ (y : ValueType). stepped scope active op order y (OfElement x 0 set) st) (as_shaped ty set shaped),
   )
