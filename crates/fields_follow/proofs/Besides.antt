@@ -26,7 +26,7 @@ use Rattle.fields_follow.proofs.FoldingOnto.{onto_leaves}
 use Rattle.fields_follow.proofs.Onto.{LeavesScalars, scalars_stay}
 use Rattle.fields_follow.proofs.Forms.{HasItsCode}
 use Rattle.fields_follow.proofs.LocalsCleared.{locals_clear}
-use Rattle.fields_follow.proofs.Knowing.{KnowsFields, StaysNamed, kept_open, lasts_within, sim_close, sim_open}
+use Rattle.fields_follow.proofs.Knowing.{HasKept, KnowsFields, StaysNamed, kept_open, lasts_within, sim_close, sim_open}
 use Rattle.fields_follow.proofs.Leaving.{Leaves, fields_under, keeps_again, places_under, reaches_again, starts_again, registers_under, under}
 use Rattle.fields_follow.proofs.Ending.{follows_so}
 use Rattle.fields_follow.proofs.Passing.{code_longer}
@@ -45,9 +45,10 @@ module _ (g : Setting) (scope : Scope) (active : Active) (known : KnowsFields g 
     here = record { stands = at_place; free = begun.regs; low = begun.code; files = files; opened = begun.opened }
 
     -- what is kept of the memory lasts over code behind the draft
-    kept_behind : (f : Draft) (t : CodeState) → Within g f → Reaches (under g active) s t → StaysNamed g (length d.code) (length d.fields) (length f.code) s.memory t.memory → known.kept t.memory
+    kept_behind : (f : Draft) (t : CodeState) → Within g f → Reaches (under g active) s t → StaysNamed g known.kept.saved (length d.code) (length d.fields) (length f.code) s.memory t.memory → HasKept g alive known.kept t.memory
     kept_behind f t within go stays =
-        (lasts_within g g.from g.entries g.upto (length d.code) (length d.fields) (length f.code) known.kept begun.code begun.fields within.upto known.lasts).code s.memory t.memory stays go.below (kept_open g scope active known alive st s sim)
+        let kept = kept_open g scope active known alive st s sim in
+        ((lasts_within g g.from g.entries g.upto (length d.code) (length d.fields) (length f.code) known.kept begun.code begun.fields within.upto known.lasts).code s.memory t.memory stays go.below kept.0, kept.1)
 
     -- what code leaves that is of an update, the unit's code follows
     leaves_ran : (f : Draft) (u : State) → Within g f → Leaves (under g active) alive d f s u → Ran g alive d s u f
@@ -56,7 +57,7 @@ module _ (g : Setting) (scope : Scope) (active : Active) (known : KnowsFields g 
       t = l.t;
       go = reaches_again g active l.go;
       at = l.at.stands;
-      sim = sim_close g scope active known alive u l.t l.sim (kept_behind f l.t within l.go (l.stays tt));
+      sim = sim_close g scope active known alive u l.t l.sim (kept_behind f l.t within l.go (λ h first last p saved. l.stays tt h first last p));
       keeps = keeps_again g active d s l.t l.registers;
     }
 
@@ -68,7 +69,7 @@ module _ (g : Setting) (scope : Scope) (active : Active) (known : KnowsFields g 
       t = l.t;
       go = reaches_again g active (onto (under g active) s l.passes.t l.t l.passes.go l.writes.go);
       at = l.writes.at;
-      sim = sim_close g scope active known alive u l.t l.writes.sim (kept_behind f l.t within (onto (under g active) s l.passes.t l.t l.passes.go l.writes.go) (λ h first last p inside own ends before early after late. scalars_stay (under g active) alive d s st u f l h first last p inside own ends before early after late));
+      sim = sim_close g scope active known alive u l.t l.writes.sim (kept_behind f l.t within (onto (under g active) s l.passes.t l.t l.passes.go l.writes.go) (λ h first last p saved inside own ends before early after late. scalars_stay (under g active) alive d s st u f l h first last p inside own ends before early after late));
       keeps = λ r kept. l.writes.keeps r kept ∙ l.passes.registers r kept;
     }
 
@@ -106,7 +107,7 @@ module _ (g : Setting) (scope : Scope) (active : Active) (known : KnowsFields g 
             go = reaches_again g active p.go;
             at = starts_again g active alive p.t (length given.middle.code) given.middle.regs (length given.middle.fields) p.at;
             registers = keeps_again g active d s p.t p.registers;
-            sim = sim_close g scope active known alive st p.t p.sim (kept_behind f p.t within p.go (λ h first last q inside own ends before early after late. p.stays tt h first last q inside own ends before early after (omega (arith, late, longer))));
+            sim = sim_close g scope active known alive st p.t p.sim (kept_behind f p.t within p.go (λ h first last q saved inside own ends before early after late. p.stays tt h first last q inside own ends before early after (omega (arith, late, longer))));
             stays = p.stays;
           };
           puts = record { more = given.puts.more; place = given.puts.place; go = reaches_again g active given.puts.go; at = given.puts.at; few = given.puts.few };

@@ -16,7 +16,6 @@ use Rattle.lower_stmt.specs.Frames.{in_context}
 use Rattle.lower_stmt.specs.Statements.{closing, kept_for, narrowed, otherwise_of, statement_of, turned, with_kept}
 use Rattle.paris_code.specs.declared.instr.Instr.TheVariants as I
 use Rattle.paris_code.specs.declared.operands.Field.{Field}
-use Rattle.paris_code.specs.Memory.{BitMemory}
 use Rattle.paris_code.specs.Spans.{IsNamedAt}
 use Rattle.source_meaning.specs.Expressions.{evaluated}
 use Rattle.source_meaning.specs.Narrowing.{where_nonzero, where_zero}
@@ -34,10 +33,10 @@ use Rattle.code_follows.specs.Fragment.{NamesAmong}
 use Rattle.fields_follow.specs.Fragment.{IsCondition}
 use Rattle.fields_follow.proofs.Forms.{HasItsCode}
 use Rattle.fields_follow.proofs.Instructions.{extents, shapes}
-use Rattle.fields_follow.proofs.Knowing.{KnowsFields, Lasts, flags_last, lasts_both}
+use Rattle.fields_follow.proofs.Knowing.{HasKept, Keeping, KnowsFields, Lasts, both_kept, first_kept, flags_last, lasts_both}
 use Rattle.fields_follow.proofs.Entering.{HasRun, TestMade, condition_runs, code_more_by, context_led, entered, entries_more, holds, holds_own, saved, saved_own, test_made, test_declares}
-use Rattle.fields_follow.proofs.Saving.{Kept, arrives, arrives_now, kept_lasts, own_below, part_closed, test_below}
-use Rattle.fields_follow.proofs.Leading.{HasTests, Led, TestsAre, keeps_tests, led_weaker, loads_tests, named_next, narrows, turns}
+use Rattle.fields_follow.proofs.Saving.{Kept, arrives, arrives_now, kept_lasts, own_below, part_closed, test_below, was_kept}
+use Rattle.fields_follow.proofs.Leading.{Led, TestsAre, keeps_tests, led_weaker, loads_tests, named_next, narrows, tests_kept, turns}
 use Rattle.fields_follow.proofs.Leaving.{EndsBelow}
 use Rattle.fields_follow.proofs.Meaning.{value_in}
 use Rattle.fields_follow.proofs.Narrowing.{among, among_beside, others, others_beside}
@@ -143,17 +142,17 @@ module _ (g : Setting) (has : HasRegisters g) (scope : Scope) (active : Active) 
           let two : length inner.code ≡ length save.code + 1 = code_more g (I.LogandContextWithTest shape) save in
           let fields : length after.fields ≤ length inner.fields = fields_longer after inner 2 inner_more in
           let long : length inner.code ≤ length e.code = code_longer inner e longer.0 longer.1 in
-          let lasts : Lasts g (length inner.code) (length inner.fields) (length e.code) (λ m. Kept g scope active known alive (saved shape d) m) =
+          let lasts : Lasts g (length inner.code) (length inner.fields) (length e.code) (Kept g scope active known alive (saved shape d)) =
           kept_lasts g scope active known alive (saved shape d) d (length after.code) (length e.code) (length inner.code) (length inner.fields) (length e.code) begun (omega (arith, low, one, two)) (omega (arith, counts.1, fields)) w_e.upto own below (omega (arith, counts.1, fields)) stored (omega (arith, one, two)) loaded (omega arith) in
-          let led_save : Led g scope active known alive active (λ m. Kept g scope active known alive (saved shape d) m × TestsAre g shape active v m) d save s st =
+          let led_save : Led g scope active known alive active (λ m. HasKept g alive (Kept g scope active known alive (saved shape d)) m × TestsAre g shape active v m) d save s st =
           context_led g shape d test tests scope active known alive begun s st run sim (length e.code) w_saves loaded (omega (arith, one, two, long)) in
-          let led_inner : Led g scope active known alive (among shape v active) (λ m. Kept g scope active known alive (saved shape d) m) d inner s st =
-          narrows g scope active known alive active (λ m. Kept g scope active known alive (saved shape d) m) (length inner.code) (length inner.fields) (length e.code) lasts d save s st shape v w_inner led_save in
+          let led_inner : Led g scope active known alive (among shape v active) (HasKept g alive (Kept g scope active known alive (saved shape d))) d inner s st =
+          narrows g scope active known alive active (Kept g scope active known alive (saved shape d)) (length inner.code) (length inner.fields) (length e.code) lasts d save s st shape v w_inner led_save in
           follows_same g (Left g alive f d s) s (where_means scope active shape test p first None' n v st run.0) refl
-          (go_on g alive (λ u h. Led g scope active known alive active (λ m. Kept g scope active known alive (saved shape d) m) d h s u) f d s (executed scope first n (among shape v active) st) (λ u. Gives Onward u) (behind n first) last (Makes (behind n first) last)
-          (part_closed g scope active known alive (among shape v active) (saved shape d) (λ m. Kept g scope active known alive (saved shape d) m) f d inner e s st longer.0 n (behind n first) (λ a u. executed scope first n a u) code part made.1.0 inner_declares begun lasts (λ m kept. kept.1) (λ m kept. kept.0)
+          (go_on g alive (λ u h. Led g scope active known alive active (HasKept g alive (Kept g scope active known alive (saved shape d))) d h s u) f d s (executed scope first n (among shape v active) st) (λ u. Gives Onward u) (behind n first) last (Makes (behind n first) last)
+          (part_closed g scope active known alive (among shape v active) (saved shape d) (Kept g scope active known alive (saved shape d)) f d inner e s st longer.0 n (behind n first) (λ a u. executed scope first n a u) code part made.1.0 inner_declares begun lasts (λ m kept. kept.1) (was_kept g scope active known alive (saved shape d))
           (λ q x differ. sym (among_beside shape v active q x differ)) longer.1 led_inner) (0, as_it_was last)
-          (λ u led. arrives_now g scope active known alive (λ m. Kept g scope active known alive (saved shape d) m) f d s u (behind n first) last (λ m kept. kept.0) led))
+          (λ u led. arrives_now g scope active known alive (HasKept g alive (Kept g scope active known alive (saved shape d))) f d s u (behind n first) last (was_kept g scope active known alive (saved shape d) (OpenAmong g alive)) led))
 
   -- where something is
   where_else : (shape : ℕ) (test : TExpr) (p q : Boxed) (first second : TStmt) → IsCondition shape test → InField g.typed test → HasItsCode g.typed g.instance alive n test → (f : Exits) (contexts : List Field) → StatementPart KnowsFields g scope alive first n f contexts
@@ -186,8 +185,8 @@ module _ (g : Setting) (has : HasRegisters g) (scope : Scope) (active : Active) 
       holds_in : Field
       holds_in = holds shape d
 
-      KeptTests : BitMemory → Type 0
-      KeptTests memory = Kept g scope active known alive saved_in memory × HasTests g active v holds_in memory
+      KeptTests : Keeping
+      KeptTests = both_kept (Kept g scope active known alive saved_in) (tests_kept g active v holds_in)
 
       tests : TestMade g shape d test
       tests = test_made g shape d test alive n declares field c
@@ -297,30 +296,30 @@ module _ (g : Setting) (has : HasRegisters g) (scope : Scope) (active : Active) 
           let fields : length after.fields ≤ length inner.fields = fields_longer after inner 3 inner_more in
           let more_fields : length inner.fields ≤ length turns_back.fields = fields_longer inner turns_back (longer.0 + 3) back_more in
           let up = w_keep.upto in
-          let lasts_early : Lasts g (length save.code) (length (entered shape d).fields) (length keep.code) (λ m. Kept g scope active known alive saved_in m) =
+          let lasts_early : Lasts g (length save.code) (length (entered shape d).fields) (length keep.code) (Kept g scope active known alive saved_in) =
           kept_lasts g scope active known alive saved_in d (length after.code) (length e.code) (length save.code) (length (entered shape d).fields) (length keep.code) begun (omega (arith, low, one)) (omega (arith, counts.0)) up own below (omega (arith, counts.0)) stored (omega (arith, one)) loaded (omega (arith, three, long)) in
-          let lasts : Lasts g (length inner.code) (length inner.fields) (length e.code) (λ m. KeptTests m) =
-          lasts_both g (length inner.code) (length inner.fields) (length e.code) (λ m. Kept g scope active known alive saved_in m) (λ m. HasTests g active v holds_in m)
+          let lasts : Lasts g (length inner.code) (length inner.fields) (length e.code) KeptTests =
+          lasts_both g (length inner.code) (length inner.fields) (length e.code) (Kept g scope active known alive saved_in) (tests_kept g active v holds_in)
           (kept_lasts g scope active known alive saved_in d (length after.code) (length e.code) (length inner.code) (length inner.fields) (length e.code) begun (omega (arith, low, one, two, three)) (omega (arith, counts.1, fields)) w_e.upto own below (omega (arith, counts.1, fields)) stored (omega (arith, one, two, three)) loaded (omega arith))
           (flags_last g known.places holds_in (λ x. active shape x ≡ true) (λ x. nonzero (v x)) (length save.code) (length back.code) (length inner.code) (length inner.fields) (length e.code) own_test below_test.0 below_test.1 (omega (arith, counts.0, counts.1, fields)) stored_test (omega (arith, two, three)) loaded_test (omega (arith, four))) in
-          let lasts_late : Lasts g (length turns_back.code) (length turns_back.fields) (length h.code) (λ m. Kept g scope active known alive saved_in m) =
+          let lasts_late : Lasts g (length turns_back.code) (length turns_back.fields) (length h.code) (Kept g scope active known alive saved_in) =
           kept_lasts g scope active known alive saved_in d (length after.code) (length h.code) (length turns_back.code) (length turns_back.fields) (length h.code) begun (omega (arith, low, one, two, three, long, four, five)) (omega (arith, counts.1, fields, more_fields)) w_f.upto own below (omega (arith, counts.1, fields, more_fields)) stored
           (omega (arith, one, two, three, long, four, five)) loaded_last (omega arith) in
-          let led_save : Led g scope active known alive active (λ m. Kept g scope active known alive saved_in m × TestsAre g shape active v m) d save s st =
+          let led_save : Led g scope active known alive active (λ m. HasKept g alive (Kept g scope active known alive saved_in) m × TestsAre g shape active v m) d save s st =
           context_led g shape d test tests scope active known alive begun s st run sim (length e.code) w_save loaded (omega (arith, one, two, three, long)) in
-          let led_keep : Led g scope active known alive active (λ m. KeptTests m × TestsAre g shape active v m) d keep s st =
-          keeps_tests g scope active known alive active (λ m. Kept g scope active known alive saved_in m) (length save.code) (length (entered shape d).fields) (length keep.code) lasts_early d save s st v holds_in (length back.code) (omega arith) (omega arith) (omega (arith, two)) own_test (behind_homes g (OpenAmong g alive) (length d.code) (length d.fields) holds_in.offset begun.opened (let one = one_more shape 1 W.Own d in omega (arith, one))) refl loaded_test (omega (arith, two, three, long, four)) w_keep led_save in
-          let led_inner : Led g scope active known alive (among shape v active) (λ m. KeptTests m) d inner s st = narrows g scope active known alive active (λ m. KeptTests m) (length inner.code) (length inner.fields) (length e.code) lasts d keep s st shape v w_inner led_keep in
+          let led_keep : Led g scope active known alive active (λ m. HasKept g alive KeptTests m × TestsAre g shape active v m) d keep s st =
+          keeps_tests g scope active known alive active (Kept g scope active known alive saved_in) (length save.code) (length (entered shape d).fields) (length keep.code) lasts_early d save s st v holds_in (length back.code) (omega arith) (omega arith) (omega (arith, two)) own_test (behind_homes g (OpenAmong g alive) (length d.code) (length d.fields) holds_in.offset begun.opened (let one = one_more shape 1 W.Own d in omega (arith, one))) refl loaded_test (omega (arith, two, three, long, four)) w_keep led_save in
+          let led_inner : Led g scope active known alive (among shape v active) (HasKept g alive KeptTests) d inner s st = narrows g scope active known alive active KeptTests (length inner.code) (length inner.fields) (length e.code) lasts d keep s st shape v w_inner led_keep in
           follows_same g (Left g alive f d s) s (where_means scope active shape test p first (Some' q second) n v st run.0) refl
-          (go_on g alive (λ u x. Led g scope active known alive active (λ m. KeptTests m) d x s u) f d s (executed scope first n (among shape v active) st) (executed scope second (behind n first) (others shape v active)) (behind n first) back (Makes m last)
-          (part_closed g scope active known alive (among shape v active) saved_in (λ m. KeptTests m) f d inner e s st longer.0 n (behind n first) (λ a u. executed scope first n a u) code (parts saved_in) made.1.0 inner_declares begun lasts (λ m kept. kept.0.1) (λ m kept. kept.0.0) (λ y x differ. sym (among_beside shape v active y x differ)) longer.1 led_inner)
+          (go_on g alive (λ u x. Led g scope active known alive active (HasKept g alive KeptTests) d x s u) f d s (executed scope first n (among shape v active) st) (executed scope second (behind n first) (others shape v active)) (behind n first) back (Makes m last)
+          (part_closed g scope active known alive (among shape v active) saved_in KeptTests f d inner e s st longer.0 n (behind n first) (λ a u. executed scope first n a u) code (parts saved_in) made.1.0 inner_declares begun lasts (λ m kept. kept.0.1) (λ live m kept. was_kept g scope active known alive saved_in live m (first_kept g live (Kept g scope active known alive saved_in) (tests_kept g active v holds_in) m kept)) (λ y x differ. sym (among_beside shape v active y x differ)) longer.1 led_inner)
           (2 + (far.0 + 1), last_more)
           (λ u led.
-          let led_loads : Led g scope active known alive active (λ m. KeptTests m × TestsAre g shape active v m) d loads s u = loads_tests g scope active known alive active (λ m. KeptTests m) (length inner.code) (length inner.fields) (length e.code) lasts d back s u v holds_in (λ m kept. kept.1) w_loads led in
-          let led_turns : Led g scope active known alive (others shape v active) (λ m. KeptTests m) d turns_back s u = turns g scope active known alive active (λ m. KeptTests m) (length inner.code) (length inner.fields) (length e.code) lasts d loads s u shape v w_turns led_loads in
-          arrives g scope active known alive (λ m. Kept g scope active known alive saved_in m) f d s (executed scope second (behind n first) (others shape v active) u) (Makes m last) (λ m kept. kept.0)
-          (part_closed g scope active known alive (others shape v active) saved_in (λ m. Kept g scope active known alive saved_in m) f d turns_back h s u far.0 (behind n first) m (λ a x. executed scope second (behind n first) a x) other_code (other_parts saved_in) other_made.1.0 back_declares begun lasts_late (λ m kept. kept.1) (λ m kept. kept.0) (λ y x differ. sym (others_beside shape v active y x differ)) far.1
-          (led_weaker g scope active known alive (others shape v active) (λ m. KeptTests m) (λ m. Kept g scope active known alive saved_in m) d turns_back s u (λ m kept. kept.0) led_turns))))
+          let led_loads : Led g scope active known alive active (λ m. HasKept g alive KeptTests m × TestsAre g shape active v m) d loads s u = loads_tests g scope active known alive active KeptTests (length inner.code) (length inner.fields) (length e.code) lasts d back s u v holds_in (λ m kept. kept.1) w_loads led in
+          let led_turns : Led g scope active known alive (others shape v active) (HasKept g alive KeptTests) d turns_back s u = turns g scope active known alive active KeptTests (length inner.code) (length inner.fields) (length e.code) lasts d loads s u shape v w_turns led_loads in
+          arrives g scope active known alive (HasKept g alive (Kept g scope active known alive saved_in)) f d s (executed scope second (behind n first) (others shape v active) u) (Makes m last) (was_kept g scope active known alive saved_in (OpenAmong g alive))
+          (part_closed g scope active known alive (others shape v active) saved_in (Kept g scope active known alive saved_in) f d turns_back h s u far.0 (behind n first) m (λ a x. executed scope second (behind n first) a x) other_code (other_parts saved_in) other_made.1.0 back_declares begun lasts_late (λ m kept. kept.1) (was_kept g scope active known alive saved_in) (λ y x differ. sym (others_beside shape v active y x differ)) far.1
+          (led_weaker g scope active known alive (others shape v active) (HasKept g alive KeptTests) (HasKept g alive (Kept g scope active known alive saved_in)) d turns_back s u (first_kept g (OpenAmong g alive) (Kept g scope active known alive saved_in) (tests_kept g active v holds_in)) led_turns))))
 
   -- so it follows either way
   pub where_follows : (shape : ℕ) (test : TExpr) (p : Boxed) (first : TStmt) (second : Held-TStmt-If-2) → IsCondition shape test → NamesAmong alive test → HasStatementCode g.typed g.instance n (S.Where' shape test p first second) → (f : Exits) (contexts : List Field)

@@ -32,7 +32,7 @@ use Rattle.fields_follow.proofs.Ending.{ended_so}
 use Rattle.fields_follow.proofs.Outcomes.{Ended, Known, follows_known}
 use Rattle.source_meaning.specs.Expressions.{evaluated}
 use Rattle.source_meaning.specs.State as Source
-use Rattle.fields_follow.proofs.Knowing.{KnowsFields, kept_open, sim_open}
+use Rattle.fields_follow.proofs.Knowing.{HasKept, Keeping, KnowsFields, kept_open, sim_open}
 use Rattle.fields_follow.proofs.Saving.{Kept}
 use Rattle.fields_follow.proofs.Leading.{Led, TestsAre, saves_context}
 use Rattle.fields_follow.proofs.Leaving.{fields_under, keeps_again, places_under, reaches_again, registers_under, under, within_under}
@@ -114,8 +114,8 @@ module _ (g : Setting) (shape : ℕ) (d : Draft) (test : TExpr) where
 
     module _ (scope : Scope) (active : Active) (known : KnowsFields g scope active) (alive : Variable → Type 0) (begun : Begun g alive d) (s : CodeState) (st : State) where
       -- what is kept, and the test flags
-      abbrev Tested : (BitMemory → Type 0) → BitMemory → Type 0
-      Tested kept m = kept m × TestsAre g shape active (λ q. value_in (extents g shape) st test q) m
+      abbrev Tested : Keeping → BitMemory → Type 0
+      Tested kept m = HasKept g alive kept m × TestsAre g shape active (λ q. value_in (extents g shape) st test q) m
 
       -- the condition gives its numbers in the source, and its code leaves the test flags
       abbrev pub HasRun : Type 0
@@ -154,9 +154,12 @@ module _ (g : Setting) (shape : ℕ) (d : Draft) (test : TExpr) where
             at = l.leaves.at.stands;
             sim = l.leaves.sim;
             has = (
-              known.lasts.code s.memory l.leaves.t.memory (λ h first last q inside own ends before early named late.
-                  l.leaves.stays tt h first last q (let b = begun.fields in let one = one_more shape 1 W.Own d in let two = one_more shape 1 W.Own (entered shape d) in omega (arith, inside, b, one, two)) own ends before (let b = begun.code in omega (arith, early, b)) named (let up = w.upto in omega (arith, late, up)))
-                  l.leaves.go.below (kept_open g scope active known alive st s sim),
+              (
+                known.lasts.code s.memory l.leaves.t.memory (λ h first last q saved inside own ends before early named late.
+                    l.leaves.stays tt h first last q (let b = begun.fields in let one = one_more shape 1 W.Own d in let two = one_more shape 1 W.Own (entered shape d) in omega (arith, inside, b, one, two)) own ends before (let b = begun.code in omega (arith, early, b)) named (let up = w.upto in omega (arith, late, up)))
+                    l.leaves.go.below (kept_open g scope active known alive st s sim).0,
+                (kept_open g scope active known alive st s sim).1,
+              ),
               l.flags,
             );
             keeps = λ r kept. keeps_again g active (for_test shape d) s l.leaves.t l.leaves.registers r (kept_later g d (for_test shape d) r (omega arith) kept);
@@ -167,7 +170,7 @@ module _ (g : Setting) (shape : ℕ) (d : Draft) (test : TExpr) where
 
       -- and behind it the context is saved
       pub context_led : HasRun → Sim g alive st s
-          → (later : ℕ) → Within g saves → IsNamedAt g.unit (saved shape d).offset later → length after.code < later → Led g scope active known alive active (λ m. Tested (λ x. Kept g scope active known alive (saved shape d) x) m) d saves s st
+          → (later : ℕ) → Within g saves → IsNamedAt g.unit (saved shape d).offset later → length after.code < later → Led g scope active known alive active (λ m. Tested (Kept g scope active known alive (saved shape d)) m) d saves s st
       context_led run sim later w named behind_it =
           let w_after : Within g after = earlier g after saves 1 (and_one g (I.StoreContext (saved shape d)) after) w in
           saves_context g scope active known alive active known.kept g.from g.entries g.upto known.lasts d after s st (λ m. TestsAre g shape active (λ q. value_in (extents g shape) st test q) m) (saved shape d) later (let b = begun.code in let l = code_more_by in omega (arith, b, l)) begun.fields

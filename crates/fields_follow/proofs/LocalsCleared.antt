@@ -33,7 +33,7 @@ use Rattle.code_follows.proofs.Following.{IsScalar, Ran, Sim, held}
 use Rattle.code_follows.proofs.Growing.{Extended, extended}
 use Rattle.code_follows.proofs.Numbered.{numbered_at}
 use Rattle.fields_follow.proofs.Passing.{fields_longer}
-use Rattle.code_follows.proofs.Settings.{HasHome, IsNewIn, OpenAmong, At, Begun, SameBelow, Setting, StandsBelow, Within, and_one, at_next, begins_here, code_more, layout, one_home, one_writes, placed_instr}
+use Rattle.code_follows.proofs.Settings.{HasHome, IsNewIn, IsParallelLocal, OpenAmong, At, Begun, SameBelow, Setting, StandsBelow, Within, and_one, at_next, begins_here, code_more, layout, one_home, one_writes, placed_instr}
 use Rattle.code_follows.proofs.Standing.{some_same}
 use Rattle.fields_follow.proofs.Bits.{field_written, active_apart, bits_written, field_apart}
 use Rattle.fields_follow.proofs.Fields.{HoldsFields}
@@ -43,7 +43,7 @@ use Rattle.fields_follow.proofs.Knowing.{KnowsFields, StaysNamed}
 use Rattle.fields_follow.proofs.Leaving.{EndsBelow}
 use Rattle.fields_follow.proofs.Places.{IsOwnField, PlacesFields, names_first, of_file, stands_here}
 use Rattle.fields_follow.proofs.Values.{and_entry, next_field, one_more, taken, with_entry}
-use Rattle.fields_follow.proofs.Locals.{HoldsLocal, HoldsLocals, IsLocalField, behind_homes, locals_fewer, locals_on}
+use Rattle.fields_follow.proofs.Locals.{HoldsLocal, HoldsLocals, IsLocalField, IsNoHome, behind_homes, locals_fewer, locals_on}
 use Rattle.fields_follow.proofs.LocalWrites.{behind_own_at}
 use Rattle.std.proofs.lemmas.Nat.{pow_pos}
 use Rattle.std.proofs.Math.Nat.{mod-eq_of_lt}
@@ -192,8 +192,8 @@ module _ (g : Setting) (scope : Scope) (active : Active) (known : KnowsFields g 
     below : SameBelow g.image g.placed g.number s.memory (written write s.memory)
     below f p low = still f p (places.own_and_below dest f own low)
 
-    stays : StaysNamed g g.from g.entries g.upto s.memory (written write s.memory)
-    stays h first last p inside is_own ends_h begins early ends_so late =
+    stays : StaysNamed g known.kept.saved g.from g.entries g.upto s.memory (written write s.memory)
+    stays h first last p saved inside is_own ends_h begins early ends_so late =
         still (place g h) p (apart_back (place g h) (place g dest) (places.owns_apart_at h dest first (length taken_for.code) (λ same. let low = free.fields in let equal = fields_same in omega (arith, same, inside, low, equal)) is_own own ends.0 begins
         (let low = free.code in let equal = code_same in omega (arith, early, low, equal)) (λ span held. let most = (held.named last ends_so).1 in let up = within.upto in let more = code_more g clear taken_for in omega (arith, most, late, up, more)) (there within)))
 
@@ -270,6 +270,16 @@ module _ (g : Setting) (scope : Scope) (active : Active) (known : KnowsFields g 
         by (inr differ) (inl living) = others_held h k ((living, is_open.1), differ)
         by (inr differ) (inr same) = absurd (differ (sym (local_same k n same)))
 
+    -- what is kept stands in no entry of it, which is new
+    beside : ((entry : ℕ) → known.kept.saved entry → IsNoHome g (OpenAmong g before) entry) → (entry : ℕ) → known.kept.saved entry → (k home_of : ℕ) → before (V.Local k) ⊎ (V.Local k ≡ V.Local n) → IsParallelLocal g k → HasHome g k home_of → home_of ≡ entry → ⊥
+    beside apart entry saved k home_of (inl living) parallel_one has same = apart entry saved k home_of (living, parallel_one) has same
+    beside apart entry saved k home_of (inr is) parallel_one has same =
+        let equal = one_home g n home_of dest.offset (subst (λ (j : ℕ). HasHome g j home_of) (local_same k n is) has) (home numbers declared within) in
+        let low = known.lasts.below entry saved in
+        let fewer = free.fields in
+        let there = fields_same in
+        omega (arith, equal, low, fewer, there, same)
+
     clears_it : Ran g (λ x. before x ⊎ (x ≡ V.Local n)) d s (zeroed n 1 st) behind
     unfolding step_of
     clears_it =
@@ -279,7 +289,7 @@ module _ (g : Setting) (scope : Scope) (active : Active) (known : KnowsFields g 
           t = wrote g write s;
           go = one_writes g s (wrote g write s) (begins_here g clear taken_for s within refl here ∙ goes) below;
           at = at_next g clear taken_for s (s.at + 1) here refl;
-          sim = sim_cleared g n info set named parallel before st s (s.at + 1) (written write s.memory) (known.closes (OpenAmong g (λ x. before x ⊎ (x ≡ V.Local n))) (s.at + 1) (zeroed n 1 st) (written write s.memory) (holds opened.0.0, all_held opened.0.1) (known.lasts.code s.memory (written write s.memory) stays below opened.1)) sim;
+          sim = sim_cleared g n info set named parallel before st s (s.at + 1) (written write s.memory) (known.closes (OpenAmong g (λ x. before x ⊎ (x ≡ V.Local n))) (s.at + 1) (zeroed n 1 st) (written write s.memory) (holds opened.0.0, all_held opened.0.1) (known.lasts.code s.memory (written write s.memory) stays below opened.1.0, λ entry saved k home living. beside opened.1.1 entry saved k home living.0 living.1)) sim;
           keeps = λ r kept. refl;
         }
 

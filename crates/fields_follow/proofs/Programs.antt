@@ -31,7 +31,7 @@ use Rattle.fields_follow.proofs.Fields.{HoldsFields, HoldsNumbers, fields_held}
 use Rattle.fields_follow.proofs.FileFields.{IsTranslated, extents_are, file_exists, fresh_active, fresh_bit, fresh_file, processors_of, translated}
 use Rattle.fields_follow.proofs.Instructions.{SameExtents}
 use Rattle.fields_follow.proofs.Joining.{places_fields}
-use Rattle.fields_follow.proofs.Knowing.{KnowsFields, held_under}
+use Rattle.fields_follow.proofs.Knowing.{IsKeptBeside, Keeping, KnowsFields, held_under}
 use Rattle.fields_follow.proofs.Places.{PlacesFields}
 use Rattle.fields_follow.proofs.Locals.{HoldsLocal, HoldsLocals, IsLocalField, StillUsed, locals_again, locals_landed, locals_on}
 use Rattle.paris_code.specs.Spans.{IsNamedAt, entry_of, fields_of}
@@ -76,9 +76,9 @@ module _ (t : Typed) (image : Image) (p : IsParallelProgram t) (codable : IsCoda
     folds = λ e h. h;
     conditions = λ set e h. h;
     locals = λ info h. h;
-    kept = λ m. Unit {0};
-    lasts = record { code = λ m other stays same h. tt; calls = λ index at stands low high m other same h. tt };
-    opens = λ live at st m h. ((h.0, locals_again (g nothing_held 0 p.main p.is_main [] turns) live at st m h.1), tt);
+    kept = record { saved = λ entry. ⊥; has = λ m. Unit {0} };
+    lasts = record { below = λ entry never. absurd never; code = λ m other stays same h. tt; calls = λ index at stands low high m other same h. tt };
+    opens = λ live at st m h. ((h.0, locals_again (g nothing_held 0 p.main p.is_main [] turns) live at st m h.1), (tt, λ entry never. absurd never));
     closes = λ live at st m h kept. (h.0, locals_again (g nothing_held 0 p.main p.is_main [] turns) live at st m h.1);
     ends = λ st m h. h;
   }
@@ -89,8 +89,8 @@ module _ (t : Typed) (image : Image) (p : IsParallelProgram t) (codable : IsCoda
 
     module _ (caller : KnowsFields calling (scope_of t i (calls t most)) a) (number : ℕ) (b : Instance) (is : slice_get t.instances.items number ≡ Some b) (back : List ℕ) (m : ℕ) (here : CallStands calling number) (live : ℕ → Type 0) (place : ℕ) (st : State) (place_is : place ≡ start calling + here.at + 1) where
       -- what one that calls a function keeps there, and the numbers of its variables that are open
-      abbrev kept_there : BitMemory → Type 0
-      kept_there memory = caller.kept memory × HoldsLocals calling live place st memory
+      abbrev kept_there : Keeping
+      kept_there = record { saved = λ entry. ⊥; has = λ memory. IsKeptBeside calling live caller.kept memory × HoldsLocals calling live place st memory }
 
       -- what a function holds that is called: beside that the fields of the file, and its own variables
       abbrev called : Setting
@@ -133,10 +133,11 @@ module _ (t : Typed) (image : Image) (p : IsParallelProgram t) (codable : IsCoda
         locals = λ info h. h;
         kept = kept_there;
         lasts = record {
-          code = λ memory other stays same has. (caller.lasts.calls number here.at here.stands here.low here.high memory other same has.0, locals_last memory other same has.1);
+          below = λ entry never. absurd never;
+          code = λ memory other stays same has. ((caller.lasts.calls number here.at here.stands here.low here.high memory other same has.0.0, has.0.1), locals_last memory other same has.1);
           calls = λ index at stands low high memory other same has.
               let below : SameBelow image calling.placed number memory other = λ f q there. same f q (called_below (g held_called number b is back m) index (record { at = at; stands = stands; low = low; high = high }) f there) in
-              (caller.lasts.calls number here.at here.stands here.low here.high memory other below has.0, locals_last memory other below has.1);
+              ((caller.lasts.calls number here.at here.stands here.low here.high memory other below has.0.0, has.0.1), locals_last memory other below has.1);
         };
         opens = λ live at st memory h. ((h.0.0, locals_again called live at st memory h.0.1), h.1);
         closes = λ live at st memory h kept. ((h.0, locals_again called live at st memory h.1), kept);
@@ -147,10 +148,10 @@ module _ (t : Typed) (image : Image) (p : IsParallelProgram t) (codable : IsCoda
       opens_called = record {
         enters = λ at u memory files winner h.
             let outer = caller.opens live place st memory h in
-            (((fields_held called a).still none_open at st u memory (files, (λ k never e p. absurd never)) winner (outer.0.0, (λ k never. absurd never))), (outer.1, outer.0.1));
+            (((fields_held called a).still none_open at st u memory (files, (λ k never e p. absurd never)) winner (outer.0.0, (λ k never. absurd never))), ((outer.1, outer.0.1), λ entry never. absurd never));
         leaves = λ at u v memory files own winner h.
             let inside = (fields_held called a).still none_open at u v memory (files, (λ k never e p. absurd never)) winner h.0 in
-            caller.closes live place v memory (inside.0, locals_on calling live place place st v memory memory (omega arith) (λ k info f living local holds used p below. refl) (λ k living p. own k living 0 p) h.1.1) h.1.0;
+            caller.closes live place v memory (inside.0, locals_on calling live place place st v memory memory (omega arith) (λ k info f living local holds used p below. refl) (λ k living p. own k living 0 p) h.1.0.1) h.1.0.0;
         ends = caller.ends;
       }
 

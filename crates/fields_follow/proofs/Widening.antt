@@ -24,8 +24,8 @@ use Rattle.code_follows.proofs.Following.{at_once, follows_same}
 use Rattle.code_follows.proofs.Growing.{Extended, and_instr}
 use Rattle.code_follows.proofs.Parts.{ComesOn, Part, StatementPart, in_one_more}
 use Rattle.code_follows.proofs.Settings.{OpenAmong, Setting, Within, and_one, code_more, earlier, layout}
-use Rattle.fields_follow.proofs.Knowing.{KnowsFields, Lasts}
-use Rattle.fields_follow.proofs.Saving.{Kept, arrives, kept_lasts, own_below, part_closed}
+use Rattle.fields_follow.proofs.Knowing.{HasKept, KnowsFields, Lasts}
+use Rattle.fields_follow.proofs.Saving.{Kept, arrives, kept_lasts, own_below, part_closed, was_kept}
 use Rattle.fields_follow.proofs.Leading.{Led, led_entry, led_nowhere, led_weaker, named_next, saves_context, widens}
 use Rattle.fields_follow.proofs.Narrowing.{widened_beside}
 use Rattle.fields_follow.proofs.Passing.{code_longer, fields_longer}
@@ -52,16 +52,16 @@ module _ (g : Setting) (scope : Scope) (active : Active) (known : KnowsFields g 
       let set : length inner.code ≡ length stores.code + 1 = code_more g (I.SetContext shape) stores in
       let fields : length start.fields ≤ length inner.fields = fields_longer start inner 2 inner_more in
       let long : length inner.code ≤ length e.code = code_longer inner e longer.0 longer.1 in
-      let lasts : Lasts g (length inner.code) (length inner.fields) (length e.code) (λ m. Kept g scope active known alive saved m) =
+      let lasts : Lasts g (length inner.code) (length inner.fields) (length e.code) (Kept g scope active known alive saved) =
       kept_lasts g scope active known alive saved d (length start.code) (length e.code) (length inner.code) (length inner.fields) (length e.code) begun (omega (arith, stored, set)) (omega (arith, counts, fields)) w_e.upto own below (omega (arith, counts, fields)) first (omega (arith, stored, set)) last (omega arith) in
-      let led_start : Led g scope active known alive active (λ m. known.kept m × Unit {0}) d start s st =
-      led_entry g scope active known alive active (λ m. known.kept m × Unit {0}) shape 1 W.Own d d s st (led_weaker g scope active known alive active known.kept (λ m. known.kept m × Unit {0}) d d s st (λ m kept. (kept, tt)) (led_nowhere g scope active known alive d s st at sim)) in
-      let led_stores : Led g scope active known alive active (λ m. Kept g scope active known alive saved m × Unit {0}) d stores s st =
+      let led_start : Led g scope active known alive active (λ m. HasKept g alive known.kept m × Unit {0}) d start s st =
+      led_entry g scope active known alive active (λ m. HasKept g alive known.kept m × Unit {0}) shape 1 W.Own d d s st (led_weaker g scope active known alive active (HasKept g alive known.kept) (λ m. HasKept g alive known.kept m × Unit {0}) d d s st (λ m kept. (kept, tt)) (led_nowhere g scope active known alive d s st at sim)) in
+      let led_stores : Led g scope active known alive active (λ m. HasKept g alive (Kept g scope active known alive saved) m × Unit {0}) d stores s st =
       saves_context g scope active known alive active known.kept g.from g.entries g.upto known.lasts d start s st (λ m. Unit {0}) saved (length e.code) begun.code begun.fields (let up = w_stores.upto in omega (arith, up, stored)) own (behind_homes g (OpenAmong g alive) (length d.code) (length d.fields) (length d.fields) begun.opened (omega arith)) refl last (omega (arith, stored, set, long)) (λ m other same kept. kept) w_stores led_start in
-      let led_inner : Led g scope active known alive (all_active shape active) (λ m. Kept g scope active known alive saved m) d inner s st =
-      widens g scope active known alive active (λ m. Kept g scope active known alive saved m) (length inner.code) (length inner.fields) (length e.code) lasts d stores s st shape w_inner (led_weaker g scope active known alive active (λ m. Kept g scope active known alive saved m × Unit {0}) (λ m. Kept g scope active known alive saved m) d stores s st (λ m kept. kept.0) led_stores) in
-      arrives g scope active known alive (λ m. Kept g scope active known alive saved m) f d s o (Makes (behind n body) (with_instr (I.LoadContext saved) e)) (λ m kept. kept.0)
-      (part_closed g scope active known alive (all_active shape active) saved (λ m. Kept g scope active known alive saved m) f d inner e s st longer.0 n (behind n body) (λ a u. executed scope body n a u) code part made.1.0 inner_declares begun lasts (λ m kept. kept.1) (λ m kept. kept.0) (λ q x differ. sym (widened_beside shape active q x differ)) longer.1 led_inner)))
+      let led_inner : Led g scope active known alive (all_active shape active) (HasKept g alive (Kept g scope active known alive saved)) d inner s st =
+      widens g scope active known alive active (Kept g scope active known alive saved) (length inner.code) (length inner.fields) (length e.code) lasts d stores s st shape w_inner (led_weaker g scope active known alive active (λ m. HasKept g alive (Kept g scope active known alive saved) m × Unit {0}) (HasKept g alive (Kept g scope active known alive saved)) d stores s st (λ m kept. kept.0) led_stores) in
+      arrives g scope active known alive (HasKept g alive (Kept g scope active known alive saved)) f d s o (Makes (behind n body) (with_instr (I.LoadContext saved) e)) (was_kept g scope active known alive saved (OpenAmong g alive))
+      (part_closed g scope active known alive (all_active shape active) saved (Kept g scope active known alive saved) f d inner e s st longer.0 n (behind n body) (λ a u. executed scope body n a u) code part made.1.0 inner_declares begun lasts (λ m kept. kept.1) (was_kept g scope active known alive saved) (λ q x differ. sym (widened_beside shape active q x differ)) longer.1 led_inner)))
     where
       start : Draft
       start = with_entry shape 1 W.Own d
