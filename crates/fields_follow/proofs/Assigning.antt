@@ -117,7 +117,7 @@ module _ (g : Setting) (has : HasRegisters g) (alive : Variable → Type 0) (n :
           registers = keeps_less g d entered s p.t (and_entry set info.elem.bits (W.File (file_number g.typed k 0)) d).regs p.registers;
           sim = file_sim g places fields alive set variable p.t st v p.sim refl ends.0 ends.1 last.takes k 0 info is refl file last.place (let there = last.at in let first = p.at.stands in omega (arith, there, first, longer)) (fields.active set) w (λ q below. refl)
               (λ q below on. same.0 q below (few g places fields alive set variable p.t st v p.sim refl ends.0 ends.1 last.takes q below on)) same.1;
-          stays = λ u h first final q below own ends_below before low after high.
+          stays = λ h first final q none below own ends_below before low after high.
               own_stays g places fields alive set variable p.t st v p.sim refl ends.0 ends.1 last.takes k 0 info is refl file h q own
               ∙ p.stays wanted h first final q (omega (arith, below, more)) own ends_below before low after (omega (arith, high, longer));
         }

@@ -57,7 +57,7 @@ module _ (g : Setting) (scope : Scope) (active : Active) (known : KnowsFields g 
       t = l.t;
       go = reaches_again g active l.go;
       at = l.at.stands;
-      sim = sim_close g scope active known alive u l.t l.sim (kept_behind f l.t within l.go (λ h first last p saved. l.stays tt h first last p));
+      sim = sim_close g scope active known alive u l.t l.sim (kept_behind f l.t within l.go (λ h first last p saved. l.stays h first last p ((kept_open g scope active known alive st s sim).1 h.offset saved)));
       keeps = keeps_again g active d s l.t l.registers;
     }
 

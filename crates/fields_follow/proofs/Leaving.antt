@@ -19,7 +19,7 @@ use Rattle.fields_follow.proofs.Fields.{fields_held}
 use Rattle.fields_follow.proofs.Instructions.{SameExtents, number_in, place, shapes}
 use Rattle.fields_follow.proofs.Places.{HoldsTheFields, IsOwnField, PlacesFields}
 use Rattle.fields_follow.proofs.Starts.{Starts}
-use Rattle.fields_follow.proofs.Locals.{locals_again}
+use Rattle.fields_follow.proofs.Locals.{IsNoHome, locals_again}
 
 module _ (g : Setting) where
   -- the field ends below the flags of its set
@@ -38,9 +38,15 @@ module _ (g : Setting) where
       pub sim : Sim g alive u t
       pub stays : used → (h : Field) (first last p : ℕ) → h.offset < length d.fields → IsOwnField g h → EndsBelow h → IsNamedAt g.unit h.offset first → first < length d.code → IsNamedAt g.unit h.offset last → length e.code ≤ last → number_in g h t p ≡ number_in g h s p
 
-    -- so it does of an update, or of a test
-    abbrev pub Leaves : Draft → Draft → CodeState → State → Type 0
-    Leaves d e s u = PassesTests d e s u (Unit {0})
+    -- The code of an update does so too, but for the entries of variables of blocks that are open.
+    pub record Leaves (d e : Draft) (s : CodeState) (u : State) : Type 0 where
+      pub grown : (n : ℕ) × Extended d n e
+      pub t : CodeState
+      pub go : Reaches g s t
+      pub at : Starts g alive t (length e.code) e.regs (length e.fields)
+      pub registers : Keeps g d s t
+      pub sim : Sim g alive u t
+      pub stays : (h : Field) (first last p : ℕ) → IsNoHome g (OpenAmong g alive) h.offset → h.offset < length d.fields → IsOwnField g h → EndsBelow h → IsNamedAt g.unit h.offset first → first < length d.code → IsNamedAt g.unit h.offset last → length e.code ≤ last → number_in g h t p ≡ number_in g h s p
 
     module _ (fields : HoldsTheFields g) where
       -- the code of an update leaves the state that it gives in the source

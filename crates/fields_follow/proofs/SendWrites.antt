@@ -121,7 +121,7 @@ sent_leaves g places fields alive set k info is f own of_set long d e i s st wit
   at = starts_next g alive i e p.t (wrote g w p.t) (at_next g i e p.t (p.t.at + 1) p.at.stands refl) p.at;
   registers = p.registers;
   sim = sent_sim g places fields alive set k info is f own of_set long p.t st p.sim w run passes value small has (p.t.at + 1) (omega arith);
-  stays = λ u h first last q below own_h ends before low after high.
+  stays = λ h first last q none below own_h ends before low after high.
       apart_there (place g h) q (subst (λ (x : Field). Apart x (place g h)) (sym (entry_place g places fields alive set k 0 info f is long own of_set)) (apart_back (place g h) (of_file g k 0) (places.own_file k 0 set info h is own_h)))
       ∙ p.stays tt h first last q below own_h ends before low after (let longer = code_more g i e in omega (arith, high, longer));
 }

@@ -29,7 +29,7 @@ use Rattle.fields_follow.proofs.Bits.{bits_written, field_apart}
 use Rattle.fields_follow.proofs.Fields.{HoldsFields}
 use Rattle.fields_follow.proofs.Flags.{above_fields, bit_is, context_under_test, test_taken, written_to}
 use Rattle.fields_follow.proofs.Instructions.{HasNumbers, number_in, place, shapes, wrote}
-use Rattle.fields_follow.proofs.Leaving.{Leaves, PassesTests}
+use Rattle.fields_follow.proofs.Leaving.{PassesTests}
 use Rattle.fields_follow.proofs.Passing.{Passes}
 use Rattle.fields_follow.proofs.PassingTests.{tests_passed}
 use Rattle.fields_follow.proofs.Places.{HoldsTheFields, PlacesFields, of_file}
@@ -122,7 +122,7 @@ module _ (g : Setting) where
   module _ (alive : Variable → Type 0) (fields : HoldsTheFields g) where
     -- The code of a condition leaves what it leaves, and in the test flags where these numbers are not zero.
     pub record LeavesTests (d : Draft) (s : CodeState) (set : ℕ) (st : State) (v : ℕ → ℕ) (e : Draft) : Type 0 where
-      pub leaves : Leaves g alive d e s st
+      pub leaves : PassesTests g alive d e s st (Unit {0})
       pub flags : (p : ℕ) → p < processors (shapes g) set → fields.active set p ≡ true → is_tested (shapes g) leaves.t.memory set p ≡ nonzero (v p)
 
     -- code of conditions that passes, and an instruction that puts the tests
