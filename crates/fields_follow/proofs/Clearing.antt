@@ -145,8 +145,10 @@ module _ (g : Setting) (set offset bits : ℕ) (some : 0 < bits) (is_or : Bool) 
           ∙ ap (λ (n : ℕ). n % 2 ^ bits) (joined_bits is_or (nonzero (v p)) (nonzero (w p)) 1) ∙ few (either_or_both is_or (nonzero (v p)) (nonzero (w p)));
       small = λ p below active. from_bool_below (either_or_both is_or (nonzero (v p)) (nonzero (w p)));
     };
+    named = names_first g (clear set offset bits) dest [] (length e.code) (stands_here g (clear set offset bits) e (earlier g (cleared_behind set offset bits e) (joined_behind is_or set offset bits a b e) 1 (and_one g (join is_or set offset bits a b) (cleared_behind set offset bits e)) within) refl) refl;
     more = (2, joined_more g is_or set offset bits a b e);
     place = s.at + 1 + 1;
+    later = omega arith;
     go = subst (λ (m : BitMemory). Reaches g s (record s { at = s.at + 1 + 1; memory = m })) (two_writes (place g dest) on (λ q. is_active (shapes g) s1.memory set q) number s.memory some still_active)
         (onto g s s1 (wrote g joins s1) (one_writes g s s1 (begins_here g (clear set offset bits) e s (earlier g (cleared_behind set offset bits e) (joined_behind is_or set offset bits a b e) 1 (and_one g (join is_or set offset bits a b) (cleared_behind set offset bits e)) within) refl here ∙ clear_goes) (λ f q there. field_apart clears s.memory f q (apart f there)))
         (one_writes g s1 (wrote g joins s1) (begins_here g (join is_or set offset bits a b) (cleared_behind set offset bits e) s1 within refl at_join ∙ join_goes) (λ f q there. field_apart joins s1.memory f q (lowest_apart f (apart f there)))));

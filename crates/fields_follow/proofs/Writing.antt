@@ -43,8 +43,10 @@ module _ (g : Setting) where
   -- the code from one draft to another does no more than such a write
   pub record TakesBehind (set : ℕ) (d : Field) (e f : Draft) (s : CodeState) (v : ℕ → ℕ) : Type 0 where
     pub takes : Takes set d s v
+    pub named : IsNamedAt g.unit d.offset (length e.code)
     pub more : (k : ℕ) × Extended e k f
     pub place : ℕ
+    pub later : s.at + 1 ≤ place
     pub go : Reaches g s (record s { at = place; memory = written takes.write s.memory })
     pub at : At g (record s { at = place; memory = written takes.write s.memory }) (length f.code)
 
@@ -52,8 +54,10 @@ module _ (g : Setting) where
   pub instr_takes : (set : ℕ) (i : Instr) (d : Field) (e : Draft) (s : CodeState) (v : ℕ → ℕ) → ((f : Field) → StandsBelow g.image g.placed g.number f → Apart (place g d) f) → Within g (with_instr i e) → At g s (length e.code) → Puts g set i d s v → TakesBehind set d e (with_instr i e) s v
   instr_takes set i d e s v apart within here puts = record {
     takes = puts_take set i d s v puts;
+    named = names_first g i d puts.others (length e.code) (stands_here g i e within puts.plain) puts.names;
     more = (1, and_one g i e);
     place = s.at + 1;
+    later = omega arith;
     go = one_writes g s (wrote g puts.write s) (begins_here g i e s within puts.plain here ∙ puts.goes) (λ f p there. field_apart puts.write s.memory f p (subst (λ (h : Field). Apart h f) (sym puts.run) (apart f there)));
     at = at_next g i e s (s.at + 1) here refl;
   }
