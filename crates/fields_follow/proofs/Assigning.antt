@@ -360,7 +360,7 @@ module _ (g : Setting) (has : HasRegisters g) (alive : Variable → Type 0) (n :
           ∙ updated_is op x h.info.elem (type_of value).elem (old y) (number y) is known.2 known.1
           (operation_below x (assigned_signed x h.info.elem (type_of value).elem) (held h.info.elem (old y)) (number y) known.0.0 (held_below h.info.elem (old y)) (below_word (type_of value).elem.bits _ known.1 (operand_small g alive n places fields set value st s sim is_operand c y))) in
           after_same g Q (ap code is)
-          (in_place_last g has alive n ready places fields set (length d.fields) h.k h.info x signed place value d1 s st h.is (entry_for set h.k h.info h.is d s st) known.0 known.3 is_operand c (starts_entry g alive _ _ here) sim Q
+          (in_place_last g has alive n ready places fields set (length d.fields) (V.File h.k) h.info x signed place value d1 s st (λ e m longer within. file_carries g alive places fields set h.k h.info f h.is (entry_for set h.k h.info h.is d s st e m longer within) refl refl) known.0 known.3 is_operand c (starts_entry g alive _ _ here) sim Q
           (λ given there never e2 i within passes puts. inl (
             operator_given x (is, (known, is_operand)) given there never,
             leaves_value set h.k h.info h.is d s st (λ y. outcome x 32 (not signed) (held h.info.elem (old y)) (word_at (extents g set) st value y)) w (

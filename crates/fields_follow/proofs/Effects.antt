@@ -47,7 +47,6 @@ use Rattle.code_follows.specs.Fragment.{NamesAmong}
 use Rattle.fields_follow.specs.Fragment.{ArePure, AreWrapping, HasKnownKind, IsOperand, IsOperation, IsPromoted, IsPure, IsRelation, IsWide}
 use Rattle.fields_follow.proofs.Arms.{PutsLast as Puts_last, field_at, promoted_last, value_last}
 use Rattle.fields_follow.proofs.Extents.{get_names}
-use Rattle.fields_follow.specs.Fields.{IsElement}
 use Rattle.fields_follow.proofs.Forms.{HasItsCode, HasItsWord, IsRead, pure_kept, pure_word}
 use Rattle.fields_follow.proofs.Dividing.{zero_at}
 use Rattle.fields_follow.proofs.Outcomes.{Ended, ended_back, meant, then_known}
@@ -76,7 +75,7 @@ use Rattle.std.proofs.lemmas.Bool.{eqb-true}
 use Rattle.std.proofs.lemmas.Bool.Decides.{nat_tests}
 use Rattle.std.specs.Prelude.{nat_le}
 use Rattle.fields_follow.proofs.Starts.{no_home, starts_entry, Starts}
-use Rattle.fields_follow.proofs.Variables.{Carries, file_carries}
+use Rattle.fields_follow.proofs.Variables.{Carries}
 use Rattle.paris_code.specs.Spans.{IsNamedAt}
 
 module _ (g : Setting) (has : HasRegisters g) (alive : Variable → Type 0) (n : ℕ) (ready : (d : Draft) → IsReadyButForFields g.typed g.instance (layout g) n d) (places : PlacesFields g) (fields : HoldsTheFields g) where
@@ -343,23 +342,27 @@ module _ (g : Setting) (has : HasRegisters g) (alive : Variable → Type 0) (n :
       same (inl h) = ap (code put) h.is ∙ sym (ap (code moves) h.is)
       same (inr h) = ap (code put) h.no_word ∙ h.computed f d ∙ ap (λ (m : Made Out). then_make m (λ v after. put_value (O.Field f) v after)) (sym (h.code true bits d)) ∙ sym (ap (code moves) h.no_word)
 
-  -- An operator on the field of a variable and a value. The field is an entry for the variable wherever the draft is
-  -- within the unit.
+  -- The field is an entry for a variable of the file wherever the draft is within the unit.
   abbrev pub IsEntryFor : ℕ → Field → Draft → Type 0
   IsEntryFor k f d = (e : Draft) (m : ℕ) → Extended d m e → Within g e → IsFileField g k 0 f
 
-  pub in_place_last : (set offset k : ℕ) (info : VarInfo) (op : Op) (signed : Bool) (place : Place) (value : TExpr) (d : Draft) (s : CodeState) (st : State) → IsElement g.typed k info set 0 → IsEntryFor k (field_at set offset info.elem.bits) d
+  -- the field carries a variable there
+  abbrev pub CarriesFrom : Variable → VarInfo → ℕ → Field → Draft → Type 0
+  CarriesFrom x info set f d = (e : Draft) (m : ℕ) → Extended d m e → Within g e → Carries g alive x info set f
+
+  -- an operator on the field of a variable and a value
+  pub in_place_last : (set offset : ℕ) (x : Variable) (info : VarInfo) (op : Op) (signed : Bool) (place : Place) (value : TExpr) (d : Draft) (s : CodeState) (st : State) → CarriesFrom x info set (field_at set offset info.elem.bits) d
       → IsOperation op value → operation_bits info.elem.bits op value ≡ info.elem.bits → IsOperand set value → HasItsCode g.typed g.instance alive n value → Starts g alive s (length d.code) d.regs (length d.fields) → Sim g alive st s → (Q : Out → Draft → Type 0)
-      → (IsGiven set value st → set < length (shapes g) → (divides op ≡ true → zero_at g fields set (words_of set value st) ≡ None) → (e2 : Draft) (i : Instr) → Within g (with_instr i e2) → (p : Passes g alive (length d.fields) d e2 s st (Unit {0})) → Puts g set i (field_at set offset info.elem.bits) p.t (λ q. outcome op 32 (not signed) (held info.elem (st.parallel (V.File k) 0 q)) (words_of set value st q)) → Q (O.Field (field_at set offset info.elem.bits)) (with_instr i e2))
+      → (IsGiven set value st → set < length (shapes g) → (divides op ≡ true → zero_at g fields set (words_of set value st) ≡ None) → (e2 : Draft) (i : Instr) → Within g (with_instr i e2) → (p : Passes g alive (length d.fields) d e2 s st (Unit {0})) → Puts g set i (field_at set offset info.elem.bits) p.t (λ q. outcome op 32 (not signed) (held info.elem (st.parallel x 0 q)) (words_of set value st q)) → Q (O.Field (field_at set offset info.elem.bits)) (with_instr i e2))
       → (Ended g s (meant g fields value st) → (x : Out) (after : Draft) → Q x after)
       → (IsGiven set value st → set < length (shapes g) → divides op ≡ true → (q : ℕ) → zero_at g fields set (words_of set value st) ≡ Some q → Finishes g (Source.Fault DivZero place (Some q)) st s → (x : Out) (after : Draft) → Q x after)
       → After g Q (field_operated g.typed (layout g) op signed place (field_at set offset info.elem.bits) value d)
   unfolding field_operated then_make an_entry passes_from
-  in_place_last set offset k info op signed place value d s st is entry known works isin c here sim Q last ended fault =
+  in_place_last set offset x info op signed place value d s st carries known works isin c here sim Q last ended fault =
       then_after g (GivesField g alive bits (length d1.fields) d1 s set st v) Q (Makes f d1) (λ a begun. then_make (right_by (operand bits true value) op value begun) (λ right after. right_operated op signed place f a right spare after))
       (made_after g (GivesField g alive bits (length d1.fields) d1 s set st v) f d1 (λ within. record {
         passes = passes_all g alive (length d1.fields) d1 s st (Behind g f d1) (starts_entry g alive _ _ here) sim;
-        stands = inr (record { x = V.File k; info = info; carries = file_carries g alive places fields set k info f is (entry d1 0 (and_entry set bits W.Own d) within) refl refl; len = refl; fits = omega arith; same = λ q below. (refl, held_below info.elem (st.parallel (V.File k) 0 q)) });
+        stands = inr (record { x = x; info = info; carries = carries d1 0 (and_entry set bits W.Own d) within; len = refl; fits = omega arith; same = λ q below. (refl, held_below info.elem (st.parallel x 0 q)) });
       }))
       (λ a begun. extends_then g begun (right_by (operand bits true value) op value begun) (λ right after. right_operated op signed place f a right spare after) (right_extends g (operand bits true value) op value (λ after. operand_grows g has alive n ready places fields bits value c true after) begun) (λ right after. operated_extends g op signed place f a spare right after known.0))
       (λ a e1 one. then_known g one.passes.t (meant g fields value st) (λ q. value_in (extents g set) st value q) st (λ right e. Takes op right × GivesRight g has alive n ready places fields bits (length e1.fields) e1 one.passes.t set st w right e) Q (right_by (operand bits true value) op value e1) (λ right after. right_operated op signed place f a right spare after)
@@ -367,7 +370,7 @@ module _ (g : Setting) (has : HasRegisters g) (alive : Variable → Type 0) (n :
       (λ right after. operated_extends g op signed place f a spare right after known.0)
       (λ given right e2 two. operated_after g has alive n ready places fields bits (length d1.fields) set op signed place f a v w d e1 e2 s st (no_home g alive (length d.fields) (length d.fields) (omega arith) here) known.0 (λ divided. sym works ∙ divides_wide bits op value divided)
       (λ q. subst (λ (x : ℕ). Keeps op signed x (w q)) works (operands_keep g has alive n ready places fields bits set op signed value st most known isin c q)) refl (let first = one_more set bits W.Own d in omega (arith, first)) (fields_longer d1 e1 one.passes.grown.0 one.passes.grown.1) one right
-      (λ x same. omega arith) two.0 two.1 Q
+      (λ y same. omega arith) two.0 two.1 Q
       (λ there never e3 i within p puts. last given there never e3 i within (passes_from g alive (length d.fields) d d1 e3 s st (Unit {0}) (and_entry set bits W.Own d) p) puts) (λ there divided q none ends. fault given there divided q none ends))
       (λ early. ended (ended_back g s one.passes.t (meant g fields value st) one.passes.go early)))
     where
@@ -387,7 +390,7 @@ module _ (g : Setting) (has : HasRegisters g) (alive : Variable → Type 0) (n :
       spare = next_field set bits d
 
       v : ℕ → ℕ
-      v = λ q. held info.elem (st.parallel (V.File k) 0 q)
+      v = λ q. held info.elem (st.parallel x 0 q)
 
       w : ℕ → ℕ
       w = words_of set value st
