@@ -285,11 +285,6 @@ module _ (g : Setting) where
   pub next_stands : (next : Step) (d : Draft) → Within (with_step next d) → StandsOver g.image g.before g.after g.placed g.number g.unit (length d.code) next
   next_stands next d w = stands_over g.image g.before g.after g.placed g.number g.unit g.linked g.is_unit (length d.code) next (next_here next d w)
 
-  -- and where the code stands there
-  pub next_begins : (next : Step) (d : Draft) (s : CodeState) (w : Within (with_step next d)) → At s (length d.code) → step g.image s ≡ begun g.image (moved_by start (next_stands next d w).over) s
-  unfolding step
-  next_begins next d s w at = ap (λ (o : Option Instr). begun_at g.image s o) (ap (λ (n : ℕ). slice_get g.image.code.items n) at ∙ (next_stands next d w).there)
-
   step_here : (i : Instr) (d : Draft) → Within (with_instr i d) → slice_get whole (length d.code) ≡ Some (step_of i)
   unfolding with_instr
   step_here i d w = next_here (step_of i) d w

@@ -56,7 +56,7 @@ use Rattle.source_meaning.proofs.ConstantLaws.{Boxed}
 use Rattle.cstar_base.proofs.NumberLaws.{kind_bits}
 use Rattle.code_follows.proofs.Following.{HasRegisters, Sim, held, keeps_less}
 use Rattle.code_follows.proofs.Growing.{Extended, extended}
-use Rattle.code_follows.proofs.Settings.{OpenAmong, Setting, Within, and_one, layout, onto, start}
+use Rattle.code_follows.proofs.Settings.{Setting, Within, and_one, layout, onto, start}
 use Rattle.code_follows.proofs.Words.{below_word}
 use Rattle.fields_follow.specs.Fragment.{HasOperation, IsOperand, IsOperation, IsPromoted, IsPure, IsTarget, IsUpdate, IsWide}
 use Rattle.fields_follow.specs.Fields.{IsElement, file_number}
@@ -65,8 +65,6 @@ use Rattle.fields_follow.proofs.TruthValues.{IsPlain, IsTruth, truth_bit, truth_
 use Rattle.fields_follow.proofs.Dividing.{zero_at, zero_there}
 use Rattle.fields_follow.proofs.Forms.{HasItsCode, field_is, operand_shape}
 use Rattle.fields_follow.proofs.Lengths.{held_first, modular_keeps}
-use Rattle.fields_follow.proofs.FileFields.{apart_back}
-use Rattle.paris_code.specs.Shapes.{bits_at}
 use Rattle.fields_follow.proofs.Instructions.{Puts, extents, operation_below, place, puts_operate_constant, shapes, word_in}
 use Rattle.fields_follow.proofs.Meaning.{value_in, word_at}
 use Rattle.fields_follow.proofs.Outcomes.{Ended, meant, outcome_follows}
@@ -78,56 +76,15 @@ use Rattle.fields_follow.proofs.Updates.{IsFileTarget, assign_ends, assign_means
 use Rattle.fields_follow.proofs.Sizes.{operand_small}
 use Rattle.fields_follow.proofs.Totals.{held_below}
 use Rattle.fields_follow.proofs.Values.{and_entry, next_field, one_more, taken, variable_has, with_entry}
-use Rattle.fields_follow.proofs.Writing.{TakesBehind, elsewhere, entry_and_below, entry_ends, few, file_sim, instr_takes, local_sim, own_stays}
+use Rattle.fields_follow.proofs.Writing.{TakesBehind, entry_and_below, entry_ends, few, file_sim, instr_takes, own_stays}
 use Rattle.fields_follow.proofs.Effects.{IsEntryFor, in_place_last, put_last}
 use Rattle.fields_follow.proofs.Expressions.{operand_at}
 use Rattle.code_follows.specs.Fragment.{NamesAmong}
 use Rattle.fields_follow.proofs.Starts.{starts_entry, Starts, starts_later}
-use Rattle.fields_follow.proofs.Variables.{HasLocal, file_carries, local_held}
-use Rattle.fields_follow.proofs.Locals.{HoldsLocal, IsLocalField, same_local}
+use Rattle.fields_follow.proofs.Variables.{file_carries}
 use Rattle.paris_code.specs.Spans.{IsNamedAt}
 
 module _ (g : Setting) (has : HasRegisters g) (alive : Variable → Type 0) (n : ℕ) (ready : (d : Draft) → IsReadyButForFields g.typed g.instance (layout g) n d) (places : PlacesFields g) (fields : HoldsTheFields g) where
-  -- What comes last writes the entry of a variable of a block where it is active: the code leaves a state that has what the
-  -- source stores.
-  pub local_leaves : (k set : ℕ) (info : VarInfo) (variable : Field) → IsLocalField g k info variable → variable.set ≡ set → alive (V.Local k) → (d : Draft) (s : CodeState) (st : State) (v w : ℕ → ℕ) → ((p : ℕ) → p < processors (shapes g) set → v p < 2 ^ 32 → w p ≡ v p % 2 ^ info.elem.bits) → ((p : ℕ) → w p < 2 ^ info.elem.bits)
-      → (e2 f : Draft) (used : Type 0) → Within g f → (p : PassesTests g alive d e2 s st used) → used → TakesBehind g set variable e2 f p.t v → Leaves g alive d f s (with_positions (V.Local k) 0 (fields.active set) w st)
-  local_leaves k set info variable is of_set living d s st v w same few_bits e2 f used within p wanted last =
-      let longer = code_longer e2 f last.more.0 last.more.1 in
-      record {
-        grown = (p.grown.0 + last.more.0, extended d e2 f p.grown.0 last.more.0 p.grown.1 last.more.1);
-        t = behind;
-        go = onto g s p.t behind p.go last.go;
-        at = starts_later g alive p.t behind (length e2.code) e2.regs (length e2.fields) (length f.code) f.regs (length f.fields) longer last.more.1.regs (fields_longer e2 f last.more.0 last.more.1) last.at p.at;
-        registers = p.registers;
-        sim = local_sim g places fields alive set variable p.t st v p.sim of_set exists ends last.takes k info (length e2.code) last.place p.at.stands last.later is open_one p.at.opened.1 last.named (fields.active set) w (λ q below. refl)
-            (λ q below on. same q below (few g places fields alive set variable p.t st v p.sim of_set exists ends last.takes q below on) ∙ ap (λ (n : ℕ). v q % 2 ^ n) (sym is.len)) few_bits;
-        stays = λ h first final q none below own ends_below before low after high.
-            elsewhere g places fields alive set variable p.t st v p.sim of_set exists ends last.takes (place g h) q (apart_back (place g h) (place g variable)
-            (places.owns_apart_at h variable first (length e2.code) (λ alike. none k variable.offset open_one is.home (sym alike)) own is.own exists before (let more = code_longer d e2 p.grown.0 p.grown.1 in omega (arith, low, more))
-            (λ span held. let most = (held.named final after).1 in let on = last.later in let there = last.at in let first_at = p.at.stands in omega (arith, most, high, on, there, first_at)) last.named))
-            ∙ p.stays wanted h first final q below own ends_below before low after (omega (arith, high, longer));
-      }
-    where
-      behind : CodeState
-      behind = record p.t { at = last.place; memory = written last.takes.write p.t.memory }
-
-      open_one : OpenAmong g alive k
-      open_one = (living, (info, (variable.set, (is.known, is.parallel))))
-
-      -- it has its own entry
-      there : HasLocal g alive k info variable.set st p.t
-      there = local_held g alive fields k info variable.set living is.known is.parallel st p.t p.sim
-
-      holds : HoldsLocal g k info variable p.t.at st p.t.memory
-      holds = subst (λ (h : Field). HoldsLocal g k info h p.t.at st p.t.memory) (same_local g k info info there.f variable there.is is).1 there.holds
-
-      exists : variable.set < length (shapes g)
-      exists = holds.exists
-
-      ends : (place g variable).offset + variable.len ≤ bits_at (shapes g) variable.set
-      ends = holds.ends
-
   -- What comes last writes the variable where it is active: with the entry for it before, the code leaves a state that
   -- has what the source stores.
   module _ (set k : ℕ) (info : VarInfo) (is : IsElement g.typed k info set 0) (d : Draft) (s : CodeState) (st : State) where

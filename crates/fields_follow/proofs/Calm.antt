@@ -16,7 +16,6 @@ use Rattle.cstar_tree.specs.StatementTypes.{variable_info}
 use Rattle.cstar_tree.specs.Typed.{type_of}
 use Rattle.code_lengths.specs.Naming.{NamesVariables, plain}
 use Rattle.lower_base.specs.Operators.{machine_of}
-use Rattle.lower_expr.specs.Operands.{is_quiet}
 use Rattle.source_meaning.specs.Expressions.{evaluated, mapped, operated, located}
 use Rattle.source_meaning.specs.Narrowing.{Operand, and_then, choose, or_then}
 use Rattle.source_meaning.specs.State.{Ends, Fault, Gives, Outcome, State, then_do, with_scalar}
@@ -101,28 +100,6 @@ unfolding IsVariable located variable_target
 located_is (T.Variable ty x) h = (x, λ scope active st. ap (λ (o : Option ℕ). Gives (variable_target o x 0) st) h.0)
 located_is (T.Brackets' ty p inner) h = located_is inner h.1
 located_is _ h = absurd h
-
-both : (a b : Bool) → a ≡ true → b ≡ true → (a && b) ≡ true
-both true b e f = f
-both false b e f = cc
-
--- it is quiet
-pub calm_quiet : (e : TExpr) → IsCalm e → is_quiet e ≡ true
-unfolding IsCalm is_quiet
-calm_quiet (T.Number ty value) h = refl
-calm_quiet (T.PositionsOf ty shape value) h = refl
-calm_quiet (T.RankOf ty shape value) h = refl
-calm_quiet (T.DimOf ty shape axis value) h = refl
-calm_quiet (T.Variable ty x) h = refl
-calm_quiet (T.Brackets' ty p inner) h = calm_quiet inner h.1
-calm_quiet (T.Convert' ty p operand) h = calm_quiet operand h.1
-calm_quiet (T.Casts' ty elems p operand) h = calm_quiet operand h.2
-calm_quiet (T.Unary' ty op p operand) h = calm_quiet operand h.1
-calm_quiet (T.Binary' ty place op p left q right) h = both (is_quiet left) (is_quiet right) (calm_quiet left h.1) (calm_quiet right h.2)
-calm_quiet (T.LogicalOr' ty p left q right) h = both (is_quiet left) (is_quiet right) (calm_quiet left h.1) (calm_quiet right h.2)
-calm_quiet (T.LogicalAnd' ty p left q right) h = both (is_quiet left) (is_quiet right) (calm_quiet left h.1) (calm_quiet right h.2)
-calm_quiet (T.Choice' ty p test q first r second) h = both (is_quiet test && is_quiet first) (is_quiet second) (both (is_quiet test) (is_quiet first) (calm_quiet test h.1) (calm_quiet first h.2)) (calm_quiet second h.3)
-calm_quiet _ h = absurd h
 
 -- Its meaning is the same under any contexts, and whatever surrounds it.
 module _ (scope other : Scope) (active others : Active) where

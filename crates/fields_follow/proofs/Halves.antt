@@ -1,5 +1,6 @@
--- One of the two halves of `?:`: positions where its condition does not hold, or where it does, become inactive, an operand
--- is put in a field where the others are active, and the old context is loaded.
+-- What is computed only where it counts, an operand of `?:` or what stands right of `&&` and `||`: the positions where a
+-- condition holds, or where it does not, become inactive, the operand is put in a field where the others are active, and
+-- the old context is loaded.
 use Rattle.std.proofs.Common.{◌≡◌, ◌∙◌, ℕ, ◌+◌, ◌<◌, ◌≤◌, ◌%◌, ◌^◌, ◌⊎◌, inl, inr, Bool, true, false, not, [], List, length, slice_index, refl, sym, ap, subst, arith, ◌&&◌, ◌||◌, if◌then◌else◌}
 use Rattle.std.specs.Int.{from_bool}
 use Rattle.cstar_tree.specs.declared.typed.TExpr.{TExpr}

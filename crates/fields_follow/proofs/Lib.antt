@@ -61,7 +61,6 @@ pub mod Placing
 pub mod Programs
 pub mod Promoted
 pub mod Pure
-pub mod Quiet
 pub mod Reducing
 pub mod Reductions
 pub mod Relations

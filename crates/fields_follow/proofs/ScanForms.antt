@@ -12,7 +12,7 @@ use Rattle.cstar_tree.specs.declared.typed.Variable.TheVariants as V
 use Rattle.cstar_tree.specs.Typed.{type_of}
 use Rattle.lower_base.specs.Kinds.{binary_kind, common_kind, converted_kind, is_bitwise, kind_of, narrow, truth_type}
 use Rattle.lower_expr.specs.Kinds.{is_unchanged}
-use Rattle.lower_expr.specs.Operands.{is_quiet, own_of}
+use Rattle.lower_expr.specs.Operands.{own_of}
 use Rattle.lower_expr.specs.Steps.{is_kept, word_of}
 use Rattle.source_meaning.specs.Constants.{is_constant}
 use Rattle.source_meaning.specs.State.{State}
@@ -22,7 +22,6 @@ use Rattle.fields_follow.specs.Fragment.{IsOperand, IsPromoted, IsPure, IsScan, 
 use Rattle.fields_follow.proofs.Instructions.{extents}
 use Rattle.fields_follow.proofs.Meaning.{either, left_of, right_of, value_in}
 use Rattle.fields_follow.proofs.Places.{HoldsTheFields, PlacesFields}
-use Rattle.fields_follow.proofs.Quiet.{both, promoted_quiet, pure_quiet}
 use Rattle.fields_follow.proofs.Scanning.{scanned_in}
 
 -- it has a shape, and 32 bits
@@ -122,26 +121,6 @@ scan_kind set (T.Binary' ty place op p left q right) is =
     by true none = none
     by false none = refl
 scan_kind set _ is = absurd is
-
--- and it changes nothing
-operand_quiet : (set : ℕ) (e : TExpr) → IsOperand set e → is_quiet e ≡ true
-operand_quiet set e (inl pure) = pure_quiet set e pure
-operand_quiet set e (inr promoted) = promoted_quiet set e promoted
-
-pub scan_quiet : (set : ℕ) (e : TExpr) → IsScan set e → is_quiet e ≡ true
-unfolding IsScan is_quiet
-scan_quiet set (T.Brackets' ty p inner) is = scan_quiet set inner is.1
-scan_quiet set (T.Scan' ty p source axis combiner direction mode bit way) is = either (λ h. scan_quiet set source h) (λ h. pure_quiet set source h) is.1
-scan_quiet set (T.Enumerate ty axis direction way mode bit) is = refl
-scan_quiet set (T.Convert' ty p operand) is = scan_quiet set operand is.1
-scan_quiet set (T.Unary' ty op p operand) is = scan_quiet set operand is.2
-scan_quiet set (T.Binary' ty place op p left q right) is = by is.2 (λ h. scan_quiet set left h) (λ h. scan_quiet set right h)
-  where
-    by : (IsScan set left × (IsScan set right ⊎ IsOperand set right)) ⊎ (IsOperand set left × IsScan set right) → (IsScan set left → is_quiet left ≡ true) → (IsScan set right → is_quiet right ≡ true) → (is_quiet left && is_quiet right) ≡ true
-    by (inl (one, inl other)) f h = both (is_quiet left) (is_quiet right) (f one) (h other)
-    by (inl (one, inr other)) f h = both (is_quiet left) (is_quiet right) (f one) (operand_quiet set right other)
-    by (inr (one, other)) f h = both (is_quiet left) (is_quiet right) (operand_quiet set left one) (h other)
-scan_quiet set _ is = absurd is
 
 module _ (g : Setting) (alive : Variable → Type 0) (places : PlacesFields g) (fields : HoldsTheFields g) (set : ℕ) where
   -- an operand has its own numbers

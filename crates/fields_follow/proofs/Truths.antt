@@ -36,10 +36,6 @@ use Rattle.fields_follow.proofs.Values.{IsApart}
 use Rattle.fields_follow.proofs.Starts.{starts_next}
 use Rattle.fields_follow.proofs.Locals.{IsNoHome, locals_again}
 
-zero_bit : (b : Bool) → (from_bool (not b) == 0) ≡ b
-zero_bit true = refl
-zero_bit false = refl
-
 -- two bits joined
 abbrev pub either_or_both : Bool → Bool → Bool → Bool
 either_or_both is_or a b = if is_or then a || b else a && b
@@ -129,16 +125,6 @@ module _ (g : Setting) (alive : Variable → Type 0) (places : PlacesFields g) (
       is_bit : (n : ℕ) → n < 2 ^ 1 → (b : Bool) → (n == 0) ≡ b → n ≡ from_bool (not b)
       is_bit n few true e = grind (arith, nat_tests, few, e)
       is_bit n few false e = grind (arith, nat_tests, few, e)
-
-  pub truth_told : (d : Draft) (s : CodeState) (set : ℕ) (st : State) (v : ℕ → ℕ) (f : Field) (e : Draft) → GivesTruth d s set st v f e → GivesTold d s set st v f e
-  truth_told d s set st v f e h = record {
-    passes = h.passes;
-    exists = h.exists;
-    tells = λ behind. (
-      h.of_set,
-      λ q below on. ap (λ (n : ℕ). n == 0) (h.are behind q below (sym (flags_of g alive places fields st h.passes.t set q h.passes.sim h.exists below) ∙ on)) ∙ zero_bit (v q == 0),
-    );
-  }
 
   pub field_told : (bits : ℕ) (d : Draft) (s : CodeState) (set : ℕ) (st : State) (v u : ℕ → ℕ) (f : Field) (e : Draft) → ((q : ℕ) → q < processors (shapes g) set → (v q % 2 ^ bits == 0) ≡ (u q == 0)) → GivesField g alive bits (length d.fields) d s set st v f e → GivesTold d s set st u f e
   unfolding tests_passed

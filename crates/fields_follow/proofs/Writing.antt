@@ -18,15 +18,15 @@ use Rattle.code_follows.specs.Agreement.{AreBytes, mark_of}
 use Rattle.code_follows.proofs.Following.{Sim, held}
 use Rattle.code_follows.proofs.Growing.{Extended}
 use Rattle.code_follows.proofs.Standing.{some_same}
-use Rattle.code_follows.proofs.Settings.{HaveTheirOwn, OpenAmong, At, Reaches, Setting, StandsBelow, Within, and_one, at_next, begins_here, one_writes, start}
+use Rattle.code_follows.proofs.Settings.{OpenAmong, At, Reaches, Setting, StandsBelow, Within, and_one, at_next, begins_here, one_writes}
 use Rattle.fields_follow.proofs.Bits.{active_apart, bits_written, field_apart, field_kept, field_written}
 use Rattle.fields_follow.proofs.Fields.{HoldsFields}
 use Rattle.fields_follow.specs.Fields.{IsElement}
 use Rattle.fields_follow.proofs.FileFields.{Apart, apart_back}
 use Rattle.fields_follow.proofs.Instructions.{HasNumbers, Puts, number_in, place, shapes, wrote}
 use Rattle.fields_follow.proofs.Places.{HoldsTheFields, IsFileField, IsOwnField, PlacesFields, names_first, of_file, stands_here}
-use Rattle.fields_follow.proofs.Locals.{HoldsLocals, IsLocalField, IsNoHome, locals_on}
-use Rattle.fields_follow.proofs.LocalWrites.{behind_file, behind_local, behind_own_at}
+use Rattle.fields_follow.proofs.Locals.{HoldsLocals, IsNoHome}
+use Rattle.fields_follow.proofs.LocalWrites.{behind_file, behind_own_at}
 
 module _ (g : Setting) where
   -- a write of a field, by which it takes the lowest bits of these words where it is active
@@ -239,32 +239,6 @@ module _ (g : Setting) (places : PlacesFields g) (fields : HoldsTheFields g) (al
               by false not_passed = subst (λ (n : ℕ). n < 2 ^ of.elem.bits) (sym (off_is j other p (st.parallel (V.File j) other p) not_passed)) (was.small j other q p of which)
           small_still j other q p of which (inr differ) any = subst (λ (n : ℕ). n < 2 ^ of.elem.bits) (sym (there_is j other p (st.parallel (V.File j) other p) (inl differ))) (was.small j other q p of which)
           small_still j other q p of which (inl same) (inr differ) = subst (λ (n : ℕ). n < 2 ^ of.elem.bits) (sym (there_is j other p (st.parallel (V.File j) other p) (inr differ))) (was.small j other q p of which)
-
-    -- Where it is the own entry of a variable of a block that is open, which no other one has, the state has what that
-    -- takes where it is active.
-    pub local_sim : (k : ℕ) (info : VarInfo) (there to : ℕ) → At g s there → s.at + 1 ≤ to → IsLocalField g k info d → OpenAmong g alive k → HaveTheirOwn g (OpenAmong g alive) → IsNamedAt g.unit d.offset there
-        → (passes : ℕ → Bool) (w : ℕ → ℕ) → ((p : ℕ) → p < processors (shapes g) set → passes p ≡ fields.active set p) → ((p : ℕ) → p < processors (shapes g) set → fields.active set p ≡ true → w p ≡ v p % 2 ^ d.len) → ((p : ℕ) → w p < 2 ^ info.elem.bits)
-        → Sim g alive (with_positions (V.Local k) 0 passes w st) (record s { at = to; memory = behind })
-    unfolding with_positions is_same
-    local_sim k info there to at later is living differ named passes w passing same_numbers few_bits =
-        with_memory st u s to takes.write refl refl refl refl refl (record {
-          numbers = λ j element q p of which below. elsewhere (of_file g j element) p (places.own_file j element q of d which is.own) ∙ was.numbers j element q p of which below;
-          small = was.small;
-          flags = active_still;
-          winner = winner_still;
-          bits = bits_written (shapes g) takes.write s.memory was.bits;
-        })
-        (locals_on g (OpenAmong g alive) (start g + there + 1) to u u behind behind (omega (arith, at, later)) (λ j of f open_too local holds used p below. refl) (λ j open_too p. refl)
-        (behind_local g places (OpenAmong g alive) k there info d passes w st s.memory behind is named exists (λ j home open_too unlike has same. differ k j d.offset home living open_too unlike is.home has (sym same)) elsewhere few_bits
-        (λ p below on. let inside = in_set p below in value_is p inside (sym (passing p inside) ∙ on) ∙ sym (same_numbers p inside (sym (passing p inside) ∙ on)))
-        (λ p below off. let inside = in_set p below in field_kept takes.write s.memory (place g d) p (writes_where p inside ∙ sym (passing p inside) ∙ off))
-        (subst (λ (n : ℕ). HoldsLocals g (OpenAmong g alive) n st s.memory) at (fields.locals (OpenAmong g alive) s.at st s.memory sim.memory)))) sim
-      where
-        u : State
-        u = with_positions (V.Local k) 0 passes w st
-
-        in_set : (p : ℕ) → p < processors (shapes g) d.set → p < processors (shapes g) set
-        in_set p below = subst (λ (q : ℕ). p < processors (shapes g) q) of_set below
 
   -- An instruction that stands next, by which a field that ends below the flags takes the lowest bits of these words.
   pub record PutsNext (set : ℕ) (i : Instr) (d : Field) (e : Draft) (s : CodeState) (v : ℕ → ℕ) : Type 0 where
