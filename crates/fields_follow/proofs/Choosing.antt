@@ -1,6 +1,6 @@
 -- The code of `?:` of parallel values leaves the lowest bits of its words in a field: it saves the context, puts the first
 -- operand in the field where the condition holds, and the second one elsewhere.
-use Rattle.std.proofs.Common.{◌≡◌, ◌∙◌, ℕ, ◌+◌, ◌<◌, ◌≤◌, ◌%◌, ◌^◌, ◌==◌, ◌||◌, ◌⊎◌, inl, inr, Bool, true, false, not, List, [], length, slice_index, Option, refl, sym, ap, subst, arith, if◌then◌else◌}
+use Rattle.std.proofs.Common.{◌≡◌, ◌∙◌, ℕ, ◌+◌, ◌<◌, ◌≤◌, ◌==◌, ◌||◌, ◌⊎◌, inl, inr, Bool, true, false, [], length, Option, refl, sym, ap, subst, arith, if◌then◌else◌}
 use Rattle.std.specs.Int.{from_bool}
 use Rattle.cstar_tree.specs.declared.typed.TExpr.{TExpr}
 use Rattle.cstar_tree.specs.declared.typed.TExpr as T
@@ -19,7 +19,6 @@ use Rattle.paris_code.specs.declared.instr.Instr.TheVariants as I
 use Rattle.paris_code.specs.declared.operands.Field.{Field}
 use Rattle.paris_code.specs.declared.program.Owner.TheVariants as W
 use Rattle.paris_code.specs.Code.{CodeState}
-use Rattle.paris_code.specs.Memory.{is_active, processors}
 use Rattle.paris_code.specs.Spans.{IsNamedAt}
 use Rattle.source_meaning.specs.Expressions.{evaluated}
 use Rattle.source_meaning.specs.Narrowing.{choose}
@@ -27,30 +26,31 @@ use Rattle.source_meaning.specs.State as Source
 use Rattle.source_meaning.specs.State.{Outcome, State, then_do}
 use Rattle.source_meaning.specs.Values.{Active, Parallel, Value, at, nonzero}
 use Rattle.source_meaning.proofs.ConstantLaws.{Boxed}
-use Rattle.code_follows.proofs.Following.{Extends, Follows, HasRegisters, Sim, extends_made, extends_then, keeps_less, keeps_on}
-use Rattle.code_follows.proofs.Growing.{Extended, as_it_was, extended}
-use Rattle.code_follows.proofs.Settings.{Reaches, Setting, Within, and_one, code_more, earlier, layout, onto, start}
+use Rattle.code_follows.proofs.Following.{Extends, Follows, HasRegisters, Sim, extends_made, extends_then}
+use Rattle.code_follows.proofs.Growing.{as_it_was, extended}
+use Rattle.code_follows.proofs.Settings.{Setting, Within, and_one, code_more, earlier, layout, onto, start}
 use Rattle.fields_follow.specs.Fragment.{HasItsKind, IsPromoted, IsPure, IsWide}
 use Rattle.fields_follow.proofs.Arms.{arm, arm_grows, arm_last, words_of}
 use Rattle.fields_follow.proofs.Expressions.{Answers, IsMeant, IsValued, operand_at}
-use Rattle.fields_follow.proofs.Flags.{Stored, store_context}
+use Rattle.fields_follow.proofs.Flags.{Stored}
 use Rattle.fields_follow.proofs.Forms.{HasItsCode, pure_kept}
-use Rattle.fields_follow.proofs.Halves.{Halved, IsMeantUnder, Ready, after_delayed, half, half_after, named_apart, narrowed_more}
-use Rattle.fields_follow.proofs.Instructions.{extents, number_in, shapes}
+use Rattle.fields_follow.proofs.Halves.{Halved, IsMeantUnder, Keeping, Ready, after_delayed, both_halved, half, half_after, keeping_on, narrowed_more}
+use Rattle.fields_follow.proofs.Halving.{beside_context, context_field, context_here, context_keeping, context_sim, context_stored, halves_answer, two_more, with_both}
+use Rattle.fields_follow.proofs.Instructions.{extents, shapes}
 use Rattle.fields_follow.proofs.Leaving.{fields_under, places_under, registers_under, under}
 use Rattle.fields_follow.proofs.Meaning.{value_in, word_at}
 use Rattle.fields_follow.proofs.NarrowKinds.{zero_told}
-use Rattle.fields_follow.proofs.Narrowing.{among, among_active, others, others_active}
+use Rattle.fields_follow.proofs.Narrowing.{among, others}
 use Rattle.fields_follow.proofs.Outcomes.{Ended, Given, Known, ended_back, ended_on, known_follows, meant, then_known}
-use Rattle.fields_follow.proofs.Passing.{After, GivesField, after_same, code_longer, fields_longer, flags_of, gives_numbers, gives_set, made_after}
-use Rattle.fields_follow.proofs.Places.{HoldsTheFields, IsOwnField, PlacesFields, names_first, stands_here}
+use Rattle.fields_follow.proofs.Passing.{After, Behind, GivesField, after_same, code_longer, fields_longer, flags_of, gives_numbers, gives_set, made_after}
+use Rattle.fields_follow.proofs.Places.{HoldsTheFields, PlacesFields, names_first, stands_here}
 use Rattle.fields_follow.proofs.Pure.{choice_means, choice_so}
 use Rattle.fields_follow.proofs.Relations.{kind_some, relation_most}
 use Rattle.fields_follow.proofs.Sizes.{choice_parts, pure_at}
-use Rattle.fields_follow.proofs.Starts.{no_home, starts_entry, Starts, starts_next}
+use Rattle.fields_follow.proofs.Starts.{starts_entry, Starts}
 use Rattle.fields_follow.proofs.TestFlags.{Tells, numbers_tell}
-use Rattle.fields_follow.proofs.Truths.{Stays, field_lasts, fields_sim, whole_sim}
-use Rattle.fields_follow.proofs.Values.{Gives, IsFlag, and_entry, next_field, one_more, operand_after, operand_of, taken, with_entry}
+use Rattle.fields_follow.proofs.Truths.{Stays, field_lasts}
+use Rattle.fields_follow.proofs.Values.{Gives, IsFlag, next_field, operand_after, operand_of, with_entry}
 
 module _ (g : Setting) (has : HasRegisters g) (alive : Variable → Type 0) (n : ℕ) (ready : (d : Draft) → IsReadyButForFields g.typed g.instance (layout g) n d) (places : PlacesFields g) (fields : HoldsTheFields g) where
   abbrev number : ℕ → TExpr → State → ℕ → ℕ
@@ -179,17 +179,14 @@ module _ (g : Setting) (has : HasRegisters g) (alive : Variable → Type 0) (n :
     -- ---- what it does
 
     module _ (d : Draft) (s : CodeState) (st : State) (here : Starts g alive s (length d.code) d.regs (length d.fields)) (sim : Sim g alive st s) where
-      abbrev taken_field : Draft
-      taken_field = with_entry set bits W.Own d
-
       abbrev begun : Draft
-      begun = with_entry set 1 W.Own taken_field
+      begun = with_both bits set d
 
       abbrev f : Field
       f = next_field set bits d
 
       abbrev saved : Field
-      saved = next_field set 1 taken_field
+      saved = context_field bits set d
 
       abbrev v : ℕ → ℕ
       v = number set test st
@@ -208,30 +205,14 @@ module _ (g : Setting) (has : HasRegisters g) (alive : Variable → Type 0) (n :
         abbrev saves : Draft
         saves = with_instr (I.StoreContext saved) e
 
-        abbrev tests : Draft
-        tests = with_instr (I.NeZero a) saves
-
         of : (a.set ≡ set) × (set < length (shapes g)) × (a.len ≡ known)
         of = gives_set g alive places fields known (length begun.fields) begun s set st (words test) a e gives
 
         within_saves : Within g saves
-        within_saves = earlier g saves tests 1 (and_one g (I.NeZero a) saves) within
+        within_saves = earlier g saves (with_instr (I.NeZero a) saves) 1 (and_one g (I.NeZero a) saves) within
 
-        longer : Extended begun (gives.passes.grown.0 + 2) tests
-        longer = extended begun e tests gives.passes.grown.0 2 gives.passes.grown.1 (extended e saves tests 1 1 (and_one g (I.StoreContext saved) e) (and_one g (I.NeZero a) saves))
-
-        own : IsOwnField g f
-        own = taken g set bits W.Own d tests (0 + (gives.passes.grown.0 + 2)) within (extended taken_field begun tests 0 (gives.passes.grown.0 + 2) (and_entry set 1 W.Own taken_field) longer)
-
-        own_saved : IsOwnField g saved
-        own_saved = taken g set 1 W.Own taken_field tests (gives.passes.grown.0 + 2) within longer
-
-        -- the entries that there are
-        entries : (length taken_field.fields ≡ length d.fields + 1) × (length begun.fields ≡ length d.fields + 1 + 1) × (length begun.fields ≤ length e.fields) × (length e.fields ≤ length saves.fields)
-        entries =
-            let one = one_more set bits W.Own d in
-            let two = one_more set 1 W.Own taken_field in
-            (one, omega (arith, one, two), fields_longer begun e gives.passes.grown.0 gives.passes.grown.1, fields_longer e saves 1 (and_one g (I.StoreContext saved) e))
+        less : length d.fields ≤ length begun.fields
+        less = let l = (two_more bits set d).1 in omega (arith, l)
 
         saves_more : length saves.code ≡ length e.code + 1
         saves_more = code_more g (I.StoreContext saved) e
@@ -240,27 +221,29 @@ module _ (g : Setting) (has : HasRegisters g) (alive : Variable → Type 0) (n :
         unfolding step_of
         named_test = names_first g (I.NeZero a) a [] (length saves.code) (stands_here g (I.NeZero a) saves within refl) refl
 
-        named_saved : IsNamedAt g.unit saved.offset (length e.code)
-        unfolding step_of
-        named_saved = names_first g (I.StoreContext saved) saved [] (length e.code) (stands_here g (I.StoreContext saved) e within_saves refl) refl
-
-        stored : Stored g places alive fields.active set saved e (I.StoreContext saved) t st (λ x. Unit {0}) (λ x. from_bool (fields.active set x))
-        stored = store_context g places alive fields.active set saved e t st own_saved (no_home g alive (length d.fields) saved.offset (let one = one_more set bits W.Own d in omega (arith, one)) here) refl refl within_saves gives.passes.at.stands (fields_sim g alive places fields st t gives.passes.sim)
+        -- the context is saved
+        abbrev stored : Stored g places alive fields.active set saved e (I.StoreContext saved) t st (λ x. Unit {0}) (λ x. from_bool (fields.active set x))
+        stored = context_stored g has alive n ready places fields bits set d s st here e (Behind g a e) (length begun.fields) less gives.passes within_saves
 
         stored_sim : Sim g alive st stored.t
-        stored_sim = whole_sim g alive places fields st stored.t stored.sim
+        stored_sim = context_sim g has alive n ready places fields bits set d s st here e (Behind g a e) (length begun.fields) less gives.passes within_saves
 
-        stored_here : Starts g alive stored.t (length saves.code) saves.regs (length saves.fields)
-        stored_here = starts_next g alive (I.StoreContext saved) e t stored.t stored.at gives.passes.at
+        stored_stays : (last : ℕ) → length e.code < last → Stays g alive places fields begun e t stored.t last
+        stored_stays last late h one x newer older own_h ends named early after =
+            let l = two_more bits set d in
+            let l0 = l.0 in
+            let l1 = l.1 in
+            beside_context g has alive n ready places fields bits set d s st here e (Behind g a e) (length begun.fields) less gives.passes within_saves h one last x (λ same. omega (arith, same, newer, l0, l1)) own_h named early after late
 
-        stored_stays : (h : Field) (one last x : ℕ) → (h.offset ≡ saved.offset → ⊥) → IsOwnField g h → IsNamedAt g.unit h.offset one → one < length e.code → IsNamedAt g.unit h.offset last → length e.code < last → number_in g h stored.t x ≡ number_in g h t x
-        stored_stays h one last x differ own_h named early after late = stored.beside h x (named_apart g places h saved one (length e.code) last differ own_h own_saved of.1 named early after late named_saved)
+        keeping : Keeping g alive places fields set (length d.fields) bits saved saves stored.t
+        keeping = context_keeping g has alive n ready places fields bits set d s st here e (Behind g a e) (length begun.fields) less gives.passes within_saves
 
         -- the field of the condition tells where it holds, as long as it is named
+        behind_test : Behind g a e
+        behind_test = let more = saves_more in (length saves.code, (named_test, omega (arith, more)))
+
         told : Tells g set a t v
-        told =
-            let more = saves_more in
-            numbers_tell g known set a t (words test) v (λ x below. zero_told g alive n places fields set test st s sim kinded parts.0 x) (gives_numbers g alive places fields known (length begun.fields) begun s set st (words test) a e gives (length saves.code, (named_test, omega (arith, more))))
+        told = numbers_tell g known set a t (words test) v (λ x below. zero_told g alive n places fields set test st s sim kinded parts.0 x) (gives_numbers g alive places fields known (length begun.fields) begun s set st (words test) a e gives behind_test)
 
         tells_at : (u : CodeState) (last : ℕ) → Sim g alive st u → IsNamedAt g.unit a.offset last → length e.code ≤ last → u.at ≤ start g + last → Stays g alive places fields begun e t u last → Tells g set a u v
         tells_at u last sim_there named early late stays = (
@@ -272,161 +255,39 @@ module _ (g : Setting) (has : HasRegisters g) (alive : Variable → Type 0) (n :
 
         ready_first : Ready g has alive n ready places fields false set (length d.fields) bits saved a v first saves stored.t st
         ready_first =
-            let l = entries in
-            let l0 = l.0 in
-            let l1 = l.1 in
-            let l2 = l.2 in
-            let l3 = l.3 in
             let more = saves_more in
             record {
-              here = stored_here;
+              here = context_here g has alive n ready places fields bits set d s st here e (Behind g a e) (length begun.fields) less gives.passes within_saves;
               sim = stored_sim;
-              tells = tells_at stored.t (length saves.code) stored_sim named_test (omega (arith, more)) (let at = stored.at in omega (arith, at)) (λ h one x newer older own_h ends named early after. stored_stays h one (length saves.code) x (λ same. omega (arith, same, newer, l0, l1)) own_h named early after (omega (arith, more)));
-              keeping = record {
-                exists = of.1;
-                own = own;
-                none = (no_home g alive (length d.fields) (length d.fields) (omega arith) here);
-                inside = omega (arith, l1, l2, l3);
-                of_set = refl;
-                own_saved = own_saved;
-                saved_inside = omega (arith, l0, l1, l2, l3);
-                other = λ same. omega (arith, same, l0);
-                saved_ends = stored.ends;
-                somewhere = length e.code;
-                named = named_saved;
-                before = omega (arith, more);
-                saves = λ x below. stored.has x below tt;
-              };
+              tells = tells_at stored.t (length saves.code) stored_sim named_test (omega (arith, more)) (let at = stored.at in omega (arith, at)) (stored_stays (length saves.code) (omega (arith, more)));
+              keeping = keeping;
             }
 
         -- behind the first half
         module _ (e1 : Draft) (one : Halved g alive places fields set f saved (half false set v fields.active) (words first) saves e1 stored.t st) where
-          code_longer_so : length saves.code ≤ length e1.code
-          code_longer_so = code_longer saves e1 one.grown.0 one.grown.1
-
-          fields_longer_so : length saves.fields ≤ length e1.fields
-          fields_longer_so = fields_longer saves e1 one.grown.0 one.grown.1
-
           ready_second : Within g (with_instr (I.NeZero a) e1) → Ready g has alive n ready places fields true set (length d.fields) bits saved a v second e1 one.t st
           unfolding step_of
           ready_second within_test =
-              let l = entries in
-              let l0 = l.0 in
+              let l = two_more bits set d in
               let l1 = l.1 in
-              let l2 = l.2 in
-              let l3 = l.3 in
               let more = saves_more in
-              let longer_code = code_longer_so in
-              let longer_fields = fields_longer_so in
+              let longer = code_longer saves e1 one.grown.0 one.grown.1 in
+              let l2 = fields_longer e saves 1 (and_one g (I.StoreContext saved) e) in
               record {
                 here = one.at;
                 sim = one.sim;
                 tells =
-                    tells_at one.t (length e1.code) one.sim (names_first g (I.NeZero a) a [] (length e1.code) (stands_here g (I.NeZero a) e1 within_test refl) refl) (omega (arith, more, longer_code)) (let at = one.at.stands in omega (arith, at))
+                    tells_at one.t (length e1.code) one.sim (names_first g (I.NeZero a) a [] (length e1.code) (stands_here g (I.NeZero a) e1 within_test refl) refl) (omega (arith, more, longer)) (let at = one.at.stands in omega (arith, at))
                     (λ h begin x newer older own_h ends named early after.
-                    one.stays h begin (length e1.code) x (omega (arith, older, l3)) (λ same. omega (arith, same, newer, l1)) own_h ends named (omega (arith, early, more)) after (omega arith)
-                    ∙ stored_stays h begin (length e1.code) x (λ same. omega (arith, same, newer, l0, l1)) own_h named early after (omega (arith, more, longer_code)));
-                keeping = record {
-                  exists = of.1;
-                  own = own;
-                  none = (no_home g alive (length d.fields) (length d.fields) (omega arith) here);
-                  inside = omega (arith, l1, l2, l3, longer_fields);
-                  of_set = refl;
-                  own_saved = own_saved;
-                  saved_inside = omega (arith, l0, l1, l2, l3, longer_fields);
-                  other = λ same. omega (arith, same, l0);
-                  saved_ends = stored.ends;
-                  somewhere = length e.code;
-                  named = named_saved;
-                  before = omega (arith, more, longer_code);
-                  saves = one.saves;
-                };
+                    one.stays h begin (length e1.code) x (omega (arith, older, l2)) (λ same. omega (arith, same, newer, l1)) own_h ends named (omega (arith, early, more)) after (omega arith) ∙ stored_stays (length e1.code) (omega (arith, more, longer)) h begin x newer older own_h ends named early after);
+                keeping = keeping_on g alive places fields set (length d.fields) bits saved (half false set v fields.active) (words first) saves e1 stored.t st keeping one;
               }
 
           -- behind both
-          module _ (e2 : Draft) (two : Halved g alive places fields set f saved (half true set v fields.active) (words second) e1 e2 one.t st) where
-            go : Reaches g s two.t
-            go = onto g s t two.t gives.passes.go (onto g t stored.t two.t stored.go (onto g stored.t one.t two.t one.go two.go))
-
-            -- the field has the words where the positions are active
-            word_there : (x : ℕ) → x < processors (shapes g) set → is_active (shapes g) two.t.memory set x ≡ true → (number_in g f two.t x ≡ words whole x % 2 ^ bits) × (words whole x < 2 ^ 32)
-            word_there x below on = by (nonzero (v x)) refl
-              where
-                active : fields.active set x ≡ true
-                active = sym (flags_of g alive places fields st two.t set x two.sim of.1 below) ∙ on
-
-                is_word : words whole x ≡ (if nonzero (v x) then words first x else words second x)
-                is_word = choice_at st s sim x
-
-                with : (m : ℕ) → words whole x ≡ m → (number_in g f two.t x ≡ m % 2 ^ bits) × (m < 2 ^ 32) → (number_in g f two.t x ≡ words whole x % 2 ^ bits) × (words whole x < 2 ^ 32)
-                with m same h = subst (λ (y : ℕ). (number_in g f two.t x ≡ y % 2 ^ bits) × (y < 2 ^ 32)) (sym same) h
-
-                by : (b : Bool) → nonzero (v x) ≡ b → (number_in g f two.t x ≡ words whole x % 2 ^ bits) × (words whole x < 2 ^ 32)
-                by true holds =
-                    let first_on = one.puts x below (among_active set v fields.active x active ∙ holds) in
-                    with (words first x) (is_word ∙ ap (λ (b : Bool). if b then words first x else words second x) holds)
-                    (two.leaves one.somewhere one.named one.before x below (others_active set v fields.active x active ∙ ap not holds) ∙ first_on.0, first_on.1)
-                by false none = with (words second x) (is_word ∙ ap (λ (b : Bool). if b then words first x else words second x) none) (two.puts x below (others_active set v fields.active x active ∙ ap not none))
-
-            abbrev grown : ℕ
-            grown = gives.passes.grown.0 + (1 + (one.grown.0 + two.grown.0))
-
-            all_grown : Extended d (0 + grown) e2
-            all_grown =
-                extended d begun e2 0 grown (extended d taken_field begun 0 0 (and_entry set bits W.Own d) (and_entry set 1 W.Own taken_field))
-                (extended begun e e2 gives.passes.grown.0 (1 + (one.grown.0 + two.grown.0)) gives.passes.grown.1
-                (extended e saves e2 1 (one.grown.0 + two.grown.0) (and_one g (I.StoreContext saved) e) (extended saves e1 e2 one.grown.0 two.grown.0 one.grown.1 two.grown.1)))
-
-            answers : Answers g has alive n ready places fields (IsFlag whole) bits (length d.fields) d s set st (words whole) (O.Field f) e2
-            answers =
-                let l = entries in
-                let l0 = l.0 in
-                let l1 = l.1 in
-                let l2 = l.2 in
-                let l3 = l.3 in
-                let more = saves_more in
-                let longer_code = code_longer_so in
-                let longer_fields = fields_longer_so in
-                let last_code = code_longer e1 e2 two.grown.0 two.grown.1 in
-                let last_fields = fields_longer e1 e2 two.grown.0 two.grown.1 in
-                let first_code_longer = code_longer begun e gives.passes.grown.0 gives.passes.grown.1 in (
-                  f,
-                  (
-                    refl,
-                    (
-                      record {
-                        passes = record {
-                          grown = (0 + grown, all_grown);
-                          t = two.t;
-                          go = go;
-                          at = two.at;
-                          registers = λ x kept.
-                              keeps_on g d saves (0 + gives.passes.grown.0 + 1) s stored.t two.t (extended d e saves (0 + gives.passes.grown.0) 1 (extended d begun e 0 gives.passes.grown.0 (extended d taken_field begun 0 0 (and_entry set bits W.Own d) (and_entry set 1 W.Own taken_field)) gives.passes.grown.1) (and_one g (I.StoreContext saved) e))
-                              (λ y kept_so. ap (λ (registers : List ℕ). slice_index registers y) stored.registers ∙ keeps_less g d begun s t (omega arith) gives.passes.registers y kept_so) (keeps_on g saves e1 one.grown.0 stored.t one.t two.t one.grown.1 one.registers two.registers) x kept;
-                          sim = two.sim;
-                          stays = λ used h begin last x below own_h ends named early after late.
-                              two.stays h begin last x (omega (arith, below, l1, l2, l3, longer_fields)) (λ same. omega (arith, same, below)) own_h ends named (omega (arith, early, first_code_longer, more, longer_code)) after late
-                              ∙ one.stays h begin last x (omega (arith, below, l1, l2, l3)) (λ same. omega (arith, same, below)) own_h ends named (omega (arith, early, first_code_longer, more)) after (omega (arith, late, last_code))
-                              ∙ stored_stays h begin last x (λ same. omega (arith, same, below, l0)) own_h named (omega (arith, early, first_code_longer)) after (omega (arith, late, last_code, longer_code, more))
-                              ∙ gives.passes.stays (length saves.code, (named_test, omega (arith, more))) h begin last x (omega (arith, below, l1)) own_h ends named early after (omega (arith, late, last_code, longer_code, more));
-                        };
-                        stands = inl (record {
-                          long = bits;
-                          own = own;
-                          fits = omega arith;
-                          ends = two.ends;
-                          newer = omega arith;
-                          older = omega (arith, l1, l2, l3, longer_fields, last_fields);
-                          somewhere = one.somewhere;
-                          named = one.named;
-                          before = (let early = one.before in omega (arith, early, last_code));
-                          has = record { of_set = refl; exists = of.1; len = refl; are = λ x below on. (word_there x below on).0; small = λ x below on. (word_there x below on).1 };
-                        });
-                      },
-                      λ flag k info element wider. places.own_file k 0 set info f element own,
-                    ),
-                  ),
-                )
+          answers : (e2 : Draft) → Halved g alive places fields set f saved (half true set v fields.active) (words second) e1 e2 one.t st → Answers g has alive n ready places fields (IsFlag whole) bits (length d.fields) d s set st (words whole) (O.Field f) e2
+          answers e2 two =
+              halves_answer g has alive n ready places fields bits set d s st here e (Behind g a e) (length begun.fields) less gives.passes within_saves behind_test (words whole) e2
+              (subst (λ (w : ℕ → ℕ). Halved g alive places fields set f saved fields.active w saves e2 stored.t st) (λ j x. sym (choice_at st s sim x) j) (both_halved g alive places fields set f saved v (words first) (words second) saves e1 e2 stored.t st one two)) (IsFlag whole)
 
       -- all of it
       chosen : IsMeant g has alive n ready places fields set test st → ((b : Active) → IsPure set first → IsValuedUnder bits set b first) → ((b : Active) → IsPure set second → IsValuedUnder bits set b second)

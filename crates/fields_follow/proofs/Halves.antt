@@ -53,6 +53,11 @@ pub half_beside : (second : Bool) (set : ℕ) (v : ℕ → ℕ) (a : Active) (q 
 half_beside false set v a q p differ = sym (among_beside set v a q p differ)
 half_beside true set v a q p differ = sym (others_beside set v a q p differ)
 
+-- nor are those active that were not
+pub half_inactive : (second : Bool) (set : ℕ) (v : ℕ → ℕ) (a : Active) (x : ℕ) → a set x ≡ false → half second set v a set x ≡ false
+half_inactive false set v a x off = among_inactive set v a x off
+half_inactive true set v a x off = others_inactive set v a x off
+
 -- neither operand decides where both halves are active
 pub undecided : (is_or : Bool) (set : ℕ) (v w : ℕ → ℕ) (a : Active) (x : ℕ) → a set x ≡ true → (c : Bool) → half is_or set w (half is_or set v a) set x ≡ c → either_or_both is_or (nonzero (v x)) (nonzero (w x)) ≡ (if c then not is_or else is_or)
 undecided false set v w a x on c is = by (nonzero (v x)) refl
@@ -345,9 +350,10 @@ module _ (g : Setting) (alive : Variable → Type 0) (places : PlacesFields g) (
         saves = λ q below. back_there.stays saved q r.saved_ends ∙ saved_there q below;
       }
 
-  -- other positions that are the same in the set
-  pub halved_same : (set : ℕ) (f saved : Field) (b c : Active) (w : ℕ → ℕ) (d e : Draft) (s : CodeState) (st : State) → ((p : ℕ) → p < processors (shapes g) set → c set p ≡ b set p) → Halved set f saved b w d e s st → Halved set f saved c w d e s st
-  halved_same set f saved b c w d e s st same h = record {
+  -- It is one of other positions and words where the field has these.
+  pub halved_as : (set : ℕ) (f saved : Field) (b c : Active) (w u : ℕ → ℕ) (d e : Draft) (s : CodeState) (st : State) (h : Halved set f saved b w d e s st) → ((p : ℕ) → p < processors (shapes g) set → c set p ≡ true → (number_in g f h.t p ≡ u p % 2 ^ f.len) × (u p < 2 ^ 32))
+      → ((p : ℕ) → p < processors (shapes g) set → c set p ≡ false → b set p ≡ false) → Halved set f saved c u d e s st
+  halved_as set f saved b c w u d e s st h puts fewer = record {
     grown = h.grown;
     t = h.t;
     go = h.go;
@@ -359,10 +365,60 @@ module _ (g : Setting) (alive : Variable → Type 0) (places : PlacesFields g) (
     named = h.named;
     before = h.before;
     stays = h.stays;
-    puts = λ p below on. h.puts p below (sym (same p below) ∙ on);
-    leaves = λ first named early p below off. h.leaves first named early p below (sym (same p below) ∙ off);
+    puts = puts;
+    leaves = λ first named early p below off. h.leaves first named early p below (fewer p below off);
     saves = h.saves;
   }
+
+  -- behind both halves the field has the words of each where that is active
+  pub both_halved : (set : ℕ) (f saved : Field) (v w u : ℕ → ℕ) (d e1 e2 : Draft) (s : CodeState) (st : State) (one : Halved set f saved (half false set v fields.active) w d e1 s st) → Halved set f saved (half true set v fields.active) u e1 e2 one.t st → Halved set f saved fields.active (λ p. if nonzero (v p) then w p else u p) d e2 s st
+  both_halved set f saved v w u d e1 e2 s st one two =
+      let first_code = code_longer d e1 one.grown.0 one.grown.1 in
+      let first_fields = fields_longer d e1 one.grown.0 one.grown.1 in
+      let last_code = code_longer e1 e2 two.grown.0 two.grown.1 in
+      record {
+        grown = (one.grown.0 + two.grown.0, extended d e1 e2 one.grown.0 two.grown.0 one.grown.1 two.grown.1);
+        t = two.t;
+        go = onto g s one.t two.t one.go two.go;
+        at = two.at;
+        registers = keeps_on g d e1 one.grown.0 s one.t two.t one.grown.1 one.registers two.registers;
+        sim = two.sim;
+        ends = two.ends;
+        somewhere = one.somewhere;
+        named = one.named;
+        before = (let early = one.before in omega (arith, early, last_code));
+        stays = λ h first last p below differ own ends named early after late. two.stays h first last p (omega (arith, below, first_fields)) differ own ends named (omega (arith, early, first_code)) after late ∙ one.stays h first last p below differ own ends named early after (omega (arith, late, last_code));
+        puts = λ p below on. by p below on (nonzero (v p)) refl;
+        leaves = λ first named early p below off. two.leaves one.somewhere one.named one.before p below (others_inactive set v fields.active p off) ∙ one.leaves first named early p below (among_inactive set v fields.active p off);
+        saves = two.saves;
+      }
+    where
+      by : (p : ℕ) → p < processors (shapes g) set → fields.active set p ≡ true → (b : Bool) → nonzero (v p) ≡ b → (number_in g f two.t p ≡ (if nonzero (v p) then w p else u p) % 2 ^ f.len) × ((if nonzero (v p) then w p else u p) < 2 ^ 32)
+      by p below on b is = subst (λ (c : Bool). (number_in g f two.t p ≡ (if c then w p else u p) % 2 ^ f.len) × ((if c then w p else u p) < 2 ^ 32)) (sym is) (there b is)
+        where
+          there : (b : Bool) → nonzero (v p) ≡ b → (number_in g f two.t p ≡ (if b then w p else u p) % 2 ^ f.len) × ((if b then w p else u p) < 2 ^ 32)
+          there true holds = let first = one.puts p below (among_active set v fields.active p on ∙ holds) in (two.leaves one.somewhere one.named one.before p below (others_active set v fields.active p on ∙ ap not holds) ∙ first.0, first.1)
+          there false none = two.puts p below (others_active set v fields.active p on ∙ ap not none)
+
+  -- what is found beside one is so behind it
+  pub keeping_on : (set offset bits : ℕ) (saved : Field) (b : Active) (w : ℕ → ℕ) (d e : Draft) (s : CodeState) (st : State) → Keeping set offset bits saved d s → (h : Halved set (record { set = set; offset = offset; len = bits }) saved b w d e s st) → Keeping set offset bits saved e h.t
+  keeping_on set offset bits saved b w d e s st r h =
+      let more = fields_longer d e h.grown.0 h.grown.1 in
+      record {
+        exists = r.exists;
+        own = r.own;
+        none = r.none;
+        inside = (let inside = r.inside in omega (arith, inside, more));
+        of_set = r.of_set;
+        own_saved = r.own_saved;
+        saved_inside = (let inside = r.saved_inside in omega (arith, inside, more));
+        other = r.other;
+        saved_ends = r.saved_ends;
+        somewhere = r.somewhere;
+        named = r.named;
+        before = (let longer = code_longer d e h.grown.0 h.grown.1 in let early = r.before in omega (arith, early, longer));
+        saves = h.saves;
+      }
 
 module _ (g : Setting) (has : HasRegisters g) (alive : Variable → Type 0) (n : ℕ) (ready : (d : Draft) → IsReadyButForFields g.typed g.instance (layout g) n d) (places : PlacesFields g) (fields : HoldsTheFields g) where
   -- an operand, as it is put where these positions are active

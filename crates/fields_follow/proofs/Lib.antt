@@ -28,6 +28,7 @@ pub mod Folds
 pub mod Forms
 pub mod Gets
 pub mod Halves
+pub mod Halving
 pub mod Hops
 pub mod Indexing
 pub mod Instructions

@@ -26,6 +26,18 @@ module _ (g : Setting) (alive : Variable → Type 0) where
     stays = λ wanted h first last q below own ends before low after high. p.stays wanted h first last q (omega (arith, below, less)) own ends before low after high;
   }
 
+  -- code of conditions leaves what code of values does
+  abbrev pub passes_of : (bound : ℕ) (d e : Draft) (s : CodeState) (st : State) (used : Type 0) → bound ≤ length d.fields → PassesTests g alive d e s st used → used → Passes g alive bound d e s st (Unit {0})
+  passes_of bound d e s st used less p wanted = record {
+    grown = p.grown;
+    t = p.t;
+    go = p.go;
+    at = p.at;
+    registers = p.registers;
+    sim = p.sim;
+    stays = λ u h first last q below own ends before low after high. p.stays wanted h first last q (omega (arith, below, less)) own ends before low after high;
+  }
+
   -- one piece, and another behind it
   unfoldable pub tests_on : (d e f : Draft) (s : CodeState) (st : State) (one two both : Type 0) → (a : PassesTests g alive d e s st one) → PassesTests g alive e f a.t st two → (both → one) → (both → two) → PassesTests g alive d f s st both
   tests_on d e f s st one two both a b use_one use_two = record {

@@ -33,8 +33,8 @@ use Rattle.fields_follow.proofs.Instructions.{Puts, extents, shapes}
 use Rattle.fields_follow.proofs.Leaving.{PassesTests}
 use Rattle.fields_follow.proofs.Meaning.{value_in, word_at}
 use Rattle.fields_follow.proofs.Outcomes.{Ended, Given, Known, known_follows, meant, then_known}
-use Rattle.fields_follow.proofs.Passing.{After, Behind, GivesField, Passes, after_same, code_longer, flags_of, made_after, names_second, names_third}
-use Rattle.fields_follow.proofs.PassingTests.{tests_on}
+use Rattle.fields_follow.proofs.Passing.{After, Behind, GivesField, after_same, code_longer, flags_of, made_after, names_second, names_third}
+use Rattle.fields_follow.proofs.PassingTests.{passes_of, tests_on}
 use Rattle.fields_follow.proofs.Places.{HoldsTheFields, IsOwnField, PlacesFields, stands_here}
 use Rattle.fields_follow.proofs.TestFlags.{LeavesTests}
 use Rattle.fields_follow.proofs.TruthPuts.{at_once, bit_moved, flag_stored, puts_bit, puts_flags, puts_joined, puts_turned, through_bit}
@@ -48,18 +48,6 @@ pub truth_held : (elem : Elem) (w : ℕ) → w ≡ from_bool (nonzero w) → hel
 truth_held elem w is = ap (held elem) is ∙ bit_converted int_type elem (nonzero w) ∙ sym is
 
 module _ (g : Setting) (has : HasRegisters g) (alive : Variable → Type 0) (n : ℕ) (ready : (d : Draft) → IsReadyButForFields g.typed g.instance (layout g) n d) (places : PlacesFields g) (fields : HoldsTheFields g) where
-  -- code of conditions leaves what code of values does
-  abbrev passes_of : (bound : ℕ) (d e : Draft) (s : CodeState) (st : State) (used : Type 0) → bound ≤ length d.fields → PassesTests g alive d e s st used → used → Passes g alive bound d e s st (Unit {0})
-  passes_of bound d e s st used less p wanted = record {
-    grown = p.grown;
-    t = p.t;
-    go = p.go;
-    at = p.at;
-    registers = p.registers;
-    sim = p.sim;
-    stays = λ u h first last q below own ends before low after high. p.stays wanted h first last q (omega (arith, below, less)) own ends before low after high;
-  }
-
   abbrev Gave : ℕ → ℕ → TExpr → Draft → CodeState → State → Out → Draft → Type 0
   Gave bits set e d s st = Answers g has alive n ready places fields (IsFlag e) bits (length d.fields) d s set st (λ q. word_at (extents g set) st e q)
 
@@ -103,7 +91,7 @@ module _ (g : Setting) (has : HasRegisters g) (alive : Variable → Type 0) (n :
           let on = active left.leaves.t left.leaves.sim exists in
           inl (
             comes.gives given,
-            own_result g has alive n ready places fields 1 set d e2 s st (λ q. word_at (extents g set) st e q) i within none (passes_of (length d.fields) (with_entry set 1 W.Own d) e2 s st (Unit {0}) (taken_less 1) left.leaves tt)
+            own_result g has alive n ready places fields 1 set d e2 s st (λ q. word_at (extents g set) st e q) i within none (passes_of g alive (length d.fields) (with_entry set 1 W.Own d) e2 s st (Unit {0}) (taken_less 1) left.leaves tt)
                 (as_words (λ v. Puts g set i dest left.leaves.t v) (puts_flags g set (length d.fields) left.leaves.t (number set e st) (λ q below active_there. left.flags q below (on q below active_there) ∙ same_truth q below) truth)),
           )))
           (λ early x e2. inr (comes.ends early))))
@@ -127,7 +115,7 @@ module _ (g : Setting) (has : HasRegisters g) (alive : Variable → Type 0) (n :
           inl (
             comes.gives given,
             own_result g has alive n ready places fields bits set d e2 s st (λ q. word_at (extents g set) st e q) i within none
-                (passes_of (length d.fields) (with_entry set bits W.Own d) e2 s st (Behind g kept e2) (taken_less bits) bit.passes behind)
+                (passes_of g alive (length d.fields) (with_entry set bits W.Own d) e2 s st (Behind g kept e2) (taken_less bits) bit.passes behind)
                 (as_words (λ v. Puts g set i dest bit.passes.t v) (puts_bit g set dest kept bit.passes.t (number set e st) bit.len (λ q below active_there. bit.are behind q below (on q below active_there) ∙ ap from_bool (same_truth q below)) truth)),
           )))
           (λ early x e2. inr (comes.ends early))))
@@ -156,7 +144,7 @@ module _ (g : Setting) (has : HasRegisters g) (alive : Variable → Type 0) (n :
         inl (
           comes.gives given,
           own_result g has alive n ready places fields 1 set d e2 s st (λ q. word_at (extents g set) st e q) i within none
-              (passes_of (length d.fields) (with_entry set 1 W.Own d) e2 s st (Behind g a e2) (taken_less 1) bit.passes behind)
+              (passes_of g alive (length d.fields) (with_entry set 1 W.Own d) e2 s st (Behind g a e2) (taken_less 1) bit.passes behind)
               (as_words (λ v. Puts g set i dest bit.passes.t v) (subst (λ (v : ℕ → ℕ). Puts g set i dest bit.passes.t v) (λ j q. same q j) (puts_turned g set (length d.fields) a bit.passes.t (number set inner st) (λ q below active_there. bit.are behind q below (on q below active_there))))),
         ))))
         (λ early x e2. inr (comes.ends early)))
@@ -183,7 +171,7 @@ module _ (g : Setting) (has : HasRegisters g) (alive : Variable → Type 0) (n :
           let on = active two.passes.t two.passes.sim two.exists in
           inl (
             is_given,
-            own_result g has alive n ready places fields 1 set d e2 s st (λ q. word_at (extents g set) st e q) i within none (passes_of (length d.fields) d1 e2 s st (Unit {0}) (taken_less 1) passes tt)
+            own_result g has alive n ready places fields 1 set d e2 s st (λ q. word_at (extents g set) st e q) i within none (passes_of g alive (length d.fields) d1 e2 s st (Unit {0}) (taken_less 1) passes tt)
                 (as_words (λ v. Puts g set i dest two.passes.t v) (subst (λ (v : ℕ → ℕ). Puts g set i dest two.passes.t v) (λ j q. same q j)
                 (puts_joined g is_or set (length d.fields) f h two.passes.t v w (λ q below active_there. truth_still g alive places fields d1 e1 e2 s set st v f (Behind g h e2) (length e2.code) one two.passes behind_h named_f (omega arith) q below ∙ one.are early_f q below (on q below active_there))
                 (λ q below active_there. two.are behind_h q below (on q below active_there))))),

@@ -22,12 +22,12 @@ use Rattle.paris_code.specs.declared.operands.Field.{Field}
 use Rattle.paris_code.specs.declared.operands.Konst.TheVariants as K
 use Rattle.paris_code.specs.declared.program.Owner.TheVariants as W
 use Rattle.paris_code.specs.Code.{CodeState}
-use Rattle.paris_code.specs.Memory.{is_active, processors}
+use Rattle.paris_code.specs.Memory.{is_tested, processors}
 use Rattle.paris_code.specs.Spans.{IsNamedAt}
 use Rattle.source_meaning.specs.Expressions.{evaluated}
 use Rattle.source_meaning.specs.State.{State}
 use Rattle.source_meaning.specs.Values.{Active, nonzero}
-use Rattle.code_follows.proofs.Following.{Extends, Follows, HasRegisters, Sim, extends_made, extends_then, keeps_less, keeps_on}
+use Rattle.code_follows.proofs.Following.{Extends, Follows, HasRegisters, Sim, extends_made, extends_then, keeps_on}
 use Rattle.code_follows.proofs.Growing.{Extended, extended}
 use Rattle.code_follows.proofs.Settings.{Reaches, Setting, Within, and_one, code_more, earlier, layout, onto, start}
 use Rattle.code_follows.proofs.Values.{extends_grown}
@@ -43,22 +43,23 @@ use Rattle.fields_follow.specs.Fragment.{HasItsKind, IsPure, IsWide, IsPromoted}
 use Rattle.fields_follow.proofs.Arms.{words_of}
 use Rattle.fields_follow.proofs.Conditions.{HaveTheirCode, joined_right}
 use Rattle.fields_follow.proofs.Expressions.{Answers, IsMeant, operand_grows}
-use Rattle.fields_follow.proofs.Flags.{Stored, store_context}
+use Rattle.fields_follow.proofs.Flags.{Stored}
 use Rattle.fields_follow.proofs.Forms.{HasItsCode, pure_kept, HasItsWord, promoted_kept}
-use Rattle.fields_follow.proofs.Halves.{Halved, IsMeantUnder, Keeping, Leads, Narrows, after_delayed, after_under, ended_within, half, half_beside, halved, named_apart, narrowed_more, narrows, halved_same, passed_by, open_both, shut_both, undecided}
+use Rattle.fields_follow.proofs.Halves.{Halved, IsMeantUnder, Keeping, Leads, Narrows, after_delayed, after_under, ended_within, half, half_beside, half_inactive, halved, halved_as, narrowed_more, narrows, passed_by, open_both, shut_both, undecided}
+use Rattle.fields_follow.proofs.Halving.{beside_context, both_own, context_field, context_here, context_keeping, context_sim, context_stored, halves_answer, two_more, with_both}
 use Rattle.fields_follow.proofs.Instructions.{Puts, extents, number_in, puts_constant, shapes, word_in}
 use Rattle.fields_follow.proofs.Leaving.{sim_last, fields_under, keeps_again, places_under, reaches_again, registers_under, starts_again, starts_under, under, within_under, EndsBelow}
 use Rattle.fields_follow.proofs.Meaning.{value_in}
 use Rattle.fields_follow.proofs.Outcomes.{Ended, Given, Known, after_all, ended_back, follows_known, known_follows, meant, then_known}
-use Rattle.fields_follow.proofs.Passing.{After, after_same, code_longer, fields_longer, flags_of, made_after, passes_all, then_after}
-use Rattle.fields_follow.proofs.Places.{HoldsTheFields, IsOwnField, PlacesFields, names_first, stands_here}
+use Rattle.fields_follow.proofs.Passing.{After, Behind, GivesField, Passes, after_same, code_longer, fields_longer, flags_of, gives_numbers, made_after, passes_all, passes_on, puts_own, then_after}
+use Rattle.fields_follow.proofs.PassingTests.{passes_of}
+use Rattle.fields_follow.proofs.Places.{HoldsTheFields, PlacesFields, names_first, stands_here}
 use Rattle.fields_follow.proofs.Sizes.{pure_at, promoted_small}
-use Rattle.fields_follow.proofs.Starts.{no_home, starts_entry, Starts, starts_later, starts_next}
+use Rattle.fields_follow.proofs.Starts.{no_home, starts_entry, Starts, starts_later}
 use Rattle.fields_follow.proofs.TestFlags.{LeavesTests}
 use Rattle.fields_follow.proofs.Testing.{IsTested}
-use Rattle.fields_follow.proofs.Truths.{either_or_both, fields_sim, whole_sim}
-use Rattle.fields_follow.proofs.Values.{IsFlag, and_entry, next_field, one_more, taken, with_entry}
-use Rattle.fields_follow.proofs.Writing.{Written, own_written}
+use Rattle.fields_follow.proofs.Truths.{either_or_both}
+use Rattle.fields_follow.proofs.Values.{IsFlag, next_field, with_entry}
 
 -- what is made behind a piece that only goes on
 abbrev goes_on : (Draft → Draft) → Unit {0} → Draft → Made (Unit {0})
@@ -86,7 +87,7 @@ module _ (g : Setting) (has : HasRegisters g) (alive : Variable → Type 0) (n :
   unfolding Extends
   one_grows is_or set u after = (1, narrowed_more g alive places fields is_or set after)
 
-  module _ (is_or : Bool) (bits set : ℕ) (ty : ValueType) (whole left right : TExpr) (shaped : ty.shape ≡ Some set) (kinded : HasItsKind set left) (apart : joins left right ≡ false) (is : IsPure set whole) (wide : IsWide set (type_of whole)) (c : HasItsCode g.typed g.instance alive n whole)
+  module _ (is_or : Bool) (bits set : ℕ) (ty : ValueType) (whole left right : TExpr) (shaped : ty.shape ≡ Some set) (kinded : HasItsKind set left) (apart : joins left right ≡ false) (is : IsPure set whole) (wide : IsWide set (type_of whole)) (coded : HasItsCode g.typed g.instance alive n whole)
       (codes : HaveTheirCode g.typed g.instance alive n left right) (value : (st : State) (x : ℕ) → from_bool (either_or_both is_or (nonzero (value_in (extents g set) st left x)) (nonzero (value_in (extents g set) st right x))) ≡ value_in (extents g set) st whole x) where
     abbrev test_of : TExpr → Draft → Made (Unit {0})
     test_of e d = tested g.typed (layout g) e d
@@ -135,7 +136,7 @@ module _ (g : Setting) (has : HasRegisters g) (alive : Variable → Type 0) (n :
 
     -- the draft where the left operand is tested
     abbrev begun : Draft → Draft
-    begun d = with_entry set 1 W.Own (with_entry set bits W.Own d)
+    begun d = with_both bits set d
 
     abbrev tests_from : Draft → Draft
     tests_from d = with_instr (sets (next_field set bits d) is_or) (begun d)
@@ -164,14 +165,11 @@ module _ (g : Setting) (has : HasRegisters g) (alive : Variable → Type 0) (n :
     -- ---- what it does
 
     module _ (d : Draft) (s : CodeState) (st : State) (here : Starts g alive s (length d.code) d.regs (length d.fields)) (sim : Sim g alive st s) where
-      abbrev taken_field : Draft
-      taken_field = with_entry set bits W.Own d
-
       abbrev f : Field
       f = next_field set bits d
 
       abbrev saved : Field
-      saved = next_field set 1 taken_field
+      saved = context_field bits set d
 
       abbrev v : ℕ → ℕ
       v = number set left st
@@ -193,22 +191,12 @@ module _ (g : Setting) (has : HasRegisters g) (alive : Variable → Type 0) (n :
       Q = Known g s (meant g fields whole st) (number set whole st) st (Answers g has alive n ready places fields (IsFlag whole) bits (length d.fields) d s set st words)
 
       module _ (within : Within g (tests_from d)) where
-        own : IsOwnField g f
-        own = taken g set bits W.Own d (tests_from d) (0 + 1) within (extended taken_field (begun d) (tests_from d) 0 1 (and_entry set 1 W.Own taken_field) (and_one g (sets f is_or) (begun d)))
-
-        own_saved : IsOwnField g saved
-        own_saved = taken g set 1 W.Own taken_field (tests_from d) 1 within (and_one g (sets f is_or) (begun d))
-
-        abbrev Again : Type 0
-        Again = (later : ℕ) × (IsNamedAt g.unit f.offset later × (length (begun d).code < later))
-
         -- the field begins as what a decided left operand gives
-        first : Written g places fields alive set f (begun d) (sets f is_or) s st (λ x. from_bool is_or) Again
+        first : GivesField g alive bits (length d.fields) (begun d) s set st (λ x. from_bool is_or) f (tests_from d)
         unfolding word_in
-        first = own_written g places fields alive set (sets f is_or) f (begun d) s st (λ x. from_bool is_or) within here.stands sim refl (puts_constant g set f (K.Imm (from_bool is_or)) s (from_bool_below is_or)) own (no_home g alive (length d.fields) (length d.fields) (omega arith) here)
-
-        first_here : Starts g alive first.t (length (tests_from d).code) (tests_from d).regs (length (tests_from d).fields)
-        first_here = starts_next g alive (sets f is_or) (begun d) s first.t first.at (starts_entry g alive _ _ (starts_entry g alive _ _ here))
+        first =
+            puts_own g alive places fields bits (length d.fields) set (sets f is_or) f (begun d) s st (λ x. from_bool is_or) (omega arith) (let l = (two_more bits set d).1 in omega (arith, l)) (both_own g has alive n ready places fields bits set d s st here (tests_from d) 1 (and_one g (sets f is_or) (begun d)) within).0
+            (no_home g alive (length d.fields) (length d.fields) (omega arith) here) refl refl within (starts_entry g alive _ _ (starts_entry g alive _ _ here)) sim (puts_constant g set f (K.Imm (from_bool is_or)) s (from_bool_below is_or))
 
         first_named : IsNamedAt g.unit f.offset (length (begun d).code)
         unfolding step_of
@@ -218,166 +206,101 @@ module _ (g : Setting) (has : HasRegisters g) (alive : Variable → Type 0) (n :
         first_more = code_more g (sets f is_or) (begun d)
 
         -- behind the left operand
-        module _ (e : Draft) (l : LeavesTests g alive fields (tests_from d) first.t set st v e) where
+        module _ (e : Draft) (l : LeavesTests g alive fields (tests_from d) first.passes.t set st v e) where
           abbrev saves : Draft
           saves = with_instr (I.StoreContext saved) e
 
-          entries : (length taken_field.fields ≡ length d.fields + 1) × (length (begun d).fields ≡ length d.fields + 1 + 1) × (length (begun d).fields ≤ length (tests_from d).fields) × (length (tests_from d).fields ≤ length e.fields) × (length e.fields ≤ length saves.fields)
-          entries =
-              let one = one_more set bits W.Own d in
-              let two = one_more set 1 W.Own taken_field in
-              (one, omega (arith, one, two), fields_longer (begun d) (tests_from d) 1 (and_one g (sets f is_or) (begun d)), fields_longer (tests_from d) e l.leaves.grown.0 l.leaves.grown.1, fields_longer e saves 1 (and_one g (I.StoreContext saved) e))
+          less : length d.fields ≤ length d.fields
+          less = omega arith
+
+          -- if the field is named behind it
+          abbrev to_left : Passes g alive (length d.fields) (begun d) e s st (Behind g f (tests_from d))
+          to_left =
+              passes_on g alive (length d.fields) (length d.fields) (begun d) (tests_from d) e s st (Behind g f (tests_from d)) (Unit {0}) (Behind g f (tests_from d)) (omega arith) first.passes
+              (passes_of g alive (length d.fields) (tests_from d) e first.passes.t st (Unit {0}) (let l = (two_more bits set d).1 in let more = fields_longer (begun d) (tests_from d) 1 (and_one g (sets f is_or) (begun d)) in omega (arith, l, more)) l.leaves tt) (λ named. named) (λ named. tt)
+
+          flags : (x : ℕ) → x < processors (shapes g) set → fields.active set x ≡ true → is_tested (shapes g) to_left.t.memory set x ≡ nonzero (v x)
+          unfolding passes_on
+          flags x below on = l.flags x below on
 
           saves_more : length saves.code ≡ length e.code + 1
           saves_more = code_more g (I.StoreContext saved) e
-
-          left_longer : length (tests_from d).code ≤ length e.code
-          left_longer = code_longer (tests_from d) e l.leaves.grown.0 l.leaves.grown.1
 
           module _ (within_narrow : Within g (narrow saves)) where
             within_saves : Within g saves
             within_saves = earlier g saves (narrow saves) 1 (narrow_more saves) within_narrow
 
-            stored : Stored g places alive fields.active set saved e (I.StoreContext saved) l.leaves.t st (λ x. Unit {0}) (λ x. from_bool (fields.active set x))
-            stored = store_context g places alive fields.active set saved e l.leaves.t st own_saved (no_home g alive (length d.fields) saved.offset (let one = one_more set bits W.Own d in omega (arith, one)) here) refl refl within_saves l.leaves.at.stands (fields_sim g alive places fields st l.leaves.t l.leaves.sim)
-
-            named_saved : IsNamedAt g.unit saved.offset (length e.code)
-            unfolding step_of
-            named_saved = names_first g (I.StoreContext saved) saved [] (length e.code) (stands_here g (I.StoreContext saved) e within_saves refl) refl
-
-            stored_stays : (h : Field) (one later x : ℕ) → (h.offset ≡ saved.offset → ⊥) → IsOwnField g h → IsNamedAt g.unit h.offset one → one < length e.code → IsNamedAt g.unit h.offset later → length e.code < later → number_in g h stored.t x ≡ number_in g h l.leaves.t x
-            stored_stays h one later x differ own_h named early after late = stored.beside h x (named_apart g places h saved one (length e.code) later differ own_h own_saved stored.exists named early after late named_saved)
+            abbrev stored : Stored g places alive fields.active set saved e (I.StoreContext saved) to_left.t st (λ x. Unit {0}) (λ x. from_bool (fields.active set x))
+            stored = context_stored g has alive n ready places fields bits set d s st here e (Behind g f (tests_from d)) (length d.fields) less to_left within_saves
 
             -- the left operand does not decide
             left_there : Narrows g alive places fields among_left saves (narrow saves) stored.t st
-            left_there = narrows g alive places fields is_or set v saves stored.t st (λ x below on. stored.tests set x ∙ l.flags x below on) within_narrow stored.at (whole_sim g alive places fields st stored.t stored.sim)
+            left_there =
+                narrows g alive places fields is_or set v saves stored.t st (λ x below on. stored.tests set x ∙ flags x below on) within_narrow stored.at
+                (context_sim g has alive n ready places fields bits set d s st here e (Behind g f (tests_from d)) (length d.fields) less to_left within_saves)
 
             left_here : Starts (under g among_left) alive left_there.t (length (narrow saves).code) (narrow saves).regs (length (narrow saves).fields)
             left_here =
-                let more = saves_more in
-                let two = code_longer saves (narrow saves) 1 left_there.more in
                 starts_under g among_left alive left_there.t (length (narrow saves).code) (narrow saves).regs (length (narrow saves).fields)
-                (starts_later g alive l.leaves.t left_there.t (length e.code) e.regs (length e.fields) (length (narrow saves).code) (narrow saves).regs (length (narrow saves).fields) (omega (arith, more, two)) (extended e saves (narrow saves) 1 1 (and_one g (I.StoreContext saved) e) left_there.more).regs
-                (fields_longer e (narrow saves) (1 + 1) (extended e saves (narrow saves) 1 1 (and_one g (I.StoreContext saved) e) left_there.more)) left_there.at l.leaves.at)
+                (starts_later g alive stored.t left_there.t (length saves.code) saves.regs (length saves.fields) (length (narrow saves).code) (narrow saves).regs (length (narrow saves).fields) (code_longer saves (narrow saves) 1 left_there.more) left_there.more.regs (fields_longer saves (narrow saves) 1 left_there.more) left_there.at
+                (context_here g has alive n ready places fields bits set d s st here e (Behind g f (tests_from d)) (length d.fields) less to_left within_saves))
 
             left_go : Reaches g s left_there.t
-            left_go = onto g s first.t left_there.t first.go (onto g first.t l.leaves.t left_there.t l.leaves.go (onto g l.leaves.t stored.t left_there.t stored.go left_there.go))
+            left_go = onto g s to_left.t left_there.t to_left.go (onto g to_left.t stored.t left_there.t stored.go left_there.go)
 
             keeping : Keeping g alive places fields set (length d.fields) bits saved saves stored.t
-            keeping =
-                let l0 = entries.0 in
-                let l1 = entries.1 in
-                let l2 = entries.2 in
-                let l3 = entries.3 in
-                let l4 = entries.4 in
-                let more = saves_more in
-                record {
-                  exists = stored.exists;
-                  own = own;
-                  none = no_home g alive (length d.fields) (length d.fields) (omega arith) here;
-                  inside = omega (arith, l1, l2, l3, l4);
-                  of_set = refl;
-                  own_saved = own_saved;
-                  saved_inside = omega (arith, l0, l1, l2, l3, l4);
-                  other = λ same. omega (arith, same, l0);
-                  saved_ends = stored.ends;
-                  somewhere = length e.code;
-                  named = named_saved;
-                  before = omega (arith, more);
-                  saves = λ x below. stored.has x below tt;
-                }
+            keeping = context_keeping g has alive n ready places fields bits set d s st here e (Behind g f (tests_from d)) (length d.fields) less to_left within_saves
 
-            -- where the code of the right operand has ended
-            module _ (final : Draft) (ended : Halved g alive places fields set f saved among_both (λ x. from_bool (not is_or)) saves final stored.t st) (place : ℕ) (again_named : IsNamedAt g.unit f.offset place) (late : length saves.code ≤ place) where
+            -- Where the code of the right operand has ended, the field has been put where the right one does not decide among
+            -- those where the left one does not.
+            module _ (final : Draft) (c : Active) (same : (x : ℕ) → c set x ≡ among_both set x) (ended : Halved g alive places fields set f saved c (λ x. from_bool (not is_or)) saves final stored.t st) (place : ℕ) (again_named : IsNamedAt g.unit f.offset place) (late : length saves.code ≤ place) where
+              behind_first : Behind g f (tests_from d)
+              behind_first =
+                  let more = saves_more in
+                  let longer = code_longer (tests_from d) e l.leaves.grown.0 l.leaves.grown.1 in
+                  (place, (again_named, omega (arith, more, longer, late)))
+
               -- what stood in the field
               was : (x : ℕ) → x < processors (shapes g) set → fields.active set x ≡ true → number_in g f stored.t x ≡ from_bool is_or % 2 ^ bits
+              unfolding passes_on
               was x below on =
-                  let l0 = entries.0 in
-                  let l1 = entries.1 in
-                  let l2 = entries.2 in
+                  let two = two_more bits set d in
+                  let l0 = two.0 in
+                  let l1 = two.1 in
+                  let l2 = fields_longer (begun d) (tests_from d) 1 (and_one g (sets f is_or) (begun d)) in
                   let more = saves_more in
                   let begin_more = first_more in
-                  let left_more = left_longer in
-                  let behind_all = late in
-                  stored_stays f (length (begun d).code) place x (λ same. omega (arith, same, l0)) own first_named (omega (arith, begin_more, left_more)) again_named (omega (arith, more, behind_all))
-                  ∙ l.leaves.stays tt f (length (begun d).code) place x (omega (arith, l1, l2)) own ended.ends first_named (omega (arith, begin_more)) again_named (omega (arith, more, behind_all))
-                  ∙ first.has.are x below (flags_of g alive places fields st first.t set x first.sim stored.exists below ∙ on)
+                  let left_more = code_longer (tests_from d) e l.leaves.grown.0 l.leaves.grown.1 in
+                  let own = (both_own g has alive n ready places fields bits set d s st here (tests_from d) 1 (and_one g (sets f is_or) (begun d)) within).0 in
+                  beside_context g has alive n ready places fields bits set d s st here e (Behind g f (tests_from d)) (length d.fields) less to_left within_saves f (length (begun d).code) place x (λ same. omega (arith, same, l0)) own first_named (omega (arith, begin_more, left_more)) again_named (omega (arith, more, late))
+                  ∙ l.leaves.stays tt f (length (begun d).code) place x (omega (arith, l1, l2)) own ended.ends first_named (omega (arith, begin_more)) again_named (omega (arith, more, late))
+                  ∙ (gives_numbers g alive places fields bits (length d.fields) (begun d) s set st (λ x. from_bool is_or) f (tests_from d) first behind_first).are x below
+                  (flags_of g alive places fields st first.passes.t set x first.passes.sim stored.exists below ∙ on)
 
-              word_there : (x : ℕ) → x < processors (shapes g) set → is_active (shapes g) ended.t.memory set x ≡ true → (number_in g f ended.t x ≡ words x % 2 ^ bits) × (words x < 2 ^ 32)
-              word_there x below on = by (among_both set x) refl
+              put_there : (x : ℕ) → x < processors (shapes g) set → fields.active set x ≡ true → (number_in g f ended.t x ≡ words x % 2 ^ bits) × (words x < 2 ^ 32)
+              put_there x below active = by (c set x) refl
                 where
-                  active : fields.active set x ≡ true
-                  active = sym (flags_of g alive places fields st ended.t set x ended.sim stored.exists below) ∙ on
-
                   begin : ℕ
                   begin = length (begun d).code
 
-                  is_word : (b : Bool) → among_both set x ≡ b → words x ≡ from_bool (if b then not is_or else is_or)
-                  is_word b there = pure_at g alive n places fields set whole st s sim is wide c x ∙ sym (value st x) ∙ ap from_bool (undecided is_or set v w fields.active x active b there)
+                  is_word : (b : Bool) → c set x ≡ b → words x ≡ from_bool (if b then not is_or else is_or)
+                  is_word b there = pure_at g alive n places fields set whole st s sim is wide coded x ∙ sym (value st x) ∙ ap from_bool (undecided is_or set v w fields.active x active b (sym (same x) ∙ there))
 
                   with : (b : Bool) → words x ≡ from_bool b → number_in g f ended.t x ≡ from_bool b % 2 ^ bits → (number_in g f ended.t x ≡ words x % 2 ^ bits) × (words x < 2 ^ 32)
                   with b same h = (h ∙ ap (λ (m : ℕ). m % 2 ^ bits) (sym same), subst (λ (m : ℕ). m < 2 ^ 32) (sym same) (from_bool_below b))
 
-                  by : (b : Bool) → among_both set x ≡ b → (number_in g f ended.t x ≡ words x % 2 ^ bits) × (words x < 2 ^ 32)
+                  by : (b : Bool) → c set x ≡ b → (number_in g f ended.t x ≡ words x % 2 ^ bits) × (words x < 2 ^ 32)
                   by true there = with (not is_or) (is_word true there) (ended.puts x below there).0
                   by false there =
                       let more = saves_more in
                       let begin_more = first_more in
-                      let left_more = left_longer in
+                      let left_more = code_longer (tests_from d) e l.leaves.grown.0 l.leaves.grown.1 in
                       with is_or (is_word false there) (ended.leaves begin first_named (omega (arith, more, begin_more, left_more)) x below there ∙ was x below active)
 
               answers : Answers g has alive n ready places fields (IsFlag whole) bits (length d.fields) d s set st words (O.Field f) final
               answers =
-                  let l0 = entries.0 in
-                  let l1 = entries.1 in
-                  let l2 = entries.2 in
-                  let l3 = entries.3 in
-                  let l4 = entries.4 in
-                  let more = saves_more in
-                  let begin_more = first_more in
-                  let left_more = left_longer in
-                  let behind_all = late in
-                  let end_more = code_longer saves final ended.grown.0 ended.grown.1 in
-                  let end_fields = fields_longer saves final ended.grown.0 ended.grown.1 in
-                  let begins : Extended d (0 + 1) (tests_from d) = extended d (begun d) (tests_from d) 0 1 (extended d taken_field (begun d) 0 0 (and_entry set bits W.Own d) (and_entry set 1 W.Own taken_field)) (and_one g (sets f is_or) (begun d)) in
-                  let to_saves : Extended d (0 + 1 + (l.leaves.grown.0 + 1)) saves = extended d (tests_from d) saves (0 + 1) (l.leaves.grown.0 + 1) begins (extended (tests_from d) e saves l.leaves.grown.0 1 l.leaves.grown.1 (and_one g (I.StoreContext saved) e)) in (
-                    f,
-                    (
-                      refl,
-                      (
-                        record {
-                          passes = record {
-                            grown = (0 + 1 + (l.leaves.grown.0 + 1) + ended.grown.0, extended d saves final (0 + 1 + (l.leaves.grown.0 + 1)) ended.grown.0 to_saves ended.grown.1);
-                            t = ended.t;
-                            go = onto g s stored.t ended.t (onto g s first.t stored.t first.go (onto g first.t l.leaves.t stored.t l.leaves.go stored.go)) ended.go;
-                            at = ended.at;
-                            registers = λ y kept.
-                                keeps_on g d saves (0 + 1 + (l.leaves.grown.0 + 1)) s stored.t ended.t to_saves
-                                (λ z kept_so. ap (λ (registers : List ℕ). slice_index registers z) stored.registers ∙ keeps_less g d (tests_from d) first.t l.leaves.t begins.regs l.leaves.registers z kept_so ∙ ap (λ (registers : List ℕ). slice_index registers z) first.registers) ended.registers y kept;
-                            sim = ended.sim;
-                            stays = λ used h begin later x below own_h ends named early behind late.
-                                ended.stays h begin later x (omega (arith, below, l1, l2, l3, l4)) (λ same. omega (arith, same, below)) own_h ends named (omega (arith, early, begin_more, left_more, more)) behind late
-                                ∙ stored_stays h begin later x (λ same. omega (arith, same, below, l0)) own_h named (omega (arith, early, begin_more, left_more)) behind (omega (arith, late, end_more, more))
-                                ∙ l.leaves.stays tt h begin later x (omega (arith, below, l1, l2)) own_h ends named (omega (arith, early, begin_more)) behind (omega (arith, late, end_more, more))
-                                ∙ first.stays (place, (again_named, omega (arith, behind_all, more, left_more, begin_more))) h begin later x (λ same. omega (arith, same, below)) own_h named behind (omega (arith, early)) (omega (arith, late, end_more, more, left_more, begin_more));
-                          };
-                          stands = inl (record {
-                            long = bits;
-                            own = own;
-                            fits = omega arith;
-                            ends = ended.ends;
-                            newer = omega arith;
-                            older = omega (arith, l1, l2, l3, l4, end_fields);
-                            somewhere = ended.somewhere;
-                            named = ended.named;
-                            before = ended.before;
-                            has = record { of_set = refl; exists = stored.exists; len = refl; are = λ x below on. (word_there x below on).0; small = λ x below on. (word_there x below on).1 };
-                          });
-                        },
-                        λ flag k info element wider. places.own_file k 0 set info f element own,
-                      ),
-                    ),
-                  )
+                  halves_answer g has alive n ready places fields bits set d s st here e (Behind g f (tests_from d)) (length d.fields) less to_left within_saves behind_first words final
+                  (halved_as g alive places fields set f saved c fields.active (λ x. from_bool (not is_or)) words saves final stored.t st ended put_there (λ x below off. same x ∙ half_inactive is_or set w among_left x (half_inactive is_or set v fields.active x off))) (IsFlag whole)
 
             -- behind the right operand
             module _ (after : Draft) (r : LeavesTests (under g among_left) alive (fields_under g among_left fields.scope fields.same_extents) (narrow saves) left_there.t set st w after) (within_last : Within g (last f saved (narrow after))) where
@@ -431,7 +354,7 @@ module _ (g : Setting) (has : HasRegisters g) (alive : Variable → Type 0) (n :
               put_named = names_first g (sets f (not is_or)) f [] (length (narrow after).code) (stands_here g (sets f (not is_or)) (narrow after) within_put refl) refl
 
               pure_answers : Answers g has alive n ready places fields (IsFlag whole) bits (length d.fields) d s set st words (O.Field f) (last f saved (narrow after))
-              pure_answers = answers (last f saved (narrow after)) ended (length (narrow after).code) put_named (code_longer saves (narrow after) leads.grown.0 leads.grown.1)
+              pure_answers = answers (last f saved (narrow after)) among_both (λ x. refl) ended (length (narrow after).code) put_named (code_longer saves (narrow after) leads.grown.0 leads.grown.1)
 
             -- the right operand, promoted, stands in a register: it decides everywhere or nowhere
             module _ (after : Draft) (x : ℕ) (promoted : IsPromoted set right) (gives : GivesWord (under g among_left) alive (length (narrow saves).fields) (narrow saves) left_there.t st (words_of g has alive n ready places fields set right st) (K.Reg x) after) (within_last : Within g (last f saved (jump_if_decided is_or x (length after.code + 2) after))) where
@@ -481,19 +404,18 @@ module _ (g : Setting) (has : HasRegisters g) (alive : Variable → Type 0) (n :
               goes : Reaches g gives.passes.t (moved_to g alive (if decides is_or holds then length after.code + 2 + start g else gives.passes.t.at + 1) gives.passes.t)
               goes = decided_goes g alive is_or holds x (length after.code + 2) after gives.passes.t refl within_jump gives.passes.at.stands
 
-              abbrev Ends : Type 0
-              Ends = Halved g alive places fields set f saved among_both (λ y. from_bool (not is_or)) saves (last f saved jump) stored.t st
+              abbrev Ends : Active → Type 0
+              Ends c = Halved g alive places fields set f saved c (λ y. from_bool (not is_or)) saves (last f saved jump) stored.t st
 
               beside_left : (q y : ℕ) → (q ≡ set → ⊥) → fields.active q y ≡ among_left q y
               beside_left q y differ = half_beside is_or set v fields.active q y differ
 
               -- nowhere
-              on_there : decides is_or holds ≡ false → Ends
+              on_there : decides is_or holds ≡ false → Ends among_left
               unfolding word_in before_jump
               on_there free =
-                  halved_same g alive places fields set f saved among_left among_both (λ y. from_bool (not is_or)) saves (last f saved jump) stored.t st (λ y below. open_both is_or set w among_left y holds (right_is y) free)
-                  (halved g alive places fields set (length d.fields) bits saved among_left beside_left (λ y. from_bool (not is_or)) saves jump stored.t st keeping leads jump (sets f (not is_or))
-                  (passes_all (under g among_left) alive (length jump.fields) jump u st (Unit {0}) leads.at leads.sim) (puts_constant (under g among_left) set f (K.Imm (from_bool (not is_or))) u (from_bool_below (not is_or))) within_last)
+                  halved g alive places fields set (length d.fields) bits saved among_left beside_left (λ y. from_bool (not is_or)) saves jump stored.t st keeping leads jump (sets f (not is_or))
+                  (passes_all (under g among_left) alive (length jump.fields) jump u st (Unit {0}) leads.at leads.sim) (puts_constant (under g among_left) set f (K.Imm (from_bool (not is_or))) u (from_bool_below (not is_or))) within_last
                 where
                   u : CodeState
                   u = moved_to g alive (gives.passes.t.at + 1) gives.passes.t
@@ -514,7 +436,7 @@ module _ (g : Setting) (has : HasRegisters g) (alive : Variable → Type 0) (n :
                       }
 
               -- everywhere
-              over_there : decides is_or holds ≡ true → Ends
+              over_there : decides is_or holds ≡ true → Ends among_both
               unfolding before_jump
               over_there decided =
                   let more = jump_more_by in
@@ -530,19 +452,20 @@ module _ (g : Setting) (has : HasRegisters g) (alive : Variable → Type 0) (n :
               register_answers =
                   let one = code_longer saves after before_jump.grown.0 before_jump.grown.1 in
                   let more = jump_more_by in
-                  answers (last f saved jump) (by_case (decides is_or holds) over_there on_there) (length jump.code) set_named (omega (arith, one, more))
+                  by_case (decides is_or holds) (λ decided. answers (last f saved jump) among_both (λ y. refl) (over_there decided) (length jump.code) set_named (omega (arith, one, more)))
+                  (λ free. answers (last f saved jump) among_left (λ y. sym (open_both is_or set w among_left y holds (right_is y) free)) (on_there free) (length jump.code) set_named (omega (arith, one, more)))
 
       -- all of it, by what is said behind the left operand
       logical_known : (again : Draft → Made (Unit {0})) → ((e : Draft) → right_again e ≡ again e) → ((e : Draft) → Extends g e (again e)) → IsTested g has alive n ready places fields set left → (Ended g s (meant g fields left st) → Ended g s (meant g fields whole st))
-          → (IsMeant g has alive n ready places fields set left st → (within : Within g (tests_from d)) (e : Draft) → LeavesTests g alive fields (tests_from d) (first within).t set st v e → After g Q (behind again f saved e))
+          → (IsMeant g has alive n ready places fields set left st → (within : Within g (tests_from d)) (e : Draft) → LeavesTests g alive fields (tests_from d) (first within).passes.t set st v e → After g Q (behind again f saved e))
           → Follows g (Given g (number set whole st) st (Answers g has alive n ready places fields (IsFlag whole) bits (length d.fields) d s set st words)) s (meant g fields whole st) (logical_by is_or ty.shape bits (condition_of g.typed (layout g) left) (condition_of g.typed (layout g) right) d)
       logical_known again again_is grows left_tested left_ends right_after =
           known_follows g s (meant g fields whole st) (number set whole st) st (Answers g has alive n ready places fields (IsFlag whole) bits (length d.fields) d s set st words) (logical_by is_or ty.shape bits (condition_of g.typed (layout g) left) (condition_of g.typed (layout g) right) d)
           (after_same g Q (logical_code d ∙ (λ i. then_make (test_of left (tests_from d)) (λ _ e. behind (λ y. again_is y i) f saved e)))
           (after_delayed g Q (tests_from d) (then_make (test_of left (tests_from d)) (λ _ e. behind again f saved e))
           (extends_then g (tests_from d) (test_of left (tests_from d)) (λ _ e. behind again f saved e) (test_grows left codes.left_code codes.left_field (tests_from d)) (λ _ e. behind_grows again grows f saved e)) (λ within.
-          then_known g (first within).t (meant g fields left st) v st (λ _ e. LeavesTests g alive fields (tests_from d) (first within).t set st v e) Q (test_of left (tests_from d)) (λ _ e. behind again f saved e) (left_tested (tests_from d) (first within).t st (first_here within) (first within).sim)
-          (λ _ e. behind_grows again grows f saved e) (λ is_left _ e l. right_after is_left within e l) (λ early x e. inr (left_ends (ended_back g s (first within).t (meant g fields left st) (first within).go early))))))
+          then_known g (first within).passes.t (meant g fields left st) v st (λ _ e. LeavesTests g alive fields (tests_from d) (first within).passes.t set st v e) Q (test_of left (tests_from d)) (λ _ e. behind again f saved e) (left_tested (tests_from d) (first within).passes.t st (first within).passes.at (first within).passes.sim)
+          (λ _ e. behind_grows again grows f saved e) (λ is_left _ e l. right_after is_left within e l) (λ early x e. inr (left_ends (ended_back g s (first within).passes.t (meant g fields left st) (first within).passes.go early))))))
 
       abbrev Means : Type 0
       Means = IsMeant g has alive n ready places fields set left st → IsMeantUnder g has alive n ready places fields among_left set right st → IsMeant g has alive n ready places fields set whole st
@@ -551,13 +474,13 @@ module _ (g : Setting) (has : HasRegisters g) (alive : Variable → Type 0) (n :
       RightEnds = IsMeant g has alive n ready places fields set left st → Ended g s (evaluated fields.scope right among_left st) → Ended g s (meant g fields whole st)
 
       -- what the right operand ends
-      right_over : (within : Within g (tests_from d)) (e : Draft) (l : LeavesTests g alive fields (tests_from d) (first within).t set st v e) (within_narrow : Within g (narrow (with_instr (I.StoreContext saved) e))) → IsMeant g has alive n ready places fields set left st → RightEnds
+      right_over : (within : Within g (tests_from d)) (e : Draft) (l : LeavesTests g alive fields (tests_from d) (first within).passes.t set st v e) (within_narrow : Within g (narrow (with_instr (I.StoreContext saved) e))) → IsMeant g has alive n ready places fields set left st → RightEnds
           → Ended (under g among_left) (left_there within e l within_narrow).t (evaluated fields.scope right among_left st) → Ended g s (meant g fields whole st)
       right_over within e l within_narrow is_left right_ends early =
           right_ends is_left (ended_back g s (left_there within e l within_narrow).t (evaluated fields.scope right among_left st) (left_go within e l within_narrow) (ended_within g among_left fields (left_there within e l within_narrow).t (evaluated fields.scope right among_left st) early))
 
       -- behind the left operand, one that stands in a field
-      field_after : HasItsKind set right → ((b : Active) → IsTestedUnder set b right) → Means → RightEnds → IsMeant g has alive n ready places fields set left st → (within : Within g (tests_from d)) (e : Draft) → LeavesTests g alive fields (tests_from d) (first within).t set st v e → After g Q (behind field_again f saved e)
+      field_after : HasItsKind set right → ((b : Active) → IsTestedUnder set b right) → Means → RightEnds → IsMeant g has alive n ready places fields set left st → (within : Within g (tests_from d)) (e : Draft) → LeavesTests g alive fields (tests_from d) (first within).passes.t set st v e → After g Q (behind field_again f saved e)
       unfolding narrowed_again
       field_after also right_tested means right_ends is_left within e l =
           after_same g Q (made_behind (test_of right (narrow saves)) (λ after. narrow after) (λ after. Makes (O.Field f) (last f saved after)))
@@ -585,7 +508,7 @@ module _ (g : Setting) (has : HasRegisters g) (alive : Variable → Type 0) (n :
           by within_narrow u after (inr early) = after_all g Q (Makes (O.Field f) (last f saved (narrow after))) (λ y x. inr (right_over within e l within_narrow is_left right_ends early))
 
       -- and one that stands in a register
-      register_after : IsPromoted set right → word_of right ≡ None → Means → RightEnds → IsMeant g has alive n ready places fields set left st → (within : Within g (tests_from d)) (e : Draft) → LeavesTests g alive fields (tests_from d) (first within).t set st v e → After g Q (behind register_again f saved e)
+      register_after : IsPromoted set right → word_of right ≡ None → Means → RightEnds → IsMeant g has alive n ready places fields set left st → (within : Within g (tests_from d)) (e : Draft) → LeavesTests g alive fields (tests_from d) (first within).passes.t set st v e → After g Q (behind register_again f saved e)
       unfolding jumped_over jumped in_register then_make draft_here Extends
       register_after promoted no_word means right_ends is_left within e l =
           after_same g Q (twice_behind (code saves_there) (λ x after. jumped is_or x after) (λ after. Makes (O.Field f) (last f saved after)))
