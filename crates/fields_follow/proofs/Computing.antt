@@ -293,7 +293,7 @@ mutual
       (λ b pure. (done (under g b) (registers_under g b has) alive n ready (places_under g b places) (fields_under g b fields.scope fields.same_extents) set second pure parts.2).value bits some most))
   done g has alive n ready places fields set (T.Convert' ty p operand) is c = convert_done g has alive n ready places fields set ty p operand is is.0 is.2 is.1 c (done g has alive n ready places fields set operand is.2 (convert_part g alive n places fields ty p operand c))
   done g has alive n ready places fields set (T.Pcoord ty axis) is c = by_value g has alive n ready places fields set (T.Pcoord ty axis) is refl c (λ bits some most. coordinate_after g has alive n ready places fields bits set axis ty is)
-  done g has alive n ready places fields set (T.LeftIndex' ty place p indexes (V.File k) of) is c = by_value g has alive n ready places fields set (T.LeftIndex' ty place p indexes (V.File k) of) is refl c (λ bits some most. left_index_after g has alive n ready places fields bits set ty place p indexes k of most is.0 is.1 is.2 (λ are. each_after g has alive n ready places fields set indexes are (all_coded g has alive n ready places fields ty place p indexes (V.File k) of c)) c)
+  done g has alive n ready places fields set (T.LeftIndex' ty place p indexes (V.File k) of) is c = by_value g has alive n ready places fields set (T.LeftIndex' ty place p indexes (V.File k) of) is refl c (λ bits some most. left_index_after g has alive n ready places fields bits set ty place p indexes k of most is (λ are. each_after g has alive n ready places fields set indexes are (all_coded g has alive n ready places fields ty place p indexes (V.File k) of c)) c)
   done g has alive n ready places fields set _ is c = absurd is
 
   -- and so it is of each of the indexes of a get

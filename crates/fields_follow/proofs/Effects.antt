@@ -5,7 +5,7 @@ use Rattle.cstar_base.specs.declared.operators.Op.{Op}
 use Rattle.cstar_base.specs.declared.operators.Place.{Place}
 use Rattle.cstar_base.specs.declared.faults.RunFault.TheVariants.{DivZero}
 use Rattle.cstar_base.specs.Operators.{divides, outcome}
-use Rattle.cstar_tree.specs.declared.typed.TExpr.{TExpr, Row_of-TExpr, items-the_row-TExpr}
+use Rattle.cstar_tree.specs.declared.typed.TExpr.{TExpr, Row_of-TExpr}
 use Rattle.cstar_tree.specs.declared.typed.TExpr as T
 use Rattle.cstar_tree.specs.declared.typed.UnaryOp.{UnaryOp}
 use Rattle.cstar_tree.specs.declared.typed.UnaryOp.TheVariants as U
@@ -23,7 +23,7 @@ use Rattle.lower_base.specs.Drafts.{Draft, Fails, Made, Makes, a_field, an_entry
 use Rattle.lower_base.specs.Operators.{negates}
 use Rattle.lower_expr.specs.Effects.{binary_to, bits_for, cast_to, computed_to, converted_to, field_binary_to, field_operated, fits_field, goes_unchanged, gone_to, keeps_bits, logical_to, moved, put_to}
 use Rattle.lower_expr.specs.Kinds.{done_as, operand_bits, operation_bits, reads_signed, unary_bits}
-use Rattle.lower_expr.specs.Operands.{are_quiet, is_plus, is_quiet, operand_by}
+use Rattle.lower_expr.specs.Operands.{is_plus, is_quiet, operand_by}
 use Rattle.lower_expr.specs.Spots.{field_loaded, loaded, variable_spot}
 use Rattle.lower_expr.specs.Steps.{is_kept, put_value, right_operated, word_for, word_put}
 use Rattle.lower_base.specs.Layouts.{field_of}
@@ -44,21 +44,17 @@ use Rattle.code_follows.proofs.Growing.{Extended}
 use Rattle.code_follows.proofs.Words.{held_wide}
 use Rattle.code_follows.proofs.Settings.{Setting, Within, and_one, layout, start}
 use Rattle.code_follows.specs.Fragment.{NamesAmong}
-use Rattle.fields_follow.specs.Fragment.{ArePure, AreWrapping, HasKnownKind, IsOperand, IsOperation, IsPromoted, IsPure, IsRelation, IsWide}
+use Rattle.fields_follow.specs.Fragment.{HasKnownKind, IsOperand, IsOperation, IsPromoted, IsPure, IsRelation, IsWide}
 use Rattle.fields_follow.proofs.Arms.{PutsLast as Puts_last, field_at, promoted_last, value_last}
-use Rattle.fields_follow.proofs.Extents.{get_names}
 use Rattle.fields_follow.proofs.Forms.{HasItsCode, HasItsWord, IsRead, pure_kept, pure_word}
 use Rattle.fields_follow.proofs.Dividing.{zero_at}
 use Rattle.fields_follow.proofs.Outcomes.{Ended, ended_back, meant, then_known}
-use Rattle.fields_follow.proofs.Pure.{get_gives}
 use Rattle.fields_follow.proofs.Hops.{puts_same}
 use Rattle.fields_follow.proofs.Instructions.{AreAlike, Puts, alike_same, extents, shapes, puts_alike, puts_coordinate, puts_extended}
 use Rattle.fields_follow.proofs.Lengths.{Keeps, divides_wide}
 use Rattle.fields_follow.proofs.Meaning.{as_shaped, read_is, right_of, unary_means, value_in, word_at}
-use Rattle.lower_comm.specs.News.{all_go_by_news}
 use Rattle.fields_follow.proofs.Indexing.{all_coded}
-use Rattle.fields_follow.proofs.News.{get_last}
-use Rattle.fields_follow.proofs.Router.{routed_last}
+use Rattle.fields_follow.proofs.Router.{indexed_last}
 use Rattle.fields_follow.proofs.Operands.{GivesRight, Takes, fields_after, operated_after, operated_extends, right_after, right_extends}
 use Rattle.fields_follow.proofs.Passing.{After, Behind, GivesField, Passes, after_same, fields_longer, made_after, passes_all, passes_from, then_after, names_second}
 use Rattle.fields_follow.proofs.Places.{HoldsTheFields, IsFileField, PlacesFields, stands_here}
@@ -220,7 +216,7 @@ module _ (g : Setting) (has : HasRegisters g) (alive : Variable → Type 0) (n :
       made_after g Q (O.Field f) (with_instr (I.MyNewsCoordinate f axis) d) (λ within.
       last (coordinate_means g has alive n ready places fields set axis ty st wide.0 (places.ends (length d.code) (I.MyNewsCoordinate f axis) f [] (stands_here g (I.MyNewsCoordinate f axis) d within refl) refl tt refl).0) d (I.MyNewsCoordinate f axis) within
       (passes_all g alive (length d.fields) d s st (Unit {0}) here sim)
-      (puts_same g set (I.MyNewsCoordinate f axis) f s (λ q. coordinate (extents g set) q axis) (words_of set (T.Pcoord ty axis) st) (λ q below. sym (held_wide ty.elem (coordinate (extents g set) q axis) wide.1 (places.few set axis q)))
+      (puts_same g set (I.MyNewsCoordinate f axis) f s (λ q. coordinate (extents g set).own q axis) (words_of set (T.Pcoord ty axis) st) (λ q below. sym (held_wide ty.elem (coordinate (extents g set).own q axis) wide.1 (places.few set axis q)))
       (puts_coordinate g set axis f s refl (λ p below. places.few set axis p))))
     where
       f : Field
@@ -267,29 +263,14 @@ module _ (g : Setting) (has : HasRegisters g) (alive : Variable → Type 0) (n :
   gone_same dest Q (Makes out e) h = h
   gone_same dest Q Fails h = tt
 
-  get_computed : (set offset bits : ℕ) (ty : ValueType) (place : Place) (p : _) (indexes : Row_of-TExpr _) (k of : ℕ) → bits ≤ 32 → ty.shape ≡ Some set → of ≡ set → AreWrapping set 0 indexes → HasItsCode g.typed g.instance alive n (T.LeftIndex' ty place p indexes (V.File k) of)
+  -- a get
+  left_index_computed : (set offset bits : ℕ) (ty : ValueType) (place : Place) (p : _) (indexes : Row_of-TExpr _) (k of : ℕ) → bits ≤ 32 → IsPure set (T.LeftIndex' ty place p indexes (V.File k) of) → HasItsCode g.typed g.instance alive n (T.LeftIndex' ty place p indexes (V.File k) of)
       → PutsWords set offset bits (T.LeftIndex' ty place p indexes (V.File k) of)
-  unfolding computed_to NamesVariables
-  get_computed set offset bits ty place p indexes k of most shaped same are c d s st here sim Q last ended =
+  unfolding computed_to spot_of
+  left_index_computed set offset bits ty place p indexes k of most is c d s st here sim Q last ended =
       gone_same (O.Field (field_at set offset bits)) Q _
-      (get_last g alive n places fields ty place p indexes k of set offset bits (λ after. spot_of g.typed (layout g) (T.LeftIndex' ty place p indexes (V.File k) of) after) (length d.fields) d s st most shaped same are c.code.names.0 (get_names g.typed g.instance n of set indexes same are c.code.names.1 c.code.names.2) (omega arith) here sim (λ out e. Q (O.Field (field_at set offset bits)) e)
-      (last (get_gives g places fields n ty place p indexes k of set st shaped same are c.code.names.0 (get_names g.typed g.instance n of set indexes same are c.code.names.1 c.code.names.2))))
-
-  -- and one by the router
-  routed_computed : (set offset bits : ℕ) (ty : ValueType) (place : Place) (p : _) (indexes : Row_of-TExpr _) (k : ℕ) → bits ≤ 32 → ty.shape ≡ Some set → all_go_by_news set 0 (items-the_row-TExpr _ indexes) ≡ false → ArePure set indexes → HasItsCode g.typed g.instance alive n (T.LeftIndex' ty place p indexes (V.File k) set)
-      → PutsWords set offset bits (T.LeftIndex' ty place p indexes (V.File k) set)
-  unfolding computed_to NamesVariables spot_of
-  routed_computed set offset bits ty place p indexes k most shaped goes are c d s st here sim Q last ended =
-      let coded = all_coded g has alive n ready places fields ty place p indexes (V.File k) set c in
-      gone_same (O.Field (field_at set offset bits)) Q _
-      (routed_last g has alive n ready places fields ty place p indexes k set offset bits (length d.fields) (are_quiet indexes) (λ after. spot_of g.typed (layout g) (T.LeftIndex' ty place p indexes (V.File k) set) after) d s st most shaped goes are coded (each_after g has alive n ready places fields set indexes are coded) c.code.names.0 c.code.names.2 refl (omega arith) here sim
-      (λ out e. Q (O.Field (field_at set offset bits)) e) last (λ early x after. ended early (O.Field (field_at set offset bits)) after))
-
-  left_index_computed : (set offset bits : ℕ) (ty : ValueType) (place : Place) (p : _) (indexes : Row_of-TExpr _) (k of : ℕ) → bits ≤ 32 → ty.shape ≡ Some set → of ≡ set → AreWrapping set 0 indexes ⊎ ((all_go_by_news set 0 (items-the_row-TExpr _ indexes) ≡ false) × ArePure set indexes)
-      → HasItsCode g.typed g.instance alive n (T.LeftIndex' ty place p indexes (V.File k) of) → PutsWords set offset bits (T.LeftIndex' ty place p indexes (V.File k) of)
-  left_index_computed set offset bits ty place p indexes k of most shaped same (inl wrapping) c = get_computed set offset bits ty place p indexes k of most shaped same wrapping c
-  left_index_computed set offset bits ty place p indexes k of most shaped same (inr routed) c =
-      subst (λ (m : ℕ). HasItsCode g.typed g.instance alive n (T.LeftIndex' ty place p indexes (V.File k) m) → PutsWords set offset bits (T.LeftIndex' ty place p indexes (V.File k) m)) (sym same) (λ own. routed_computed set offset bits ty place p indexes k most shaped routed.0 routed.1 own) c
+      (indexed_last g has alive n ready places fields ty place p indexes k set of offset bits (length d.fields) (λ after. spot_of g.typed (layout g) (T.LeftIndex' ty place p indexes (V.File k) of) after) d s st most is c
+      (λ are. each_after g has alive n ready places fields set indexes are (all_coded g has alive n ready places fields ty place p indexes (V.File k) of c)) refl (omega arith) here sim (λ out e. Q (O.Field (field_at set offset bits)) e) last (λ early x after. ended early (O.Field (field_at set offset bits)) after))
 
   -- a value that is no truth value
   pub computed_last : (set offset bits : ℕ) (e : TExpr) → 0 < bits → bits ≤ 32 → IsPure set e → IsPlain bits e → HasItsCode g.typed g.instance alive n e → PutsWords set offset bits e
@@ -312,7 +293,7 @@ module _ (g : Setting) (has : HasRegisters g) (alive : Variable → Type 0) (n :
   computed_last set offset bits (T.Choice' ty p test q first r second) some most is plain c = choice_last set offset bits ty p q r test first second some most is is.1.0 c
   computed_last set offset bits (T.Convert' ty p inner) some most is plain c = converted_last set offset bits ty p inner most plain.0 is c (λ enough. computed_last set offset bits inner some most is.2 (plain.1 enough) (convert_part g alive n places fields ty p inner c))
   computed_last set offset bits (T.Pcoord ty axis) some most is plain c = coordinate_last set offset bits axis ty is
-  computed_last set offset bits (T.LeftIndex' ty place p indexes (V.File k) of) some most is plain c = left_index_computed set offset bits ty place p indexes k of most is.0 is.1 is.2 c
+  computed_last set offset bits (T.LeftIndex' ty place p indexes (V.File k) of) some most is plain c = left_index_computed set offset bits ty place p indexes k of most is c
   computed_last set offset bits (T.LogicalOr' ty p left q right) some most is plain c = logical_last set offset bits true (T.LogicalOr' ty p left q right) left right some most is plain c
   computed_last set offset bits (T.LogicalAnd' ty p left q right) some most is plain c = logical_last set offset bits false (T.LogicalAnd' ty p left q right) left right some most is plain c
   computed_last set offset bits _ some most is plain c = absurd is

@@ -3,7 +3,7 @@ use Rattle.std.proofs.Common.{List, ◌≡◌, ◌∙◌, ℕ, ◌+◌, ◌<◌,
 use Rattle.cstar_base.specs.declared.operators.Op.{Op}
 use Rattle.cstar_base.specs.declared.operators.Place.{Place}
 use Rattle.cstar_base.specs.Operators.{outcome}
-use Rattle.cstar_tree.specs.declared.typed.TExpr.{TExpr, Row_of-TExpr, end_of-TExpr, items-the_row-TExpr, more_of-TExpr}
+use Rattle.cstar_tree.specs.declared.typed.TExpr.{TExpr, Row_of-TExpr}
 use Rattle.cstar_tree.specs.declared.typed.TExpr as T
 use Rattle.cstar_tree.specs.declared.typed.UnaryOp.{UnaryOp}
 use Rattle.cstar_tree.specs.declared.typed.UnaryOp.TheVariants as U
@@ -11,7 +11,7 @@ use Rattle.cstar_tree.specs.declared.typed.ValueType.{ValueType}
 use Rattle.cstar_tree.specs.declared.typed.Variable.{Variable}
 use Rattle.cstar_tree.specs.declared.typed.Variable.TheVariants as V
 use Rattle.cstar_tree.specs.Typed.{type_of}
-use Rattle.code_lengths.specs.Naming.{NamesVariables, plain}
+use Rattle.code_lengths.specs.Naming.{plain}
 use Rattle.code_lengths.specs.Ready.{IsReadyButForFields}
 use Rattle.code_lengths.proofs.Agreeing.{lengths_if_made}
 use Rattle.lower_base.specs.declared.emit.Out.{Out}
@@ -19,7 +19,6 @@ use Rattle.lower_base.specs.declared.emit.Out.TheVariants as O
 use Rattle.lower_base.specs.Drafts.{Draft, Made, Makes, Plain, a_field, an_entry, fresh_for, in_field, step as step_of, then_make, with_instr}
 use Rattle.lower_base.specs.Kinds.{bits_of, kind_of}
 use Rattle.lower_base.specs.Operators.{is_signed, negates, relates}
-use Rattle.lower_comm.specs.News.{all_go_by_news}
 use Rattle.lower_expr.specs.Kinds.{done_as, operand_bits, operation_bits, reads_signed, relation_kind, result_bits, unary_bits}
 use Rattle.lower_expr.specs.Operands.{are_quiet, is_plus, is_quiet, operand_by}
 use Rattle.lower_expr.specs.Steps.{field_negated, has_truth, is_kept, negated, word_of}
@@ -45,22 +44,19 @@ use Rattle.code_follows.proofs.Settings.{OpenAmong, Setting, Within, and_one, la
 use Rattle.code_follows.proofs.Standing.{some_same}
 use Rattle.code_follows.proofs.Values.{extends_grown}
 use Rattle.code_follows.proofs.Words.{below_word, held_wide}
-use Rattle.fields_follow.specs.Fragment.{ArePure, AreWrapping, IsOperation, IsPromoted, IsPure, IsWide}
-use Rattle.fields_follow.proofs.Extents.{get_names}
-use Rattle.fields_follow.proofs.Forms.{HasItsCode, HasItsWord, flag_converted, pure_kept, pure_word}
+use Rattle.fields_follow.specs.Fragment.{ArePure, IsOperation, IsPromoted, IsPure, IsWide}
+use Rattle.fields_follow.proofs.Forms.{HasItsCode, HasItsWord, flag_converted, pure_kept, pure_shape, pure_word}
 use Rattle.fields_follow.proofs.Hops.{puts_same}
-use Rattle.fields_follow.proofs.Indexing.{AllValued, all_coded}
+use Rattle.fields_follow.proofs.Indexing.{AllValued}
 use Rattle.fields_follow.proofs.Instructions.{AreAlike, HasNumbers, Puts, alike_same, extents, has_alike, puts_coordinate, puts_extended, puts_lognot, puts_negate, shapes, whole_keeps}
 use Rattle.fields_follow.proofs.Lengths.{Keeps, converted_first, divides_wide, held_has, operation_keeps, operation_most}
 use Rattle.fields_follow.proofs.Meaning.{as_shaped, left_of, right_of, unary_means, value_in, word_at}
-use Rattle.fields_follow.proofs.News.{get_last}
 use Rattle.fields_follow.proofs.Operands.{fields_after}
-use Rattle.fields_follow.proofs.Outcomes.{Ended, Given, Known, ended_on, follows_like, given_follows, known_follows, meant, then_known}
-use Rattle.fields_follow.proofs.Pure.{get_gives}
+use Rattle.fields_follow.proofs.Outcomes.{Ended, Given, Known, ended_on, follows_like, known_follows, meant, then_known}
 use Rattle.fields_follow.proofs.Passing.{After, Behind, Passes, after_same, fields_longer, gives_alike, gives_from, gives_numbers, gives_on, gives_set, made_after, names_second, passes_all, puts_own}
 use Rattle.fields_follow.proofs.Places.{HoldsTheFields, PlacesFields, stands_here}
 use Rattle.fields_follow.proofs.Promoted.{IsComputed, promoted_stands}
-use Rattle.fields_follow.proofs.Router.{routed_last}
+use Rattle.fields_follow.proofs.Router.{indexed_last}
 use Rattle.fields_follow.proofs.Sizes.{binary_parts, convert_part, promoted_small, pure_at, unary_part}
 use Rattle.fields_follow.proofs.Totals.{held_below}
 use Rattle.fields_follow.proofs.Values.{Gives, IsFlag, Valued, and_entry, code_of, first_given, next_field, one_more, operand_after, operand_of, taken, with_entry}
@@ -354,7 +350,7 @@ module _ (g : Setting) (has : HasRegisters g) (alive : Variable → Type 0) (n :
       (after_same g (Knows bits d s set st (T.Pcoord ty axis)) (ap (λ (o : Option ℕ). coordinate_in o bits axis d) wide.0)
       (made_after g (Knows bits d s set st (T.Pcoord ty axis)) (O.Field dest) (with_instr i d1) (λ within.
       let given = own_result {flag = IsFlag (T.Pcoord ty axis)} bits set d d1 s st v i within (no_home g alive (length d.fields) (length d.fields) (omega arith) here) (passes_all g alive (length d.fields) d1 s st (Unit {0}) (starts_entry g alive _ _ here) sim)
-      (puts_same g set i dest s (λ q. coordinate (extents g set) q axis) v (λ q below. sym (held_wide ty.elem (coordinate (extents g set) q axis) wide.1 (places.few set axis q))) (puts_coordinate g set axis dest s refl (λ p below. places.few set axis p))) in
+      (puts_same g set i dest s (λ q. coordinate (extents g set).own q axis) v (λ q below. sym (held_wide ty.elem (coordinate (extents g set).own q axis) wide.1 (places.few set axis q))) (puts_coordinate g set axis dest s refl (λ p below. places.few set axis p))) in
       inl (coordinate_means set axis ty st wide.0 (gives_set g alive places fields bits (length d.fields) d s set st v given.0 (with_instr i d1) given.1.1.0).1, given))))
     where
       d1 : Draft
@@ -459,16 +455,15 @@ module _ (g : Setting) (has : HasRegisters g) (alive : Variable → Type 0) (n :
           (λ is_meant. convert_means set ty p inner st is.0 is_meant) (λ early. convert_ended ty p inner s st early)
           (answers_alike (IsFlag inner) (IsFlag e) (λ one. flag_converted ty.elem (kind_of inner) no_truth one) bits (length d.fields) d s set st (λ q. word_at (extents g set) st inner q) w (convert_alike bits set ty p inner st no_truth (grind (arith, nat_tests, enough)))) (whole bits some most d s st here sim))
 
-  -- a get from neighbours
-  pub get_after : (bits set : ℕ) (ty : ValueType) (place : Place) (p : _) (indexes : Row_of-TExpr _) (k of : ℕ) → bits ≤ 32 → ty.shape ≡ Some set → of ≡ set → AreWrapping set 0 indexes → HasItsCode g.typed g.instance alive n (T.LeftIndex' ty place p indexes (V.File k) of)
-      → IsValued bits set (T.LeftIndex' ty place p indexes (V.File k) of)
-  unfolding value_of index_read_by fresh_for then_make an_entry NamesVariables
-  get_after bits set ty place p indexes k of most shaped same are c d s st here sim =
-      given_follows g s (meant g fields e st) (number set e st) st (Answers (IsFlag e) bits (length d.fields) d s set st v) (code bits e d)
-      (get_gives g places fields n ty place p indexes k of set st shaped same are c.code.names.0 (get_names g.typed g.instance n of set indexes same are c.code.names.1 c.code.names.2))
-      (after_same g (Answers (IsFlag e) bits (length d.fields) d s set st v) (ap (λ (o : Option ℕ). then_make (fresh_for o bits d) (λ dest begun. index_read_to g.typed (layout g) e spot dest begun)) shaped)
-      (get_last g alive n places fields ty place p indexes k of set (length d.fields) bits spot (length d.fields) (with_entry set bits W.Own d) s st most shaped same are c.code.names.0 (get_names g.typed g.instance n of set indexes same are c.code.names.1 c.code.names.2) (let one = one_more set bits W.Own d in omega (arith, one)) (starts_entry g alive _ _ here) sim
-      (Answers (IsFlag e) bits (length d.fields) d s set st v) (λ e2 i within passes puts. own_result bits set d e2 s st v i within (no_home g alive (length d.fields) (length d.fields) (omega arith) here) passes puts)))
+  -- a get
+  pub left_index_after : (bits set : ℕ) (ty : ValueType) (place : Place) (p : _) (indexes : Row_of-TExpr _) (k of : ℕ) → bits ≤ 32 → IsPure set (T.LeftIndex' ty place p indexes (V.File k) of) → (ArePure set indexes → AllValued g has alive n ready places fields set indexes)
+      → HasItsCode g.typed g.instance alive n (T.LeftIndex' ty place p indexes (V.File k) of) → IsValued bits set (T.LeftIndex' ty place p indexes (V.File k) of)
+  unfolding value_of index_read_by fresh_for then_make an_entry
+  left_index_after bits set ty place p indexes k of most is valued c d s st here sim =
+      known_follows g s (meant g fields e st) (number set e st) st (Answers (IsFlag e) bits (length d.fields) d s set st v) (code bits e d)
+      (after_same g (Knows bits d s set st e) (ap (λ (o : Option ℕ). then_make (fresh_for o bits d) (λ dest begun. index_read_to g.typed (layout g) e spot dest begun)) (pure_shape set e is))
+      (indexed_last g has alive n ready places fields ty place p indexes k set of (length d.fields) bits (length d.fields) spot (with_entry set bits W.Own d) s st most is c valued refl (let one = one_more set bits W.Own d in omega (arith, one)) (starts_entry g alive _ _ here) sim
+      (Knows bits d s set st e) (λ is_meant e2 i within passes puts. inl (is_meant, own_result bits set d e2 s st v i within (no_home g alive (length d.fields) (length d.fields) (omega arith) here) passes puts)) (λ early x f. inr early)))
     where
       e : TExpr
       e = T.LeftIndex' ty place p indexes (V.File k) of
@@ -478,30 +473,3 @@ module _ (g : Setting) (has : HasRegisters g) (alive : Variable → Type 0) (n :
 
       v : ℕ → ℕ
       v = λ q. word_at (extents g set) st e q
-
-  -- a get by the router
-  routed_after : (bits set : ℕ) (ty : ValueType) (place : Place) (p : _) (indexes : Row_of-TExpr _) (k : ℕ) → bits ≤ 32 → ty.shape ≡ Some set → all_go_by_news set 0 (items-the_row-TExpr _ indexes) ≡ false → ArePure set indexes → AllValued g has alive n ready places fields set indexes
-      → HasItsCode g.typed g.instance alive n (T.LeftIndex' ty place p indexes (V.File k) set) → IsValued bits set (T.LeftIndex' ty place p indexes (V.File k) set)
-  unfolding value_of index_read_by fresh_for then_make an_entry NamesVariables
-  routed_after bits set ty place p indexes k most shaped goes are valued c d s st here sim =
-      known_follows g s (meant g fields e st) (number set e st) st (Answers (IsFlag e) bits (length d.fields) d s set st v) (code bits e d)
-      (after_same g (Knows bits d s set st e) (ap (λ (o : Option ℕ). then_make (fresh_for o bits d) (λ dest begun. index_read_to g.typed (layout g) e spot dest begun)) shaped)
-      (routed_last g has alive n ready places fields ty place p indexes k set (length d.fields) bits (length d.fields) (are_quiet indexes) spot (with_entry set bits W.Own d) s st most shaped goes are (all_coded g has alive n ready places fields ty place p indexes (V.File k) set c) valued c.code.names.0 c.code.names.2 refl (let one = one_more set bits W.Own d in omega (arith, one)) (starts_entry g alive _ _ here) sim
-      (Knows bits d s set st e) (λ is_meant e2 i within passes puts. inl (is_meant, own_result bits set d e2 s st v i within (no_home g alive (length d.fields) (length d.fields) (omega arith) here) passes puts)) (λ early x f. inr early)))
-    where
-      e : TExpr
-      e = T.LeftIndex' ty place p indexes (V.File k) set
-
-      spot : Draft → Made Spot
-      spot = indexed_spot g.typed (layout g) e (values_of g.typed (layout g) false (are_quiet indexes) indexes)
-
-      v : ℕ → ℕ
-      v = λ q. word_at (extents g set) st e q
-
-  -- either
-  pub left_index_after : (bits set : ℕ) (ty : ValueType) (place : Place) (p : _) (indexes : Row_of-TExpr _) (k of : ℕ) → bits ≤ 32 → ty.shape ≡ Some set → of ≡ set → AreWrapping set 0 indexes ⊎ ((all_go_by_news set 0 (items-the_row-TExpr _ indexes) ≡ false) × ArePure set indexes)
-      → (ArePure set indexes → AllValued g has alive n ready places fields set indexes) → HasItsCode g.typed g.instance alive n (T.LeftIndex' ty place p indexes (V.File k) of) → IsValued bits set (T.LeftIndex' ty place p indexes (V.File k) of)
-  left_index_after bits set ty place p indexes k of most shaped same (inl wrapping) valued c = get_after bits set ty place p indexes k of most shaped same wrapping c
-  left_index_after bits set ty place p indexes k of most shaped same (inr routed) valued c =
-      subst (λ (m : ℕ). HasItsCode g.typed g.instance alive n (T.LeftIndex' ty place p indexes (V.File k) m) → IsValued bits set (T.LeftIndex' ty place p indexes (V.File k) m)) (sym same)
-      (λ own. routed_after bits set ty place p indexes k most shaped routed.0 routed.1 (valued routed.1) own) c

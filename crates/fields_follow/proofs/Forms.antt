@@ -1,5 +1,5 @@
 -- What the lowering sees of pure parallel expressions: their types, where they stand, and which have a word.
-use Rattle.std.proofs.Common.{◌≡◌, ◌∙◌, ℕ, ◌+◌, ◌<◌, ◌≤◌, ◌^◌, ◌%◌, Bool, true, false, not, ◌&&◌, ◌||◌, ◌==◌, List, slice_get, Option, Some, None, refl, sym, ap, subst, inl, inr, if◌then◌else◌, ◌⊎◌, arith}
+use Rattle.std.proofs.Common.{◌≡◌, ◌∙◌, ℕ, ◌+◌, ◌<◌, ◌≤◌, ◌^◌, ◌%◌, Bool, true, false, not, ◌&&◌, ◌||◌, ◌==◌, slice_get, Option, Some, None, refl, sym, ap, subst, inl, inr, if◌then◌else◌, ◌⊎◌, arith}
 use Rattle.std.specs.Prelude.{is_none, nat_le}
 use Rattle.std.proofs.lemmas.Bool.Decides.{nat_tests}
 use Rattle.cstar_base.specs.Numbers.{converted}
@@ -36,7 +36,7 @@ use Rattle.fields_follow.proofs.Totals.{held_below}
 use Rattle.fields_follow.specs.Fragment.{IsCalm, IsConstant, IsDivisor, IsPromoted, IsPure}
 use Rattle.fields_follow.specs.Fields.{IsElement, file_number}
 use Rattle.fields_follow.proofs.FileFields.{first_there}
-use Rattle.fields_follow.proofs.Meaning.{as_shaped, computed_in, constant_means, mapped_is, no_constant, read_is, scalar_in, value_in, word_at}
+use Rattle.fields_follow.proofs.Meaning.{Extents, as_shaped, computed_in, constant_means, mapped_is, no_constant, read_is, scalar_in, value_in, word_at}
 use Rattle.fields_follow.proofs.Lengths.{converted_first}
 use Rattle.lower_expr.specs.Kinds.{is_unchanged}
 use Rattle.cstar_base.specs.declared.elem.Elem.{Elem}
@@ -165,9 +165,9 @@ pub record StandsInVariable (t : Typed) (i : Instance) (alive : Variable → Typ
   pub parallel : info.shape ≡ Some set
   pub one : info.array ≡ None
   pub fits : bits ≤ info.elem.bits
-  pub value : (extents : List ℕ) (st : State) (q : ℕ) → word_at extents st e q % 2 ^ bits ≡ word_of_type info.elem (st.parallel x 0 q) % 2 ^ bits
+  pub value : (extents : Extents) (st : State) (q : ℕ) → word_at extents st e q % 2 ^ bits ≡ word_of_type info.elem (st.parallel x 0 q) % 2 ^ bits
   pub flag : bits_of (kind_of e) ≡ 1 → info.elem.bits ≡ 1
-  pub means : (scope : Scope) (active : Active) (extents : List ℕ) (st : State) → evaluated scope e active st ≡ Gives (Parallel (λ q. value_in extents st e q)) st
+  pub means : (scope : Scope) (active : Active) (extents : Extents) (st : State) → evaluated scope e active st ≡ Gives (Parallel (λ q. value_in extents st e q)) st
 
 -- a parallel variable of the file, which is no array, is an element
 pub whole_element : (t : Typed) (i : Instance) (k set : ℕ) (info : VarInfo) → variable_named t i (V.File k) ≡ Some info → info.shape ≡ Some set → info.array ≡ None → IsElement t k info set 0
@@ -281,8 +281,8 @@ pub record HasItsWord (e : TExpr) : Type 0 where
   pub word : ℕ
   pub is : word_of e ≡ Some word
   pub small : word < 2 ^ 32
-  pub value : (extents : List ℕ) (st : State) (q : ℕ) → word_at extents st e q ≡ word
-  pub means : (scope : Scope) (active : Active) (extents : List ℕ) (st : State) → evaluated scope e active st ≡ Gives (Parallel (λ q. value_in extents st e q)) st
+  pub value : (extents : Extents) (st : State) (q : ℕ) → word_at extents st e q ≡ word
+  pub means : (scope : Scope) (active : Active) (extents : Extents) (st : State) → evaluated scope e active st ≡ Gives (Parallel (λ q. value_in extents st e q)) st
 
 pub constant_word : (set : ℕ) (ty : ValueType) (p : _) (operand : TExpr) → ty.shape ≡ Some set → ty.elem ≡ (type_of operand).elem → (constant : IsConstant operand) → (h : HasItsWord (T.Promote' ty p operand)) × (h.word ≡ word_of_type (type_of operand).elem constant.0)
 unfolding word_of register_word value_in scalar_in evaluated then_do at

@@ -45,9 +45,9 @@ wrapping_unchecked set axis end_of-TExpr are = refl
 wrapping_unchecked set axis (more_of-TExpr index rest) are =
     ap (λ (steps : List GridStep). steps ++ grid_steps set (axis + 1) (items-the_row-TExpr _ rest)) (unchecked axis (step_of set axis index) are.0.1.0 are.0.1.1.0 are.0.1.1.1) ∙ wrapping_unchecked set (axis + 1) rest are.1
 
-module _ (g : Setting) (set : ℕ) (positive : are_positive (extents g set) ≡ true) where
+module _ (g : Setting) (set : ℕ) (positive : are_positive (extents g set).own ≡ true) where
   abbrev xs : List ℕ
-  xs = extents g set
+  xs = (extents g set).own
 
   -- the steps lead to the coordinates of the indexes, the later axes first
   abbrev Leads : ℕ → List ℕ → List TExpr → ℕ → Type 0

@@ -55,19 +55,19 @@ module _ (g : Setting) where
 
   -- the position that is so many steps away
   abbrev pub neighbour : ℕ → ℕ → ℕ → ℕ → ℕ
-  neighbour set axis k p = shifted (extents g set) p axis (number_of 32 true k)
+  neighbour set axis k p = shifted (extents g set).own p axis (number_of 32 true k)
 
   -- the shape is a grid with this axis
   abbrev HasAxis : ℕ → ℕ → Type 0
-  HasAxis set axis = (are_positive (extents g set) ≡ true) × (axis < length (extents g set))
+  HasAxis set axis = (are_positive (extents g set).own ≡ true) × (axis < length (extents g set).own)
 
   -- the number of a neighbour, as it is fetched
   fetched : (bits set axis k : ℕ) (a : Field) (s : CodeState) (v : ℕ → ℕ) → HasAxis set axis → HasEverywhere bits set a s v → (p : ℕ) → p < processors (shapes g) set
       → (of_neighbour (shapes g) s.memory (place g a) axis k p ≡ v (neighbour set axis k p) % 2 ^ bits) × (v (neighbour set axis k p) < 2 ^ 32)
   unfolding of_neighbour
   fetched bits set axis k a s v grid h p below =
-      let low = shifted_below (extents g set) p axis (number_of 32 true k) grid.0 below grid.1 in
-      (ap (λ (n : ℕ). field_number s.memory (place g a) (shifted (extents g n) p axis (number_of 32 true k))) h.of_set ∙ h.are (neighbour set axis k p) low, h.small (neighbour set axis k p) low)
+      let low = shifted_below (extents g set).own p axis (number_of 32 true k) grid.0 below grid.1 in
+      (ap (λ (n : ℕ). field_number s.memory (place g a) (shifted (extents g n).own p axis (number_of 32 true k))) h.of_set ∙ h.are (neighbour set axis k p) low, h.small (neighbour set axis k p) low)
 
   puts_news : (bits set axis k : ℕ) (d a : Field) (s : CodeState) (v : ℕ → ℕ) → d.len ≡ bits → HasAxis set axis → HasEverywhere bits set a s v → Puts g set (I.GetFromNews d a axis (K.Imm k)) d s (λ p. v (neighbour set axis k p))
   unfolding begun applied after step_of
@@ -276,7 +276,7 @@ module _ (g : Setting) where
               let rest = steps_extend steps (hopped hop) (with_hop step hop d) in
               let later : Within g (stepwise elem dest steps (hopped hop) (with_hop step hop d)) = subst (λ (e : Draft). Within g e) (on hop d) within in
               let (first, moved) = hop_by bits bound set step.axis are.0.0 step.step hop.next hop.source d s st v are.0.1 fresh are.1 h (earlier g _ _ rest.0 rest.1 later) (names_source steps (hopped hop) (with_hop step hop d) later) here sim in
-              let still_of_type : OfType set (λ q. v (neighbour set step.axis (konst_number step.step []) q)) = λ q below. of_type (neighbour set step.axis (konst_number step.step []) q) (shifted_below (extents g set) q step.axis (number_of 32 true (konst_number step.step [])) are.1.0 below are.1.1) in
+              let still_of_type : OfType set (λ q. v (neighbour set step.axis (konst_number step.step []) q)) = λ q below. of_type (neighbour set step.axis (konst_number step.step []) q) (shifted_below (extents g set).own q step.axis (number_of 32 true (konst_number step.step [])) are.1.0 below are.1.1) in
               let (e2, (i, (same, (passes, puts)))) = go (λ q. v (neighbour set step.axis (konst_number step.step []) q)) still_of_type (hopped hop) (with_hop step hop d) first.t spare fresh moved later first.at first.sim in
               (e2, (i, (◌∙◌ {b = stepwise elem dest steps (hopped hop) (with_hop step hop d)} {c = with_instr i e2} (on hop d) same, (passes_on g alive bound bound d (with_hop step hop d) e2 s st (Unit {0}) (Unit {0}) (Unit {0}) (omega arith) first passes (λ used. tt) (λ used. tt), puts))))
           by (inr last) go = subst (λ (xs : List GridStep). MovesLast bound set (step ∷ xs) hop v d s st) (sym last.0) (ends step.step are.0.1)

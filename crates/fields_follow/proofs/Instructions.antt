@@ -40,6 +40,7 @@ use Rattle.vp_sets.specs.Positions.{coordinate}
 use Rattle.code_follows.proofs.Operators.{by_machine, machine_below, machine_same}
 use Rattle.code_follows.proofs.Settings.{Setting, placed_instr}
 use Rattle.fields_follow.proofs.Lengths.{Keeps}
+use Rattle.fields_follow.proofs.Meaning.{Extents}
 use Rattle.fields_follow.proofs.Named.{NamesFields}
 
 -- an operator that is no relation is one of the machine's operations
@@ -132,13 +133,13 @@ module _ (g : Setting) where
   abbrev pub shapes : List SetShape
   shapes = shapes_of g.image
 
-  -- the extents of a shape of the image
-  abbrev pub extents : ℕ → List ℕ
-  extents set = extents_at shapes set
+  -- the extents of a shape of the image, and those of every one
+  abbrev pub extents : ℕ → Extents
+  extents set = record { own = extents_at shapes set; of = extents_at shapes }
 
   -- those of a scope are the same
   abbrev pub SameExtents : Scope → Type 0
-  SameExtents scope = (set : ℕ) → set < length shapes → scope.extents set ≡ extents set
+  SameExtents scope = (set : ℕ) → set < length shapes → scope.extents set ≡ (extents set).own
 
   -- where a field of the unit stands in the image, and the number that it has at a position
   abbrev pub place : Field → Field
@@ -362,7 +363,7 @@ module _ (g : Setting) where
   }
 
   -- the own coordinates on an axis, where they are words
-  pub puts_coordinate : (set axis : ℕ) (d : Field) (s : CodeState) → d.set ≡ set → ((p : ℕ) → p < processors shapes set → coordinate (extents set) p axis < 2 ^ 32) → Puts set (I.MyNewsCoordinate d axis) d s (λ p. coordinate (extents set) p axis)
+  pub puts_coordinate : (set axis : ℕ) (d : Field) (s : CodeState) → d.set ≡ set → ((p : ℕ) → p < processors shapes set → coordinate (extents set).own p axis < 2 ^ 32) → Puts set (I.MyNewsCoordinate d axis) d s (λ p. coordinate (extents set).own p axis)
   unfolding begun applied after step_of
   puts_coordinate set axis d s of_set few = record {
     plain = refl;
@@ -372,7 +373,7 @@ module _ (g : Setting) where
     write = elementwise shapes (I.MyNewsCoordinate (place d) axis) [] s.memory;
     run = refl;
     writes = λ p. refl;
-    value = λ p below on. ap (λ (n : ℕ). coordinate (extents n) p axis % 2 ^ d.len) of_set;
+    value = λ p below on. ap (λ (n : ℕ). coordinate (extents n).own p axis % 2 ^ d.len) of_set;
     small = λ p below on. few p below;
     goes = refl;
   }

@@ -45,6 +45,7 @@ use Rattle.fields_follow.proofs.Indexing.{AllCoded}
 use Rattle.fields_follow.proofs.Instructions.{extents, has_words, place, shapes}
 use Rattle.fields_follow.proofs.Listed.{AddressStands, TargetStands, address_stands, begins_there, target_stands, with_address, with_target}
 use Rattle.fields_follow.proofs.Listed as Listed
+use Rattle.fields_follow.proofs.Meaning.{Extents}
 use Rattle.fields_follow.proofs.Parts.{AllBehind, AllHave, AreFields, PartsStand, all_have, behind_earlier, words_of}
 use Rattle.fields_follow.proofs.Passing.{GivesField, Passes, fields_longer, flags_of, gives_on, next_own}
 use Rattle.fields_follow.proofs.Places.{HoldsTheFields, IsOwnField, PlacesFields}
@@ -85,7 +86,7 @@ module _ (g : Setting) where
   fields_in outs = flat_map fields_of_coordinate (coordinates_in outs)
 
   -- the signs with which they are checked
-  signs_are : {k : _} (extents : List ℕ) (st : State) (p : List ℕ) (row : Row_of-TExpr k) (outs : List Out) → map (moved_signed p) (signed_coordinates (items-the_row-TExpr _ row) (coordinates_in outs)) ≡ with_signs (indexes_at extents st row) (map (moved_coordinate p) (coordinates_in outs))
+  signs_are : {k : _} (extents : Extents) (st : State) (p : List ℕ) (row : Row_of-TExpr k) (outs : List Out) → map (moved_signed p) (signed_coordinates (items-the_row-TExpr _ row) (coordinates_in outs)) ≡ with_signs (indexes_at extents st row) (map (moved_coordinate p) (coordinates_in outs))
   unfolding signed_coordinates indexes_at
   signs_are extents st p end_of-TExpr outs = refl
   signs_are extents st p (more_of-TExpr index rest) [] = refl
@@ -96,7 +97,7 @@ module _ (g : Setting) where
     Have set t vs outs = AllHave g alive places fields set t vs outs
 
     -- the set that checks them
-    set_is : {k : _} (extents : List ℕ) (st : State) (set of : ℕ) (t : CodeState) (p : List ℕ) (row : Row_of-TExpr k) (outs : List Out) → Have set t (words_of g set st row) outs → (length (items-the_row-TExpr _ row) ≡ 0 → ⊥) → set_of_coordinates of (with_signs (indexes_at extents st row) (map (moved_coordinate p) (coordinates_in outs))) ≡ set
+    set_is : {k : _} (extents : Extents) (st : State) (set of : ℕ) (t : CodeState) (p : List ℕ) (row : Row_of-TExpr k) (outs : List Out) → Have set t (words_of g set st row) outs → (length (items-the_row-TExpr _ row) ≡ 0 → ⊥) → set_of_coordinates of (with_signs (indexes_at extents st row) (map (moved_coordinate p) (coordinates_in outs))) ≡ set
     unfolding indexes_at AllHave index_coordinate words_of
     set_is extents st set of t p end_of-TExpr outs have some = absurd (some refl)
     set_is extents st set of t p (more_of-TExpr index rest) [] have some = absurd have
@@ -151,7 +152,7 @@ module _ (g : Setting) where
         by (Some q) = refl
 
     -- where no index is outside, each lies within its extent at the active positions
-    pub inside : (set of : ℕ) (given : List Operand) → set < length (shapes g) → of < length (shapes g) → outside_at fields.scope fields.active set of given ≡ None → (q : ℕ) → q < processors (shapes g) set → fields.active set q ≡ true → are_within (extents g of) given q ≡ true
+    pub inside : (set of : ℕ) (given : List Operand) → set < length (shapes g) → of < length (shapes g) → outside_at fields.scope fields.active set of given ≡ None → (q : ℕ) → q < processors (shapes g) set → fields.active set q ≡ true → are_within (extents g of).own given q ≡ true
     unfolding failing positions
     inside set of given exists there none q below on =
         ap (λ (xs : List ℕ). are_within xs given q) (sym (fields.same_extents of there))
@@ -188,7 +189,7 @@ module _ (g : Setting) where
 
       -- the instruction that makes the address
       address_next : {k : _} (set of : ℕ) (st : State) (s : CodeState) (row : Row_of-TExpr k) (outs : List Out) (d : Field) (e : Draft) → d.set ≡ set → set < length (shapes g) → of < length (shapes g) → ArePure set row → Coded row → Sim g alive st s → Have set s (words_of g set st row) outs → outside_at fields.scope fields.active set of (indexes_at (extents g set) st row) ≡ None
-          → At g s (length e.code) → (h : AddressStands g (length e.code) d of (coordinates_in outs)) → PutsNext g places fields alive set (I.MakeAddress d of h.list) d e s (target_of (extents g of) (extents g set) st row)
+          → At g s (length e.code) → (h : AddressStands g (length e.code) d of (coordinates_in outs)) → PutsNext g places fields alive set (I.MakeAddress d of h.list) d e s (target_of of (extents g set) st row)
       unfolding begun applied after
       address_next set of st s row outs d e of_set exists also are coded sim have none here h = record {
         there = h.there;
@@ -203,8 +204,8 @@ module _ (g : Setting) where
               (addresses (shapes g) s.memory args (place g d) of h.over given p (places.geometry of also)
               (subst (λ (cs : List Coordinate). HasIndexes s.memory args p cs given) (sym h.moved_items) (indexes_there set st s row outs args p are coded sim have below on)) (within p below on));
           small = λ p below on.
-              let low = indexes_within_name_positions (extents g of) given p (within p below on) in
-              let few = (geometry_parts (extents g of) (places.geometry of also)).3 in
+              let low = indexes_within_name_positions (extents g of).own given p (within p below on) in
+              let few = (geometry_parts (extents g of).own (places.geometry of also)).3 in
               omega (arith, low, few);
         };
         goes = begins_there g (length e.code) (I.MakeAddress (place g d) of h.over) s h.moved_there here;
@@ -216,14 +217,14 @@ module _ (g : Setting) where
           given : List Operand
           given = indexes_at (extents g set) st row
 
-          within : (p : ℕ) → p < processors (shapes g) set → is_active (shapes g) s.memory set p ≡ true → are_within (extents g of) given p ≡ true
+          within : (p : ℕ) → p < processors (shapes g) set → is_active (shapes g) s.memory set p ≡ true → are_within (extents g of).own given p ≡ true
           within p below on = inside set of given exists also none p below (sym (flags_of g alive places fields st s set p sim exists below) ∙ on)
 
       -- both
-      pub located_after : {k : _} (set of bound : ℕ) (place_of : Place) (row : Row_of-TExpr k) (outs : List Out) (dest : Field) (d e : Draft) (s : CodeState) (st : State) (Q : Draft → Type 0) → ArePure set row → Coded row → length (items-the_row-TExpr _ row) ≡ length (extents g of) → of < length (shapes g)
+      pub located_after : {k : _} (set of bound : ℕ) (place_of : Place) (row : Row_of-TExpr k) (outs : List Out) (dest : Field) (d e : Draft) (s : CodeState) (st : State) (Q : Draft → Type 0) → ArePure set row → Coded row → length (items-the_row-TExpr _ row) ≡ length (extents g of).own → of < length (shapes g)
           → dest.len ≡ 32 → dest.set ≡ set → bound ≤ dest.offset → dest.offset < length e.fields → IsOwnField g dest → IsNoHome g (OpenAmong g alive) dest.offset → PartsStand g alive bound d s set st (words_of g set st row) outs e
           → Within g (with_step (MakesAddress dest of (coordinates_in outs)) (with_step (ChecksTarget of place_of (signed_coordinates (items-the_row-TExpr _ row) (coordinates_in outs))) e))
-          → (outside_at fields.scope fields.active set of (indexes_at (extents g set) st row) ≡ None → (f : Draft) → GivesField g alive 32 bound d s set st (target_of (extents g of) (extents g set) st row) dest f → Q f)
+          → (outside_at fields.scope fields.active set of (indexes_at (extents g set) st row) ≡ None → (f : Draft) → GivesField g alive 32 bound d s set st (target_of of (extents g set) st row) dest f → Q f)
           → ((q : ℕ) → outside_at fields.scope fields.active set of (indexes_at (extents g set) st row) ≡ Some (Some q) → Finishes g (Source.Fault Index place_of (Some q)) st s → (f : Draft) → Q f)
           → Q (with_step (MakesAddress dest of (coordinates_in outs)) (with_step (ChecksTarget of place_of (signed_coordinates (items-the_row-TExpr _ row) (coordinates_in outs))) e))
       unfolding check_passes
@@ -294,12 +295,12 @@ module _ (g : Setting) where
           least : Option ℕ
           least = least_failing (shapes g) (I.CheckTarget of place_of target.over) args t.memory
 
-          own_extents : (x : ℕ) → x < length (shapes g) → extents g x ≡ fields.scope.extents x
+          own_extents : (x : ℕ) → x < length (shapes g) → (extents g x).own ≡ fields.scope.extents x
           own_extents x there = sym (fields.same_extents x there)
 
           -- there is an index
           some : length (items-the_row-TExpr _ row) ≡ 0 → ⊥
-          some none = let rank = (geometry_parts (extents g of) (places.geometry of also)).0 in omega (arith, none, many, rank)
+          some none = let rank = (geometry_parts (extents g of).own (places.geometry of also)).0 in omega (arith, none, many, rank)
 
           exists : set < length (shapes g)
           exists = set_there st set t row outs have some
@@ -329,7 +330,7 @@ module _ (g : Setting) where
               let clear : outside_at fields.scope fields.active set of given ≡ None = outside ∙ ap failing_at none in
               let goes : Passes g alive bound d checked s st (Unit {0}) = check_passes g alive check bound d e s st sure (stepped None none) in
               subst Q same_made (known clear made
-              (gives_on g alive 32 bound bound d checked made s set st (target_of (extents g of) (extents g set) st row) dest (Unit {0}) (omega arith) goes (λ b. tt)
-              (next_own g alive places fields 32 bound set make dest checked goes.t st (target_of (extents g of) (extents g set) st row) newer (let more = fields_longer e checked 1 (and_one g check e) in omega (arith, older, more)) own no_open of_set long goes.at goes.sim
+              (gives_on g alive 32 bound bound d checked made s set st (target_of of (extents g set) st row) dest (Unit {0}) (omega arith) goes (λ b. tt)
+              (next_own g alive places fields 32 bound set make dest checked goes.t st (target_of of (extents g set) st row) newer (let more = fields_longer e checked 1 (and_one g check e) in omega (arith, older, more)) own no_open of_set long goes.at goes.sim
               (address_next set of st goes.t row outs dest checked of_set exists also are coded goes.sim (have_on set t (words_of g set st row) outs have) clear goes.at.stands address))))
           by (Some q) some = faults q (outside ∙ ap failing_at some) (check_ends g alive check bound d e s st sure Index place_of q (stepped (Some q) some)) (with_step making (with_step checking e))

@@ -27,6 +27,11 @@ use Rattle.fields_follow.specs.Fragment.{IsPromoted, IsPure}
 use Rattle.cstar_base.specs.Numbers.{converted, number_of}
 use Rattle.code_follows.proofs.Following.{held}
 
+-- the extents of the shape at whose positions numbers are asked for, and those of every shape
+pub record Extents : Type 0 where
+  pub own : List ℕ
+  pub of : ℕ → List ℕ
+
 -- where nothing is known, and no position is active
 abbrev pub nowhere : Scope
 nowhere = record { extents = λ s. []; length_of = λ x. 0; call = λ index given active st. Gives Nothing st }
@@ -58,7 +63,7 @@ coordinates_behind extents of axis (index ∷ indexes) q = coordinate_behind ext
 
 unfoldable mutual
   -- the number at a position of a shape with these extents
-  pub value_in : List ℕ → State → TExpr → ℕ → ℕ
+  pub value_in : Extents → State → TExpr → ℕ → ℕ
   value_in extents st (T.Variable ty x) q = st.parallel x 0 q
   value_in extents st (T.Brackets' ty p inner) q = value_in extents st inner q
   value_in extents st (T.Promote' ty p operand) q = scalar_in st operand q
@@ -68,28 +73,28 @@ unfoldable mutual
   value_in extents st (T.LogicalAnd' ty p left r right) q = from_bool (nonzero (value_in extents st left q) && nonzero (value_in extents st right q))
   value_in extents st (T.Choice' ty p test r first s second) q = if nonzero (value_in extents st test q) then value_in extents st first q else value_in extents st second q
   value_in extents st (T.Convert' ty p operand) q = converted ty.elem (type_of operand).elem (value_in extents st operand q)
-  value_in extents st (T.Pcoord ty axis) q = coordinate extents q axis
-  value_in extents st (T.LeftIndex' ty place p indexes x of) q = st.parallel x 0 (number_at extents (if all_go_by_news of 0 (items-the_row-TExpr _ indexes) then coordinates_behind extents of 0 (items-the_row-TExpr _ indexes) q else coordinates_named extents st indexes q))
+  value_in extents st (T.Pcoord ty axis) q = coordinate extents.own q axis
+  value_in extents st (T.LeftIndex' ty place p indexes x of) q = st.parallel x 0 (number_at (extents.of of) (if all_go_by_news of 0 (items-the_row-TExpr _ indexes) then coordinates_behind extents.own of 0 (items-the_row-TExpr _ indexes) q else coordinates_named extents st indexes q))
   value_in extents st _ q = 0
 
   -- the coordinates that indexes name
-  pub coordinates_named : {k : _} → List ℕ → State → Row_of-TExpr k → ℕ → List ℕ
+  pub coordinates_named : {k : _} → Extents → State → Row_of-TExpr k → ℕ → List ℕ
   coordinates_named extents st end_of-TExpr q = []
   coordinates_named extents st (more_of-TExpr index rest) q = unsigned_abs (number_of (type_of index).elem.bits (type_of index).elem.signed (value_in extents st index q)) ∷ coordinates_named extents st rest q
 
 -- what a get reads, round the ends of the grid and by the router
-pub value_by_news : (extents : List ℕ) (st : State) (ty : ValueType) (place : Place) (p : _) (indexes : Row_of-TExpr _) (x : Variable) (of q : ℕ) → all_go_by_news of 0 (items-the_row-TExpr _ indexes) ≡ true
-    → value_in extents st (T.LeftIndex' ty place p indexes x of) q ≡ st.parallel x 0 (number_at extents (coordinates_behind extents of 0 (items-the_row-TExpr _ indexes) q))
+pub value_by_news : (extents : Extents) (st : State) (ty : ValueType) (place : Place) (p : _) (indexes : Row_of-TExpr _) (x : Variable) (of q : ℕ) → all_go_by_news of 0 (items-the_row-TExpr _ indexes) ≡ true
+    → value_in extents st (T.LeftIndex' ty place p indexes x of) q ≡ st.parallel x 0 (number_at (extents.of of) (coordinates_behind extents.own of 0 (items-the_row-TExpr _ indexes) q))
 unfolding value_in
-value_by_news extents st ty place p indexes x of q goes = ap (λ (b : Bool). st.parallel x 0 (number_at extents (if b then coordinates_behind extents of 0 (items-the_row-TExpr _ indexes) q else coordinates_named extents st indexes q))) goes
+value_by_news extents st ty place p indexes x of q goes = ap (λ (b : Bool). st.parallel x 0 (number_at (extents.of of) (if b then coordinates_behind extents.own of 0 (items-the_row-TExpr _ indexes) q else coordinates_named extents st indexes q))) goes
 
-pub value_by_router : (extents : List ℕ) (st : State) (ty : ValueType) (place : Place) (p : _) (indexes : Row_of-TExpr _) (x : Variable) (of q : ℕ) → all_go_by_news of 0 (items-the_row-TExpr _ indexes) ≡ false
-    → value_in extents st (T.LeftIndex' ty place p indexes x of) q ≡ st.parallel x 0 (number_at extents (coordinates_named extents st indexes q))
+pub value_by_router : (extents : Extents) (st : State) (ty : ValueType) (place : Place) (p : _) (indexes : Row_of-TExpr _) (x : Variable) (of q : ℕ) → all_go_by_news of 0 (items-the_row-TExpr _ indexes) ≡ false
+    → value_in extents st (T.LeftIndex' ty place p indexes x of) q ≡ st.parallel x 0 (number_at (extents.of of) (coordinates_named extents st indexes q))
 unfolding value_in
-value_by_router extents st ty place p indexes x of q goes = ap (λ (b : Bool). st.parallel x 0 (number_at extents (if b then coordinates_behind extents of 0 (items-the_row-TExpr _ indexes) q else coordinates_named extents st indexes q))) goes
+value_by_router extents st ty place p indexes x of q goes = ap (λ (b : Bool). st.parallel x 0 (number_at (extents.of of) (if b then coordinates_behind extents.own of 0 (items-the_row-TExpr _ indexes) q else coordinates_named extents st indexes q))) goes
 
 -- and as a word
-abbrev pub word_at : List ℕ → State → TExpr → ℕ → ℕ
+abbrev pub word_at : Extents → State → TExpr → ℕ → ℕ
 word_at extents st e q = held (type_of e).elem (value_in extents st e q)
 
 -- an operator other than the remainder leads to a step that is checked

@@ -32,7 +32,7 @@ use Rattle.code_follows.proofs.Standing.{some_same}
 use Rattle.code_follows.proofs.Words.{within_word}
 use Rattle.fields_follow.specs.Fragment.{AreWrapping, IsConstant, IsDot, IsIndex, IsOffset, IsCalm, IsPromoted, IsWrapping}
 use Rattle.fields_follow.proofs.Extents.{NameExtents, NamesExtent}
-use Rattle.fields_follow.proofs.Meaning.{always_checked, coordinate_behind, coordinates_behind, computed_in, constant_means, mapped_is, none_fails, operated_is, scalar_in, value_in}
+use Rattle.fields_follow.proofs.Meaning.{Extents, always_checked, coordinate_behind, coordinates_behind, computed_in, constant_means, mapped_is, none_fails, operated_is, scalar_in, value_in}
 use Rattle.fields_follow.proofs.Wrapping.{IsStep, index_number, near_is, moved_within, still_there, turned_step, within_extent, wrapped_word}
 
 -- a grid of few positions
@@ -53,7 +53,7 @@ module _ (scope : Scope) (active : Active) where
   dot_means set axis _ st is = absurd is
 
   -- the number of a step is a constant
-  number_is : (set k q : ℕ) (e : TExpr) (extents : List ℕ) (st : State) → IsPromoted set e → step_number e ≡ Some k → (value_in extents st e q ≡ k) × IsStep k
+  number_is : (set k q : ℕ) (e : TExpr) (extents : Extents) (st : State) → IsPromoted set e → step_number e ≡ Some k → (value_in extents st e q ≡ k) × IsStep k
   unfolding IsPromoted step_number value_in scalar_in
   number_is set k q (T.Promote' ty p operand) extents st is known = by (is_conversion operand || not (is_int (type_of operand).elem)) known
     where
@@ -71,7 +71,7 @@ module _ (scope : Scope) (active : Active) where
       by false h = by_constant is.2.1 h
   number_is set k q _ extents st is known = cc
 
-  step_means : (set k : ℕ) (e : TExpr) (extents : List ℕ) (st : State) → IsPromoted set e → step_number e ≡ Some k → evaluated scope e active st ≡ Gives (Parallel (λ q. value_in extents st e q)) st
+  step_means : (set k : ℕ) (e : TExpr) (extents : Extents) (st : State) → IsPromoted set e → step_number e ≡ Some k → evaluated scope e active st ≡ Gives (Parallel (λ q. value_in extents st e q)) st
   unfolding IsPromoted step_number value_in scalar_in evaluated then_do at
   step_means set k (T.Promote' ty p operand) extents st is known = by (is_conversion operand || not (is_int (type_of operand).elem)) known
     where
@@ -106,18 +106,21 @@ module _ (scope : Scope) (active : Active) where
       own : ℕ → ℕ
       own = λ q. coordinate (scope.extents set) q axis
 
+      extents : Extents
+      extents = record { own = scope.extents set; of = scope.extents }
+
       number : ℕ → ℕ
-      number = λ q. value_in (scope.extents set) st right q
+      number = λ q. value_in extents st right q
 
       whole : (op : Op) (c : ℕ) → step_number right ≡ Some c → divides op ≡ false → evaluated scope (T.Binary' ty place op p left q right) active st ≡ Gives (Parallel (λ q. outcome op 32 unsigned (own q) (number q))) st
       whole op c is_c no_check =
           ap (λ (o : Outcome Value). then_do o (λ v between. then_do (evaluated scope right active between) (λ w after. operated scope active ty place op unsigned v w after))) (dot_means set axis left st is.1)
-          ∙ ap (λ (o : Outcome Value). then_do o (λ w after. operated scope active ty place op unsigned (Parallel own) w after)) (step_means set c right (scope.extents set) st is.2 is_c)
+          ∙ ap (λ (o : Outcome Value). then_do o (λ w after. operated scope active ty place op unsigned (Parallel own) w after)) (step_means set c right extents st is.2 is_c)
           ∙ operated_is scope active ty set place op unsigned (Parallel own) (Parallel number) st is.0 no_check
 
       by_op : (op : Op) (c : ℕ) → step_number right ≡ Some c → step_by op c ≡ Some k → Offset set axis k (T.Binary' ty place op p left q right) st
       by_op P.Add c is_c h =
-          let number_of_it : (q : ℕ) → (number q ≡ c) × IsStep c = λ q. number_is set c q right (scope.extents set) st is.2 is_c in
+          let number_of_it : (q : ℕ) → (number q ≡ c) × IsStep c = λ q. number_is set c q right extents st is.2 is_c in
           let same : c ≡ k = some_same c k h in (
             subst IsStep same (number_of_it 0).1,
             (
@@ -130,7 +133,7 @@ module _ (scope : Scope) (active : Active) where
             ),
           )
       by_op P.Sub c is_c h =
-          let number_of_it : (q : ℕ) → (number q ≡ c) × IsStep c = λ q. number_is set c q right (scope.extents set) st is.2 is_c in
+          let number_of_it : (q : ℕ) → (number q ≡ c) × IsStep c = λ q. number_is set c q right extents st is.2 is_c in
           let same : negated c ≡ k = some_same (negated c) k h in (
             subst IsStep same (turned_step c (number_of_it 0).1),
             (

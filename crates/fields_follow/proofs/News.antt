@@ -217,11 +217,11 @@ module _ (g : Setting) where
         exists : set < length (shapes g)
         exists = places.exists k 0 set info is
 
-        positive : are_positive (extents g set) ≡ true
-        positive = fit_positive (extents g set) (places.grids set exists).1
+        positive : are_positive (extents g set).own ≡ true
+        positive = fit_positive (extents g set).own (places.grids set exists).1
 
-        long : length (items-the_row-TExpr _ indexes) ≡ length (extents g set)
-        long = names_long (extents g set) indexes (subst (λ (xs : List ℕ). NameExtents xs indexes) (ap (extents_in g.typed) same ∙ (places.grids set exists).0) names)
+        long : length (items-the_row-TExpr _ indexes) ≡ length (extents g set).own
+        long = names_long (extents g set).own indexes (subst (λ (xs : List ℕ). NameExtents xs indexes) (ap (extents_in g.typed) same ∙ (places.grids set exists).0) names)
 
         moves : Within g made → MovesLast g places fields alive ty.elem f read reads bound set steps hop numbers d3 s st
         moves within =
@@ -234,7 +234,7 @@ module _ (g : Setting) where
         found : (q : ℕ) → q < processors (shapes g) set → numbers (origin g set steps q) ≡ word_at (extents g set) st (T.LeftIndex' ty place p indexes (V.File k) of) q
         found q below =
             ap numbers (steps_lead g set positive indexes q are long below)
-            ∙ ap (λ (m : ℕ). numbers (number_at (extents g set) (coordinates_behind (extents g set) m 0 (items-the_row-TExpr _ indexes) q))) (sym same)
+            ∙ ap (λ (m : ℕ). numbers (number_at (extents g m).own (coordinates_behind (extents g set).own m 0 (items-the_row-TExpr _ indexes) q))) (sym same)
             ∙ ap (λ (w : ℕ). held ty.elem w) (sym (value_by_news (extents g set) st ty place p indexes (V.File k) of q (ap (λ (m : ℕ). all_go_by_news m 0 (items-the_row-TExpr _ indexes)) same ∙ wrapping_goes set 0 indexes are)))
 
         by : Within g made → MovesLast g places fields alive ty.elem f read reads bound set steps hop numbers d3 s st → Q (O.Field f) made

@@ -54,7 +54,7 @@ module _ (g : Setting) where
   pub record PlacesFields : Type 0 where
     pub ends : (at : ℕ) (i : Instr) (f : Field) (others : List Field) → StandsAt g.unit at i → step_of i ≡ Plain i → NamesFields i → fields_of i ≡ f ∷ others → (f.set < length (shapes g)) × ((place g f).offset + f.len ≤ bits_at (shapes g) f.set)
     pub scans : (at : ℕ) (combiner : Reduction) (d a : Field) (axis : ℕ) (direction : Direction) (mode : SegmentMode) (bit : Option Field) (within : Inclusion) → StandsAt g.unit at (I.Scan combiner d a axis direction mode bit within)
-        → (axis < length (extents g d.set)) × BitIsWith (shapes g) (place g d) mode (moved_bit (slice_index_or g.placed.places g.number []) bit)
+        → (axis < length (extents g d.set).own) × BitIsWith (shapes g) (place g d) mode (moved_bit (slice_index_or g.placed.places g.number []) bit)
     pub exists : (k element set : ℕ) (info : VarInfo) → IsElement g.typed k info set element → set < length (shapes g)
     pub files_end : (k element set : ℕ) (info : VarInfo) → IsElement g.typed k info set element → (of_file k element).offset + (of_file k element).len ≤ bits_at (shapes g) (of_file k element).set
     pub file : (k element : ℕ) (info : VarInfo) (f : Field) → IsElement g.typed k info f.set element → info.elem.bits ≡ f.len → IsFileField k element f → place g f ≡ of_file k element
@@ -67,10 +67,10 @@ module _ (g : Setting) where
     pub file_and_below : (k element set : ℕ) (info : VarInfo) (below : Field) → IsElement g.typed k info set element → StandsBelow g.image g.placed g.number below → Apart (of_file k element) below
     pub own_below_called : (f : Field) (first at index : ℕ) → IsOwnField f → f.set < length (shapes g) → (place g f).offset + f.len ≤ bits_at (shapes g) f.set → IsNamedAt g.unit f.offset first → first < at → ((span : Span) → IsInUse g.unit f.offset W.Own span → at ≤ span.last) → StandsAt g.unit at (I.FrontCall index)
         → StandsBelow g.image g.placed index (place g f)
-    pub few : (set axis p : ℕ) → coordinate (extents g set) p axis < 2 ^ 32
+    pub few : (set axis p : ℕ) → coordinate (extents g set).own p axis < 2 ^ 32
     pub address_ends : (at : ℕ) (d : Field) (set : ℕ) (over : _) → slice_get g.image.code.items (start g + at) ≡ Some (I.MakeAddress (place g d) set over) → (d.set < length (shapes g)) × ((place g d).offset + d.len ≤ bits_at (shapes g) d.set)
-    pub geometry : (set : ℕ) → set < length (shapes g) → is_geometry (extents g set) ≡ true
-    pub grids : (set : ℕ) → set < length (shapes g) → (extents_in g.typed set ≡ extents g set) × (positions_fit (extents g set) ≡ true)
+    pub geometry : (set : ℕ) → set < length (shapes g) → is_geometry (extents g set).own ≡ true
+    pub grids : (set : ℕ) → set < length (shapes g) → (extents_in g.typed set ≡ (extents g set).own) × (positions_fit (extents g set).own ≡ true)
 
   -- what the memory holds of the source's state is the numbers of the fields, where these positions are active; and the
   -- extents of the shapes are those of the image

@@ -20,12 +20,12 @@ use Rattle.code_lengths.specs.Naming.{HasVariable, plain}
 use Rattle.source_meaning.specs.Expressions.{evaluated}
 use Rattle.source_meaning.specs.State.{Gives, Outcome, State, then_do}
 use Rattle.source_meaning.specs.Values.{Active, Parallel, Scope, Value, at, convert_to, each, nonzero, own_coordinate}
-use Rattle.vp_sets.specs.Positions.{number_at, positions_fit}
+use Rattle.vp_sets.specs.Positions.{coordinate, number_at, positions_fit}
 use Rattle.lower_comm.specs.News.{all_go_by_news}
 use Rattle.lower_expr.specs.Operands.{ignores_context}
 use Rattle.fields_follow.specs.Fragment.{AreWrapping, IsPure}
 use Rattle.fields_follow.proofs.Extents.{NameExtents, extents_in}
-use Rattle.fields_follow.proofs.Meaning.{as_shaped, binary_means, coordinates_behind, either, left_of, read_is, right_of, unary_means, value_by_news, value_in}
+use Rattle.fields_follow.proofs.Meaning.{Extents, as_shaped, binary_means, coordinates_behind, either, left_of, read_is, right_of, unary_means, value_by_news, value_in}
 use Rattle.fields_follow.specs.Fields.{IsElement}
 use Rattle.fields_follow.proofs.Forms.{element_is, pure_shape}
 use Rattle.fields_follow.proofs.Gets.{wrapping_goes}
@@ -119,39 +119,39 @@ abbrev pub AreGrids : Scope → Typed → ℕ → Type 0
 AreGrids scope t set = (k : ℕ) (info : VarInfo) → IsElement t k info set 0 → IsGrid scope (extents_in t) set
 
 -- one that ignores the context has its value under every context, and never fails
-module _ (scope : Scope) where
-  pub pure_means : (active : Active) (set : ℕ) (e : TExpr) (st : State) → IsPure set e → ignores_context e ≡ true → evaluated scope e active st ≡ Gives (Parallel (λ q. value_in (scope.extents set) st e q)) st
+module _ (scope : Scope) (set : ℕ) (extents : Extents) (same : extents.own ≡ scope.extents set) where
+  pub pure_means : (active : Active) (e : TExpr) (st : State) → IsPure set e → ignores_context e ≡ true → evaluated scope e active st ≡ Gives (Parallel (λ q. value_in extents st e q)) st
   unfolding IsPure ignores_context evaluated value_in then_do at convert_to each own_coordinate
-  pure_means active set (T.Variable ty (V.File k)) st is free = ap (λ (v : Value). Gives v st) (read_is scope active ty set (V.File k) st is)
-  pure_means active set (T.Variable ty (V.Local k)) st is free = ap (λ (v : Value). Gives v st) (read_is scope active ty set (V.Local k) st is)
-  pure_means active set (T.Brackets' ty p inner) st is free = pure_means active set inner st is.1 free
-  pure_means active set (T.Unary' ty op p operand) st is free = unary_means scope active set ty op p operand (λ q. value_in (scope.extents set) st operand q) st is.0.0 (pure_means active set operand st is.2 free)
-  pure_means active set (T.Binary' ty place op p left q right) st is free =
+  pure_means active (T.Variable ty (V.File k)) st is free = ap (λ (v : Value). Gives v st) (read_is scope active ty set (V.File k) st is)
+  pure_means active (T.Variable ty (V.Local k)) st is free = ap (λ (v : Value). Gives v st) (read_is scope active ty set (V.Local k) st is)
+  pure_means active (T.Brackets' ty p inner) st is free = pure_means active inner st is.1 free
+  pure_means active (T.Unary' ty op p operand) st is free = unary_means scope active set ty op p operand (λ q. value_in extents st operand q) st is.0.0 (pure_means active operand st is.2 free)
+  pure_means active (T.Binary' ty place op p left q right) st is free =
       let parts = ignores_both op left right free in
-      binary_means scope active set ty place op p q left right (λ q. value_in (scope.extents set) st left q) (λ q. value_in (scope.extents set) st right q) st is.0.0 parts.0
-      (either (λ h. pure_means active set left st h parts.1) (λ h. promoted_free scope active set (scope.extents set) left st h parts.1) (left_of set left right is.2)) (either (λ h. pure_means active set right st h parts.2) (λ h. promoted_free scope active set (scope.extents set) right st h parts.2) (right_of set left right is.2))
-  pure_means active set (T.LogicalOr' ty p left q right) st is free =
+      binary_means scope active set ty place op p q left right (λ q. value_in extents st left q) (λ q. value_in extents st right q) st is.0.0 parts.0
+      (either (λ h. pure_means active left st h parts.1) (λ h. promoted_free scope active set extents left st h parts.1) (left_of set left right is.2)) (either (λ h. pure_means active right st h parts.2) (λ h. promoted_free scope active set extents right st h parts.2) (right_of set left right is.2))
+  pure_means active (T.LogicalOr' ty p left q right) st is free =
       let parts = both_ignore left right free in
-      or_means scope active set ty p q left right (λ x. value_in (scope.extents set) st left x) (λ x. value_in (scope.extents set) st right x) st is.1.0 (pure_means active set left st is.1.0 parts.0)
-      (either (λ h. pure_means (where_zero set (Parallel (λ q. value_in (scope.extents set) st left q)) active) set right st h.0 parts.1) (λ h. promoted_free scope (where_zero set (Parallel (λ q. value_in (scope.extents set) st left q)) active) set (scope.extents set) right st h.0 parts.1) is.2)
-  pure_means active set (T.LogicalAnd' ty p left q right) st is free =
+      or_means scope active set ty p q left right (λ x. value_in extents st left x) (λ x. value_in extents st right x) st is.1.0 (pure_means active left st is.1.0 parts.0)
+      (either (λ h. pure_means (where_zero set (Parallel (λ q. value_in extents st left q)) active) right st h.0 parts.1) (λ h. promoted_free scope (where_zero set (Parallel (λ q. value_in extents st left q)) active) set extents right st h.0 parts.1) is.2)
+  pure_means active (T.LogicalAnd' ty p left q right) st is free =
       let parts = both_ignore left right free in
-      and_means scope active set ty p q left right (λ x. value_in (scope.extents set) st left x) (λ x. value_in (scope.extents set) st right x) st is.1.0 (pure_means active set left st is.1.0 parts.0)
-      (either (λ h. pure_means (where_nonzero set (Parallel (λ q. value_in (scope.extents set) st left q)) active) set right st h.0 parts.1) (λ h. promoted_free scope (where_nonzero set (Parallel (λ q. value_in (scope.extents set) st left q)) active) set (scope.extents set) right st h.0 parts.1) is.2)
-  pure_means active set (T.Choice' ty p test q first r second) st is free =
+      and_means scope active set ty p q left right (λ x. value_in extents st left x) (λ x. value_in extents st right x) st is.1.0 (pure_means active left st is.1.0 parts.0)
+      (either (λ h. pure_means (where_nonzero set (Parallel (λ q. value_in extents st left q)) active) right st h.0 parts.1) (λ h. promoted_free scope (where_nonzero set (Parallel (λ q. value_in extents st left q)) active) set extents right st h.0 parts.1) is.2)
+  pure_means active (T.Choice' ty p test q first r second) st is free =
       let parts = all_ignore test first second free in
-      let v : ℕ → ℕ = λ x. value_in (scope.extents set) st test x in
+      let v : ℕ → ℕ = λ x. value_in extents st test x in
       let among : Active = where_nonzero set (Parallel v) active in
       let others : Active = where_zero set (Parallel v) active in
-      choice_means scope active set ty p q r test first second v (λ x. value_in (scope.extents set) st first x) (λ x. value_in (scope.extents set) st second x) st is.1.0 (pure_means active set test st is.1.0 parts.0)
-      (either (λ h. pure_means among set first st h parts.1) (λ h. promoted_free scope among set (scope.extents set) first st h parts.1) is.2)
-      (either (λ h. pure_means others set second st h parts.2) (λ h. promoted_free scope others set (scope.extents set) second st h parts.2) is.3)
-  pure_means active set (T.Convert' ty p operand) st is free =
-      ap (λ (o : Outcome Value). then_do o (λ v after. Gives (convert_to ty (type_of operand).elem v) after)) (pure_means active set operand st is.2 free)
-      ∙ ap (λ (y : ValueType). Gives (convert_to y (type_of operand).elem (Parallel (λ q. value_in (scope.extents set) st operand q))) st) (as_shaped ty set is.0)
-  pure_means active set (T.Pcoord ty axis) st is free = ap (λ (o : Option ℕ). Gives (own_coordinate scope o axis) st) is.0
-  pure_means active set (T.LeftIndex' ty place p indexes (V.File k) of) st is free = cc
-  pure_means active set _ st is free = absurd is
+      choice_means scope active set ty p q r test first second v (λ x. value_in extents st first x) (λ x. value_in extents st second x) st is.1.0 (pure_means active test st is.1.0 parts.0)
+      (either (λ h. pure_means among first st h parts.1) (λ h. promoted_free scope among set extents first st h parts.1) is.2)
+      (either (λ h. pure_means others second st h parts.2) (λ h. promoted_free scope others set extents second st h parts.2) is.3)
+  pure_means active (T.Convert' ty p operand) st is free =
+      ap (λ (o : Outcome Value). then_do o (λ v after. Gives (convert_to ty (type_of operand).elem v) after)) (pure_means active operand st is.2 free)
+      ∙ ap (λ (y : ValueType). Gives (convert_to y (type_of operand).elem (Parallel (λ q. value_in extents st operand q))) st) (as_shaped ty set is.0)
+  pure_means active (T.Pcoord ty axis) st is free = ap (λ (o : Option ℕ). Gives (own_coordinate scope o axis) st) is.0 ∙ ap (λ (xs : List ℕ). Gives (Parallel (λ q. coordinate xs q axis)) st) (sym same)
+  pure_means active (T.LeftIndex' ty place p indexes (V.File k) of) st is free = cc
+  pure_means active _ st is free = absurd is
 
 -- a shape of the image is such a grid
 pub are_grids : (g : Setting) (scope : Scope) → PlacesFields g → SameExtents g scope → (set : ℕ) → AreGrids scope g.typed set
@@ -167,4 +167,5 @@ get_gives g places fields n ty place p indexes k of set st shaped same are v nam
     let grid : IsGrid fields.scope (extents_in g.typed) set = are_grids g fields.scope places fields.same_extents set k (variable_info v.word (plain (parallel ty.elem of)) v.start) element in
     get_means fields.scope fields.active set k ty place p indexes of st shaped same are grid.1 (subst (λ (xs : List ℕ). NameExtents xs indexes) (ap (extents_in g.typed) same ∙ grid.0) names)
     ∙ ap (λ (xs : List ℕ). Gives (Parallel (λ q. st.parallel (V.File k) 0 (number_at xs (coordinates_behind xs of 0 (items-the_row-TExpr _ indexes) q)))) st) (fields.same_extents set (places.exists k 0 set (variable_info v.word (plain (parallel ty.elem of)) v.start) element))
+    ∙ ap (λ (m : ℕ). Gives (Parallel (λ q. st.parallel (V.File k) 0 (number_at (extents g m).own (coordinates_behind (extents g set).own of 0 (items-the_row-TExpr _ indexes) q)))) st) (sym same)
     ∙ ap (λ (f : ℕ → ℕ). Gives (Parallel f) st) (λ j q. sym (value_by_news (extents g set) st ty place p indexes (V.File k) of q (ap (λ (m : ℕ). all_go_by_news m 0 (items-the_row-TExpr _ indexes)) same ∙ wrapping_goes set 0 indexes are)) j)

@@ -5,7 +5,7 @@ use Rattle.std.specs.Prelude.{unsigned_abs}
 use Rattle.cstar_base.specs.Numbers.{number_of}
 use Rattle.cstar_base.specs.declared.faults.RunFault.TheVariants.{Index}
 use Rattle.cstar_base.specs.declared.operators.Place.{Place}
-use Rattle.cstar_tree.specs.declared.typed.TExpr.{TExpr, Row_of-TExpr, end_of-TExpr, items-the_row-TExpr, more_of-TExpr}
+use Rattle.cstar_tree.specs.declared.typed.TExpr.{Row_of-TExpr, end_of-TExpr, items-the_row-TExpr, more_of-TExpr}
 use Rattle.cstar_tree.specs.declared.typed.TExpr as T
 use Rattle.cstar_tree.specs.declared.typed.ValueType.{ValueType}
 use Rattle.cstar_tree.specs.declared.typed.Variable.{Variable}
@@ -17,57 +17,57 @@ use Rattle.source_meaning.specs.State.{Ends, Fault, Gives, Outcome, State, then_
 use Rattle.source_meaning.specs.Targets.{indexed_target, position_target, read}
 use Rattle.source_meaning.specs.Values.{Active, Parallel, Scope, at, failing, unless}
 use Rattle.vp_sets.specs.Positions.{number_at}
-use Rattle.fields_follow.proofs.Meaning.{coordinates_named, value_by_router, value_in}
+use Rattle.fields_follow.proofs.Meaning.{Extents, coordinates_named, value_by_router, value_in}
 
 -- the values of indexes, with their types
-unfoldable pub indexes_at : {k : _} → List ℕ → State → Row_of-TExpr k → List Operand
+unfoldable pub indexes_at : {k : _} → Extents → State → Row_of-TExpr k → List Operand
 indexes_at extents st end_of-TExpr = []
 indexes_at extents st (more_of-TExpr index rest) = record { elem = (type_of index).elem; value = Parallel (λ q. value_in extents st index q) } ∷ indexes_at extents st rest
 
-pub as_many : {k : _} (extents : List ℕ) (st : State) (row : Row_of-TExpr k) → length (indexes_at extents st row) ≡ length (items-the_row-TExpr _ row)
+pub as_many : {k : _} (extents : Extents) (st : State) (row : Row_of-TExpr k) → length (indexes_at extents st row) ≡ length (items-the_row-TExpr _ row)
 unfolding indexes_at
 as_many extents st end_of-TExpr = refl
 as_many extents st (more_of-TExpr index rest) = ap suc (as_many extents st rest)
 
 -- the coordinates that they name
-coordinates_same : {k : _} (extents : List ℕ) (st : State) (row : Row_of-TExpr k) (q : ℕ) → coordinates_of (indexes_at extents st row) q ≡ coordinates_named extents st row q
+coordinates_same : {k : _} (extents : Extents) (st : State) (row : Row_of-TExpr k) (q : ℕ) → coordinates_of (indexes_at extents st row) q ≡ coordinates_named extents st row q
 unfolding indexes_at coordinates_of index_at at coordinates_named
 coordinates_same extents st end_of-TExpr q = refl
 coordinates_same extents st (more_of-TExpr index rest) q = ap (λ (cs : List ℕ). unsigned_abs (number_of (type_of index).elem.bits (type_of index).elem.signed (value_in extents st index q)) ∷ cs) (coordinates_same extents st rest q)
 
 -- the position of a shape that they name at each of their own
-abbrev pub target_of : {k : _} → List ℕ → List ℕ → State → Row_of-TExpr k → ℕ → ℕ
-target_of of extents st row q = named_by of (indexes_at extents st row) q
+abbrev pub target_of : {k : _} → ℕ → Extents → State → Row_of-TExpr k → ℕ → ℕ
+target_of of extents st row q = named_by (extents.of of) (indexes_at extents st row) q
 
-pub routed_value : (extents : List ℕ) (st : State) (ty : ValueType) (place : Place) (p : _) (indexes : Row_of-TExpr _) (x : Variable) (of q : ℕ) → all_go_by_news of 0 (items-the_row-TExpr _ indexes) ≡ false
-    → value_in extents st (T.LeftIndex' ty place p indexes x of) q ≡ st.parallel x 0 (target_of extents extents st indexes q)
+pub routed_value : (extents : Extents) (st : State) (ty : ValueType) (place : Place) (p : _) (indexes : Row_of-TExpr _) (x : Variable) (of q : ℕ) → all_go_by_news of 0 (items-the_row-TExpr _ indexes) ≡ false
+    → value_in extents st (T.LeftIndex' ty place p indexes x of) q ≡ st.parallel x 0 (target_of of extents st indexes q)
 unfolding named_by
-routed_value extents st ty place p indexes x of q goes = value_by_router extents st ty place p indexes x of q goes ∙ ap (λ (cs : List ℕ). st.parallel x 0 (number_at extents cs)) (sym (coordinates_same extents st indexes q))
+routed_value extents st ty place p indexes x of q goes = value_by_router extents st ty place p indexes x of q goes ∙ ap (λ (cs : List ℕ). st.parallel x 0 (number_at (extents.of of) cs)) (sym (coordinates_same extents st indexes q))
 
 module _ (scope : Scope) (active : Active) where
   -- where an index of a set does not lie within its extent of a shape
   abbrev pub outside_at : ℕ → ℕ → List Operand → Option (Option ℕ)
   outside_at set of given = failing scope active (Some set) (λ q. not (are_within (scope.extents of) given q))
 
-  targets_so : (ty : ValueType) (place : Place) (p : _) (indexes : Row_of-TExpr _) (x : Variable) (set : ℕ) (given : List Operand) (st : State) → ty.shape ≡ Some set → operands scope indexes active st ≡ Gives given st
-      → evaluated scope (T.LeftIndex' ty place p indexes x set) active st ≡ then_do (unless (outside_at set set given) Index place st (Gives (position_target (Some set) x (λ q. named_by (scope.extents set) given q)) st)) (λ there after. Gives (read after there) after)
+  targets_so : (ty : ValueType) (place : Place) (p : _) (indexes : Row_of-TExpr _) (x : Variable) (set of : ℕ) (given : List Operand) (st : State) → ty.shape ≡ Some set → operands scope indexes active st ≡ Gives given st
+      → evaluated scope (T.LeftIndex' ty place p indexes x of) active st ≡ then_do (unless (outside_at set of given) Index place st (Gives (position_target (Some set) x (λ q. named_by (scope.extents of) given q)) st)) (λ there after. Gives (read after there) after)
   unfolding evaluated then_do indexed_target
-  targets_so ty place p indexes x set given st shaped known =
-      ap (λ (o : Outcome (List Operand)). then_do o (λ given between. then_do (indexed_target scope active ty.shape place x set given between) (λ there after. Gives (read after there) after))) known
-      ∙ ap (λ (o : Option ℕ). then_do (indexed_target scope active o place x set given st) (λ there after. Gives (read after there) after)) shaped
+  targets_so ty place p indexes x set of given st shaped known =
+      ap (λ (o : Outcome (List Operand)). then_do o (λ given between. then_do (indexed_target scope active ty.shape place x of given between) (λ there after. Gives (read after there) after))) known
+      ∙ ap (λ (o : Option ℕ). then_do (indexed_target scope active o place x of given st) (λ there after. Gives (read after there) after)) shaped
 
   -- where all lie within them, each position gets the number of its target
-  pub routed_gives : (ty : ValueType) (place : Place) (p : _) (indexes : Row_of-TExpr _) (x : Variable) (set : ℕ) (given : List Operand) (st : State) → ty.shape ≡ Some set → operands scope indexes active st ≡ Gives given st → outside_at set set given ≡ None
-      → evaluated scope (T.LeftIndex' ty place p indexes x set) active st ≡ Gives (Parallel (λ q. st.parallel x 0 (named_by (scope.extents set) given q))) st
+  pub routed_gives : (ty : ValueType) (place : Place) (p : _) (indexes : Row_of-TExpr _) (x : Variable) (set of : ℕ) (given : List Operand) (st : State) → ty.shape ≡ Some set → operands scope indexes active st ≡ Gives given st → outside_at set of given ≡ None
+      → evaluated scope (T.LeftIndex' ty place p indexes x of) active st ≡ Gives (Parallel (λ q. st.parallel x 0 (named_by (scope.extents of) given q))) st
   unfolding unless position_target read gotten then_do
-  routed_gives ty place p indexes x set given st shaped known none =
-      targets_so ty place p indexes x set given st shaped known
-      ∙ ap (λ (o : Option (Option ℕ)). then_do (unless o Index place st (Gives (position_target (Some set) x (λ q. named_by (scope.extents set) given q)) st)) (λ there after. Gives (read after there) after)) none
+  routed_gives ty place p indexes x set of given st shaped known none =
+      targets_so ty place p indexes x set of given st shaped known
+      ∙ ap (λ (o : Option (Option ℕ)). then_do (unless o Index place st (Gives (position_target (Some set) x (λ q. named_by (scope.extents of) given q)) st)) (λ there after. Gives (read after there) after)) none
 
   -- else the run ends at the least such position
-  pub routed_faults : (ty : ValueType) (place : Place) (p : _) (indexes : Row_of-TExpr _) (x : Variable) (set : ℕ) (given : List Operand) (st : State) (q : ℕ) → ty.shape ≡ Some set → operands scope indexes active st ≡ Gives given st → outside_at set set given ≡ Some (Some q)
-      → evaluated scope (T.LeftIndex' ty place p indexes x set) active st ≡ Ends (Fault Index place (Some q)) st
+  pub routed_faults : (ty : ValueType) (place : Place) (p : _) (indexes : Row_of-TExpr _) (x : Variable) (set of : ℕ) (given : List Operand) (st : State) (q : ℕ) → ty.shape ≡ Some set → operands scope indexes active st ≡ Gives given st → outside_at set of given ≡ Some (Some q)
+      → evaluated scope (T.LeftIndex' ty place p indexes x of) active st ≡ Ends (Fault Index place (Some q)) st
   unfolding unless then_do
-  routed_faults ty place p indexes x set given st q shaped known some =
-      targets_so ty place p indexes x set given st shaped known
-      ∙ ap (λ (o : Option (Option ℕ)). then_do (unless o Index place st (Gives (position_target (Some set) x (λ q. named_by (scope.extents set) given q)) st)) (λ there after. Gives (read after there) after)) some
+  routed_faults ty place p indexes x set of given st q shaped known some =
+      targets_so ty place p indexes x set of given st shaped known
+      ∙ ap (λ (o : Option (Option ℕ)). then_do (unless o Index place st (Gives (position_target (Some set) x (λ q. named_by (scope.extents of) given q)) st)) (λ there after. Gives (read after there) after)) some

@@ -82,7 +82,7 @@ module _ (g : Setting) (fields : HoldsTheFields g) (set axis : ℕ) (combiner : 
   HasSegments bits s st = HasBits (shapes g) s.memory set (scan_in st) (moved_bit (slice_index_or g.placed.places g.number []) bits)
 
   -- By it a field takes the numbers of the scan, where another has those that are scanned.
-  pub puts_scan : (d a : Field) (bits : Option Field) (s : CodeState) (st : State) (v : ℕ → ℕ) → (combiner ≡ C.Last → ⊥) → axis < length (extents g set) → are_positive (extents g set) ≡ true → ((p : ℕ) → p < processors (shapes g) set → is_active (shapes g) s.memory set p ≡ fields.active set p)
+  pub puts_scan : (d a : Field) (bits : Option Field) (s : CodeState) (st : State) (v : ℕ → ℕ) → (combiner ≡ C.Last → ⊥) → axis < length (extents g set).own → are_positive (extents g set).own ≡ true → ((p : ℕ) → p < processors (shapes g) set → is_active (shapes g) s.memory set p ≡ fields.active set p)
       → HasNumbers g 32 set a s v → ((p : ℕ) → v p < 2 ^ 32) → HasSegments bits s st → Puts g set (scan_instr d a bits) d s (λ q. scan_numbers st v q)
   unfolding begun applied after step_of scan_over
   puts_scan d a bits s st v apart there positive alike numbers few segments = record {
@@ -101,7 +101,7 @@ module _ (g : Setting) (fields : HoldsTheFields g) (set axis : ℕ) (combiner : 
       machine : ScanOf
       machine = record { combiner = scan_fold_of combiner (not unsigned); source = place g a; axis = axis; direction = direction; mode = mode; bit = moved_bit (slice_index_or g.placed.places g.number []) bits; inclusion = inclusion }
 
-      scope_extents : extents g set ≡ fields.scope.extents set
+      scope_extents : (extents g set).own ≡ fields.scope.extents set
       scope_extents = sym (fields.same_extents set numbers.exists)
 
       on_set : (p : ℕ) → p < processors (shapes g) a.set → p < processors (shapes g) set
@@ -109,7 +109,7 @@ module _ (g : Setting) (fields : HoldsTheFields g) (set axis : ℕ) (combiner : 
 
       same : (p : ℕ) → p < processors (shapes g) set → is_active (shapes g) s.memory set p ≡ true → Machine.scanned (shapes g) s.memory machine p ≡ scan_numbers st v p
       same p below on =
-          scans (shapes g) s.memory (scan_in st) (place g a) (moved_bit (slice_index_or g.placed.places g.number []) bits) v (ap (extents g) numbers.of_set ∙ scope_extents) (subst (λ (xs : List ℕ). are_positive xs ≡ true) scope_extents positive)
+          scans (shapes g) s.memory (scan_in st) (place g a) (moved_bit (slice_index_or g.placed.places g.number []) bits) v (ap (λ (n : ℕ). (extents g n).own) numbers.of_set ∙ scope_extents) (subst (λ (xs : List ℕ). are_positive xs ≡ true) scope_extents positive)
           (subst (λ (xs : List ℕ). axis < length xs) scope_extents there) apart (λ q low. ap (λ (k : ℕ). is_active (shapes g) s.memory k q) numbers.of_set ∙ alike q (on_set q low))
           (λ q low active. has_words g set a s v numbers q (on_set q low) (alike q (on_set q low) ∙ active)) (λ q low counts. segments q (on_set q low) counts) p (subst (λ (k : ℕ). p < processors (shapes g) k) (sym numbers.of_set) below) (sym (alike p below) ∙ on)
 

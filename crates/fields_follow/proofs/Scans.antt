@@ -132,7 +132,7 @@ module _ (g : Setting) (alive : Variable → Type 0) (n : ℕ) (places : PlacesF
         sim = gives.passes.sim;
         stays = λ u h first later p below own ends before low after high. gives.passes.stays behind h first later p below own ends before low after (omega (arith, high, same_length));
       },
-      puts_scan g fields set axis combiner unsigned direction mode bit way f a b.bits gives.passes.t st v apart (subst (λ (k : ℕ). axis < length (extents g k)) on rules.0) (fit_positive (extents g set) (places.grids set has.exists).1)
+      puts_scan g fields set axis combiner unsigned direction mode bit way f a b.bits gives.passes.t st v apart (subst (λ (k : ℕ). axis < length (extents g k).own) on rules.0) (fit_positive (extents g set).own (places.grids set has.exists).1)
           (λ p below. flags_of g alive places fields st gives.passes.t set p gives.passes.sim has.exists below) has few (b.has f mode i gives.passes.t st (fields.active set) within on has.exists rules.1 gives.passes.sim),
     )
       where
@@ -148,7 +148,7 @@ module _ (g : Setting) (alive : Variable → Type 0) (n : ℕ) (places : PlacesF
         has : HasNumbers g 32 set a gives.passes.t v
         has = gives_numbers g alive places fields 32 bound d s set st v a e gives behind
 
-        rules : (axis < length (extents g f.set)) × BitIsWith (shapes g) (place g f) mode (moved_field b.bits)
+        rules : (axis < length (extents g f.set).own) × BitIsWith (shapes g) (place g f) mode (moved_field b.bits)
         rules = places.scans (length b.after.code) (scan_fold_of combiner (not unsigned)) f a axis direction mode b.bits way (stands_here g i b.after within refl)
 
 module _ (g : Setting) (has : HasRegisters g) (alive : Variable → Type 0) (n : ℕ) (ready : (d : Draft) → IsReadyButForFields g.typed g.instance (layout g) n d) (places : PlacesFields g) (fields : HoldsTheFields g) (set : ℕ) where

@@ -58,7 +58,7 @@ use Rattle.source_meaning.specs.Gets.{Operand, named_by}
 use Rattle.source_meaning.specs.Reductions.{divides_by_zero}
 use Rattle.source_meaning.specs.Sends.{sent}
 use Rattle.source_meaning.specs.State as Source
-use Rattle.source_meaning.specs.State.{Gives, Outcome, State, then_do}
+use Rattle.source_meaning.specs.State.{Gives, Outcome, State}
 use Rattle.source_meaning.specs.Targets.{OfTargets, Target}
 use Rattle.source_meaning.proofs.ConstantLaws.{Boxed}
 use Rattle.code_follows.specs.Fragment.{NamesAmong}
@@ -96,8 +96,8 @@ module _ (g : Setting) (has : HasRegisters g) (alive : Variable → Type 0) (n :
       → ArePure set indexes → AllCoded g has alive n ready places fields indexes → HasAxes g.typed of (length (items-the_row-TExpr _ indexes)) → taken_bits aty.elem.bits op target value ≡ bits → ((x : ℕ) → divides_by_zero op x ≡ false)
       → IsSpread g has alive n ready places fields bits set value → HasItsCode g.typed g.instance alive n value
       → (d : Draft) (s : CodeState) (st : State) → Starts g alive s (length d.code) d.regs (length d.fields) → Sim g alive st s
-      → ((a : Field) (e : Draft) → BothStand g alive places fields set of k info is d st (λ x. target_of (extents g of) (extents g set) st indexes x) (λ x. value_in (extents g set) st value x) bits (λ x. word_at (extents g set) st value x) s a e
-      → After g (λ out f. Leaves g alive d f s (sent op aty.elem (type_of value).elem (V.File k) (sent_from fields.scope fields.active set (λ x. target_of (extents g of) (extents g set) st indexes x) (λ x. value_in (extents g set) st value x)) st)) (send_at g of k info aty op value (next_field set 32 d) a e))
+      → ((a : Field) (e : Draft) → BothStand g alive places fields set of k info is d st (λ x. target_of of (extents g set) st indexes x) (λ x. value_in (extents g set) st value x) bits (λ x. word_at (extents g set) st value x) s a e
+      → After g (λ out f. Leaves g alive d f s (sent op aty.elem (type_of value).elem (V.File k) (sent_from fields.scope fields.active set (λ x. target_of of (extents g set) st indexes x) (λ x. value_in (extents g set) st value x)) st)) (send_at g of k info aty op value (next_field set 32 d) a e))
       → UpdateLeaves g alive fields (T.Assign' aty sending op p target q value) d s st
   unfolding AreFields AllStand each_located located sends_out Extends
   sends_by aty ty place_of sending op p q r indexes target value k set of bits info is like shaped same are coded axes took never stands c d s st here sim last =
@@ -132,7 +132,7 @@ module _ (g : Setting) (has : HasRegisters g) (alive : Variable → Type 0) (n :
       given = indexes_at (extents g set) st indexes
 
       to : ℕ → ℕ
-      to x = target_of (extents g of) (extents g set) st indexes x
+      to x = target_of of (extents g set) st indexes x
 
       v : ℕ → ℕ
       v x = value_in (extents g set) st value x
@@ -161,7 +161,7 @@ module _ (g : Setting) (has : HasRegisters g) (alive : Variable → Type 0) (n :
       exists : of < length (shapes g)
       exists = places.exists k 0 of info is
 
-      many : length items ≡ length (extents g of)
+      many : length items ≡ length (extents g of).own
       many = axes.2 ∙ ap length (sym (own_extents g.typed of axes.0 axes.1) ∙ (places.grids of exists).0)
 
       start : PartsStand g alive bound first_draft s set st [] [] first_draft
@@ -266,7 +266,7 @@ module _ (g : Setting) (has : HasRegisters g) (alive : Variable → Type 0) (n :
       is = element_is g.typed g.instance n k of (parallel ty.elem of) refl c.code.names.0
 
       to : ℕ → ℕ
-      to x = target_of (extents g of) (extents g set) st indexes x
+      to x = target_of of (extents g set) st indexes x
 
       v : ℕ → ℕ
       v x = value_in (extents g set) st value x
@@ -310,7 +310,7 @@ module _ (g : Setting) (has : HasRegisters g) (alive : Variable → Type 0) (n :
       address = next_field set 32 d
 
       to : ℕ → ℕ
-      to x = target_of (extents g of) (extents g set) st indexes x
+      to x = target_of of (extents g set) st indexes x
 
       v : ℕ → ℕ
       v x = value_in (extents g set) st value x

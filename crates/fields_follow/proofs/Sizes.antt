@@ -1,5 +1,5 @@
 -- The numbers of parallel values are numbers of their types.
-use Rattle.std.proofs.Common.{◌≡◌, ℕ, Bool, if◌then◌else◌, ◌<◌, ◌^◌, true, false, not, Option, Some, None, ◌⊎◌, inl, inr, sym, ap, subst}
+use Rattle.std.proofs.Common.{◌≡◌, ℕ, Bool, if◌then◌else◌, ◌<◌, ◌^◌, true, false, not, Option, Some, None, ◌⊎◌, inl, inr, refl, sym, subst}
 use Rattle.cstar_base.specs.declared.elem.Elem.{Elem}
 use Rattle.cstar_base.specs.declared.operators.Op.{Op}
 use Rattle.cstar_base.specs.declared.operators.Place.{Place}
@@ -147,7 +147,7 @@ module _ (g : Setting) (alive : Variable → Type 0) (n : ℕ) (places : PlacesF
   value_small set (T.Pcoord ty axis) st s sim is c q = below_bits ty.elem.bits _ is.1 (places.few set axis q)
   value_small set (T.LeftIndex' ty place p indexes (V.File k) of) st s sim is c q =
       let info = variable_info c.code.names.0.word (plain (parallel ty.elem of)) c.code.names.0.start in
-      small_there g alive places fields set k info st s (element_is g.typed g.instance n k set (parallel ty.elem of) (ap Some is.1) c.code.names.0) sim _
+      small_there g alive places fields of k info st s (element_is g.typed g.instance n k of (parallel ty.elem of) refl c.code.names.0) sim _
   value_small set _ st s sim is c q = absurd is
 
   -- so one of a type of 32 bits is its word

@@ -1,5 +1,5 @@
 -- The code of a condition leaves the test flags.
-use Rattle.std.proofs.Common.{[], ◌&&◌, ◌||◌, subst, ◌+◌, ◌%◌, ◌≡◌, ◌∙◌, ℕ, ◌<◌, ◌≤◌, ◌^◌, ◌==◌, Bool, true, false, List, length, Option, Some, None, refl, sym, ap, arith, if◌then◌else◌, inl, inr}
+use Rattle.std.proofs.Common.{[], ◌&&◌, ◌||◌, subst, ◌+◌, ◌%◌, ◌≡◌, ◌∙◌, ℕ, ◌<◌, ◌≤◌, ◌^◌, ◌==◌, Bool, true, false, length, Option, Some, None, refl, sym, ap, arith, if◌then◌else◌, inl, inr}
 use Rattle.cstar_base.specs.declared.operators.Op.{Op}
 use Rattle.cstar_base.specs.declared.operators.Place.{Place}
 use Rattle.cstar_tree.specs.declared.typed.TExpr.{TExpr}
@@ -247,7 +247,7 @@ module _ (g : Setting) (has : HasRegisters g) (alive : Variable → Type 0) (n :
 
   -- one that ignores the context has its value under every context
   ignoring_means : (set : ℕ) (e : TExpr) (st : State) (active : Active) → IsPure set e → ignores_context e ≡ true → set < length (shapes g) → evaluated fields.scope e active st ≡ Source.Gives (Parallel (numbers_of set e st)) st
-  ignoring_means set e st active is free exists = pure_means fields.scope active set e st is free ∙ ap (λ (xs : List ℕ). Source.Gives (Parallel (λ q. value_in xs st e q)) st) (fields.same_extents set exists)
+  ignoring_means set e st active is free exists = pure_means fields.scope set (extents g set) (sym (fields.same_extents set exists)) active e st is free
 
   -- what comes behind two of them
   pub flags_after : (set : ℕ) (left right : TExpr) → HasItsKind set left → HasItsKind set right → ignores_context right ≡ true → HaveTheirCode g.typed g.instance alive n left right → IsDone set left → IsDone set right → (d : Draft) (s : CodeState) (st : State) → Starts g alive s (length d.code) d.regs (length d.fields) → Sim g alive st s
