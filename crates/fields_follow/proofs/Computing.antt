@@ -36,13 +36,13 @@ use Rattle.source_meaning.specs.Values.{nonzero, unary_of}
 use Rattle.source_meaning.proofs.ConstantLaws.{Boxed}
 use Rattle.code_follows.proofs.Following.{Extends, Follows, HasRegisters, Sim, follows_same, held}
 use Rattle.code_follows.proofs.Settings.{Setting, and_one, layout}
-use Rattle.fields_follow.specs.Fragment.{ArePure, HasItsKind, HasKnownKind, IsNarrowed, IsOperation, IsPure, IsRelation, IsWide}
+use Rattle.fields_follow.specs.Fragment.{HasItsKind, HasKnownKind, IsNarrowed, IsOperation, IsPure, IsRelation, IsWide}
 use Rattle.fields_follow.proofs.Starts.{no_home, starts_entry, Starts}
 use Rattle.fields_follow.proofs.Choosing.{choice_valued}
 use Rattle.fields_follow.proofs.Clearing.{joined_more}
 use Rattle.fields_follow.proofs.ConditionCode.{Bit, Truth, bit_not_value, joined_value, operand_at, put_in, relation_value, word_not_value}
 use Rattle.fields_follow.proofs.Conditions.{HaveTheirCode, and_codes, conditions_join, joined_free, or_codes}
-use Rattle.fields_follow.proofs.Expressions.{Answers, answers_alike, binary_after, convert_after, convert_ended, convert_means, coordinate_after, left_index_after, unary_after, unary_ended}
+use Rattle.fields_follow.proofs.Expressions.{Answers, answers_alike, binary_after, convert_after, convert_ended, convert_means, coordinate_after, dot_after, left_index_after, unary_after, unary_ended}
 use Rattle.fields_follow.proofs.Forms.{HasItsCode, IsRead, pure_kept}
 use Rattle.fields_follow.proofs.Instructions.{alike_same, extents, shapes}
 use Rattle.fields_follow.proofs.Leaving.{fields_under, places_under, registers_under, under}
@@ -246,7 +246,7 @@ module _ (g : Setting) (has : HasRegisters g) (alive : Variable → Type 0) (n :
   convert_done set ty p inner is shaped pure (inr bool) c done = by_value set (T.Convert' ty p inner) is refl c (λ bits some most. bool_valued bits set ty p inner shaped bool.0 (pure, bool.1) (convert_part g alive n places fields ty p inner c) done)
 
 mutual
-  unfolding IsPure IsNarrowed IsRead has_truth value_of value_in kind_of ArePure AllCoded AllValued
+  unfolding IsPure IsNarrowed IsRead has_truth value_of value_in kind_of AllCoded AllValued
 
   done : (g : Setting) (has : HasRegisters g) (alive : Variable → Type 0) (n : ℕ) (ready : (d : Draft) → IsReadyButForFields g.typed g.instance (layout g) n d) (places : PlacesFields g) (fields : HoldsTheFields g) (set : ℕ) (e : TExpr) → IsPure set e → HasItsCode g.typed g.instance alive n e → IsDone g has alive n ready places fields set e
   done g has alive n ready places fields set (T.Variable ty (V.File k)) is c = record {
@@ -293,13 +293,14 @@ mutual
       (λ b pure. (done (under g b) (registers_under g b has) alive n ready (places_under g b places) (fields_under g b fields.scope fields.same_extents) set second pure parts.2).value bits some most))
   done g has alive n ready places fields set (T.Convert' ty p operand) is c = convert_done g has alive n ready places fields set ty p operand is is.0 is.2 is.1 c (done g has alive n ready places fields set operand is.2 (convert_part g alive n places fields ty p operand c))
   done g has alive n ready places fields set (T.Pcoord ty axis) is c = by_value g has alive n ready places fields set (T.Pcoord ty axis) is refl c (λ bits some most. coordinate_after g has alive n ready places fields bits set axis ty is)
-  done g has alive n ready places fields set (T.LeftIndex' ty place p indexes (V.File k) of) is c = by_value g has alive n ready places fields set (T.LeftIndex' ty place p indexes (V.File k) of) is refl c (λ bits some most. left_index_after g has alive n ready places fields bits set ty place p indexes k of most is (λ are. each_after g has alive n ready places fields set indexes are (all_coded g has alive n ready places fields ty place p indexes (V.File k) of c)) c)
+  done g has alive n ready places fields set (T.Dot ty axis) is c = by_value g has alive n ready places fields set (T.Dot ty axis) is refl c (λ bits some most. dot_after g has alive n ready places fields bits set axis ty is)
+  done g has alive n ready places fields set (T.LeftIndex' ty place p indexes (V.File k) of) is c = by_value g has alive n ready places fields set (T.LeftIndex' ty place p indexes (V.File k) of) is refl c (λ bits some most. left_index_after g has alive n ready places fields bits set ty place p indexes k of most is (each_after g has alive n ready places fields set indexes (all_coded g has alive n ready places fields ty place p indexes (V.File k) of c)) c)
   done g has alive n ready places fields set _ is c = absurd is
 
   -- and so it is of each of the indexes of a get
-  pub each_after : {k : _} (g : Setting) (has : HasRegisters g) (alive : Variable → Type 0) (n : ℕ) (ready : (d : Draft) → IsReadyButForFields g.typed g.instance (layout g) n d) (places : PlacesFields g) (fields : HoldsTheFields g) (set : ℕ) (row : Row_of-TExpr k) → ArePure set row → AllCoded g has alive n ready places fields row → AllValued g has alive n ready places fields set row
-  each_after g has alive n ready places fields set end_of-TExpr are coded = tt
-  each_after g has alive n ready places fields set (more_of-TExpr index rest) are coded = ((done g has alive n ready places fields set index are.0 coded.0).value 32 (omega arith) (omega arith), each_after g has alive n ready places fields set rest are.1 coded.1)
+  pub each_after : {k : _} (g : Setting) (has : HasRegisters g) (alive : Variable → Type 0) (n : ℕ) (ready : (d : Draft) → IsReadyButForFields g.typed g.instance (layout g) n d) (places : PlacesFields g) (fields : HoldsTheFields g) (set : ℕ) (row : Row_of-TExpr k) → AllCoded g has alive n ready places fields row → AllValued g has alive n ready places fields set row
+  each_after g has alive n ready places fields set end_of-TExpr coded = tt
+  each_after g has alive n ready places fields set (more_of-TExpr index rest) coded = (λ pure. (done g has alive n ready places fields set index pure coded.0).value 32 (omega arith) (omega arith), each_after g has alive n ready places fields set rest coded.1)
 
 module _ (g : Setting) (has : HasRegisters g) (alive : Variable → Type 0) (n : ℕ) (ready : (d : Draft) → IsReadyButForFields g.typed g.instance (layout g) n d) (places : PlacesFields g) (fields : HoldsTheFields g) where
   -- the code of so many bits of a pure expression leaves the lowest bits of its words in a field

@@ -270,7 +270,7 @@ module _ (g : Setting) (has : HasRegisters g) (alive : Variable → Type 0) (n :
   left_index_computed set offset bits ty place p indexes k of most is c d s st here sim Q last ended =
       gone_same (O.Field (field_at set offset bits)) Q _
       (indexed_last g has alive n ready places fields ty place p indexes k set of offset bits (length d.fields) (λ after. spot_of g.typed (layout g) (T.LeftIndex' ty place p indexes (V.File k) of) after) d s st most is c
-      (λ are. each_after g has alive n ready places fields set indexes are (all_coded g has alive n ready places fields ty place p indexes (V.File k) of c)) refl (omega arith) here sim (λ out e. Q (O.Field (field_at set offset bits)) e) last (λ early x after. ended early (O.Field (field_at set offset bits)) after))
+      (each_after g has alive n ready places fields set indexes (all_coded g has alive n ready places fields ty place p indexes (V.File k) of c)) refl (omega arith) here sim (λ out e. Q (O.Field (field_at set offset bits)) e) last (λ early x after. ended early (O.Field (field_at set offset bits)) after))
 
   -- a value that is no truth value
   pub computed_last : (set offset bits : ℕ) (e : TExpr) → 0 < bits → bits ≤ 32 → IsPure set e → IsPlain bits e → HasItsCode g.typed g.instance alive n e → PutsWords set offset bits e
@@ -293,6 +293,7 @@ module _ (g : Setting) (has : HasRegisters g) (alive : Variable → Type 0) (n :
   computed_last set offset bits (T.Choice' ty p test q first r second) some most is plain c = choice_last set offset bits ty p q r test first second some most is is.1.0 c
   computed_last set offset bits (T.Convert' ty p inner) some most is plain c = converted_last set offset bits ty p inner most plain.0 is c (λ enough. computed_last set offset bits inner some most is.2 (plain.1 enough) (convert_part g alive n places fields ty p inner c))
   computed_last set offset bits (T.Pcoord ty axis) some most is plain c = coordinate_last set offset bits axis ty is
+  computed_last set offset bits (T.Dot ty axis) some most is plain c = moved_last set offset bits (T.Dot ty axis) some most is c
   computed_last set offset bits (T.LeftIndex' ty place p indexes (V.File k) of) some most is plain c = left_index_computed set offset bits ty place p indexes k of most is c
   computed_last set offset bits (T.LogicalOr' ty p left q right) some most is plain c = logical_last set offset bits true (T.LogicalOr' ty p left q right) left right some most is plain c
   computed_last set offset bits (T.LogicalAnd' ty p left q right) some most is plain c = logical_last set offset bits false (T.LogicalAnd' ty p left q right) left right some most is plain c

@@ -44,7 +44,7 @@ use Rattle.code_follows.proofs.Settings.{OpenAmong, Setting, Within, and_one, la
 use Rattle.code_follows.proofs.Standing.{some_same}
 use Rattle.code_follows.proofs.Values.{extends_grown}
 use Rattle.code_follows.proofs.Words.{below_word, held_wide}
-use Rattle.fields_follow.specs.Fragment.{ArePure, IsOperation, IsPromoted, IsPure, IsWide}
+use Rattle.fields_follow.specs.Fragment.{IsOperation, IsPromoted, IsPure, IsWide}
 use Rattle.fields_follow.proofs.Forms.{HasItsCode, HasItsWord, flag_converted, pure_kept, pure_shape, pure_word}
 use Rattle.fields_follow.proofs.Hops.{puts_same}
 use Rattle.fields_follow.proofs.Indexing.{AllValued}
@@ -365,6 +365,11 @@ module _ (g : Setting) (has : HasRegisters g) (alive : Variable → Type 0) (n :
       v : ℕ → ℕ
       v = λ q. word_at (extents g set) st (T.Pcoord ty axis) q
 
+  -- and so it is of `.`
+  pub dot_after : (bits set axis : ℕ) (ty : ValueType) → IsWide set ty → IsValued bits set (T.Dot ty axis)
+  unfolding value_of value_in evaluated kind_of
+  dot_after bits set axis ty wide = coordinate_after bits set axis ty wide
+
   -- a conversion to another type takes what is wanted of the operand, or extends as many bits as the type has
   pub convert_code : (bits : ℕ) (ty : ValueType) (p : Boxed) (inner : TExpr) (d : Draft) → (ty.elem.bits == 1) ≡ false → is_kept inner ≡ false
       → code bits (T.Convert' ty p inner) d ≡ (if nat_lt ty.elem.bits bits then then_make (a_field (unwrap_or ty.shape 0) bits d) (λ dest begun. extended ty.elem.signed dest (operand ty.elem.bits true inner) begun) else code bits inner d)
@@ -456,7 +461,7 @@ module _ (g : Setting) (has : HasRegisters g) (alive : Variable → Type 0) (n :
           (answers_alike (IsFlag inner) (IsFlag e) (λ one. flag_converted ty.elem (kind_of inner) no_truth one) bits (length d.fields) d s set st (λ q. word_at (extents g set) st inner q) w (convert_alike bits set ty p inner st no_truth (grind (arith, nat_tests, enough)))) (whole bits some most d s st here sim))
 
   -- a get
-  pub left_index_after : (bits set : ℕ) (ty : ValueType) (place : Place) (p : _) (indexes : Row_of-TExpr _) (k of : ℕ) → bits ≤ 32 → IsPure set (T.LeftIndex' ty place p indexes (V.File k) of) → (ArePure set indexes → AllValued g has alive n ready places fields set indexes)
+  pub left_index_after : (bits set : ℕ) (ty : ValueType) (place : Place) (p : _) (indexes : Row_of-TExpr _) (k of : ℕ) → bits ≤ 32 → IsPure set (T.LeftIndex' ty place p indexes (V.File k) of) → AllValued g has alive n ready places fields set indexes
       → HasItsCode g.typed g.instance alive n (T.LeftIndex' ty place p indexes (V.File k) of) → IsValued bits set (T.LeftIndex' ty place p indexes (V.File k) of)
   unfolding value_of index_read_by fresh_for then_make an_entry
   left_index_after bits set ty place p indexes k of most is valued c d s st here sim =

@@ -56,6 +56,7 @@ pure_shape set (T.Binary' ty place op p left q right) is = is.0.0
 pure_shape set (T.Choice' ty p test q first r second) is = is.0.0
 pure_shape set (T.Convert' ty p operand) is = is.0
 pure_shape set (T.Pcoord ty axis) is = is.0
+pure_shape set (T.Dot ty axis) is = is.0
 pure_shape set (T.LeftIndex' ty place p indexes (V.File k) of) is = is.0
 pure_shape set _ is = absurd is
 
@@ -90,6 +91,7 @@ pure_kept set (T.Binary' ty place op p left q right) is = shaped ty.shape set is
 pure_kept set (T.Choice' ty p test q first r second) is = shaped ty.shape set is.0.0
 pure_kept set (T.Convert' ty p operand) is = pure_kept set operand is.2
 pure_kept set (T.Pcoord ty axis) is = shaped ty.shape set is.0
+pure_kept set (T.Dot ty axis) is = shaped ty.shape set is.0
 pure_kept set (T.LeftIndex' ty place p indexes (V.File k) of) is = shaped ty.shape set is.0
 pure_kept set _ is = absurd is
 
@@ -113,6 +115,7 @@ pure_constant set (T.Choice' ty p test q first r second) is =
     ap (λ (b : Bool). b && ty.elem.bits == (type_of first).elem.bits && ty.elem.bits == (type_of second).elem.bits && is_constant test && is_constant first && is_constant second) (shaped ty.shape set is.0.0)
 pure_constant set (T.Convert' ty p operand) is = ap (λ (b : Bool). b && is_constant operand) (shaped ty.shape set is.0)
 pure_constant set (T.Pcoord ty axis) is = refl
+pure_constant set (T.Dot ty axis) is = refl
 pure_constant set (T.LeftIndex' ty place p indexes (V.File k) of) is = refl
 pure_constant set _ is = absurd is
 
@@ -145,6 +148,7 @@ pure_word set (T.Binary' ty place op p left q right) is = refl
 pure_word set (T.Choice' ty p test q first r second) is = refl
 pure_word set (T.Convert' ty p operand) is = refl
 pure_word set (T.Pcoord ty axis) is = refl
+pure_word set (T.Dot ty axis) is = refl
 pure_word set (T.LeftIndex' ty place p indexes (V.File k) of) is = refl
 pure_word set _ is = absurd is
 
@@ -273,6 +277,7 @@ pure_own t i alive n bits set (T.Convert' ty p operand) is v among = by (is_unch
     by true e (inr h) = inr (ap (λ (c : Bool). if c then own_of bits operand else None) e ∙ h)
     by false e any = inr (ap (λ (c : Bool). if c then own_of bits operand else None) e)
 pure_own t i alive n bits set (T.Pcoord ty axis) is v among = inr refl
+pure_own t i alive n bits set (T.Dot ty axis) is v among = inr refl
 pure_own t i alive n bits set (T.LeftIndex' ty place p indexes (V.File k) of) is v among = inr refl
 pure_own t i alive n bits set _ is v among = absurd is
 

@@ -1,6 +1,6 @@
 -- The indexes of a get, or of a send, are checked, and become the number of the position that they name: both end at the least active
 -- position at which one does not lie within its extent.
-use Rattle.std.proofs.Common.{◌≡◌, ◌∙◌, ℕ, zero, suc, ◌%◌, ◌<◌, ◌≤◌, ◌^◌, ◌&&◌, Bool, true, false, not, List, [], ◌∷◌, ◌++◌, Any, length, map, flat_map, Option, Some, None, refl, sym, ap, subst, arith, ◌⊎◌, inl, inr, if◌then◌else◌}
+use Rattle.std.proofs.Common.{◌≡◌, ◌∙◌, ℕ, zero, slice_index, suc, ◌%◌, ◌<◌, ◌≤◌, ◌^◌, ◌&&◌, Bool, true, false, not, List, [], ◌∷◌, ◌++◌, Any, length, map, flat_map, Option, Some, None, refl, sym, ap, subst, arith, ◌⊎◌, inl, inr, if◌then◌else◌}
 use Rattle.std.proofs.lemmas.Bool.{cases_lt}
 use Rattle.cstar_base.specs.declared.faults.RunFault.TheVariants.{Index}
 use Rattle.cstar_base.specs.declared.operators.Place.{Place}
@@ -8,7 +8,7 @@ use Rattle.cstar_base.specs.Orders.{least_below, or_else}
 use Rattle.code_lengths.proofs.Drafting.{append_nothing}
 use Rattle.communication_laws.specs.Indexes.{HasIndexes, failing_at, with_signs}
 use Rattle.communication_laws.proofs.Indexes.{addresses, checks_of_indexes, indexes_within_name_positions}
-use Rattle.cstar_tree.specs.declared.typed.TExpr.{Row_of-TExpr, end_of-TExpr, items-the_row-TExpr, more_of-TExpr}
+use Rattle.cstar_tree.specs.declared.typed.TExpr.{Row_of-TExpr, TExpr, end_of-TExpr, items-the_row-TExpr, more_of-TExpr}
 use Rattle.cstar_tree.specs.declared.typed.Variable.{Variable}
 use Rattle.cstar_tree.specs.Typed.{type_of}
 use Rattle.lower_base.specs.declared.emit.Out.{Out}
@@ -28,6 +28,7 @@ use Rattle.paris_code.specs.Elementwise.{elementwise}
 use Rattle.paris_code.specs.Meaning.{after, bad_or_nothing}
 use Rattle.paris_code.specs.Memory.{is_active, processors}
 use Rattle.paris_code.specs.Moving.{moved_coordinate, moved_signed}
+use Rattle.paris_code.specs.Operands.{coordinate_of, registers_of_coordinate}
 use Rattle.paris_code.specs.Spans.{StandsAt, entry_of, fields_of, fields_of_coordinate}
 use Rattle.source_meaning.specs.Gets.{Operand, are_within}
 use Rattle.source_meaning.specs.State as Source
@@ -38,19 +39,20 @@ use Rattle.vp_sets.proofs.PositionLaws.{geometry_parts}
 use Rattle.code_follows.proofs.Following.{Finishes, HasRegisters, Sim}
 use Rattle.code_follows.proofs.Growing.{Extended}
 use Rattle.code_follows.proofs.Settings.{OpenAmong, At, Setting, Within, and_one, code_more, earlier, layout, next_stands}
-use Rattle.fields_follow.specs.Fragment.{ArePure}
+use Rattle.fields_follow.specs.Fragment.{AreIndexes, IsPromoted, IsPure, IsRegistered}
 use Rattle.fields_follow.proofs.Checks.{check_ends, check_passes}
 use Rattle.code_lengths.specs.Ready.{IsReadyButForFields}
+use Rattle.fields_follow.proofs.Forms.{HasItsCode}
 use Rattle.fields_follow.proofs.Indexing.{AllCoded}
-use Rattle.fields_follow.proofs.Instructions.{extents, has_words, place, shapes}
+use Rattle.fields_follow.proofs.Instructions.{extents, has_words, place, shapes, word_in}
 use Rattle.fields_follow.proofs.Listed.{AddressStands, TargetStands, address_stands, begins_there, target_stands, with_address, with_target}
 use Rattle.fields_follow.proofs.Listed as Listed
-use Rattle.fields_follow.proofs.Meaning.{Extents}
-use Rattle.fields_follow.proofs.Parts.{AllBehind, AllHave, AreFields, PartsStand, all_have, behind_earlier, words_of}
+use Rattle.fields_follow.proofs.Meaning.{Extents, value_in}
+use Rattle.fields_follow.proofs.Parts.{AllBehind, AllHave, HasField, HasOne, IsBehind, PartsStand, all_have, behind_earlier, words_of}
 use Rattle.fields_follow.proofs.Passing.{GivesField, Passes, fields_longer, flags_of, gives_on, next_own}
 use Rattle.fields_follow.proofs.Places.{HoldsTheFields, IsOwnField, PlacesFields}
 use Rattle.fields_follow.proofs.Routing.{as_many, indexes_at, outside_at, target_of}
-use Rattle.fields_follow.proofs.Sizes.{value_small}
+use Rattle.fields_follow.proofs.Sizes.{promoted_small, value_small}
 use Rattle.fields_follow.proofs.Writing.{PutsNext}
 use Rattle.fields_follow.proofs.Locals.{IsNoHome}
 
@@ -97,43 +99,61 @@ module _ (g : Setting) where
     Have set t vs outs = AllHave g alive places fields set t vs outs
 
     -- the set that checks them
-    set_is : {k : _} (extents : Extents) (st : State) (set of : ℕ) (t : CodeState) (p : List ℕ) (row : Row_of-TExpr k) (outs : List Out) → Have set t (words_of g set st row) outs → (length (items-the_row-TExpr _ row) ≡ 0 → ⊥) → set_of_coordinates of (with_signs (indexes_at extents st row) (map (moved_coordinate p) (coordinates_in outs))) ≡ set
-    unfolding indexes_at AllHave index_coordinate words_of
-    set_is extents st set of t p end_of-TExpr outs have some = absurd (some refl)
-    set_is extents st set of t p (more_of-TExpr index rest) [] have some = absurd have
+    set_is : {k : _} (extents : Extents) (st : State) (set of : ℕ) (t : CodeState) (p : List ℕ) (row : Row_of-TExpr k) (outs : List Out) → Have set t (words_of g set st row) outs → HasField outs → set_of_coordinates of (with_signs (indexes_at extents st row) (map (moved_coordinate p) (coordinates_in outs))) ≡ set
+    unfolding indexes_at AllHave HasOne HasField index_coordinate words_of
+    set_is extents st set of t p end_of-TExpr [] have some = absurd some
+    set_is extents st set of t p end_of-TExpr (out ∷ outs) have some = absurd have
+    set_is extents st set of t p (more_of-TExpr index rest) [] have some = absurd some
     set_is extents st set of t p (more_of-TExpr index rest) (O.Field f ∷ outs) have some = have.0.of_set
-    set_is extents st set of t p (more_of-TExpr index rest) (O.Scalar r ∷ outs) have some = absurd have
-    set_is extents st set of t p (more_of-TExpr index rest) (O.Nothing ∷ outs) have some = absurd have
+    set_is extents st set of t p (more_of-TExpr index rest) (O.Scalar r ∷ outs) have some = set_is extents st set of t p rest outs have.1 some
+    set_is extents st set of t p (more_of-TExpr index rest) (O.Nothing ∷ outs) have some = absurd have.0
 
-    -- so that set exists, where there is one
-    set_there : {k : _} (st : State) (set : ℕ) (t : CodeState) (row : Row_of-TExpr k) (outs : List Out) → Have set t (words_of g set st row) outs → (length (items-the_row-TExpr _ row) ≡ 0 → ⊥) → set < length (shapes g)
-    unfolding AllHave words_of
-    set_there st set t end_of-TExpr outs have some = absurd (some refl)
-    set_there st set t (more_of-TExpr index rest) [] have some = absurd have
-    set_there st set t (more_of-TExpr index rest) (O.Field f ∷ outs) have some = have.0.exists
-    set_there st set t (more_of-TExpr index rest) (O.Scalar r ∷ outs) have some = absurd have
-    set_there st set t (more_of-TExpr index rest) (O.Nothing ∷ outs) have some = absurd have
+    -- so that set exists
+    set_there : (set : ℕ) (t : CodeState) (vs : List (ℕ → ℕ)) (outs : List Out) → Have set t vs outs → HasField outs → set < length (shapes g)
+    unfolding AllHave HasOne HasField
+    set_there set t vs [] have some = absurd some
+    set_there set t [] (out ∷ outs) have some = absurd have
+    set_there set t (v ∷ vs) (O.Field f ∷ outs) have some = have.0.exists
+    set_there set t (v ∷ vs) (O.Scalar r ∷ outs) have some = set_there set t vs outs have.1 some
+    set_there set t (v ∷ vs) (O.Nothing ∷ outs) have some = absurd have.0
 
     -- they have them at another place of the code too
+    one_on : (set : ℕ) (t : CodeState) (v : ℕ → ℕ) (out : Out) → HasOne g alive places fields set t v out → HasOne g alive places fields set (Machine.onward t) v out
+    unfolding HasOne word_in
+    one_on set t v (O.Field f) has = record { of_set = has.of_set; exists = has.exists; len = has.len; are = has.are; small = has.small }
+    one_on set t v (O.Scalar r) has = has
+    one_on set t v O.Nothing has = absurd has
+
     have_on : (set : ℕ) (t : CodeState) (vs : List (ℕ → ℕ)) (outs : List Out) → Have set t vs outs → Have set (Machine.onward t) vs outs
     unfolding AllHave
     have_on set t [] [] have = tt
-    have_on set t (v ∷ vs) (O.Field f ∷ outs) have = (record { of_set = have.0.of_set; exists = have.0.exists; len = have.0.len; are = have.0.are; small = have.0.small }, have_on set t vs outs have.1)
+    have_on set t (v ∷ vs) (out ∷ outs) have = (one_on set t v out have.0, have_on set t vs outs have.1)
     have_on set t [] (out ∷ outs) have = absurd have
     have_on set t (v ∷ vs) [] have = absurd have
-    have_on set t (v ∷ vs) (O.Scalar r ∷ outs) have = absurd have
-    have_on set t (v ∷ vs) (O.Nothing ∷ outs) have = absurd have
 
     -- an instruction that names them all names them behind a draft
-    all_behind : (i : Instr) (later : ℕ) (e : Draft) (outs : List Out) → StandsAt g.unit later i → length e.code ≤ later → ((P : Field → Type 0) → Any P (fields_in outs) → Any P (fields_of i)) → AreFields g outs → AllBehind g outs e
-    unfolding AreFields AllBehind index_coordinate
-    all_behind i later e [] there less names are = tt
-    all_behind i later e (O.Field f ∷ outs) there less names are = (
+    all_behind : (i : Instr) (later : ℕ) (e : Draft) (outs : List Out) → StandsAt g.unit later i → length e.code ≤ later → ((P : Field → Type 0) → Any P (fields_in outs) → Any P (fields_of i)) → AllBehind g outs e
+    unfolding AllBehind IsBehind index_coordinate
+    all_behind i later e [] there less names = tt
+    all_behind i later e (O.Field f ∷ outs) there less names = (
       (later, ((i, there, names (λ (h : Field). entry_of h ≡ f.offset) (0, f, omega arith, refl, refl)), less)),
-      all_behind i later e outs there less (λ P any. names P (any_later P f (fields_in outs) any)) are,
+      all_behind i later e outs there less (λ P any. names P (any_later P f (fields_in outs) any)),
     )
-    all_behind i later e (O.Scalar r ∷ outs) there less names are = absurd are
-    all_behind i later e (O.Nothing ∷ outs) there less names are = absurd are
+    all_behind i later e (O.Scalar r ∷ outs) there less names = (tt, all_behind i later e outs there less names)
+    all_behind i later e (O.Nothing ∷ outs) there less names = (tt, all_behind i later e outs there less names)
+
+    -- the words of the registers among them
+    abbrev words_in : List Coordinate → CodeState → List ℕ
+    words_in cs t = map (λ (r : ℕ). slice_index t.registers r) (flat_map registers_of_coordinate cs)
+
+    signed_registers : {k : _} (extents : Extents) (st : State) (set : ℕ) (t : CodeState) (p : List ℕ) (row : Row_of-TExpr k) (outs : List Out) → Have set t (words_of g set st row) outs
+        → flat_map (λ (c : SignedCoordinate). registers_of_coordinate (coordinate_of c)) (with_signs (indexes_at extents st row) (map (moved_coordinate p) (coordinates_in outs))) ≡ flat_map registers_of_coordinate (map (moved_coordinate p) (coordinates_in outs))
+    unfolding indexes_at AllHave words_of
+    signed_registers extents st set t p end_of-TExpr [] have = refl
+    signed_registers extents st set t p end_of-TExpr (out ∷ outs) have = absurd have
+    signed_registers extents st set t p (more_of-TExpr index rest) [] have = absurd have
+    signed_registers extents st set t p (more_of-TExpr index rest) (out ∷ outs) have =
+        ap (λ (rs : List ℕ). registers_of_coordinate (moved_coordinate p (index_coordinate out)) ++ rs) (signed_registers extents st set t p rest outs have.1)
 
     -- what makes an address of them does so
     address_names : (at : ℕ) (d : Field) (set : ℕ) (outs : List Out) (h : AddressStands g at d set (coordinates_in outs)) (P : Field → Type 0) → Any P (fields_in outs) → Any P (fields_of (I.MakeAddress d set h.list))
@@ -173,22 +193,25 @@ module _ (g : Setting) where
       abbrev Coded : {k : _} → Row_of-TExpr k → Type 0
       Coded row = AllCoded g has alive n ready places fields row
 
+      index_small : (set : ℕ) (st : State) (t : CodeState) (index : TExpr) (q : ℕ) → IsPure set index ⊎ (IsPromoted set index × IsRegistered index) → HasItsCode g.typed g.instance alive n index → Sim g alive st t → value_in (extents g set) st index q < 2 ^ (type_of index).elem.bits
+      index_small set st t index q (inl pure) c sim = value_small g alive n places fields set index st t sim pure c q
+      index_small set st t index q (inr promoted) c sim = promoted_small g alive n places fields set index st t sim promoted.0 c q
+
       -- where they have their words, the coordinates in the image have the indexes
-      indexes_there : {k : _} (set : ℕ) (st : State) (t : CodeState) (row : Row_of-TExpr k) (outs : List Out) (args : List ℕ) (q : ℕ) → ArePure set row → Coded row → Sim g alive st t → Have set t (words_of g set st row) outs → q < processors (shapes g) set → is_active (shapes g) t.memory set q ≡ true
-          → HasIndexes t.memory args q (map (moved_coordinate (Listed.places g)) (coordinates_in outs)) (indexes_at (extents g set) st row)
-      unfolding ArePure AllCoded AllHave words_of indexes_at index_coordinate at
-      indexes_there set st t end_of-TExpr [] args q are coded sim have below on = tt
-      indexes_there set st t end_of-TExpr (out ∷ outs) args q are coded sim have below on = absurd have
-      indexes_there set st t (more_of-TExpr index rest) [] args q are coded sim have below on = absurd have
-      indexes_there set st t (more_of-TExpr index rest) (O.Field f ∷ outs) args q are coded sim have below on = (
-        record { wide = have.0.len; word = has_words g set f t _ have.0 q below on; small = value_small g alive n places fields set index st t sim are.0 coded.0 q },
-        indexes_there set st t rest outs args q are.1 coded.1 sim have.1 below on,
-      )
-      indexes_there set st t (more_of-TExpr index rest) (O.Scalar r ∷ outs) args q are coded sim have below on = absurd have
-      indexes_there set st t (more_of-TExpr index rest) (O.Nothing ∷ outs) args q are coded sim have below on = absurd have
+      indexes_there : {k : _} (set : ℕ) (st : State) (t : CodeState) (row : Row_of-TExpr k) (outs : List Out) (q : ℕ) → AreIndexes set row → Coded row → Sim g alive st t → Have set t (words_of g set st row) outs → q < processors (shapes g) set → is_active (shapes g) t.memory set q ≡ true
+          → HasIndexes t.memory (words_in (map (moved_coordinate (Listed.places g)) (coordinates_in outs)) t) q (map (moved_coordinate (Listed.places g)) (coordinates_in outs)) (indexes_at (extents g set) st row)
+      unfolding AreIndexes AllCoded AllHave HasOne words_of indexes_at index_coordinate at word_in
+      indexes_there set st t end_of-TExpr [] q are coded sim have below on = tt
+      indexes_there set st t end_of-TExpr (out ∷ outs) q are coded sim have below on = absurd have
+      indexes_there set st t (more_of-TExpr index rest) [] q are coded sim have below on = absurd have
+      indexes_there set st t (more_of-TExpr index rest) (O.Field f ∷ outs) q are coded sim have below on =
+          (record { wide = have.0.len; word = has_words g set f t _ have.0 q below on; small = index_small set st t index q are.0 coded.0 sim }, indexes_there set st t rest outs q are.1 coded.1 sim have.1 below on)
+      indexes_there set st t (more_of-TExpr index rest) (O.Scalar r ∷ outs) q are coded sim have below on =
+          (record { wide = tt; word = sym (have.0 q); small = index_small set st t index q are.0 coded.0 sim }, indexes_there set st t rest outs q are.1 coded.1 sim have.1 below on)
+      indexes_there set st t (more_of-TExpr index rest) (O.Nothing ∷ outs) q are coded sim have below on = absurd have.0
 
       -- the instruction that makes the address
-      address_next : {k : _} (set of : ℕ) (st : State) (s : CodeState) (row : Row_of-TExpr k) (outs : List Out) (d : Field) (e : Draft) → d.set ≡ set → set < length (shapes g) → of < length (shapes g) → ArePure set row → Coded row → Sim g alive st s → Have set s (words_of g set st row) outs → outside_at fields.scope fields.active set of (indexes_at (extents g set) st row) ≡ None
+      address_next : {k : _} (set of : ℕ) (st : State) (s : CodeState) (row : Row_of-TExpr k) (outs : List Out) (d : Field) (e : Draft) → d.set ≡ set → set < length (shapes g) → of < length (shapes g) → AreIndexes set row → Coded row → Sim g alive st s → Have set s (words_of g set st row) outs → outside_at fields.scope fields.active set of (indexes_at (extents g set) st row) ≡ None
           → At g s (length e.code) → (h : AddressStands g (length e.code) d of (coordinates_in outs)) → PutsNext g places fields alive set (I.MakeAddress d of h.list) d e s (target_of of (extents g set) st row)
       unfolding begun applied after
       address_next set of st s row outs d e of_set exists also are coded sim have none here h = record {
@@ -202,7 +225,7 @@ module _ (g : Setting) where
           writes = λ p. refl;
           value = λ p below on. ap (λ (x : ℕ). x % 2 ^ d.len)
               (addresses (shapes g) s.memory args (place g d) of h.over given p (places.geometry of also)
-              (subst (λ (cs : List Coordinate). HasIndexes s.memory args p cs given) (sym h.moved_items) (indexes_there set st s row outs args p are coded sim have below on)) (within p below on));
+              (subst (λ (cs : List Coordinate). HasIndexes s.memory (words_in cs s) p cs given) (sym h.moved_items) (indexes_there set st s row outs p are coded sim have below on)) (within p below on));
           small = λ p below on.
               let low = indexes_within_name_positions (extents g of).own given p (within p below on) in
               let few = (geometry_parts (extents g of).own (places.geometry of also)).3 in
@@ -221,14 +244,14 @@ module _ (g : Setting) where
           within p below on = inside set of given exists also none p below (sym (flags_of g alive places fields st s set p sim exists below) ∙ on)
 
       -- both
-      pub located_after : {k : _} (set of bound : ℕ) (place_of : Place) (row : Row_of-TExpr k) (outs : List Out) (dest : Field) (d e : Draft) (s : CodeState) (st : State) (Q : Draft → Type 0) → ArePure set row → Coded row → length (items-the_row-TExpr _ row) ≡ length (extents g of).own → of < length (shapes g)
+      pub located_after : {k : _} (set of bound : ℕ) (place_of : Place) (row : Row_of-TExpr k) (outs : List Out) (dest : Field) (d e : Draft) (s : CodeState) (st : State) (Q : Draft → Type 0) → AreIndexes set row → HasField outs → Coded row → length (items-the_row-TExpr _ row) ≡ length (extents g of).own → of < length (shapes g)
           → dest.len ≡ 32 → dest.set ≡ set → bound ≤ dest.offset → dest.offset < length e.fields → IsOwnField g dest → IsNoHome g (OpenAmong g alive) dest.offset → PartsStand g alive bound d s set st (words_of g set st row) outs e
           → Within g (with_step (MakesAddress dest of (coordinates_in outs)) (with_step (ChecksTarget of place_of (signed_coordinates (items-the_row-TExpr _ row) (coordinates_in outs))) e))
           → (outside_at fields.scope fields.active set of (indexes_at (extents g set) st row) ≡ None → (f : Draft) → GivesField g alive 32 bound d s set st (target_of of (extents g set) st row) dest f → Q f)
           → ((q : ℕ) → outside_at fields.scope fields.active set of (indexes_at (extents g set) st row) ≡ Some (Some q) → Finishes g (Source.Fault Index place_of (Some q)) st s → (f : Draft) → Q f)
           → Q (with_step (MakesAddress dest of (coordinates_in outs)) (with_step (ChecksTarget of place_of (signed_coordinates (items-the_row-TExpr _ row) (coordinates_in outs))) e))
       unfolding check_passes
-      located_after set of bound place_of row outs dest d e s st Q are coded many also long of_set newer older own none a within known faults = by least refl
+      located_after set of bound place_of row outs dest d e s st Q are some coded many also long of_set newer older own none a within known faults = by least refl
         where
           coordinates : List Coordinate
           coordinates = coordinates_in outs
@@ -273,7 +296,7 @@ module _ (g : Setting) where
           same_made = with_address g checked (length checked.code) dest of coordinates address ∙ ap (with_step making) same_checked
 
           behind : AllBehind g outs e
-          behind = behind_earlier g outs e checked (let more = code_more g check e in omega (arith, more)) (all_behind make (length checked.code) checked outs address.there (omega arith) (address_names (length checked.code) dest of outs address) a.shaped)
+          behind = behind_earlier g outs e checked (let more = code_more g check e in omega (arith, more)) (all_behind make (length checked.code) checked outs address.there (omega arith) (address_names (length checked.code) dest of outs address))
 
           sure : Passes g alive bound d e s st (Unit {0})
           sure = record {
@@ -298,15 +321,14 @@ module _ (g : Setting) where
           own_extents : (x : ℕ) → x < length (shapes g) → (extents g x).own ≡ fields.scope.extents x
           own_extents x there = sym (fields.same_extents x there)
 
-          -- there is an index
-          some : length (items-the_row-TExpr _ row) ≡ 0 → ⊥
-          some none = let rank = (geometry_parts (extents g of).own (places.geometry of also)).0 in omega (arith, none, many, rank)
-
           exists : set < length (shapes g)
-          exists = set_there st set t row outs have some
+          exists = set_there set t (words_of g set st row) outs have some
 
           listed : target.over.items ≡ with_signs given (map (moved_coordinate (Listed.places g)) coordinates)
           listed = target.moved_items ∙ signs_are (extents g set) st (Listed.places g) row outs
+
+          words : args ≡ words_in (map (moved_coordinate (Listed.places g)) coordinates) t
+          words = ap (λ (cs : List SignedCoordinate). map (λ (r : ℕ). slice_index t.registers r) (flat_map (λ (c : SignedCoordinate). registers_of_coordinate (coordinate_of c)) cs)) listed ∙ ap (λ (rs : List ℕ). map (λ (r : ℕ). slice_index t.registers r) rs) (signed_registers (extents g set) st set t (Listed.places g) row outs have)
 
           flags : (q : ℕ) → q < processors (shapes g) set → is_active (shapes g) t.memory set q ≡ fields.active set q
           flags q below = flags_of g alive places fields st t set q a.passes.sim exists below
@@ -315,7 +337,7 @@ module _ (g : Setting) where
           outside =
               checks_of_indexes (shapes g) t.memory args fields.scope fields.active set of place_of target.over (map (moved_coordinate (Listed.places g)) coordinates) given (own_extents set exists) (own_extents of also) (as_many (extents g set) st row ∙ many ∙ ap length (own_extents of also)) listed
               (ap (set_of_coordinates of) listed ∙ set_is (extents g set) st set of t (Listed.places g) row outs have some) flags
-              (λ q below on. indexes_there set st t row outs args q are coded a.passes.sim have below (flags q below ∙ on))
+              (λ q below on. subst (λ (ws : List ℕ). HasIndexes t.memory ws q (map (moved_coordinate (Listed.places g)) coordinates) given) (sym words) (indexes_there set st t row outs q are coded a.passes.sim have below (flags q below ∙ on)))
 
           stepped : (o : Option ℕ) → least ≡ o → step g.image t ≡ (elim o as (λ _. Next) [ None ↦ Goes (Machine.onward t) | Some q ↦ Machine.Ends (Machine.Fault Index place_of (Some q)) (Machine.onward t) ])
           stepped o is =

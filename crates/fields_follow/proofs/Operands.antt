@@ -170,7 +170,7 @@ module _ (g : Setting) where
     -- a constant has its word wherever the code stands
     pub constant_given : (bound : ℕ) (set : ℕ) (e : TExpr) (h : HasItsWord e) (d : Draft) (s : CodeState) (st : State) → Starts g alive s (length d.code) d.regs (length d.fields) → Sim g alive st s → GivesWord g alive bound d s st (λ q. word_at (extents g set) st e q) (K.Imm h.word) d
     unfolding word_in
-    constant_given bound set e h d s st here sim = record { passes = passes_all g alive bound d s st (Unit {0}) here sim; small = h.small; same = λ q. h.value (extents g set) st q }
+    constant_given bound set e h d s st here sim = record { passes = passes_all g alive bound d s st (Unit {0}) here sim; small = h.small; same = λ q. h.value (extents g set) st q; lasts = λ t sim keeps. refl }
 
     -- a left operand that is not promoted stands in a field, and the fresh one is not used
     pub pure_left : (bits set : ℕ) (e : TExpr) (quiet : Bool) → IsPure set e → HasItsCode g.typed g.instance alive n e → IsValued bits set e → (dest : Field) (d : Draft) (s : CodeState) (st : State) → Starts g alive s (length d.code) d.regs (length d.fields) → Sim g alive st s

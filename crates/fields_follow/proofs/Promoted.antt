@@ -1,5 +1,6 @@
 -- Promoted scalars: a constant, or one that is computed in a register.
 use Rattle.std.proofs.Common.{◌≡◌, ◌∙◌, ℕ, ◌⊎◌, inl, inr, Bool, true, length, Option, Some, None, sym, ap, subst, ◌&&◌, ◌==◌, false, if◌then◌else◌, refl}
+use Rattle.communication_laws.proofs.Indexes.{both}
 use Rattle.cstar_base.specs.Numbers.{converted}
 use Rattle.cstar_tree.specs.declared.typed.TExpr.{TExpr}
 use Rattle.cstar_tree.specs.declared.typed.TExpr as T
@@ -12,16 +13,19 @@ use Rattle.code_lengths.specs.Ready.{HasCode, IsReadyButForFields}
 use Rattle.code_lengths.specs.Shaped.{IsShaped}
 use Rattle.lower_base.specs.declared.emit.Out.{Out}
 use Rattle.lower_base.specs.declared.emit.Out.TheVariants as O
-use Rattle.lower_base.specs.Drafts.{Draft, Made, Makes, then_make}
+use Rattle.lower_base.specs.Drafts.{Draft, Fails, Made, Makes, then_make}
 use Rattle.lower_base.specs.Kinds.{kind_of}
+use Rattle.lower_expr.specs.declared.operands.Own.{Own}
 use Rattle.lower_expr.specs.Effects.{bits_for, computed_to, moved}
+use Rattle.lower_expr.specs.Kinds.{is_unchanged}
 use Rattle.lower_expr.specs.Operands.{held as held_in, ignores_context, in_place, operand_by, own_of, standing}
-use Rattle.lower_expr.specs.Steps.{put_value, register_word, word_of}
+use Rattle.lower_expr.specs.Steps.{is_kept, put_value, register_word, word_of}
 use Rattle.lower_expr.specs.Values.{value_of}
 use Rattle.paris_code.specs.declared.operands.Field.{Field}
 use Rattle.paris_code.specs.declared.operands.Konst.TheVariants as K
 use Rattle.paris_code.specs.Code.{CodeState}
 use Rattle.quiet_operands.proofs.Contexts.{ignored}
+use Rattle.source_meaning.specs.Constants as Const
 use Rattle.source_meaning.specs.Constants.{constant_of, then_value, is_constant}
 use Rattle.source_meaning.specs.Expressions.{evaluated, mapped}
 use Rattle.source_meaning.specs.Reductions.{int_type}
@@ -31,14 +35,15 @@ use Rattle.source_meaning.specs.Values.{Active, Parallel, Scalar, Scope, Value, 
 use Rattle.code_follows.specs.Fragment.{NamesAmong, IsIn}
 use Rattle.code_follows.proofs.Following.{Follows, HasRegisters, Sim, follows_same, held, knowing, then_gives}
 use Rattle.code_follows.proofs.Settings.{Setting, layout}
-use Rattle.fields_follow.specs.Fragment.{IsCalm, IsConstant, IsPromoted, IsChanging, alone}
+use Rattle.fields_follow.specs.Fragment.{IsCalm, IsConstant, IsPromoted, IsChanging, IsRegistered, alone}
 use Rattle.fields_follow.proofs.Calm.{calm_same}
-use Rattle.fields_follow.proofs.Forms.{HasItsCode, HasItsWord, constant_word, not_held}
+use Rattle.fields_follow.proofs.Forms.{HasItsCode, HasItsWord, constant_word, not_held, promoted_not_held}
 use Rattle.fields_follow.proofs.Instructions.{extents}
 use Rattle.fields_follow.proofs.Meaning.{computed_in, constant_means, given_in, mapped_is, nobody, nowhere, scalar_in, value_in, word_at}
-use Rattle.fields_follow.proofs.Outcomes.{Given, meant}
+use Rattle.fields_follow.proofs.Outcomes.{Given, given_follows, meant}
+use Rattle.fields_follow.proofs.Passing.{After}
 use Rattle.fields_follow.proofs.Places.{HoldsTheFields}
-use Rattle.fields_follow.proofs.Scalars.{GivesScalar, scalar_follows}
+use Rattle.fields_follow.proofs.Scalars.{GivesScalar, scalar_follows, value_follows}
 use Rattle.fields_follow.proofs.Spreading.{GivesWord}
 use Rattle.fields_follow.proofs.Starts.{Starts}
 use Rattle.lower_base.specs.Constants.{constant_register}
@@ -73,6 +78,27 @@ promoted_free scope active set extents _ st is free = absurd is
 -- what a scalar gives at each position
 abbrev pub everywhere : Value → Value
 everywhere v = Parallel (λ q. at v q)
+
+-- a constant stands in no variable
+none_of : (bits : ℕ) (e : TExpr) → is_constant e ≡ true → own_of bits e ≡ None
+unfolding is_constant own_of
+none_of bits (T.Variable ty x) is = cc
+none_of bits (T.Promote' ty p operand) is = cc
+none_of bits (T.Brackets' ty p inner) is = none_of bits inner (both (is_none ty.shape && ty.elem.bits == (type_of inner).elem.bits) (is_constant inner) is).1
+none_of bits (T.Convert' ty p operand) is = by (is_unchanged bits ty.elem (is_kept operand)) (none_of bits operand (both (is_none ty.shape) (is_constant operand) is).1)
+  where
+    by : (b : Bool) → own_of bits operand ≡ None → (if b then own_of bits operand else None) ≡ None
+    by true none = none
+    by false none = refl
+none_of bits _ is = refl
+
+constant_own : (bits : ℕ) (e : TExpr) (word : ℕ) → constant_of e ≡ Some word → own_of bits e ≡ None
+unfolding constant_of
+constant_own bits e word is = by (is_constant e) refl is
+  where
+    by : (b : Bool) → is_constant e ≡ b → (if b then Const.value_of e else None) ≡ Some word → own_of bits e ≡ None
+    by true constant h = none_of bits e constant
+    by false constant h = cc
 
 module _ (g : Setting) (alive : Variable → Type 0) (n : ℕ) where
   -- the scalar of one that is computed, of which this is known
@@ -172,8 +198,15 @@ module _ (g : Setting) (alive : Variable → Type 0) (n : ℕ) where
 
   module _ (has : HasRegisters g) (ready : (d : Draft) → IsReadyButForFields g.typed g.instance (layout g) n d) (fields : HoldsTheFields g) where
     -- the code leaves its word in a register
-    pub computed_after : (set bits bound : ℕ) (quiet : Bool) (e : TExpr) → IsComputed set e → (d : Draft) (s : CodeState) (st : State) → Starts g alive s (length d.code) d.regs (length d.fields) → Sim g alive st s
-        → Follows g (Given g (λ q. value_in (extents g set) st e q) st (λ out f. (r : ℕ) × ((out ≡ O.Scalar r) × GivesWord g alive bound d s st (λ q. word_at (extents g set) st e q) (K.Reg r) f))) s (meant g fields e st) (operand_by g.typed (layout g) bits (λ after. value_of g.typed (layout g) bits e after) quiet e d)
+    abbrev pub Registers : ℕ → ℕ → Draft → CodeState → State → TExpr → Out → Draft → Type 0
+    Registers set bound d s st e out f = (r : ℕ) × ((out ≡ O.Scalar r) × GivesWord g alive bound d s st (λ q. word_at (extents g set) st e q) (K.Reg r) f)
+
+    abbrev InRegister : ℕ → ℕ → ℕ → Bool → TExpr → Type 0
+    InRegister set bits bound quiet e =
+        (d : Draft) (s : CodeState) (st : State) → Starts g alive s (length d.code) d.regs (length d.fields) → Sim g alive st s
+        → Follows g (Given g (λ q. value_in (extents g set) st e q) st (Registers set bound d s st e)) s (meant g fields e st) (operand_by g.typed (layout g) bits (λ after. value_of g.typed (layout g) bits e after) quiet e d)
+
+    pub computed_after : (set bits bound : ℕ) (quiet : Bool) (e : TExpr) → IsComputed set e → InRegister set bits bound quiet e
     unfolding given_in at
     computed_after set bits bound quiet e h d s st here sim =
         follows_same g Q s (h.means fields.scope fields.active st) (h.code quiet bits d)
@@ -192,7 +225,7 @@ module _ (g : Setting) (alive : Variable → Type 0) (n : ℕ) where
         Told x u out f = (o ≡ Source.Gives x u) × R x u out f
 
         Q : Value → State → Out → Draft → Type 0
-        Q = Given g (λ q. value_in (extents g set) st e q) st (λ out f. (r : ℕ) × ((out ≡ O.Scalar r) × GivesWord g alive bound d s st (λ q. word_at (extents g set) st e q) (K.Reg r) f))
+        Q = Given g (λ q. value_in (extents g set) st e q) st (Registers set bound d s st e)
 
         gives : (x : Value) (u : State) (out : Out) (f : Draft) → Told x u out f → Q (everywhere x) u out f
         gives x u out f (given, (w, (is, (same, (r, (place, word)))))) =
@@ -202,3 +235,67 @@ module _ (g : Setting) (alive : Variable → Type 0) (n : ℕ) where
               same,
               (r, (place, subst (λ (v : ℕ → ℕ). GivesWord g alive bound d s st v (K.Reg r) f) (λ i q. held (sym h.elem i) (sym (number q) i)) word)),
             )
+
+    -- so it does where it is a constant whose word no instruction takes
+    constant_after : (set bits bound : ℕ) (quiet : Bool) (ty : ValueType) (p : Boxed) (operand : TExpr) → IsPromoted set (T.Promote' ty p operand) → IsCalm operand → IsConstant operand → HasItsCode g.typed g.instance alive n (T.Promote' ty p operand) → InRegister set bits bound quiet (T.Promote' ty p operand)
+    unfolding IsPromoted operand_by in_place own_of value_of NamesVariables IsShaped IsLowerable NamesAmong Follows After
+    constant_after set bits bound quiet ty p operand is calm constant c d s st here sim =
+        follows_same g (Given g (λ q. value_in (extents g set) st e q) st Q) s refl
+        (ap (λ (o : Option ℕ). elim o as (λ _. Made Out) [ Some r ↦ Makes (O.Scalar r) d | None ↦ placed (if quiet then own_of bits operand else None) ]) (promoted_not_held set (layout g) e is) ∙ ap placed (never_placed quiet))
+        (given_follows g s (meant g fields e st) (λ q. value_in (extents g set) st e q) st Q made (known.0.means fields.scope fields.active (extents g set) st)
+        (by made
+        (subst (λ (o : Outcome Value). Follows g R s o made) (constant_means fields.scope fields.active operand constant.0 st constant.1)
+        (value_follows g has alive n ready fields bits bound operand calm c.among (record { shaped = c.code.shaped.1; lowerable = c.code.lowerable.1; names = c.code.names }) d s st here sim))))
+      where
+        e : TExpr
+        e = T.Promote' ty p operand
+
+        known : (h : HasItsWord e) × (h.word ≡ held (type_of operand).elem constant.0)
+        known = constant_word set ty p operand is.0 is.1 constant
+
+        made : Made Out
+        made = value_of g.typed (layout g) bits operand d
+
+        placed : Option Own → Made Out
+        placed o = elim o as (λ _. Made Out) [ Some own ↦ standing g.typed (layout g) bits own d | None ↦ made ]
+
+        never_placed : (b : Bool) → (if b then own_of bits operand else None) ≡ None
+        never_placed true = constant_own bits operand constant.0 constant.1
+        never_placed false = refl
+
+        R : Value → State → Out → Draft → Type 0
+        R = GivesScalar g has alive n ready fields bound d s st operand
+
+        Q : Out → Draft → Type 0
+        Q = Registers set bound d s st e
+
+        number : Value → ℕ
+        number (Scalar w) = w
+        number v = 0
+
+        told : (out : Out) (f : Draft) → R (Scalar constant.0) st out f → Q out f
+        told out f (w, (is_w, (same, (r, (is_r, word))))) =
+            (r, (is_r, subst (λ (v : ℕ → ℕ). GivesWord g alive bound d s st v (K.Reg r) f) (λ i q. (ap (λ (v : Value). held (type_of operand).elem (number v)) (sym is_w) ∙ sym known.1 ∙ sym (known.0.value (extents g set) st q)) i) word))
+
+        by : (m : Made Out) → Follows g R s (Source.Gives (Scalar constant.0) st) m → After g Q m
+        by (Makes out f) h = λ within. told out f (h within)
+        by Fails h = tt
+
+    -- so each promoted index does
+    pub index_after : (set bits bound : ℕ) (quiet : Bool) (e : TExpr) → IsPromoted set e → IsRegistered e → HasItsCode g.typed g.instance alive n e → InRegister set bits bound quiet e
+    unfolding IsPromoted IsRegistered value_of own_of value_in evaluated
+    index_after set bits bound quiet (T.Promote' ty p operand) is calm c = by is.2.1
+      where
+        by : IsConstant operand ⊎ ((constant_of operand ≡ None) × IsCalm operand) → InRegister set bits bound quiet (T.Promote' ty p operand)
+        by (inl constant) = constant_after set bits bound quiet ty p operand is calm constant c
+        by (inr (none, same)) = computed_after set bits bound quiet (T.Promote' ty p operand) (spread_over IsCalm set ty p operand is.0 is.1 none same c)
+    index_after set bits bound quiet (T.Brackets' ty p inner) is calm c = within (index_after set bits bound quiet inner is.1 calm (brackets_code ty p inner c))
+      where
+        within : InRegister set bits bound quiet inner → InRegister set bits bound quiet (T.Brackets' ty p inner)
+        within h d s st here sim =
+            follows_same g (Given g (λ q. value_in (extents g set) st inner q) st (Registers set bound d s st (T.Brackets' ty p inner))) s refl
+            (operand_same quiet bits (T.Brackets' ty p inner) inner d (promoted_not_held set (layout g) (T.Brackets' ty p inner) is) (promoted_not_held set (layout g) inner is.1) refl refl)
+            (subst
+            (λ (y : ValueType). Follows g (Given g (λ q. value_in (extents g set) st inner q) st (λ out f. (r : ℕ) × ((out ≡ O.Scalar r) × GivesWord g alive bound d s st (λ q. held y.elem (value_in (extents g set) st inner q)) (K.Reg r) f))) s (meant g fields inner st) (operand_by g.typed (layout g) bits (λ after. value_of g.typed (layout g) bits inner after) quiet inner d))
+            (sym is.0) (h d s st here sim))
+    index_after set bits bound quiet _ is calm c = absurd is

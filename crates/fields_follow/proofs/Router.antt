@@ -44,19 +44,18 @@ use Rattle.source_meaning.specs.Values.{Parallel}
 use Rattle.code_follows.proofs.Following.{Extends, HasRegisters, Sim, held}
 use Rattle.code_follows.proofs.Growing.{Extended, extended}
 use Rattle.code_follows.proofs.Settings.{Setting, Within, and_one, earlier, layout}
-use Rattle.fields_follow.specs.Fragment.{ArePure, AreWrapping, IsPure}
+use Rattle.fields_follow.specs.Fragment.{AreIndexes, AreWrapping, HasPure, IsPure}
 use Rattle.fields_follow.specs.Fields.{IsElement}
 use Rattle.fields_follow.proofs.Extents.{get_names, own_extents}
 use Rattle.fields_follow.proofs.Forms.{HasItsCode, element_is}
 use Rattle.fields_follow.proofs.Hops.{HasEverywhere, puts_same}
-use Rattle.fields_follow.proofs.Indexing.{AllCoded, AllValued, KnowsAll, all_coded, all_meant, parts_after}
+use Rattle.fields_follow.proofs.Indexing.{AllCoded, AllValued, KnowsAll, all_coded, all_meant, row_after}
 use Rattle.fields_follow.proofs.Instructions.{HasNumbers, Puts, extents, has_words, place, puts_extended, shapes}
 use Rattle.fields_follow.proofs.Lengths.{held_has}
 use Rattle.fields_follow.proofs.Locating.{and_step, inside, located_after}
 use Rattle.fields_follow.proofs.Meaning.{value_in, word_at}
 use Rattle.fields_follow.proofs.News.{file_everywhere, for_variable, get_last, owner_of}
 use Rattle.fields_follow.proofs.Outcomes.{Ended, after_all, ended_on, meant}
-use Rattle.fields_follow.proofs.Parts.{AllBehind, AllStand, AreFields, PartsStand, fields_somewhere}
 use Rattle.fields_follow.proofs.Passing.{After, Behind, GivesField, Passes, after_same, fields_longer, flags_of, gives_numbers, gives_set, made_after, names_second, passes_all, passes_from, passes_on, puts_own, small_there, then_after}
 use Rattle.fields_follow.proofs.Places.{HoldsTheFields, PlacesFields, stands_here}
 use Rattle.fields_follow.proofs.Pure.{get_gives}
@@ -246,17 +245,17 @@ module _ (g : Setting) where
 
     -- behind the code of its indexes
     routed_last : (ty : ValueType) (place_of : Place) (p : _) (indexes : Row_of-TExpr _) (k set of offset bits bound : ℕ) (quiet : Bool) (spot : Draft → Made Spot) (d : Draft) (s : CodeState) (st : State) → bits ≤ 32 → ty.shape ≡ Some set → all_go_by_news of 0 (items-the_row-TExpr _ indexes) ≡ false
-        → ArePure set indexes → AllCoded g has alive n ready places fields indexes → AllValued g has alive n ready places fields set indexes → HasVariable g.typed g.instance n (V.File k) (plain (parallel ty.elem of)) → HasAxes g.typed of (length (items-the_row-TExpr _ indexes))
+        → AreIndexes set indexes → HasPure set indexes → AllCoded g has alive n ready places fields indexes → AllValued g has alive n ready places fields set indexes → HasVariable g.typed g.instance n (V.File k) (plain (parallel ty.elem of)) → HasAxes g.typed of (length (items-the_row-TExpr _ indexes))
         → spot d ≡ indexed_spot g.typed (layout g) (T.LeftIndex' ty place_of p indexes (V.File k) of) (values_of g.typed (layout g) false quiet indexes) d → bound ≤ length d.fields → Starts g alive s (length d.code) d.regs (length d.fields) → Sim g alive st s → (Q : Out → Draft → Type 0)
         → (meant g fields (T.LeftIndex' ty place_of p indexes (V.File k) of) st ≡ Source.Gives (Parallel (λ q. value_in (extents g set) st (T.LeftIndex' ty place_of p indexes (V.File k) of) q)) st → (e2 : Draft) (i : Instr) → Within g (with_instr i e2) → (passes : Passes g alive bound d e2 s st (Unit {0}))
         → Puts g set i (record { set = set; offset = offset; len = bits }) passes.t (λ q. word_at (extents g set) st (T.LeftIndex' ty place_of p indexes (V.File k) of) q) → Q (O.Field (record { set = set; offset = offset; len = bits })) (with_instr i e2))
         → (Ended g s (meant g fields (T.LeftIndex' ty place_of p indexes (V.File k) of) st) → (x : Out) (after : Draft) → Q x after)
         → After g Q (index_read_to g.typed (layout g) (T.LeftIndex' ty place_of p indexes (V.File k) of) spot (O.Field (record { set = set; offset = offset; len = bits })) d)
-    unfolding evaluated AreFields AllStand each_located passes_from
-    routed_last ty place_of p indexes k set of offset bits bound quiet spot d s st most shaped goes are coded valued v axes spot_is less here sim Q last ended =
+    unfolding evaluated each_located passes_from
+    routed_last ty place_of p indexes k set of offset bits bound quiet spot d s st most shaped goes are some coded valued v axes spot_is less here sim Q last ended =
         after_same g Q (router_code g ty place_of p indexes k set of info f (values_of g.typed (layout g) false quiet indexes) spot d shaped goes refl is spot_is)
         (then_after g (KnowsAll g has alive n ready places fields set bound d1 s st indexes []) Q (values_of g.typed (layout g) false quiet indexes [] d1) (λ parts between. behind_indexes g set of k info ty place_of items f at parts between)
-        (parts_after g has alive n ready places fields indexes quiet set bound d1 s st [] [] d1 are coded valued (omega (arith, less, first)) start) (λ parts between. behind_extends set of k info ty place_of items f at parts between) (λ parts between known. by parts between known))
+        (row_after g has alive n ready places fields indexes quiet set bound d1 s st are some coded valued (omega (arith, less, first)) (starts_entry g alive _ _ here) sim) (λ parts between. behind_extends set of k info ty place_of items f at parts between) (λ parts between known. by parts between known))
       where
         e : TExpr
         e = T.LeftIndex' ty place_of p indexes (V.File k) of
@@ -294,9 +293,6 @@ module _ (g : Setting) where
         to : ℕ → ℕ
         to = target_of of (extents g set) st indexes
 
-        start : PartsStand g alive bound d1 s set st [] [] d1
-        start = record { shaped = tt; passes = passes_all g alive bound d1 s st (AllBehind g [] d1) (starts_entry g alive _ _ here) sim; stand = λ b. tt }
-
         same : (q : ℕ) → held ty.elem (st.parallel (V.File k) 0 (to q)) ≡ word_at (extents g set) st e q
         same q = ap (λ (x : ℕ). held ty.elem x) (sym (routed_value (extents g set) st ty place_of p indexes (V.File k) of q goes))
 
@@ -310,10 +306,10 @@ module _ (g : Setting) where
         by parts between (inr early) =
             after_all g Q (behind_indexes g set of k info ty place_of items f at parts between)
             (λ x after. ended (ended_on g s (all_meant g has alive n ready places fields indexes st) (λ given between. then_do (indexed_target fields.scope fields.active ty.shape place_of (V.File k) of given between) (λ there after. Source.Gives (read after there) after)) early) x after)
-        by parts between (inl (known, stand)) =
-            after_same g Q (ap (λ (b : Bool). if b then Makes (O.Field f) (whole (each_located place_of of items (map index_coordinate parts) at between)) else Fails) (fields_somewhere g parts stand.shaped))
+        by parts between (inl (known, stand, there)) =
+            after_same g Q (ap (λ (b : Bool). if b then Makes (O.Field f) (whole (each_located place_of of items (map index_coordinate parts) at between)) else Fails) stand.somewhere)
             (made_after g Q (O.Field f) (whole located) (λ within.
-            located_after g alive places fields has n ready set of bound place_of indexes parts at d1 between s st (λ x. Within g (whole x) → Q (O.Field f) (whole x)) are coded many also refl refl less (let longer = fields_longer d1 between stand.passes.grown.0 stand.passes.grown.1 in omega (arith, longer, first))
+            located_after g alive places fields has n ready set of bound place_of indexes parts at d1 between s st (λ x. Within g (whole x) → Q (O.Field f) (whole x)) are there coded many also refl refl less (let longer = fields_longer d1 between stand.passes.grown.0 stand.passes.grown.1 in omega (arith, longer, first))
             (taken g set 32 W.Own d (whole located) (stand.passes.grown.0 + (1 + 1 + (0 + more.0))) within (extended d1 between (whole located) stand.passes.grown.0 (1 + 1 + (0 + more.0)) stand.passes.grown.1 behind)) (no_home g alive (length d.fields) (length d.fields) (omega arith) here) stand
             (earlier g located (whole located) (0 + more.0) (extended located (for_variable g of k info located) (whole located) 0 more.0 (and_entry of info.elem.bits (owner_of g k) located) more.1) within)
             (λ clear x gives w.
@@ -340,7 +336,7 @@ module _ (g : Setting) where
 
     -- so a get is read, round the ends of the grid or by the router
     pub indexed_last : (ty : ValueType) (place_of : Place) (p : _) (indexes : Row_of-TExpr _) (k set of offset bits bound : ℕ) (spot : Draft → Made Spot) (d : Draft) (s : CodeState) (st : State) → bits ≤ 32 → IsPure set (T.LeftIndex' ty place_of p indexes (V.File k) of) → HasItsCode g.typed g.instance alive n (T.LeftIndex' ty place_of p indexes (V.File k) of)
-        → (ArePure set indexes → AllValued g has alive n ready places fields set indexes) → spot d ≡ indexed_spot g.typed (layout g) (T.LeftIndex' ty place_of p indexes (V.File k) of) (values_of g.typed (layout g) false (are_quiet indexes) indexes) d → bound ≤ length d.fields
+        → AllValued g has alive n ready places fields set indexes → spot d ≡ indexed_spot g.typed (layout g) (T.LeftIndex' ty place_of p indexes (V.File k) of) (values_of g.typed (layout g) false (are_quiet indexes) indexes) d → bound ≤ length d.fields
         → Starts g alive s (length d.code) d.regs (length d.fields) → Sim g alive st s → (Q : Out → Draft → Type 0)
         → (meant g fields (T.LeftIndex' ty place_of p indexes (V.File k) of) st ≡ Source.Gives (Parallel (λ q. value_in (extents g set) st (T.LeftIndex' ty place_of p indexes (V.File k) of) q)) st → (e2 : Draft) (i : Instr) → Within g (with_instr i e2) → (passes : Passes g alive bound d e2 s st (Unit {0}))
         → Puts g set i (record { set = set; offset = offset; len = bits }) passes.t (λ q. word_at (extents g set) st (T.LeftIndex' ty place_of p indexes (V.File k) of) q) → Q (O.Field (record { set = set; offset = offset; len = bits })) (with_instr i e2))
@@ -355,9 +351,9 @@ module _ (g : Setting) where
         e : TExpr
         e = T.LeftIndex' ty place_of p indexes (V.File k) of
 
-        by : ((of ≡ set) × AreWrapping set 0 indexes) ⊎ ((all_go_by_news of 0 (items-the_row-TExpr _ indexes) ≡ false) × ArePure set indexes) → After g Q (index_read_to g.typed (layout g) e spot (O.Field f) d)
+        by : ((of ≡ set) × AreWrapping set 0 indexes) ⊎ ((all_go_by_news of 0 (items-the_row-TExpr _ indexes) ≡ false) × AreIndexes set indexes × HasPure set indexes) → After g Q (index_read_to g.typed (layout g) e spot (O.Field f) d)
         by (inl (same, are)) =
             let names = get_names g.typed g.instance n of set indexes same are c.code.names.1 c.code.names.2 in
             get_last g alive n places fields ty place_of p indexes k of set offset bits spot bound d s st most is.0 same are c.code.names.0 names less here sim Q (last (get_gives g places fields n ty place_of p indexes k of set st is.0 same are c.code.names.0 names))
-        by (inr (goes, are)) =
-            routed_last ty place_of p indexes k set of offset bits bound (are_quiet indexes) spot d s st most is.0 goes are (all_coded g has alive n ready places fields ty place_of p indexes (V.File k) of c) (valued are) c.code.names.0 c.code.names.2 spot_is less here sim Q last ended
+        by (inr (goes, are, some)) =
+            routed_last ty place_of p indexes k set of offset bits bound (are_quiet indexes) spot d s st most is.0 goes are some (all_coded g has alive n ready places fields ty place_of p indexes (V.File k) of c) valued c.code.names.0 c.code.names.2 spot_is less here sim Q last ended

@@ -171,7 +171,7 @@ module _ (g : Setting) (has : HasRegisters g) (alive : Variable → Type 0) (n :
             stands = inr (record { x = V.File h.k; info = h.info; carries = file_carries g alive places fields set h.k h.info f h.is (entry_for g has alive n ready places fields set h.k h.info h.is d s u e (0 + word.passes.grown.0) (extended d1 d2 e 0 word.passes.grown.0 (and_entry set bits W.Own d1) word.passes.grown.1) within_e) refl refl; len = refl; fits = omega arith; same = λ z below. (refl, held_below h.info.elem (u.parallel (V.File h.k) 0 z)) });
           })
           (Rt.Word (K.Reg r)) (λ z same_word. omega arith) (λ imm same_word divided. cc)
-          (inr (K.Reg r, (refl, record { passes = passes_all g alive (length e.fields) e word.passes.t u (Unit {0}) word.passes.at word.passes.sim; small = word.small; same = word.same }))) P
+          (inr (K.Reg r, (refl, record { passes = passes_all g alive (length e.fields) e word.passes.t u (Unit {0}) word.passes.at word.passes.sim; small = word.small; same = word.same; lasts = word.lasts }))) P
           (λ there never e3 i within p3 puts. inl (
             stores there never,
             leaves_value g has alive n ready places fields set h.k h.info h.is d s u (λ z. outcome x 32 (not signed) (old z) cw) stored ((λ z below small. operated z), λ z. subst (λ (m : ℕ). m < 2 ^ bits) (sym (operated z)) (mod_below (outcome x 32 (not signed) (old z) cw) (2 ^ bits) (pow_pos bits)))

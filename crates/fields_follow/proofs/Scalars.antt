@@ -1,6 +1,6 @@
 -- The law of scalar programs for scalars that change nothing, whose code stands among that of parallel expressions: it
 -- leaves the memory as it is.
-use Rattle.std.proofs.Common.{◌≡◌, ℕ, ◌<◌, ◌^◌, Bool, length, slice_index, refl, sym, ap, subst, arith}
+use Rattle.std.proofs.Common.{◌≡◌, ◌∙◌, ℕ, ◌<◌, ◌^◌, Bool, false, length, slice_index, refl, sym, ap, subst, arith}
 use Rattle.cstar_tree.specs.declared.typed.TExpr.{TExpr}
 use Rattle.cstar_tree.specs.declared.typed.Variable.{Variable}
 use Rattle.cstar_tree.specs.Typed.{type_of}
@@ -20,9 +20,9 @@ use Rattle.source_meaning.specs.State.{Early, Outcome, State}
 use Rattle.source_meaning.specs.Values.{Scalar, Scope, Value}
 use Rattle.code_follows.specs.Fragment.{IsIn, NamesAmong}
 use Rattle.code_follows.proofs.Callees.{CallsFollow}
-use Rattle.code_follows.proofs.Expressions.{operand}
+use Rattle.code_follows.proofs.Expressions.{operand, value_follows as value_does}
 use Rattle.code_follows.proofs.Following.{Arrives, Finishes, Follows, HasRegisters, IsKept, Keeps, Sim, follows_same, held, keeps_all, knowing, follows_other}
-use Rattle.code_follows.proofs.Settings.{Held, OpenAmong, open_later, Setting, Within, layout}
+use Rattle.code_follows.proofs.Settings.{Begun, Held, OpenAmong, open_later, Setting, Within, layout}
 use Rattle.fields_follow.specs.Fragment.{IsCalm, alone}
 use Rattle.fields_follow.proofs.Calm.{IsCalmly, alone_in, alone_same, calm_alone, calm_gives}
 use Rattle.fields_follow.proofs.Instructions.{place, word_in}
@@ -109,6 +109,26 @@ module _ (g : Setting) (has : HasRegisters g) (fields : HoldsTheFields g) (m : B
     memory = h.memory.0;
   }
 
+  -- a later state with the memory that was there
+  sim_among : (alive : Variable → Type 0) (st : State) (s t : CodeState) → Sim calm alive st s → Sim g alive st t → Sim calm alive st (record t { at = s.at; memory = s.memory })
+  sim_among alive st s t was h = record {
+    registers = h.registers;
+    scalars = h.scalars;
+    small = h.small;
+    constants = h.constants;
+    turns = h.turns;
+    output = h.output;
+    input = h.input;
+    returns = h.returns;
+    few = h.few;
+    bytes = h.bytes;
+    memory = was.memory;
+  }
+
+  keeps_calm : (d : Draft) (s t : CodeState) → Keeps g d s t → Keeps calm d s t
+  unfolding IsKept
+  keeps_calm d s t keeps = keeps
+
   keeps_back : (d : Draft) (s t : CodeState) → Keeps calm d s t → Keeps g d s t
   unfolding IsKept
   keeps_back d s t keeps = keeps
@@ -129,28 +149,18 @@ module _ (g : Setting) (has : HasRegisters g) (alive : Variable → Type 0) (n :
   abbrev pub GivesChanged : ℕ → Draft → CodeState → TExpr → Value → State → Out → Draft → Type 0
   GivesChanged bound d s e x u out f = (w : ℕ) × ((x ≡ Scalar w) × ((w < 2 ^ (type_of e).elem.bits) × ((r : ℕ) × ((out ≡ O.Scalar r) × GivesWord g alive bound d s u (λ q. held (type_of e).elem w) (K.Reg r) f))))
 
-  pub changed_follows : (quiet : Bool) (bits bound : ℕ) (e : TExpr) → IsIn alone e → NamesAmong alive e → HasCode g.typed g.instance n e → (d : Draft) (s : CodeState) (st : State) → Starts g alive s (length d.code) d.regs (length d.fields) → Sim g alive st s
-      → Follows g (GivesChanged bound d s e) s (evaluated fields.scope e fields.active st) (operand_by g.typed (layout g) bits (λ after. value_of g.typed (layout g) bits e after) quiet e d)
+  -- of code that gives it there
+  abbrev Arrived : Bool → Draft → CodeState → TExpr → Value → State → Out → Draft → Type 0
+  Arrived quiet d s e x u out f = Arrives (calm g has fields s.memory) alive (type_of e).elem quiet d s x u out f
+
+  arrived_follows : (quiet : Bool) (bound : ℕ) (e : TExpr) → IsIn alone e → (d : Draft) (s : CodeState) (st : State) → Starts g alive s (length d.code) d.regs (length d.fields) → (made : Made Out)
+      → Follows (calm g has fields s.memory) (Arrived quiet d s e) s (evaluated (around g has fields s.memory) e fields.active st) made → Follows g (GivesChanged bound d s e) s (evaluated fields.scope e fields.active st) made
   unfolding word_in
-  changed_follows quiet bits bound e is among code d s st here sim =
+  arrived_follows quiet bound e is d s st here made law =
       follows_same g (GivesChanged bound d s e) s (alone_same fields.scope (around g has fields s.memory) fields.active fields.active e is st) refl
-      (follows_calm g has fields s.memory Arrived (GivesChanged bound d s e) s o made (λ x u out f within a. gives x u out f a) law)
+      (follows_calm g has fields s.memory (Arrived quiet d s e) (GivesChanged bound d s e) s (evaluated (around g has fields s.memory) e fields.active st) made (λ x u out f within a. gives x u out f a) law)
     where
-      o : Outcome Value
-      o = evaluated (around g has fields s.memory) e fields.active st
-
-      made : Made Out
-      made = operand_by g.typed (layout g) bits (λ after. value_of g.typed (layout g) bits e after) quiet e d
-
-      Arrived : Value → State → Out → Draft → Type 0
-      Arrived x u out f = Arrives (calm g has fields s.memory) alive (type_of e).elem quiet d s x u out f
-
-      law : Follows (calm g has fields s.memory) Arrived s o made
-      law =
-          operand (calm g has fields s.memory) (calm_registers g has fields s.memory) alive n here.files ready (around g has fields s.memory) fields.active (nothing_called g has fields s.memory) quiet bits e (alone_in alive e is among) code d s st
-          (record { regs = here.free; code = here.low; fields = omega arith; opened = here.opened }) here.stands (sim_calm g has fields s.memory alive st s refl sim)
-
-      gives : (x : Value) (u : State) (out : Out) (f : Draft) → Arrived x u out f → GivesChanged bound d s e x u out f
+      gives : (x : Value) (u : State) (out : Out) (f : Draft) → Arrived quiet d s e x u out f → GivesChanged bound d s e x u out f
       gives x u out f a =
           let word : slice_index a.t.registers a.holds.register ≡ held (type_of e).elem a.holds.word = a.holds.lasts u a.t a.sim (keeps_all (calm g has fields s.memory) f a.t) (λ calm. refl) in (
             a.holds.word,
@@ -180,6 +190,7 @@ module _ (g : Setting) (has : HasRegisters g) (alive : Variable → Type 0) (n :
                       };
                       small = subst (λ (w : ℕ). w < 2 ^ 32) (sym word) (held_below (type_of e).elem a.holds.word);
                       same = λ q. sym word;
+                      lasts = λ t sim keeps. a.holds.lasts u (record t { at = a.t.at; memory = a.t.memory }) (sim_among g has fields s.memory alive u a.t t a.sim sim) (keeps_calm g has fields s.memory f a.t t keeps) (λ calm. refl) ∙ sym word;
                     },
                   ),
                 ),
@@ -187,21 +198,29 @@ module _ (g : Setting) (has : HasRegisters g) (alive : Variable → Type 0) (n :
             ),
           )
 
+  -- where the code of an operand begins
+  abbrev begun : (d : Draft) (s : CodeState) → Starts g alive s (length d.code) d.regs (length d.fields) → Begun (calm g has fields s.memory) alive d
+  begun d s here = record { regs = here.free; code = here.low; fields = omega arith; opened = here.opened }
+
+  pub changed_follows : (quiet : Bool) (bits bound : ℕ) (e : TExpr) → IsIn alone e → NamesAmong alive e → HasCode g.typed g.instance n e → (d : Draft) (s : CodeState) (st : State) → Starts g alive s (length d.code) d.regs (length d.fields) → Sim g alive st s
+      → Follows g (GivesChanged bound d s e) s (evaluated fields.scope e fields.active st) (operand_by g.typed (layout g) bits (λ after. value_of g.typed (layout g) bits e after) quiet e d)
+  changed_follows quiet bits bound e is among code d s st here sim =
+      arrived_follows quiet bound e is d s st here (operand_by g.typed (layout g) bits (λ after. value_of g.typed (layout g) bits e after) quiet e d)
+      (operand (calm g has fields s.memory) (calm_registers g has fields s.memory) alive n here.files ready (around g has fields s.memory) fields.active (nothing_called g has fields s.memory) quiet bits e (alone_in alive e is among) code d s st
+      (begun d s here) here.stands (sim_calm g has fields s.memory alive st s refl sim))
+
   -- where it changes nothing the state is as it was
   abbrev pub GivesScalar : ℕ → Draft → CodeState → State → TExpr → Value → State → Out → Draft → Type 0
   GivesScalar bound d s st e x u out f = (w : ℕ) × ((x ≡ Scalar w) × ((u ≡ st) × ((r : ℕ) × ((out ≡ O.Scalar r) × GivesWord g alive bound d s st (λ q. held (type_of e).elem w) (K.Reg r) f))))
 
-  pub scalar_follows : (quiet : Bool) (bits bound : ℕ) (e : TExpr) → IsCalm e → NamesAmong alive e → HasCode g.typed g.instance n e → (d : Draft) (s : CodeState) (st : State) → Starts g alive s (length d.code) d.regs (length d.fields) → Sim g alive st s
-      → Follows g (GivesScalar bound d s st e) s (evaluated fields.scope e fields.active st) (operand_by g.typed (layout g) bits (λ after. value_of g.typed (layout g) bits e after) quiet e d)
+  scalar_so : (bound : ℕ) (e : TExpr) → IsCalm e → NamesAmong alive e → HasCode g.typed g.instance n e → (d : Draft) (s : CodeState) (st : State) → Sim g alive st s → (made : Made Out)
+      → Follows g (GivesChanged bound d s e) s (evaluated fields.scope e fields.active st) made → Follows g (GivesScalar bound d s st e) s (evaluated fields.scope e fields.active st) made
   unfolding IsCalmly
-  scalar_follows quiet bits bound e is among code d s st here sim =
-      follows_other g Told (GivesScalar bound d s st e) s o made (knowing g (GivesChanged bound d s e) s o made (changed_follows quiet bits bound e (calm_alone e is) among code d s st here sim)) gives
+  scalar_so bound e is among code d s st sim made changed =
+      follows_other g Told (GivesScalar bound d s st e) s o made (knowing g (GivesChanged bound d s e) s o made changed) gives
     where
       o : Outcome Value
       o = evaluated fields.scope e fields.active st
-
-      made : Made Out
-      made = operand_by g.typed (layout g) bits (λ after. value_of g.typed (layout g) bits e after) quiet e d
 
       Told : Value → State → Out → Draft → Type 0
       Told x u out f = (o ≡ Source.Gives x u) × GivesChanged bound d s e x u out f
@@ -210,3 +229,17 @@ module _ (g : Setting) (has : HasRegisters g) (alive : Variable → Type 0) (n :
       gives x u out f (given, (w, (is_w, (few, (r, (is_r, word)))))) =
           let same : u ≡ st = (subst (λ (y : Outcome Value). IsCalmly (type_of e).elem.bits st y) given (calm_gives g alive n fields.scope fields.active st sim.small e is code.names among)).2 in
           (w, (is_w, (same, (r, (is_r, subst (λ (t : State). GivesWord g alive bound d s t (λ q. held (type_of e).elem w) (K.Reg r) f) same word)))))
+
+  pub scalar_follows : (quiet : Bool) (bits bound : ℕ) (e : TExpr) → IsCalm e → NamesAmong alive e → HasCode g.typed g.instance n e → (d : Draft) (s : CodeState) (st : State) → Starts g alive s (length d.code) d.regs (length d.fields) → Sim g alive st s
+      → Follows g (GivesScalar bound d s st e) s (evaluated fields.scope e fields.active st) (operand_by g.typed (layout g) bits (λ after. value_of g.typed (layout g) bits e after) quiet e d)
+  scalar_follows quiet bits bound e is among code d s st here sim =
+      scalar_so bound e is among code d s st sim (operand_by g.typed (layout g) bits (λ after. value_of g.typed (layout g) bits e after) quiet e d) (changed_follows quiet bits bound e (calm_alone e is) among code d s st here sim)
+
+  -- and so it is of the code of a value that is used nowhere else
+  pub value_follows : (bits bound : ℕ) (e : TExpr) → IsCalm e → NamesAmong alive e → HasCode g.typed g.instance n e → (d : Draft) (s : CodeState) (st : State) → Starts g alive s (length d.code) d.regs (length d.fields) → Sim g alive st s
+      → Follows g (GivesScalar bound d s st e) s (evaluated fields.scope e fields.active st) (value_of g.typed (layout g) bits e d)
+  value_follows bits bound e is among code d s st here sim =
+      scalar_so bound e is among code d s st sim (value_of g.typed (layout g) bits e d)
+      (arrived_follows false bound e (calm_alone e is) d s st here (value_of g.typed (layout g) bits e d)
+      (value_does (calm g has fields s.memory) (calm_registers g has fields s.memory) alive n here.files ready (around g has fields s.memory) fields.active (nothing_called g has fields s.memory) false bits e (alone_in alive e (calm_alone e is) among) code d s st
+      (begun d s here) here.stands (sim_calm g has fields s.memory alive st s refl sim)))

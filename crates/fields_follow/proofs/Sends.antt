@@ -16,8 +16,8 @@ use Rattle.source_meaning.specs.Values.{unary_of, Nothing, Parallel, Value}
 use Rattle.code_follows.proofs.Growing.{as_it_was, Extended, extended}
 use Rattle.code_follows.proofs.Settings.{earlier, Setting, and_one, layout}
 use Rattle.code_follows.proofs.Words.{below_word, held_wide}
-use Rattle.fields_follow.specs.Fragment.{IsOperand, IsSent, ArePure, IsSend, IsSendTarget}
-use Rattle.fields_follow.proofs.Passing.{gives_set, After, GivesField, after_same, after_weaker, fields_longer, made_after, passes_all, then_after}
+use Rattle.fields_follow.specs.Fragment.{AreIndexes, HasPure, IsOperand, IsSent, IsSend, IsSendTarget}
+use Rattle.fields_follow.proofs.Passing.{gives_set, After, GivesField, after_same, after_weaker, fields_longer, made_after, then_after}
 use Rattle.fields_follow.proofs.SendCode.{sends_extend, IsLike, itself, like_inner, send_at, send_code, sends_out, spot_at, value_sent}
 use Rattle.fields_follow.proofs.Sending.{BothStand, both_further, both_negated, combined_leaves, negative_sent, operator_sent, sends_never, sent_as, set_leaves}
 use Rattle.fields_follow.proofs.SendValues.{GivesSpread, IsSpread, spread_grows, spread_of, spreads}
@@ -67,7 +67,7 @@ use Rattle.fields_follow.specs.Fields.{IsElement}
 use Rattle.fields_follow.proofs.Computing.{each_after}
 use Rattle.fields_follow.proofs.Extents.{own_extents}
 use Rattle.fields_follow.proofs.Forms.{HasItsCode, element_is}
-use Rattle.fields_follow.proofs.Indexing.{AllCoded, KnowsAll, all_coded, all_meant, parts_after}
+use Rattle.fields_follow.proofs.Indexing.{AllCoded, KnowsAll, all_coded, all_meant, row_after}
 use Rattle.fields_follow.proofs.Instructions.{extents, place, shapes}
 use Rattle.fields_follow.proofs.Leaving.{Leaves, UpdateLeaves}
 use Rattle.fields_follow.proofs.Lengths.{held_first}
@@ -75,7 +75,6 @@ use Rattle.fields_follow.proofs.Locating.{and_step, located_after}
 use Rattle.fields_follow.proofs.Meaning.{value_in, word_at}
 use Rattle.fields_follow.proofs.News.{for_variable, owner_of}
 use Rattle.fields_follow.proofs.Outcomes.{Ended, after_all, ended_back, ended_on, meant, outcome_follows, then_known}
-use Rattle.fields_follow.proofs.Parts.{AllBehind, AllStand, AreFields, PartsStand, fields_somewhere}
 use Rattle.fields_follow.proofs.Places.{HoldsTheFields, PlacesFields}
 use Rattle.fields_follow.proofs.Routing.{indexes_at, outside_at, target_of}
 use Rattle.fields_follow.proofs.SendMeans.{send_means, sent_from, target_ends, targets_fault, targets_given, targets_of, value_ends}
@@ -93,18 +92,18 @@ target_shaped set _ is shaped = absurd is
 module _ (g : Setting) (has : HasRegisters g) (alive : Variable → Type 0) (n : ℕ) (ready : (d : Draft) → IsReadyButForFields g.typed g.instance (layout g) n d) (places : PlacesFields g) (fields : HoldsTheFields g) where
   -- A send follows where what its value is follows, and the send itself leaves what is sent.
   sends_by : (aty ty : ValueType) (place_of sending : Place) (op : AssignOp) (p q : Boxed) (r : _) (indexes : Row_of-TExpr _) (target value : TExpr) (k set of bits : ℕ) (info : VarInfo) (is : IsElement g.typed k info of 0) → IsLike g.typed (layout g) target (T.LeftIndex' ty place_of r indexes (V.File k) of) → ty.shape ≡ Some set → aty ≡ type_of target
-      → ArePure set indexes → AllCoded g has alive n ready places fields indexes → HasAxes g.typed of (length (items-the_row-TExpr _ indexes)) → taken_bits aty.elem.bits op target value ≡ bits → ((x : ℕ) → divides_by_zero op x ≡ false)
+      → AreIndexes set indexes → HasPure set indexes → AllCoded g has alive n ready places fields indexes → HasAxes g.typed of (length (items-the_row-TExpr _ indexes)) → taken_bits aty.elem.bits op target value ≡ bits → ((x : ℕ) → divides_by_zero op x ≡ false)
       → IsSpread g has alive n ready places fields bits set value → HasItsCode g.typed g.instance alive n value
       → (d : Draft) (s : CodeState) (st : State) → Starts g alive s (length d.code) d.regs (length d.fields) → Sim g alive st s
       → ((a : Field) (e : Draft) → BothStand g alive places fields set of k info is d st (λ x. target_of of (extents g set) st indexes x) (λ x. value_in (extents g set) st value x) bits (λ x. word_at (extents g set) st value x) s a e
       → After g (λ out f. Leaves g alive d f s (sent op aty.elem (type_of value).elem (V.File k) (sent_from fields.scope fields.active set (λ x. target_of of (extents g set) st indexes x) (λ x. value_in (extents g set) st value x)) st)) (send_at g of k info aty op value (next_field set 32 d) a e))
       → UpdateLeaves g alive fields (T.Assign' aty sending op p target q value) d s st
-  unfolding AreFields AllStand each_located located sends_out Extends
-  sends_by aty ty place_of sending op p q r indexes target value k set of bits info is like shaped same are coded axes took never stands c d s st here sim last =
+  unfolding each_located located sends_out Extends
+  sends_by aty ty place_of sending op p q r indexes target value k set of bits info is like shaped same are some coded axes took never stands c d s st here sim last =
       outcome_follows g s o Nothing u (λ out f. Leaves g alive d f s u) (λ x t out f. Leaves g alive d f s t) (effect_of g.typed (layout g) e d) (λ out f said. said)
       (after_same g Q (send_code g aty ty place_of sending op p q r indexes target value k set of bits info d like shaped same is took)
       (then_after g Known Q (values_of g.typed (layout g) false (are_quiet indexes) indexes [] first_draft) (λ parts between. then_make (spot_at g of place_of items address parts between) (λ _ after. value_sent g bits set of k info aty op value address after))
-      (parts_after g has alive n ready places fields indexes (are_quiet indexes) set bound first_draft s st [] [] first_draft are coded (each_after g has alive n ready places fields set indexes are coded) (omega (arith, first)) start)
+      (row_after g has alive n ready places fields indexes (are_quiet indexes) set bound first_draft s st are some coded (each_after g has alive n ready places fields set indexes coded) (omega (arith, first)) (starts_entry g alive _ _ here) sim)
       (λ parts between. extends_then g between (spot_at g of place_of items address parts between) (λ _ after. value_sent g bits set of k info aty op value address after) (spot_extends parts between (all_somewhere parts)) (λ _ after. value_extends after)) (λ parts between known. by parts between known)))
     where
       e : TExpr
@@ -164,9 +163,6 @@ module _ (g : Setting) (has : HasRegisters g) (alive : Variable → Type 0) (n :
       many : length items ≡ length (extents g of).own
       many = axes.2 ∙ ap length (sym (own_extents g.typed of axes.0 axes.1) ∙ (places.grids of exists).0)
 
-      start : PartsStand g alive bound first_draft s set st [] [] first_draft
-      start = record { shaped = tt; passes = passes_all g alive bound first_draft s st (AllBehind g [] first_draft) (starts_entry g alive _ _ here) sim; stand = λ b. tt }
-
       checked : List Out → Draft → Draft
       checked parts between = with_step (ChecksTarget of place_of (signed_coordinates items (map index_coordinate parts))) between
 
@@ -220,11 +216,11 @@ module _ (g : Setting) (has : HasRegisters g) (alive : Variable → Type 0) (n :
       by parts between (inr early) =
           after_all g Q (then_make (spot_at g of place_of items address parts between) (λ _ after. value_sent g bits set of k info aty op value address after))
           (λ out f. inr (target_ended (ended_on g s (all_meant g has alive n ready places fields indexes st) (λ given after. targets_of fields.scope fields.active ty place_of (V.File k) of given after) early)))
-      by parts between (inl (known, stand)) =
+      by parts between (inl (known, stand, found)) =
           then_after g (λ _ x. Located x) Q (spot_at g of place_of items address parts between) (λ _ after. value_sent g bits set of k info aty op value address after)
-          (after_same g (λ _ x. Located x) (ap (λ (b : Bool). if b then Makes (S.Indexed (O.Field address)) (placed parts between) else Fails) (fields_somewhere g parts stand.shaped))
+          (after_same g (λ _ x. Located x) (ap (λ (b : Bool). if b then Makes (S.Indexed (O.Field address)) (placed parts between) else Fails) stand.somewhere)
           (made_after g (λ _ x. Located x) (S.Indexed (O.Field address)) (placed parts between) (λ within.
-          located_after g alive places fields has n ready set of bound place_of indexes parts address first_draft between s st Located are coded many exists refl refl (omega arith) (let longer = fields_longer first_draft between stand.passes.grown.0 stand.passes.grown.1 in omega (arith, longer, first))
+          located_after g alive places fields has n ready set of bound place_of indexes parts address first_draft between s st Located are found coded many exists refl refl (omega arith) (let longer = fields_longer first_draft between stand.passes.grown.0 stand.passes.grown.1 in omega (arith, longer, first))
           (taken g set 32 W.Own d (placed parts between) (stand.passes.grown.0 + (1 + 1)) within (extended first_draft between (placed parts between) stand.passes.grown.0 (1 + 1) stand.passes.grown.1 (placed_more parts between))) (no_home g alive (length d.fields) (length d.fields) (omega arith) here) stand within
           (λ clear x gives. inl (knows known clear, gives))
           (λ y some ends x. inr (record { early = Source.Fault Index place_of (Some y); state = st; is = targets_fault fields.scope fields.active ty place_of r indexes (V.File k) set of given st y shaped known some; finishes = ends })))))
@@ -247,10 +243,10 @@ module _ (g : Setting) (has : HasRegisters g) (alive : Variable → Type 0) (n :
       IsLike g.typed (layout g) target left → ty.shape ≡ Some set → aty ≡ type_of target → HasItsCode g.typed g.instance alive n left → IsOperand set value → HasItsCode g.typed g.instance alive n value
       → (d : Draft) (s : CodeState) (st : State) → Starts g alive s (length d.code) d.regs (length d.fields) → Sim g alive st s → UpdateLeaves g alive fields (T.Assign' aty sending op p target q value) d s st
 
-  sets : (aty ty : ValueType) (place_of sending : Place) (p q : Boxed) (r : _) (indexes : Row_of-TExpr _) (target value : TExpr) (k set of : ℕ) → ArePure set indexes → (type_of value).elem.bits ≡ aty.elem.bits → Sends aty ty place_of sending A.Set p q target value (T.LeftIndex' ty place_of r indexes (V.File k) of) set
+  sets : (aty ty : ValueType) (place_of sending : Place) (p q : Boxed) (r : _) (indexes : Row_of-TExpr _) (target value : TExpr) (k set of : ℕ) → AreIndexes set indexes × HasPure set indexes → (type_of value).elem.bits ≡ aty.elem.bits → Sends aty ty place_of sending A.Set p q target value (T.LeftIndex' ty place_of r indexes (V.File k) of) set
   unfolding NamesVariables is_send is_sent bare sent_to assign_op_of then_make
   sets aty ty place_of sending p q r indexes target value k set of are long like shaped same c operand own d s st here sim =
-      sends_by aty ty place_of sending A.Set p q r indexes target value k set of bits info is like shaped same are (all_coded g has alive n ready places fields ty place_of r indexes (V.File k) of c) c.code.names.2
+      sends_by aty ty place_of sending A.Set p q r indexes target value k set of bits info is like shaped same are.0 are.1 (all_coded g has alive n ready places fields ty place_of r indexes (V.File k) of c) c.code.names.2
       (taken_plainly aty.elem.bits A.Set target value refl (like.sends ∙ ap is_some shaped) ∙ ap (λ (y : ValueType). y.elem.bits) like.type) (λ x. divides_never A.Set x refl)
       (spreads g has alive n ready places fields bits set value (kind_bits ty.elem.bits ty.elem.signed ty.elem.kind).0 (kind_bits ty.elem.bits ty.elem.signed ty.elem.kind).1 operand own) own d s st here sim
       (λ a e both. made_after g (λ out f. Leaves g alive d f s u) O.Nothing (with_instr (I.SendWithOverwrite (next_field of bits e) aty.elem (next_field set 32 d) a) (for_variable g of k info e))
@@ -286,10 +282,10 @@ module _ (g : Setting) (has : HasRegisters g) (alive : Variable → Type 0) (n :
           let few : v x < 2 ^ bits = subst (λ (m : ℕ). v x < 2 ^ m) of_type small in
           (held_first (type_of value).elem (v x) bits small (omega (arith, of_type)) ∙ mod-eq_of_lt few, few)
 
-  combines : (aty ty : ValueType) (place_of sending : Place) (op : AssignOp) (p q : Boxed) (r : _) (indexes : Row_of-TExpr _) (target value : TExpr) (k set of : ℕ) → ArePure set indexes → folds op ≡ true → (type_of value).elem.bits ≡ 32 → Sends aty ty place_of sending op p q target value (T.LeftIndex' ty place_of r indexes (V.File k) of) set
+  combines : (aty ty : ValueType) (place_of sending : Place) (op : AssignOp) (p q : Boxed) (r : _) (indexes : Row_of-TExpr _) (target value : TExpr) (k set of : ℕ) → AreIndexes set indexes × HasPure set indexes → folds op ≡ true → (type_of value).elem.bits ≡ 32 → Sends aty ty place_of sending op p q target value (T.LeftIndex' ty place_of r indexes (V.File k) of) set
   unfolding NamesVariables sent_to sent_value then_make an_entry
   combines aty ty place_of sending op p q r indexes target value k set of are folding wide like shaped same c operand own d s st here sim =
-      sends_by aty ty place_of sending op p q r indexes target value k set of 32 info is like shaped same are (all_coded g has alive n ready places fields ty place_of r indexes (V.File k) of c) c.code.names.2
+      sends_by aty ty place_of sending op p q r indexes target value k set of 32 info is like shaped same are.0 are.1 (all_coded g has alive n ready places fields ty place_of r indexes (V.File k) of c) c.code.names.2
       (taken_wide aty.elem.bits set op operator.0 target value operator.1 (ap (λ (y : ValueType). y.shape) like.type ∙ shaped)) (λ x. sends_never op x folding)
       (spreads g has alive n ready places fields 32 set value (omega arith) (omega arith) operand own) own d s st here sim
       (λ a e both. after_same g R (ap (λ (x : Option Op). then_make (sent_to x signed aty.elem (next_field of info.elem.bits e) address a (for_variable g of k info e)) finally) operator.1) (by a e operator.0 operator.1 (both_further g alive places fields set of k info is d st to v 32 w s a e of info.elem.bits (owner_of g k) both) (sent_as operator.0)))
@@ -382,9 +378,9 @@ module _ (g : Setting) (has : HasRegisters g) (alive : Variable → Type 0) (n :
       → (d : Draft) (s : CodeState) (st : State) → Starts g alive s (length d.code) d.regs (length d.fields) → Sim g alive st s → UpdateLeaves g alive fields (T.Assign' aty sending op p target q value) d s st
   unfolding IsSendTarget
   sends_to aty sending op p q target (T.LeftIndex' ty place_of r indexes (V.File k) of) value set like is same c (inl (plainly, long)) operand own d s st here sim =
-      subst (λ (x : AssignOp). UpdateLeaves g alive fields (T.Assign' aty sending x p target q value) d s st) (sym plainly) (sets aty ty place_of sending p q r indexes target value k set of is.1 long like is.0 same c operand own d s st here sim)
+      subst (λ (x : AssignOp). UpdateLeaves g alive fields (T.Assign' aty sending x p target q value) d s st) (sym plainly) (sets aty ty place_of sending p q r indexes target value k set of (is.1, is.2) long like is.0 same c operand own d s st here sim)
   sends_to aty sending op p q target (T.LeftIndex' ty place_of r indexes (V.File k) of) value set like is same c (inr (folding, wide)) operand own d s st here sim =
-      combines aty ty place_of sending op p q r indexes target value k set of is.1 folding wide like is.0 same c operand own d s st here sim
+      combines aty ty place_of sending op p q r indexes target value k set of (is.1, is.2) folding wide like is.0 same c operand own d s st here sim
   sends_to aty sending op p q target (T.Brackets' ty r inner) value set like is same c is_sent operand own d s st here sim =
       sends_to aty sending op p q target inner value set (like_inner g.typed (layout g) target ty r inner is.0 like) is.1 same (brackets_part g alive n places fields ty r inner c) is_sent operand own d s st here sim
   sends_to aty sending op p q target _ value set like is same c is_sent operand own d s st here sim = absurd is

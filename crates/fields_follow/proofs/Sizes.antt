@@ -145,6 +145,7 @@ module _ (g : Setting) (alive : Variable → Type 0) (n : ℕ) (places : PlacesF
       arm e (inr promoted) wide code small = below_word (type_of e).elem.bits _ wide.1 (promoted_small set e st s sim promoted code q)
   value_small set (T.Convert' ty p operand) st s sim is c q = converted_below ty.elem (type_of operand).elem (value_in (extents g set) st operand q)
   value_small set (T.Pcoord ty axis) st s sim is c q = below_bits ty.elem.bits _ is.1 (places.few set axis q)
+  value_small set (T.Dot ty axis) st s sim is c q = below_bits ty.elem.bits _ is.1 (places.few set axis q)
   value_small set (T.LeftIndex' ty place p indexes (V.File k) of) st s sim is c q =
       let info = variable_info c.code.names.0.word (plain (parallel ty.elem of)) c.code.names.0.start in
       small_there g alive places fields of k info st s (element_is g.typed g.instance n k of (parallel ty.elem of) refl c.code.names.0) sim _

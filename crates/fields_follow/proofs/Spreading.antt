@@ -11,6 +11,7 @@ use Rattle.paris_code.specs.Code.{CodeState}
 use Rattle.paris_code.specs.Memory.{is_active, processors}
 use Rattle.paris_code.specs.Spans.{IsNamedAt}
 use Rattle.source_meaning.specs.State.{State}
+use Rattle.code_follows.proofs.Following.{Keeps, Sim}
 use Rattle.code_follows.proofs.Growing.{extended}
 use Rattle.code_follows.proofs.Settings.{OpenAmong, Setting, Within, and_one, code_more}
 use Rattle.fields_follow.proofs.Instructions.{HasNumbers, puts_constant, shapes, word_in}
@@ -22,11 +23,12 @@ use Rattle.fields_follow.proofs.Starts.{starts_next}
 use Rattle.fields_follow.proofs.Locals.{IsNoHome}
 
 module _ (g : Setting) (alive : Variable → Type 0) where
-  -- code gives a word that is the same at every position
+  -- code gives a word that is the same at every position, and stays where registers that are kept do
   pub record GivesWord (bound : ℕ) (d : Draft) (s : CodeState) (st : State) (v : ℕ → ℕ) (k : Konst) (e : Draft) : Type 0 where
     pub passes : Passes g alive bound d e s st (Unit {0})
     pub small : word_in g k passes.t < 2 ^ 32
     pub same : (q : ℕ) → v q ≡ word_in g k passes.t
+    pub lasts : (t : CodeState) → Sim g alive st t → Keeps g e passes.t t → word_in g k t ≡ word_in g k passes.t
 
   -- code passes, and two fields have these words behind it
   pub record HasBoth (bits set bound : ℕ) (a b : Field) (d e : Draft) (s : CodeState) (st : State) (v w : ℕ → ℕ) : Type 0 where

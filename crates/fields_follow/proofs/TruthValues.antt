@@ -142,6 +142,7 @@ truth_or_plain set bits (T.Binary' ty place op p left q right) is = by is.1
 truth_or_plain set bits (T.Choice' ty p test q first r second) is = inr tt
 truth_or_plain set bits (T.Variable ty x) is = inr tt
 truth_or_plain set bits (T.Pcoord ty axis) is = inr tt
+truth_or_plain set bits (T.Dot ty axis) is = inr tt
 truth_or_plain set bits (T.LeftIndex' ty place p indexes x of) is = inr tt
 truth_or_plain set bits _ is = absurd is
 

@@ -1,17 +1,17 @@
 -- The programs with parallel variables of which it is said so far that their code means them. Their parallel
 -- expressions are pure ones, of variables of the file and of blocks of all types, gets of the file's ones from
--- neighbours round the ends of the grid and, of any shape, by indexes that are such expressions, own coordinates, truth
--- values of such expressions, and promoted scalars, which are computed by operators, conversions, casts and `?:`, and
--- change nothing; they fail where a divisor is 0 at an active position, or that of a scalar is, or where an index does
--- not lie within its extent at one, and nowhere else. The condition of `?:` may be parallel too: each of the other
--- operands then fails only where it is chosen, as the right one of `&&` and `||` does where the left one does not
--- decide. They are assigned to variables of the file and folded into numbers and onto scalar variables, as scans of
--- them and of ones with operators on these are, and they are the conditions of `where`. Folds and scans are of the
--- active positions. They are sent to variables of the file, of any shape, by such indexes, also with an operator that
--- folds. Scalars that change variables, by assignments, steps and `getchar`, are assigned to variables of the file too,
--- also with operators. Blocks may have parallel variables without initialisers, to which nothing is assigned. Under
--- `where` and `everywhere` stand the statements of scalar programs with these, also calls, `return` and jumps that lead
--- out of them.
+-- neighbours round the ends of the grid and, of any shape, by indexes that are such expressions, also with `.`, or
+-- promoted scalars, own coordinates, truth values of such expressions, and promoted scalars, which are computed by
+-- operators, conversions, casts and `?:`, and change nothing; they fail where a divisor is 0 at an active position, or
+-- that of a scalar is, or where an index does not lie within its extent at one, and nowhere else. The condition of `?:`
+-- may be parallel too: each of the other operands then fails only where it is chosen, as the right one of `&&` and `||`
+-- does where the left one does not decide. They are assigned to variables of the file and folded into numbers and onto
+-- scalar variables, as scans of them and of ones with operators on these are, and they are the conditions of `where`.
+-- Folds and scans are of the active positions. They are sent to variables of the file, of any shape, by such indexes,
+-- also with an operator that folds. Scalars that change variables, by assignments, steps and `getchar`, are assigned to
+-- variables of the file too, also with operators. Blocks may have parallel variables without initialisers, to which
+-- nothing is assigned. Under `where` and `everywhere` stand the statements of scalar programs with these, also calls,
+-- `return` and jumps that lead out of them.
 use Rattle.std.specs.Prelude.{ℕ, ◌≡◌, ◌<◌, ◌≤◌, ◌+◌, ◌^◌, ◌⊎◌, ◌==◌, true, false, Option, Some, None}
 use Rattle.cstar_base.specs.declared.elem.Elem.{Elem}
 use Rattle.cstar_base.specs.declared.operators.Combiner.TheVariants as C
@@ -95,6 +95,12 @@ IsPromoted set (T.Promote' ty p operand) = (ty.shape ≡ Some set) × (ty.elem �
 IsPromoted set (T.Brackets' ty p inner) = (ty ≡ type_of inner) × IsPromoted set inner
 IsPromoted set _ = ⊥
 
+-- its code leaves the scalar in a register
+unfoldable pub IsRegistered : TExpr → Type 0
+IsRegistered (T.Promote' ty p operand) = IsCalm operand
+IsRegistered (T.Brackets' ty p inner) = IsRegistered inner
+IsRegistered _ = ⊥
+
 -- the own coordinate on an axis, maybe in brackets
 unfoldable pub IsDot : ℕ → ℕ → TExpr → Type 0
 IsDot set axis (T.Brackets' ty p inner) = IsDot set axis inner
@@ -157,9 +163,9 @@ IsRelation set op left right = (relates op ≡ true) × (HasKnownKind left ⊎ I
 -- which narrower values are converted. Truth values are relations, `!`, conversions to `bool`, and two values that are
 -- joined by `&&` or `||`, of which the right one is computed where the left one does not decide, and may be a promoted
 -- scalar that is no constant.
--- A get goes round the ends of the grid, or its indexes, into any shape, are such expressions, which fail where they do
--- not lie within the extents at an active position. `?:` chooses one of two values at each position, which may be
--- promoted, and each is computed where it is chosen.
+-- A get goes round the ends of the grid, or its indexes, into any shape, are such expressions and promoted scalars,
+-- which fail where they do not lie within the extents at an active position. `?:` chooses one of two values at each
+-- position, which may be promoted, and each is computed where it is chosen.
 unfoldable mutual
   pub IsPure : ℕ → TExpr → Type 0
   IsPure set (T.Variable ty (V.File k)) = ty.shape ≡ Some set
@@ -173,12 +179,18 @@ unfoldable mutual
   IsPure set (T.Choice' ty p test q first r second) = IsWide set ty × (IsPure set test × HasKnownKind test) × (IsPure set first ⊎ IsPromoted set first) × (IsPure set second ⊎ IsPromoted set second) × IsWide set (type_of first) × IsWide set (type_of second)
   IsPure set (T.Convert' ty p operand) = (ty.shape ≡ Some set) × (((ty.elem.bits == 1) ≡ false) ⊎ ((ty.elem.bits ≡ 1) × HasKnownKind operand)) × IsPure set operand
   IsPure set (T.Pcoord ty axis) = IsWide set ty
-  IsPure set (T.LeftIndex' ty place p indexes (V.File k) of) = (ty.shape ≡ Some set) × (((of ≡ set) × AreWrapping set 0 indexes) ⊎ ((all_go_by_news of 0 (items-the_row-TExpr _ indexes) ≡ false) × ArePure set indexes))
+  IsPure set (T.Dot ty axis) = IsWide set ty
+  IsPure set (T.LeftIndex' ty place p indexes (V.File k) of) = (ty.shape ≡ Some set) × (((of ≡ set) × AreWrapping set 0 indexes) ⊎ ((all_go_by_news of 0 (items-the_row-TExpr _ indexes) ≡ false) × AreIndexes set indexes × HasPure set indexes))
   IsPure set _ = ⊥
 
-  pub ArePure : {k : _} → ℕ → Row_of-TExpr k → Type 0
-  ArePure set end_of-TExpr = Unit {0}
-  ArePure set (more_of-TExpr index rest) = IsPure set index × ArePure set rest
+  -- indexes of the current shape, some of which may be promoted scalars, but not all
+  pub AreIndexes : {k : _} → ℕ → Row_of-TExpr k → Type 0
+  AreIndexes set end_of-TExpr = Unit {0}
+  AreIndexes set (more_of-TExpr index rest) = (IsPure set index ⊎ (IsPromoted set index × IsRegistered index)) × AreIndexes set rest
+
+  pub HasPure : {k : _} → ℕ → Row_of-TExpr k → Type 0
+  HasPure set end_of-TExpr = ⊥
+  HasPure set (more_of-TExpr index rest) = IsPure set index ⊎ HasPure set rest
 
 -- an operand, promoted or not
 abbrev pub IsOperand : ℕ → TExpr → Type 0
@@ -287,7 +299,7 @@ IsFoldOnto _ = ⊥
 
 -- what is sent to: a variable of the file, of any shape, under a left index of the current one
 unfoldable pub IsSendTarget : ℕ → TExpr → Type 0
-IsSendTarget set (T.LeftIndex' ty place p indexes (V.File k) of) = (ty.shape ≡ Some set) × ArePure set indexes
+IsSendTarget set (T.LeftIndex' ty place p indexes (V.File k) of) = (ty.shape ≡ Some set) × AreIndexes set indexes × HasPure set indexes
 IsSendTarget set (T.Brackets' ty p inner) = (ty ≡ type_of inner) × IsSendTarget set inner
 IsSendTarget set _ = ⊥
 
