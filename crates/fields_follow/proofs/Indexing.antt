@@ -38,7 +38,7 @@ use Rattle.fields_follow.proofs.Outcomes.{Ended, Given, ended_back, ended_on, gi
 use Rattle.fields_follow.proofs.Parts.{HasField, PartsStand, field_first, field_last, field_more, none_stand, word_more, words_of}
 use Rattle.fields_follow.proofs.Passing.{After, GivesField, after_same, after_weaker, fields_longer, made_after}
 use Rattle.fields_follow.proofs.Places.{HoldsTheFields, PlacesFields}
-use Rattle.fields_follow.proofs.Promoted.{Registers, index_after}
+use Rattle.fields_follow.proofs.Promoted.{Registers, registered_after}
 use Rattle.fields_follow.proofs.Routing.{indexes_at}
 use Rattle.fields_follow.proofs.Starts.{Starts}
 use Rattle.fields_follow.proofs.Values.{Gives, IsFlag, Valued, code_of, operand_after, operand_of}
@@ -98,7 +98,7 @@ module _ (g : Setting) (has : HasRegisters g) (alive : Variable → Type 0) (n :
       (λ out f (h, (is, (gives, apart))). inl (h, (is, gives))) (operand_after g has alive n ready places fields 32 set index quiet pure c (valued pure) e t st here sim)
   one_after set index quiet (inr promoted) c valued e t st here sim =
       given_weaker g t (meant g fields index st) (λ q. value_in (extents g set) st index q) st (Registers g alive n has ready fields set (length e.fields) e t st index) (GivesOne set e t st index) (operand_of g has alive n ready places fields 32 quiet index e) (λ out f gives. inr (promoted.0, gives))
-      (index_after g alive n has ready fields set 32 (length e.fields) quiet index promoted.0 promoted.1 c e t st here sim)
+      (registered_after g alive n has ready fields set 32 (length e.fields) quiet index promoted.0 promoted.1 c e t st here sim)
 
   -- a promoted one is none that is not
   never_both : (set : ℕ) (e : TExpr) → IsPure set e → IsPromoted set e → ⊥

@@ -281,15 +281,15 @@ module _ (g : Setting) (alive : Variable → Type 0) (n : ℕ) where
         by (Makes out f) h = λ within. told out f (h within)
         by Fails h = tt
 
-    -- so each promoted index does
-    pub index_after : (set bits bound : ℕ) (quiet : Bool) (e : TExpr) → IsPromoted set e → IsRegistered e → HasItsCode g.typed g.instance alive n e → InRegister set bits bound quiet e
+    -- so each that is computed does
+    pub registered_after : (set bits bound : ℕ) (quiet : Bool) (e : TExpr) → IsPromoted set e → IsRegistered e → HasItsCode g.typed g.instance alive n e → InRegister set bits bound quiet e
     unfolding IsPromoted IsRegistered value_of own_of value_in evaluated
-    index_after set bits bound quiet (T.Promote' ty p operand) is calm c = by is.2.1
+    registered_after set bits bound quiet (T.Promote' ty p operand) is calm c = by is.2.1
       where
         by : IsConstant operand ⊎ ((constant_of operand ≡ None) × IsCalm operand) → InRegister set bits bound quiet (T.Promote' ty p operand)
         by (inl constant) = constant_after set bits bound quiet ty p operand is calm constant c
         by (inr (none, same)) = computed_after set bits bound quiet (T.Promote' ty p operand) (spread_over IsCalm set ty p operand is.0 is.1 none same c)
-    index_after set bits bound quiet (T.Brackets' ty p inner) is calm c = within (index_after set bits bound quiet inner is.1 calm (brackets_code ty p inner c))
+    registered_after set bits bound quiet (T.Brackets' ty p inner) is calm c = within (registered_after set bits bound quiet inner is.1 calm (brackets_code ty p inner c))
       where
         within : InRegister set bits bound quiet inner → InRegister set bits bound quiet (T.Brackets' ty p inner)
         within h d s st here sim =
@@ -298,4 +298,4 @@ module _ (g : Setting) (alive : Variable → Type 0) (n : ℕ) where
             (subst
             (λ (y : ValueType). Follows g (Given g (λ q. value_in (extents g set) st inner q) st (λ out f. (r : ℕ) × ((out ≡ O.Scalar r) × GivesWord g alive bound d s st (λ q. held y.elem (value_in (extents g set) st inner q)) (K.Reg r) f))) s (meant g fields inner st) (operand_by g.typed (layout g) bits (λ after. value_of g.typed (layout g) bits inner after) quiet inner d))
             (sym is.0) (h d s st here sim))
-    index_after set bits bound quiet _ is calm c = absurd is
+    registered_after set bits bound quiet _ is calm c = absurd is

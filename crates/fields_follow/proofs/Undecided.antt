@@ -1,7 +1,7 @@
 -- The code of `&&` and `||` whose right operand does not ignore the context. A field begins as what a decided left operand
 -- gives; under a context that is saved, the right operand is tested where the left one does not decide, and where it does
 -- not decide either, the field takes the other truth value.
-use Rattle.std.proofs.Common.{◌⊎◌, ◌≡◌, ◌∙◌, ℕ, ◌+◌, ◌<◌, ◌≤◌, ◌%◌, ◌^◌, inl, inr, Bool, true, false, not, List, [], length, slice_index, Option, Some, refl, sym, ap, subst, arith, if◌then◌else◌, None}
+use Rattle.std.proofs.Common.{◌≡◌, ◌∙◌, ℕ, ◌+◌, ◌<◌, ◌≤◌, ◌%◌, ◌^◌, inl, inr, Bool, true, false, not, List, [], length, slice_index, Option, Some, refl, sym, ap, subst, arith, if◌then◌else◌}
 use Rattle.std.specs.Int.{from_bool}
 use Rattle.cstar_tree.specs.declared.typed.TExpr.{TExpr}
 use Rattle.cstar_tree.specs.declared.typed.ValueType.{ValueType}
@@ -14,7 +14,7 @@ use Rattle.constant_trees.proofs.Words.{from_bool_below}
 use Rattle.lower_base.specs.declared.emit.Out.{Out}
 use Rattle.lower_base.specs.declared.emit.Out.TheVariants as O
 use Rattle.lower_base.specs.Drafts.{Draft, Fails, Made, Makes, an_entry, step as step_of, then_make, with_instr, in_register, here as draft_here}
-use Rattle.lower_expr.specs.Steps.{is_kept, word_of}
+use Rattle.lower_expr.specs.Steps.{is_kept}
 use Rattle.lower_expr.specs.Values.{Condition, condition_by, condition_of, decided_by, joined_by, jumped_over, limited_by, logical_by, narrowed_again, narrowed_by, narrowing_by, parallel_logical_by, tested, jump_if_decided, jumped, next_of}
 use Rattle.paris_code.specs.declared.instr.Instr.{Instr}
 use Rattle.paris_code.specs.declared.instr.Instr.TheVariants as I
@@ -36,15 +36,15 @@ use Rattle.lower_expr.specs.Joined.{joins}
 use Rattle.code_follows.proofs.Branching.{decided_goes, decides, jump_long, jump_more}
 use Rattle.code_follows.proofs.Jumping.{moved_to, sim_moved}
 use Rattle.code_follows.proofs.Numbers.{held_nonzero}
-use Rattle.fields_follow.proofs.Promoted.{IsComputed, computed_after, promoted_stands}
+use Rattle.fields_follow.proofs.Promoted.{registered_after}
 use Rattle.fields_follow.proofs.Spreading.{GivesWord}
 use Rattle.fields_follow.proofs.TruthValues.{by_case}
-use Rattle.fields_follow.specs.Fragment.{HasItsKind, IsPure, IsWide, IsPromoted}
+use Rattle.fields_follow.specs.Fragment.{HasItsKind, IsPure, IsRegistered, IsWide, IsPromoted}
 use Rattle.fields_follow.proofs.Arms.{words_of}
 use Rattle.fields_follow.proofs.Conditions.{HaveTheirCode, joined_right}
 use Rattle.fields_follow.proofs.Expressions.{Answers, IsMeant, operand_grows}
 use Rattle.fields_follow.proofs.Flags.{Stored}
-use Rattle.fields_follow.proofs.Forms.{HasItsCode, pure_kept, HasItsWord, promoted_kept}
+use Rattle.fields_follow.proofs.Forms.{HasItsCode, pure_kept, promoted_kept}
 use Rattle.fields_follow.proofs.Halves.{Halved, IsMeantUnder, Keeping, Leads, Narrows, after_delayed, after_under, ended_within, half, half_beside, half_inactive, halved, halved_as, narrowed_more, narrows, passed_by, open_both, shut_both, undecided}
 use Rattle.fields_follow.proofs.Halving.{beside_context, both_own, context_field, context_here, context_keeping, context_sim, context_stored, halves_answer, two_more, with_both}
 use Rattle.fields_follow.proofs.Instructions.{Puts, extents, number_in, puts_constant, shapes, word_in}
@@ -508,15 +508,15 @@ module _ (g : Setting) (has : HasRegisters g) (alive : Variable → Type 0) (n :
           by within_narrow u after (inr early) = after_all g Q (Makes (O.Field f) (last f saved (narrow after))) (λ y x. inr (right_over within e l within_narrow is_left right_ends early))
 
       -- and one that stands in a register
-      register_after : IsPromoted set right → word_of right ≡ None → Means → RightEnds → IsMeant g has alive n ready places fields set left st → (within : Within g (tests_from d)) (e : Draft) → LeavesTests g alive fields (tests_from d) (first within).passes.t set st v e → After g Q (behind register_again f saved e)
+      register_after : IsPromoted set right → IsRegistered right → Means → RightEnds → IsMeant g has alive n ready places fields set left st → (within : Within g (tests_from d)) (e : Draft) → LeavesTests g alive fields (tests_from d) (first within).passes.t set st v e → After g Q (behind register_again f saved e)
       unfolding jumped_over jumped in_register then_make draft_here Extends
-      register_after promoted no_word means right_ends is_left within e l =
+      register_after promoted registered means right_ends is_left within e l =
           after_same g Q (twice_behind (code saves_there) (λ x after. jumped is_or x after) (λ after. Makes (O.Field f) (last f saved after)))
           (after_delayed g Q saves_there (then_make (code saves_there) next) (extends_then g saves_there (code saves_there) next (operand_grows g has alive n ready places fields (bits_of (kind_of right)) right codes.right_code true saves_there) next_grows) (λ within_narrow.
           then_after g (Right within_narrow) Q (code saves_there) next
           (after_under g among_left (Right within_narrow) (code saves_there)
           (follows_known (under g among_left) (left_there within e l within_narrow).t (meant (under g among_left) (fields_under g among_left fields.scope fields.same_extents) right st) w st (Gives_it within_narrow) (code saves_there)
-          (computed_after (under g among_left) alive n (registers_under g among_left has) ready (fields_under g among_left fields.scope fields.same_extents) set (bits_of (kind_of right)) (length saves_there.fields) true right computed saves_there (left_there within e l within_narrow).t st (left_here within e l within_narrow) (left_there within e l within_narrow).sim)))
+          (registered_after (under g among_left) alive n (registers_under g among_left has) ready (fields_under g among_left fields.scope fields.same_extents) set (bits_of (kind_of right)) (length saves_there.fields) true right promoted registered codes.right_code saves_there (left_there within e l within_narrow).t st (left_here within e l within_narrow) (left_there within e l within_narrow).sim)))
           next_grows (λ x after known. by within_narrow x after known)))
         where
           saves_there : Draft
@@ -532,13 +532,6 @@ module _ (g : Setting) (has : HasRegisters g) (alive : Variable → Type 0) (n :
           next_grows (O.Scalar x) after = extends_made g after (jump_if_decided is_or x (length after.code + 2) after) 1 (next (O.Scalar x) after) (jump_more g alive is_or x (length after.code + 2) after) (end_grows f saved (jump_if_decided is_or x (length after.code + 2) after))
           next_grows (O.Field h) after = tt
           next_grows O.Nothing after = tt
-
-          computed : IsComputed (under g among_left) alive n set right
-          computed = by_stand (promoted_stands (under g among_left) alive n set right promoted codes.right_code)
-            where
-              by_stand : HasItsWord right ⊎ IsComputed (under g among_left) alive n set right → IsComputed (under g among_left) alive n set right
-              by_stand (inl word) = let wrong = sym no_word ∙ word.is in cc
-              by_stand (inr h) = h
 
           Gives_it : (within_narrow : Within g saves_there) → Out → Draft → Type 0
           Gives_it within_narrow out after = (x : ℕ) × ((out ≡ O.Scalar x) × GivesWord (under g among_left) alive (length saves_there.fields) saves_there (left_there within e l within_narrow).t st (words_of g has alive n ready places fields set right st) (K.Reg x) after)
@@ -579,13 +572,13 @@ module _ (g : Setting) (has : HasRegisters g) (alive : Variable → Type 0) (n :
 
   -- a right operand that is a promoted scalar
   pub scalar_valued : (is_or : Bool) (bits set : ℕ) (ty : ValueType) (whole left right : TExpr) → ty.shape ≡ Some set → HasItsKind set left → IsPure set whole → IsWide set (type_of whole) → HasItsCode g.typed g.instance alive n whole → HaveTheirCode g.typed g.instance alive n left right → LogicalValue set whole left right is_or
-      → IsTested g has alive n ready places fields set left → LogicalMeans is_or set whole left right → LogicalEnds is_or set whole left right → IsPromoted set right → word_of right ≡ None → LogicalGives is_or bits set ty whole left right
+      → IsTested g has alive n ready places fields set left → LogicalMeans is_or set whole left right → LogicalEnds is_or set whole left right → IsPromoted set right → IsRegistered right → LogicalGives is_or bits set ty whole left right
   unfolding jumped_over jumped in_register Extends
-  scalar_valued is_or bits set ty whole left right shaped kinded is wide c codes value left_tested means ends promoted no_word d s st here sim =
+  scalar_valued is_or bits set ty whole left right shaped kinded is wide c codes value left_tested means ends promoted registered d s st here sim =
       logical_known is_or bits set ty whole left right shaped kinded apart is wide c codes value d s st here sim (register_again is_or bits set ty whole left right shaped kinded apart is wide c codes value)
       (λ e. ap (λ (b : Bool). (if b then jumped_over is_or (next_of g.typed (layout g) (bits_of (kind_of right)) true right) else narrowed_again is_or set (λ x. tested g.typed (layout g) right x)) e) (promoted_kept set right promoted))
       (λ e. extends_then g e (next_of g.typed (layout g) (bits_of (kind_of right)) true right e) (λ x after. jumped is_or x after) (operand_grows g has alive n ready places fields (bits_of (kind_of right)) right codes.right_code true e) jumps_more) left_tested (ends.0 s st)
-      (register_after is_or bits set ty whole left right shaped kinded apart is wide c codes value d s st here sim promoted no_word (means st) (ends.1 s st))
+      (register_after is_or bits set ty whole left right shaped kinded apart is wide c codes value d s st here sim promoted registered (means st) (ends.1 s st))
     where
       apart : joins left right ≡ false
       apart = joined_right set left right promoted

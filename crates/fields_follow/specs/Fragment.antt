@@ -162,7 +162,7 @@ IsRelation set op left right = (relates op ≡ true) × (HasKnownKind left ⊎ I
 -- A parallel expression that is not promoted; of an operator's two operands one may be. Operators work at 32 bits, to
 -- which narrower values are converted. Truth values are relations, `!`, conversions to `bool`, and two values that are
 -- joined by `&&` or `||`, of which the right one is computed where the left one does not decide, and may be a promoted
--- scalar that is no constant.
+-- scalar.
 -- A get goes round the ends of the grid, or its indexes, into any shape, are such expressions and promoted scalars,
 -- which fail where they do not lie within the extents at an active position. `?:` chooses one of two values at each
 -- position, which may be promoted, and each is computed where it is chosen.
@@ -172,8 +172,8 @@ unfoldable mutual
   IsPure set (T.Variable ty (V.Local k)) = ty.shape ≡ Some set
   IsPure set (T.Brackets' ty p inner) = (ty ≡ type_of inner) × IsPure set inner
   IsPure set (T.Unary' ty op p operand) = IsWide set ty × (((negates op ≡ false) × IsWide set (type_of operand)) ⊎ ((negates op ≡ true) × HasKnownKind operand)) × IsPure set operand
-  IsPure set (T.LogicalOr' ty p left q right) = IsWide set ty × (IsPure set left × HasKnownKind left) × ((IsPure set right × HasKnownKind right) ⊎ (IsPromoted set right × (word_of right ≡ None)))
-  IsPure set (T.LogicalAnd' ty p left q right) = IsWide set ty × (IsPure set left × HasKnownKind left) × ((IsPure set right × HasKnownKind right) ⊎ (IsPromoted set right × (word_of right ≡ None)))
+  IsPure set (T.LogicalOr' ty p left q right) = IsWide set ty × (IsPure set left × HasKnownKind left) × ((IsPure set right × HasKnownKind right) ⊎ (IsPromoted set right × IsRegistered right))
+  IsPure set (T.LogicalAnd' ty p left q right) = IsWide set ty × (IsPure set left × HasKnownKind left) × ((IsPure set right × HasKnownKind right) ⊎ (IsPromoted set right × IsRegistered right))
   IsPure set (T.Binary' ty place op p left q right) =
       IsWide set ty × (IsOperation op right ⊎ IsRelation set op left right) × ((IsPure set left × (IsPure set right ⊎ IsPromoted set right)) ⊎ (IsPromoted set left × IsPure set right)) × IsWide set (type_of left) × IsWide set (type_of right)
   IsPure set (T.Choice' ty p test q first r second) = IsWide set ty × (IsPure set test × HasKnownKind test) × (IsPure set first ⊎ IsPromoted set first) × (IsPure set second ⊎ IsPromoted set second) × IsWide set (type_of first) × IsWide set (type_of second)
