@@ -323,6 +323,7 @@ module _ (g : Setting) (has : HasRegisters g) (alive : Variable → Type 0) (n :
   value_effect (T.Choice' ty p test q first r second) h c = pure_follows (T.Choice' ty p test q first r second) h c
   value_effect (T.Call' ty index p arguments) h c = pure_follows (T.Call' ty index p arguments) h c
   value_effect (T.Reduce' ty op p operand) h c = pure_follows (T.Reduce' ty op p operand) h c
+  value_effect (T.LeftIndex' ty place p indexes x of) h c = pure_follows (T.LeftIndex' ty place p indexes x of) h c
   value_effect _ h c = absurd h
 
   -- a parallel one
@@ -352,4 +353,5 @@ module _ (g : Setting) (has : HasRegisters g) (alive : Variable → Type 0) (n :
   effect_follows (T.Step' ty op order p target) (inl h) c = value_effect (T.Step' ty op order p target) h c
   effect_follows (T.Step' ty op order p target) (inr h) c = beside (T.Step' ty op order p target) h c
   effect_follows (T.Reduce' ty op p operand) h c = value_effect (T.Reduce' ty op p operand) h c
+  effect_follows (T.LeftIndex' ty place p indexes x of) h c = value_effect (T.LeftIndex' ty place p indexes x of) h c
   effect_follows _ h c = absurd h

@@ -1,8 +1,11 @@
 -- Parallel expressions beside scalar ones: what is known of the code of those that a program may have; and the same unit
 -- where something else is held.
-use Rattle.std.proofs.Common.{ℕ, length, ◌≡◌, ◌⊎◌, Bool, Some}
+use Rattle.std.proofs.Common.{ℕ, length, ◌≡◌, ◌⊎◌, Bool, false, Some}
+use Rattle.cstar_base.specs.declared.operators.Place.{Place}
 use Rattle.cstar_tree.specs.declared.typed.LocalVar.{LocalVar}
-use Rattle.cstar_tree.specs.declared.typed.TExpr.{TExpr}
+use Rattle.cstar_tree.specs.declared.typed.TExpr.{TExpr, Row_of-TExpr}
+use Rattle.cstar_tree.specs.declared.typed.TExpr as T
+use Rattle.cstar_tree.specs.declared.typed.ValueType.{ValueType}
 use Rattle.cstar_tree.specs.declared.typed.Variable.{Variable}
 use Rattle.cstar_tree.specs.declared.typed.Variable.TheVariants as V
 use Rattle.cstar_tree.specs.Typed.{type_of}
@@ -12,21 +15,23 @@ use Rattle.lower_base.specs.declared.emit.Out.{Out}
 use Rattle.lower_base.specs.declared.emit.Out.TheVariants as O
 use Rattle.lower_base.specs.Drafts.{Draft, Makes}
 use Rattle.lower_expr.specs.Effects.{computed_to, effect_of}
+use Rattle.lower_expr.specs.Operands.{are_quiet}
 use Rattle.lower_stmt.specs.Variables.{cleared}
 use Rattle.paris_code.specs.Code.{CodeState}
 use Rattle.paris_code.specs.Memory.{BitMemory}
 use Rattle.source_meaning.specs.Expressions.{evaluated}
 use Rattle.source_meaning.specs.State.{State, zeroed}
 use Rattle.source_meaning.specs.Values.{Active, Scope, Value}
-use Rattle.code_follows.specs.Fragment.{NamesAmong}
+use Rattle.code_follows.specs.Fragment.{IsIn, NamesAmong, naming}
+use Rattle.code_follows.proofs.Arguments.{AreDone}
 use Rattle.code_follows.proofs.Following.{Follows, HasRegisters, Ran, Sim}
 use Rattle.code_follows.proofs.Growing.{Extended}
 use Rattle.code_follows.proofs.Settings.{OpenAmong, At, Begun, Held, IsNewIn, Setting, Within, layout}
 use Rattle.code_follows.proofs.Values.{Dest}
 
 module _ (g : Setting) (has : HasRegisters g) (scope : Scope) (active : Active) where
-  -- Wherever they stand in the function, the code of an effect does what it does in the source, and that of a fold
-  -- leaves its number in the register that is to have it.
+  -- Wherever they stand in the function, the code of an effect does what it does in the source, and that of a fold, and of
+  -- a read of one position whose indexes are done so, leaves its number in the register that is to have it.
   pub record ExpressionsFollow : Type 1 where
     pub effects : (alive : Variable → Type 0) → ((k : ℕ) → alive (V.File k)) → (n : ℕ) → ((d : Draft) → IsReadyButForFields g.typed g.instance (layout g) n d)
         → (e : TExpr) → g.may.beside.effects e → NamesAmong alive e → HasCode g.typed g.instance n e
@@ -36,6 +41,10 @@ module _ (g : Setting) (has : HasRegisters g) (scope : Scope) (active : Active) 
         → (e : TExpr) → g.may.beside.folds e → NamesAmong alive e → HasCode g.typed g.instance n e
         → (d : Draft) (s : CodeState) (st : State) (R : Value → State → Out → Draft → Type 0) (r : ℕ) → Begun g alive d → At g s (length d.code) → Sim g alive st s
         → Dest g has alive (type_of e).elem d s R r → Follows g R s (evaluated scope e active st) (computed_to g.typed (layout g) (O.Scalar r) e d)
+    pub reads : (alive : Variable → Type 0) → ((k : ℕ) → alive (V.File k)) → (n : ℕ) → ((d : Draft) → IsReadyButForFields g.typed g.instance (layout g) n d)
+        → (ty : ValueType) (place : Place) (p : _) (indexes : Row_of-TExpr _) (x : Variable) (of : ℕ) → IsIn (naming g.may alive) (T.LeftIndex' ty place p indexes x of) → HasCode g.typed g.instance n (T.LeftIndex' ty place p indexes x of)
+        → AreDone g has alive scope active false (are_quiet indexes) indexes → (d : Draft) (s : CodeState) (st : State) (R : Value → State → Out → Draft → Type 0) (r : ℕ) → Begun g alive d → At g s (length d.code) → Sim g alive st s
+        → Dest g has alive ty.elem d s R r → Follows g R s (evaluated scope (T.LeftIndex' ty place p indexes x of) active st) (computed_to g.typed (layout g) (O.Scalar r) (T.LeftIndex' ty place p indexes x of) d)
 
 module _ (g : Setting) where
   -- The code that clears a parallel variable of a block is made, and that variable has its entry and is 0 behind it.

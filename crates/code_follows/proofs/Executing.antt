@@ -229,6 +229,7 @@ module _ (g : Setting) (alive : Variable → Type 0) where
     gives (T.Step' ty op order p target) h = tt
     gives (T.Call' ty index p arguments) h = (calls_follow.value ty.elem index (elems_of arguments) h.1).1.0
     gives (T.Reduce' ty op p operand) h = tt
+    gives (T.LeftIndex' ty place p indexes x of) h = tt
     gives _ h = absurd h
 
     -- the code of a condition is made

@@ -1,6 +1,6 @@
 -- The code of every expression of the fragment gives its value, as a value and as an operand.
-use Rattle.std.proofs.Common.{◌≡◌, ◌∙◌, ℕ, ◌<◌, ◌^◌, Bool, true, false, [], ◌∷◌, length, Option, Some, None, refl, sym, ap, subst, if◌then◌else◌, arith, Vec, Global, inl, ◌⊎◌}
-use Rattle.std.specs.Prelude.{IfSome, is_none, ◌||◌, nat_le}
+use Rattle.std.proofs.Common.{◌≡◌, ◌∙◌, ℕ, ◌<◌, ◌^◌, Bool, true, false, List, [], ◌∷◌, length, Option, Some, None, refl, sym, ap, subst, if◌then◌else◌, arith, Vec, Global, inl, ◌⊎◌}
+use Rattle.std.specs.Prelude.{IfSome, is_none, is_some, ◌&&◌, ◌||◌, nat_le}
 use Rattle.cstar_base.specs.declared.elem.Elem.{Elem}
 use Rattle.cstar_base.specs.declared.operators.Op.{Op}
 use Rattle.cstar_base.specs.declared.operators.Place.{Place}
@@ -8,6 +8,7 @@ use Rattle.cstar_base.specs.Numbers.{converted}
 use mathlib.Core.Former.{Count}
 use Rattle.cstar_tree.specs.declared.typed.TExpr.{TExpr, Row_of-TExpr, end_of-TExpr, items-the_row-TExpr, more_of-TExpr}
 use Rattle.cstar_tree.specs.declared.typed.TExpr as T
+use Rattle.cstar_tree.specs.declared.typed.Typed.{Typed}
 use Rattle.cstar_tree.specs.declared.typed.UnaryOp.{UnaryOp}
 use Rattle.cstar_tree.specs.declared.typed.UnaryOp.TheVariants as U
 use Rattle.cstar_tree.specs.declared.typed.ValueType.{ValueType}
@@ -16,7 +17,7 @@ use Rattle.cstar_tree.specs.declared.typed.Variable.TheVariants as V
 use Rattle.cstar_tree.specs.declared.typed.Variable.{Variable}
 use Rattle.cstar_tree.specs.StatementTypes.{variable_info}
 use Rattle.cstar_tree.specs.Typed.{type_of}
-use Rattle.code_lengths.specs.Lowerable.{GivesValue, IsLowerable}
+use Rattle.code_lengths.specs.Lowerable.{GivesValue, InRegister, IsLowerable}
 use Rattle.cstar_tree.specs.declared.syntax.AssignOp.{AssignOp}
 use Rattle.cstar_tree.specs.declared.syntax.StepOp.{StepOp}
 use Rattle.cstar_tree.specs.declared.typed.StepOrder.{StepOrder}
@@ -33,18 +34,22 @@ use Rattle.lower_base.specs.Kinds.{bits_of, kind_of}
 use Rattle.lower_base.specs.Drafts.{Draft, Fails, Made, Makes, a_register, first_bits, fresh_for, from, in_field, in_register, shortened, then_make}
 use Rattle.lower_base.specs.Layouts.{Layout, field_of, register_of}
 use Rattle.lower_expr.specs.declared.operands.Own.{Own}
+use Rattle.lower_expr.specs.declared.spots.Spot.{Spot}
+use Rattle.lower_expr.specs.declared.spots.Spot.TheVariants as S
 use Rattle.lower_expr.proofs.Unary.{done_in_register}
 use Rattle.lower_expr.specs.Kinds.{done_as, is_unchanged, list_bits, operand_bits, reduced_bits, unary_bits}
 use Rattle.lower_expr.specs.Effects.{computed_to, gone_to, put_to}
-use Rattle.lower_expr.specs.Lengths.{arm_length, arm_length_of, used_length_of}
+use Rattle.lower_expr.specs.Lengths.{arm_length, arm_length_of, bare, used_length_of}
 use Rattle.lower_expr.specs.Operands.{are_quiet, held as held_in, in_place, is_plus, is_quiet, operand_by, own_of, standing}
+use Rattle.lower_expr.specs.Spots.{loaded}
 use Rattle.lower_expr.specs.Steps.{is_kept, register_word, word_for}
 use Rattle.lower_comm.specs.Messages.{communicated, part_field, reduced}
+use Rattle.lower_comm.specs.News.{all_go_by_news, goes_by_news}
 use Rattle.cstar_tree.specs.declared.syntax.ReduceOp.{ReduceOp}
-use Rattle.cstar_tree.specs.declared.typed.TExpr.{out-TExpr}
+use Rattle.cstar_tree.specs.declared.typed.TExpr.{out-TExpr, items_shown-the_row-TExpr-0}
 use denote.Hole.Carrier
 use Rattle.paris_code.specs.Code.{CodeState}
-use Rattle.lower_expr.specs.Values.{Code, arm_by, arm_of, cast_from, choice_by, condition_by, condition_of, logical_by, lowest, message_by, message_to, next_of, register_cast_by, scalar_choice_of, truth_of, unary_by, value_of, taken_bits}
+use Rattle.lower_expr.specs.Values.{Code, arm_by, arm_of, cast_from, choice_by, condition_by, condition_of, index_read_by, index_read_to, logical_by, lowest, message_by, message_to, news_to, next_of, read_to, register_cast_by, scalar_choice_of, spot_of, truth_of, unary_by, value_of, taken_bits}
 use Rattle.quiet_operands.proofs.Unchanged as Quiet
 use Rattle.source_meaning.specs.Constants.{constant_of, is_constant, then_value}
 use Rattle.source_meaning.specs.Constants as Const
@@ -54,11 +59,11 @@ use Rattle.source_meaning.specs.State as Source
 use Rattle.source_meaning.specs.State.{Outcome, State, then_do}
 use Rattle.source_meaning.specs.Values.{Active, Scalar, Scope, Value, at, convert_to, nonzero, number, unary_of}
 use Rattle.source_meaning.proofs.ConstantLaws.{Boxed, value_means}
-use Rattle.code_follows.specs.Fragment.{AreIn, IsGiven, IsIn, IsOperand, IsWord, NamesAmong, naming}
+use Rattle.code_follows.specs.Fragment.{AreIn, IsGiven, IsIn, IsOperand, IsWord, naming}
 use Rattle.code_follows.proofs.Arguments.{AreDone}
 use Rattle.code_follows.proofs.Branching.{IsMadeWord, made_word}
 use Rattle.code_follows.proofs.Choosing.{Arm_does, IsMadeTo, Lands, arm_follows, arm_made, choice_is, choose_is, constant_arm, fresh_lands, scalar_choice_follows}
-use Rattle.code_follows.proofs.CallValues.{call_code, call_value, fresh_call}
+use Rattle.code_follows.proofs.CallValues.{arguments_code, call_code, call_value, fresh_call}
 use Rattle.code_follows.proofs.Callees.{CallsFollow}
 use Rattle.code_follows.proofs.Following.{Arrives, Extends, Follows, HasRegisters, IsScalar, Sim, follows_same, held, keeps_all, then_gives}
 use Rattle.code_follows.proofs.Growing.{as_it_was}
@@ -104,6 +109,26 @@ unary_same U.Not ty its w few = ap from_bool (held_zero ty.elem w few)
 unary_same U.Plus ty its w few = ap (unary_of U.Plus) (held_wide ty.elem w its.1 (below_word ty.elem.bits w its.1 few))
 unary_same U.Minus ty its w few = ap (unary_of U.Minus) (held_wide ty.elem w its.1 (below_word ty.elem.bits w its.1 few))
 unary_same U.Complement ty its w few = ap (unary_of U.Complement) (held_wide ty.elem w its.1 (below_word ty.elem.bits w its.1 few))
+
+-- what is read at a spot into a register is there
+loaded_gone : (t : Typed) (l : Layout) (e : TExpr) (there : Spot) (r : ℕ) (d : Draft) → loaded t l e there (O.Scalar r) d ≡ gone_to (O.Scalar r) (loaded t l e there (O.Scalar r) d)
+unfolding loaded gone_to then_make in_register in_field
+loaded_gone t l e (S.Register source) r d = refl
+loaded_gone t l e (S.Whole x) r d = refl
+loaded_gone t l e (S.Element array index) r d = refl
+loaded_gone t l e (S.Indexed at) r d = by (communicated t l (bare e) at [] (O.Scalar r) d)
+  where
+    by : (made : Made Out) → then_make made (λ _ after. Makes (O.Scalar r) after) ≡ then_make (then_make made (λ _ after. Makes (O.Scalar r) after)) (λ _ after. Makes (O.Scalar r) after)
+    by (Makes v after) = refl
+    by Fails = refl
+
+read_gone : (t : Typed) (l : Layout) (e : TExpr) (spot : Draft → Made Spot) (r : ℕ) (d : Draft) → read_to t l e spot (O.Scalar r) d ≡ gone_to (O.Scalar r) (read_to t l e spot (O.Scalar r) d)
+unfolding read_to gone_to then_make
+read_gone t l e spot r d = by (spot d)
+  where
+    by : (made : Made Spot) → then_make made (λ there after. loaded t l e there (O.Scalar r) after) ≡ gone_to (O.Scalar r) (then_make made (λ there after. loaded t l e there (O.Scalar r) after))
+    by (Makes there after) = loaded_gone t l e there r after
+    by Fails = refl
 
 -- a conversion without code is one to 32 bits
 unchanged_wide : (bits : ℕ) (elem : Elem) (is_kept : Bool) → is_kept ≡ true → is_unchanged bits elem is_kept ≡ true → elem.bits ≡ 32
@@ -180,6 +205,7 @@ module _ (g : Setting) (has : HasRegisters g) (alive : Variable → Type 0) (n :
   own_is bits (T.Step' ty op order p target) own st h v small is = cc
   own_is bits (T.Call' ty index p arguments) own st h v small is = cc
   own_is bits (T.Reduce' ty op p operand) own st h v small is = cc
+  own_is bits (T.LeftIndex' ty place p indexes x of) own st h v small is = cc
   own_is bits _ own st h v small is = absurd h
 
   -- an operand where it stands, or by its code
@@ -415,21 +441,58 @@ module _ (g : Setting) (has : HasRegisters g) (alive : Variable → Type 0) (n :
       by (Makes O.Nothing after) = refl
       by Fails = refl
 
-  fold_fresh : (ty : ValueType) (op : ReduceOp) (p : Boxed) (operand : TExpr) (bits : ℕ) → ty.shape ≡ None → HasCode g.typed g.instance n (T.Reduce' ty op p operand) → (d : Draft) → IsFresh d (value_of g.typed (layout g) bits (T.Reduce' ty op p operand) d)
-  unfolding computed_to gone_to put_to word_for register_word constant_of is_constant is_kept GivesValue then_make IsFresh Extends
-  fold_fresh ty op p operand bits scalar c d =
-      subst (λ (made : Made Out). IsFresh d made) (sym (fold_code ty op p operand bits scalar d))
-      (by (message_to g.typed (layout g) (T.Reduce' ty op p operand) (folded op operand) (O.Scalar d.regs) (with_reg d))
-      (extends_grown g has alive _ (with_reg d) _ _ ((lengths_if_made g.typed g.instance (layout g)).put_register d.regs n (T.Reduce' ty op p operand) (with_reg d) c (tt, ap is_none scalar) (ready (with_reg d)))))
+  -- So is what is put in a register that is given: its code begins with that of a fresh one.
+  abbrev BeginsFresh : ℕ → TExpr → Type 0
+  BeginsFresh bits e = (d : Draft) → value_of g.typed (layout g) bits e d ≡ computed_to g.typed (layout g) (O.Scalar d.regs) e (with_reg d)
+
+  put_fresh : (bits : ℕ) (e : TExpr) (part : ℕ → Draft → Made Out) → BeginsFresh bits e → ((r : ℕ) (d : Draft) → put_to g.typed (layout g) (O.Scalar r) e d ≡ gone_to (O.Scalar r) (part r d)) → ((r : ℕ) (d : Draft) → computed_to g.typed (layout g) (O.Scalar r) e d ≡ gone_to (O.Scalar r) (part r d))
+      → InRegister g.typed e → HasCode g.typed g.instance n e → (d : Draft) → IsFresh d (value_of g.typed (layout g) bits e d)
+  unfolding gone_to then_make IsFresh Extends
+  put_fresh bits e part begins puts computes stands c d =
+      subst (λ (made : Made Out). IsFresh d made) (sym (begins d ∙ computes d.regs (with_reg d)))
+      (by (part d.regs (with_reg d)) (subst (λ (made : Made Out). Extends g (with_reg d) made) (puts d.regs (with_reg d)) (extends_grown g has alive _ (with_reg d) _ _ ((lengths_if_made g.typed g.instance (layout g)).put_register d.regs n e (with_reg d) c stands (ready (with_reg d))))))
     where
       by : (made : Made Out) → Extends g (with_reg d) (gone_to (O.Scalar d.regs) made) → IsFresh d (gone_to (O.Scalar d.regs) made)
       by (Makes v e) grows = let regs = grows.1.regs in (omega arith, omega (arith, regs))
       by Fails grows = tt
 
-  fold_value : (quiet : Bool) (bits : ℕ) (ty : ValueType) (op : ReduceOp) (p : Boxed) (operand : TExpr) → ty.shape ≡ None → g.may.beside.folds (T.Reduce' ty op p operand) → NamesAmong alive (T.Reduce' ty op p operand) → HasCode g.typed g.instance n (T.Reduce' ty op p operand) → Agrees quiet bits (T.Reduce' ty op p operand)
-  fold_value quiet bits ty op p operand scalar folds among c d s st free here sim =
-      subst (λ (made : Made Out). Follows g (Value_of g has alive ty.elem quiet d s) s (evaluated scope (T.Reduce' ty op p operand) active st) made) (sym (fold_code ty op p operand bits scalar d))
-      ((calls_follow.beside has).folds alive files n ready (T.Reduce' ty op p operand) folds among c (with_reg d) s st (Value_of g has alive ty.elem quiet d s) d.regs (begun_later g alive d (with_reg d) 0 (and_register d) free) here sim (fresh_dest g has alive ty.elem quiet d s free))
+  -- and its value follows where it does in any register that is to have it
+  put_value : (quiet : Bool) (bits : ℕ) (e : TExpr) → BeginsFresh bits e
+      → ((d : Draft) (s : CodeState) (st : State) (R : Value → State → Out → Draft → Type 0) (r : ℕ) → Begun g alive d → At g s (length d.code) → Sim g alive st s → Dest g has alive (type_of e).elem d s R r → Follows g R s (evaluated scope e active st) (computed_to g.typed (layout g) (O.Scalar r) e d)) → Agrees quiet bits e
+  put_value quiet bits e begins puts d s st free here sim =
+      subst (λ (made : Made Out). Follows g (Value_of g has alive (type_of e).elem quiet d s) s (evaluated scope e active st) made) (sym (begins d))
+      (puts (with_reg d) s st (Value_of g has alive (type_of e).elem quiet d s) d.regs (begun_later g alive d (with_reg d) 0 (and_register d) free) here sim (fresh_dest g has alive (type_of e).elem quiet d s free))
+
+  fold_fresh : (ty : ValueType) (op : ReduceOp) (p : Boxed) (operand : TExpr) (bits : ℕ) → ty.shape ≡ None → HasCode g.typed g.instance n (T.Reduce' ty op p operand) → (d : Draft) → IsFresh d (value_of g.typed (layout g) bits (T.Reduce' ty op p operand) d)
+  unfolding computed_to put_to word_for register_word constant_of is_constant is_kept GivesValue
+  fold_fresh ty op p operand bits scalar c =
+      put_fresh bits (T.Reduce' ty op p operand) (λ r d. message_to g.typed (layout g) (T.Reduce' ty op p operand) (folded op operand) (O.Scalar r) d) (fold_code ty op p operand bits scalar) (λ r d. refl) (λ r d. refl) (tt, ap is_none scalar) c
+
+  -- a read of one position
+  read_code : (ty : ValueType) (place : Place) (p : _) (indexes : Row_of-TExpr _) (x : Variable) (of bits : ℕ) → ty.shape ≡ None → BeginsFresh bits (T.LeftIndex' ty place p indexes x of)
+  unfolding value_of spot_of computed_to index_read_by index_read_to fresh_for a_register then_make goes_by_news out-TExpr Carrier.out
+  read_code ty place p indexes x of bits scalar d =
+      ap (λ (o : Option ℕ). then_make (fresh_for o bits d) (λ dest begun. index_read_to g.typed (layout g) e (λ b. spot_of g.typed (layout g) e b) dest begun)) scalar
+      ∙ ap reads by_router ∙ read_gone g.typed (layout g) e (λ b. spot_of g.typed (layout g) e b) d.regs (with_reg d) ∙ sym (ap (λ (b : Bool). gone_to (O.Scalar d.regs) (reads b)) by_router)
+    where
+      e : TExpr
+      e = T.LeftIndex' ty place p indexes x of
+
+      reads : Bool → Made Out
+      reads b = if b then news_to g.typed (layout g) e (O.Scalar d.regs) (with_reg d) else read_to g.typed (layout g) e (λ b. spot_of g.typed (layout g) e b) (O.Scalar d.regs) (with_reg d)
+
+      by_router : goes_by_news e ≡ false
+      by_router = ap (λ (xs : List TExpr). is_some ty.shape && all_go_by_news of 0 xs) (items_shown-the_row-TExpr-0 p indexes) ∙ ap (λ (o : Option ℕ). is_some o && all_go_by_news of 0 (items-the_row-TExpr _ indexes)) scalar
+
+  pub index_code : (ty : ValueType) (place : Place) (p : _) (indexes : Row_of-TExpr _) (x : Variable) (of : ℕ) → HasCode g.typed g.instance n (T.LeftIndex' ty place p indexes x of) → HaveCode g.typed g.instance n indexes
+  unfolding IsShaped IsLowerable NamesVariables
+  index_code ty place p indexes x of c = arguments_code g has alive n files ready scope active calls_follow indexes c.shaped c.lowerable.2 c.names.1
+
+  read_fresh : (ty : ValueType) (place : Place) (p : _) (indexes : Row_of-TExpr _) (x : Variable) (of bits : ℕ) → ty.shape ≡ None → HasCode g.typed g.instance n (T.LeftIndex' ty place p indexes x of) → (d : Draft) → IsFresh d (value_of g.typed (layout g) bits (T.LeftIndex' ty place p indexes x of) d)
+  unfolding computed_to put_to word_for register_word constant_of is_constant is_kept GivesValue
+  read_fresh ty place p indexes x of bits scalar c =
+      put_fresh bits (T.LeftIndex' ty place p indexes x of) (λ r d. index_read_to g.typed (layout g) (T.LeftIndex' ty place p indexes x of) (λ b. spot_of g.typed (layout g) (T.LeftIndex' ty place p indexes x of) b) (O.Scalar r) d)
+      (read_code ty place p indexes x of bits scalar) (λ r d. refl) (λ r d. refl) (tt, ap is_none scalar) c
 
   fresh_value : (bits : ℕ) (e : TExpr) → (IsIn (naming g.may alive)) e → HasCode g.typed g.instance n e → (d : Draft) → IsFresh d (value_of g.typed (layout g) bits e d)
   unfolding value_of IsIn
@@ -457,6 +520,7 @@ module _ (g : Setting) (has : HasRegisters g) (alive : Variable → Type 0) (n :
   fresh_value bits (T.Step' ty op order p target) h c d = fresh_step bits ty op order p target (variable_in g alive n target h.2) (step_names ty op order p target c) d
   fresh_value bits (T.Call' ty index p arguments) h c d = fresh_call g has alive n files ready scope active calls_follow bits ty index p arguments h.0 h.1 c d
   fresh_value bits (T.Reduce' ty op p operand) h c d = fold_fresh ty op p operand bits h.0.0 c d
+  fresh_value bits (T.LeftIndex' ty place p indexes x of) h c d = read_fresh ty place p indexes x of bits h.0 c d
   fresh_value bits _ h c d = absurd h
 
   -- an operand in its place leaves its register alone
@@ -590,7 +654,10 @@ module _ (g : Setting) (has : HasRegisters g) (alive : Variable → Type 0) (n :
         assign_value quiet bits ty place op p q target value (variable_in g alive n target h.2) names.0 h.1 h.3 h.4 names.1 (λ m d. fresh_value m value h.3 names.1 d) (λ calm m. value_follows calm m value h.3 names.1)
     value_follows quiet bits (T.Step' ty op order p target) h c = step_value_follows quiet bits ty op order p target (variable_in g alive n target h.2) (step_names ty op order p target c) h.1
     value_follows quiet bits (T.Call' ty index p arguments) h c = call_value g has alive n files ready scope active calls_follow quiet bits ty index p arguments h.0 h.1 (arguments_do true (are_quiet arguments) arguments h.2 (call_code g has alive n files ready scope active calls_follow ty index p arguments c)) c
-    value_follows quiet bits (T.Reduce' ty op p operand) h c = fold_value quiet bits ty op p operand h.0.0 h.1 h.2 c
+    value_follows quiet bits (T.Reduce' ty op p operand) h c = put_value quiet bits (T.Reduce' ty op p operand) (fold_code ty op p operand bits h.0.0) ((calls_follow.beside has).folds alive files n ready (T.Reduce' ty op p operand) h.1 h.2 c)
+    value_follows quiet bits (T.LeftIndex' ty place p indexes x of) h c =
+        put_value quiet bits (T.LeftIndex' ty place p indexes x of) (read_code ty place p indexes x of bits h.0)
+        ((calls_follow.beside has).reads alive files n ready ty place p indexes x of h c (arguments_do false (are_quiet indexes) indexes h.3 (index_code ty place p indexes x of c)))
     value_follows quiet bits _ h c = absurd h
 
     -- each argument is done as one of a list

@@ -47,7 +47,7 @@ use Rattle.code_follows.proofs.Fresh.{IsClear, IsFresh, fresh_register, fresh_th
 use Rattle.code_follows.proofs.Growing.{Extended, as_it_was, extended}
 use Rattle.code_follows.proofs.Settings.{At, Begun, Reaches, Setting, Within, ahead, and_one, at_next, begins_here, begun_later, earlier, layout, one, onto, regs_more, stay}
 use Rattle.code_follows.proofs.Stores.{IsPut, variable_dest}
-use Rattle.code_follows.proofs.Values.{Dest, Does, Grows_on, HasWord, Value_of, and_register, extends_in_register, extends_operated, extends_word, operates, register_same, rewrapped, some_word, with_reg, word_follows, put_by, written_at}
+use Rattle.code_follows.proofs.Values.{Dest, Does, Grows_on, HasWord, Value_of, and_register, extends_in_register, extends_operated, extends_word, operates, rewrapped, some_word, with_reg, word_follows, put_by, written_at, value_stands}
 use Rattle.code_follows.proofs.Numbers.{fits_held, number_same, rounded_is, takes_fits, takes_same}
 use Rattle.code_follows.proofs.Effects.{promoted_wide, working_wide}
 use Rattle.code_follows.proofs.Given.{given_set, given_word}
@@ -101,14 +101,6 @@ module _ (g : Setting) (has : HasRegisters g) (alive : Variable → Type 0) (x :
         };
       }
 
-  -- the word that stands in the register of a value
-  stands : (elem : Elem) (quiet : Bool) (d : Draft) (s : CodeState) (w : ℕ) (u : State) (r : ℕ) (e : Draft) → (arr : Arrives g alive elem quiet d s (Scalar w) u (O.Scalar r) e) → (slice_index arr.t.registers r ≡ held elem w) × (w < 2 ^ elem.bits)
-  stands elem quiet d s w u r e arr =
-      let word : w ≡ arr.holds.word = some_word w arr.holds.word arr.holds.value in (
-        ap (λ (q : ℕ). slice_index arr.t.registers q) (register_same r arr.holds.register arr.holds.is) ∙ arr.holds.lasts u arr.t arr.sim (keeps_all g e arr.t) (λ h. refl) ∙ ap (held elem) (sym word),
-        subst (λ (k : ℕ). k < 2 ^ elem.bits) (sym word) arr.holds.small,
-      )
-
   -- a value in a register is shortened to no fewer bits
   pub lowest_follows : (elem : Elem) (quiet : Bool) (d : Draft) (s : CodeState) (bits : ℕ) (o : Outcome Value) (made : Made Out) → Follows g (Value_of g has alive elem quiet d s) s o made → Follows g (Value_of g has alive elem quiet d s) s o (lowest bits made)
   unfolding Follows lowest then_make shortened
@@ -134,7 +126,7 @@ module _ (g : Setting) (has : HasRegisters g) (alive : Variable → Type 0) (x :
     stores : (quiet : Bool) (d : Draft) (s : CodeState) (w : ℕ) (u : State) (r : ℕ) (e : Draft) → Begun g alive d → Arrives g alive info.elem false d s (Scalar w) u (O.Scalar r) e
         → Follows g (Value_of g has alive info.elem quiet d s) s (Source.Gives (Scalar w) (with_scalar x w u)) (kept_store (O.Scalar r) e)
     unfolding Follows then_make put_value in_register
-    stores quiet d s w u r e free arr = λ within. let h = stands info.elem false d s w u r e arr in stored_behind info.elem quiet d s (Scalar w) u (O.Scalar r) e arr r w h.0 h.1 free within
+    stores quiet d s w u r e free arr = λ within. let h = value_stands g has alive info.elem false e u arr.t w r arr.holds in stored_behind info.elem quiet d s (Scalar w) u (O.Scalar r) e arr r w (h.0 u arr.t arr.sim (keeps_all g e arr.t) (λ same. refl)) h.1 free within
 
     pub set_value : (quiet : Bool) (from : ValueType) (code : Code) (part : State → Outcome Value) → from.shape ≡ None → Takes info.elem from.elem → Does g has alive from.elem false part code
         → Does g has alive info.elem quiet (λ st. then_do (part st) (λ v after. assigned scope active place A.Set (scalar_type info.elem) from (OfScalar x) v after)) (λ d. then_make (code d) (λ v after. kept_store v after))

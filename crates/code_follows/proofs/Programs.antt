@@ -32,7 +32,7 @@ use Rattle.source_meaning.specs.State.{Outcome, State, is_among, then_do, zeroed
 use Rattle.source_meaning.specs.Statements.{Leaving, executed, initialised}
 use Rattle.source_meaning.specs.Values.{Active, Scope, number}
 use Rattle.code_follows.specs.Agreement.{AreBytes, CodeMeansSource, ComesTo, end_of, mark_of}
-use Rattle.code_follows.specs.Fragment.{IsBody, IsFileVariable, Beside, IsProgramBeside, IsInStatement, OfFileOrParam, OrAmong}
+use Rattle.code_follows.specs.Fragment.{IsBody, IsFileVariable, Beside, IsIn, IsProgramBeside, IsInStatement, OfFileOrParam, OrAmong}
 use Rattle.code_follows.proofs.Activations.{activation, scalars, words}
 use Rattle.code_follows.proofs.Besides.{under_held}
 use Rattle.code_follows.proofs.Beginnings.{starts_grow, starts_run}
@@ -315,15 +315,17 @@ record NothingBeside (g : Setting) : Type 1 where
   pub ends : (st : State) (m : BitMemory) → g.held.ends st m
   pub effects : (e : TExpr) → g.may.beside.effects e → ⊥
   pub folds : (e : TExpr) → g.may.beside.folds e → ⊥
+  pub positions : (x : Variable) → g.may.beside.positions x → ⊥
   pub conditions : (shape : ℕ) (e : TExpr) → g.may.beside.conditions shape e → ⊥
   pub widens : (shape : ℕ) → g.may.beside.widens shape → ⊥
   pub locals : (info : VarInfo) → g.may.beside.locals info → ⊥
 
 pub means_source : CodeMeansSource
+unfolding IsIn
 means_source t image p codable compiled memory input rest turns winner are =
     (program_follows t image p codable compiled nothing_held {Known = λ g scope a. NothingBeside g} memory input rest turns winner are (tt {0}) (record {
       follows = λ g scope a known has. record {
-        expressions = record { effects = λ alive files n ready e h. absurd (known.effects e h); folds = λ alive files n ready e h. absurd (known.folds e h) };
+        expressions = record { effects = λ alive files n ready e h. absurd (known.effects e h); folds = λ alive files n ready e h. absurd (known.folds e h); reads = λ alive files n ready ty place p indexes x of is. absurd (known.positions x is.1) };
         locals = λ at_start local n d h. absurd (known.locals local.info h);
         wheres = λ alive files n ready shape test q first second h. absurd (known.conditions shape test h);
         widenings = λ alive files n ready shape q body h. absurd (known.widens shape h);
@@ -334,4 +336,4 @@ means_source t image p codable compiled memory input rest turns winner are =
     }) (nothing 0 p.main p.is_main [] turns)).to
   where
     nothing : (number : ℕ) (i : Instance) (is : slice_get t.instances.items number ≡ Some i) (opens : List ℕ) (most : ℕ) → NothingBeside (activation t image p codable compiled nothing_held number i is opens most)
-    nothing number i is opens most = record { always = λ live at st m. tt; ends = λ st m. tt; effects = λ e h. h; folds = λ e h. h; conditions = λ shape e h. h; widens = λ shape h. h; locals = λ info h. h }
+    nothing number i is opens most = record { always = λ live at st m. tt; ends = λ st m. tt; effects = λ e h. h; folds = λ e h. h; positions = λ x h. h; conditions = λ shape e h. h; widens = λ shape h. h; locals = λ info h. h }

@@ -49,7 +49,7 @@ use Rattle.code_follows.proofs.Growing.{as_it_was}
 use Rattle.code_follows.proofs.Passing.{call_follows}
 use Rattle.code_follows.proofs.Choosing.{put_lands}
 use Rattle.code_follows.proofs.CallValues.{call_code}
-use Rattle.code_follows.proofs.Expressions.{arguments_do, AreChosen, brackets_code, choice_goes, choice_parts, convert_code, left_code, named, operand, operand_grows, right_code, unary_code, unary_same, value_follows}
+use Rattle.code_follows.proofs.Expressions.{arguments_do, AreChosen, brackets_code, choice_goes, choice_parts, convert_code, index_code, left_code, named, operand, operand_grows, right_code, unary_code, unary_same, value_follows}
 use Rattle.code_follows.proofs.Bytes.{byte_put}
 use Rattle.code_follows.proofs.Callees.{CallsFollow}
 use Rattle.code_follows.proofs.Following.{Arrives, Extends, Follows, HasRegisters, IsScalar, Sim, held, keeps_all, then_follows, then_gives}
@@ -276,6 +276,8 @@ module _ (g : Setting) (has : HasRegisters g) (alive : Variable → Type 0) (n :
   computed_follows (T.Call' ty index p arguments) h c fits = call_put ty index p arguments fits h.1 h.2 c
   computed_follows (T.Reduce' ty op p operand) h c fits = λ d s st free here sim.
       (calls_follow.beside has).folds alive files n ready (T.Reduce' ty op p operand) h.1 h.2 c d s st (Put ty.elem d s) own free here sim (dest ty.elem d s fits free)
+  computed_follows (T.LeftIndex' ty place p indexes x of) h c fits = λ d s st free here sim.
+      (calls_follow.beside has).reads alive files n ready ty place p indexes x of h c (arguments_do g has alive n files ready scope active calls_follow false (are_quiet indexes) indexes h.3 (index_code g has alive n files ready scope active calls_follow ty place p indexes x of c)) d s st (Put ty.elem d s) own free here sim (dest ty.elem d s fits free)
   computed_follows _ h c fits = absurd h
 
   -- a constant goes to the register at once

@@ -49,7 +49,7 @@ use Rattle.source_meaning.specs.State.{Outcome, State, then_do}
 use Rattle.source_meaning.specs.Targets.{read, variable_target}
 use Rattle.source_meaning.specs.Values.{Active, Scalar, Scope, Value, at, convert_to, each, failing, unary_of, unless}
 use Rattle.code_follows.specs.Fragment.{IsWord}
-use Rattle.code_follows.proofs.Following.{Arrives, Extends, Follows, HasRegisters, IsScalar, Keeps, Sim, extends_then, finishes_later, arrives_fresh, held, keeps_all, keeps_on, knowing, register_at, register_is, register_kept, register_set, then_follows, keeps_less}
+use Rattle.code_follows.proofs.Following.{Arrives, Extends, Follows, HasRegisters, Holds, IsScalar, Keeps, Sim, extends_then, finishes_later, arrives_fresh, held, keeps_all, keeps_on, knowing, register_at, register_is, register_kept, register_set, then_follows, keeps_less}
 use Rattle.code_follows.proofs.Growing.{Extended, as_it_was, extended, from_growth}
 use Rattle.code_follows.proofs.Operators.{by_machine, machine_below, machine_same, minus_same, wide_signed}
 use Rattle.code_follows.proofs.Settings.{OpenAmong, At, Begun, Reaches, Setting, Within, ahead, and_one, at_next, begins_here, begun_later, earlier, ends_now, layout, one, onto, placed_instr, regs_more, start, stay}
@@ -177,6 +177,14 @@ module _ (g : Setting) (has : HasRegisters g) (alive : Variable → Type 0) wher
   -- the relation of a value's code
   abbrev pub Value_of : Elem → Bool → Draft → CodeState → Value → State → Out → Draft → Type 0
   Value_of elem quiet d s v u out e = Arrives g alive elem quiet d s v u out e
+
+  -- the word that stands in the register of a value, as long as it lasts
+  pub value_stands : (elem : Elem) (quiet : Bool) (e : Draft) (st : State) (s : CodeState) (w r : ℕ) → Holds g alive elem quiet e st s (O.Scalar r) (Scalar w) → ((u : State) (t : CodeState) → Sim g alive u t → Keeps g e s t → (quiet ≡ true → u ≡ st) → slice_index t.registers r ≡ held elem w) × (w < 2 ^ elem.bits)
+  value_stands elem quiet e st s w r h =
+      let word : w ≡ h.word = some_word w h.word h.value in (
+        λ u t sim keeps same. ap (λ (q : ℕ). slice_index t.registers q) (register_same r h.register h.is) ∙ h.lasts u t sim keeps same ∙ ap (held elem) (sym word),
+        subst (λ (k : ℕ). k < 2 ^ elem.bits) (sym word) h.small,
+      )
 
   -- the same word as a number of another type
   pub rewrapped : (to from : Elem) (quiet : Bool) (d e : Draft) (s : CodeState) (v : Value) (w : ℕ) (st : State) (out : Out) → (arr : Arrives g alive from quiet d s v st out e) → held to w ≡ held from (at v 0) → w < 2 ^ to.bits → Arrives g alive to quiet d s (Scalar w) st out e

@@ -62,6 +62,7 @@ scalar_of may (T.Assign' ty place op p target q value) h = h.0
 scalar_of may (T.Step' ty op order p target) h = h.0
 scalar_of may (T.Call' ty index p arguments) h = h.0
 scalar_of may (T.Reduce' ty op p operand) h = h.0.0
+scalar_of may (T.LeftIndex' ty place p indexes x of) h = h.0
 scalar_of may _ h = absurd h
 
 none_is : (o : Option ℕ) → o ≡ None → is_none o ≡ true
@@ -87,6 +88,7 @@ kept may (T.Assign' ty place op p target q value) h = none_is ty.shape h.0
 kept may (T.Step' ty op order p target) h = none_is ty.shape h.0
 kept may (T.Call' ty index p arguments) h = none_is ty.shape h.0
 kept may (T.Reduce' ty op p operand) h = none_is ty.shape h.0.0
+kept may (T.LeftIndex' ty place p indexes x of) h = none_is ty.shape h.0
 kept may _ h = absurd h
 
 -- what a chain of casts gives is a number of its type
@@ -151,6 +153,7 @@ constant_below may (T.Assign' ty place op p target q value) h = tt
 constant_below may (T.Step' ty op order p target) h = tt
 constant_below may (T.Call' ty index p arguments) h = tt
 constant_below may (T.Reduce' ty op p operand) h = tt
+constant_below may (T.LeftIndex' ty place p indexes x of) h = tt
 constant_below may _ h = absurd h
 
 -- what names variables of some names variables of more
@@ -212,6 +215,7 @@ mutual
   widened may more fits (T.Step' ty op order p target) h = (h.0, h.1, target_widened may more fits target h.2)
   widened may more fits (T.Call' ty index p arguments) h = (h.0, h.1, all_widened may more fits arguments h.2)
   widened may more fits (T.Reduce' ty op p operand) h = (h.0, h.1, among_widened may.names more fits (T.Reduce' ty op p operand) h.2)
+  widened may more fits (T.LeftIndex' ty place p indexes x of) h = (h.0, h.1, fits x h.2, all_widened may more fits indexes h.3)
   widened may more fits _ h = absurd h
 
   all_widened : {n : Count} (may : May) (more : Variable → Type 0) → ((x : Variable) → may.names x → more x) → (row : Row_of-TExpr n) → AreIn may row → AreIn (naming may more) row

@@ -54,6 +54,7 @@ IsOperand _ ty = IsWord ty
 pub record Beside : Type 1 where
   pub effects : TExpr → Type 0  -- whose value is not used
   pub folds : TExpr → Type 0  -- whose value is a number
+  pub positions : Variable → Type 0  -- of these variables single positions are read
   pub conditions : ℕ → TExpr → Type 0  -- of `where`, by its shape
   pub widens : ℕ → Type 0  -- the shapes of `everywhere`
   pub variables : VarInfo → Type 0  -- of the file, beside scalar ones
@@ -116,7 +117,7 @@ unfoldable mutual
   AllAmong names (more_of-TExpr e rest) = NamesAmong names e × AllAmong names rest
 
 -- An expression whose value is used: of numbers, variables, `getchar`, operators, conversions and casts to any
--- scalar types, assignments and steps of scalar variables, calls, and folds of parallel values.
+-- scalar types, assignments and steps of scalar variables, calls, folds of parallel values, and reads of single positions.
 unfoldable mutual
   pub IsIn : May → TExpr → Type 0
   IsIn may (T.Number ty value) = IsWord ty × (value < 2 ^ 32)
@@ -137,6 +138,7 @@ unfoldable mutual
   IsIn may (T.Step' ty op order p target) = IsScalarType ty × (ty ≡ type_of target) × IsVariable may target
   IsIn may (T.Call' ty index p arguments) = IsScalarType ty × may.calls (Some ty.elem) index (elems_of arguments) × AreIn may arguments
   IsIn may (T.Reduce' ty op p operand) = IsWord ty × may.beside.folds (T.Reduce' ty op p operand) × NamesAmong may.names (T.Reduce' ty op p operand)
+  IsIn may (T.LeftIndex' ty place p indexes x of) = IsScalarType ty × may.beside.positions x × may.names x × AreIn may indexes
   IsIn may _ = ⊥
 
   pub AreIn : {n : _} → May → Row_of-TExpr n → Type 0
@@ -287,7 +289,7 @@ pub record IsProgramBeside (beside : Beside) (t : Typed) : Type 0 where
 
 -- one of scalars alone
 abbrev pub nothing_beside : Beside
-nothing_beside = record { effects = λ e. ⊥; folds = λ e. ⊥; conditions = λ shape e. ⊥; widens = λ shape. ⊥; variables = λ info. ⊥; locals = λ info. ⊥ }
+nothing_beside = record { effects = λ e. ⊥; folds = λ e. ⊥; positions = λ x. ⊥; conditions = λ shape e. ⊥; widens = λ shape. ⊥; variables = λ info. ⊥; locals = λ info. ⊥ }
 
 abbrev pub IsScalarProgram : Typed → Type 0
 IsScalarProgram t = IsProgramBeside nothing_beside t

@@ -1,24 +1,30 @@
 -- What is known of the code of parallel expressions and of contexts, wherever fields are known.
-use Rattle.std.proofs.Common.{ℕ, ◌+◌, ◌≡◌, ◌∙◌, inl, inr, length, arith, sym, subst}
-use Rattle.cstar_tree.specs.declared.typed.TExpr.{TExpr}
+use Rattle.std.proofs.Common.{ℕ, ◌+◌, ◌≡◌, ◌∙◌, inl, inr, length, arith, sym, subst, false}
+use Rattle.cstar_base.specs.declared.operators.Place.{Place}
+use Rattle.cstar_tree.specs.declared.typed.TExpr.{TExpr, Row_of-TExpr}
+use Rattle.cstar_tree.specs.declared.typed.TExpr as T
+use Rattle.cstar_tree.specs.declared.typed.ValueType.{ValueType}
 use Rattle.cstar_tree.specs.declared.typed.Variable.{Variable}
 use Rattle.cstar_tree.specs.declared.typed.Variable.TheVariants as V
 use Rattle.cstar_tree.specs.Typed.{type_of}
-use Rattle.code_lengths.specs.Ready.{IsReadyButForFields}
+use Rattle.code_lengths.specs.Ready.{HasCode, IsReadyButForFields}
 use Rattle.lower_base.specs.declared.emit.Out.{Out}
 use Rattle.lower_base.specs.declared.emit.Out.TheVariants as O
 use Rattle.lower_base.specs.Drafts.{Draft}
 use Rattle.lower_expr.specs.Effects.{computed_to, effect_of}
+use Rattle.lower_expr.specs.Operands.{are_quiet}
 use Rattle.paris_code.specs.Code.{CodeState}
 use Rattle.source_meaning.specs.Expressions.{evaluated}
 use Rattle.source_meaning.specs.State.{State}
 use Rattle.source_meaning.specs.Values.{Active, Scalar, Scope, Value}
+use Rattle.code_follows.specs.Fragment.{IsIn, naming}
+use Rattle.code_follows.proofs.Arguments.{AreDone}
 use Rattle.code_follows.proofs.Following.{Follows, HasRegisters, IsKept, Ran, Sim}
 use Rattle.code_follows.proofs.Growing.{extended}
 use Rattle.code_follows.proofs.Parts.{BesideFollows}
 use Rattle.code_follows.proofs.Settings.{At, Begun, Reaches, Setting, Within, layout, onto}
 use Rattle.code_follows.proofs.Values.{Dest}
-use Rattle.fields_follow.specs.Fragment.{IsFold, IsParallelEffect}
+use Rattle.fields_follow.specs.Fragment.{IsFold, IsOfFile, IsParallelEffect}
 use Rattle.fields_follow.proofs.Assigning.{updates_leave}
 use Rattle.fields_follow.proofs.Contexts.{where_follows}
 use Rattle.fields_follow.proofs.Widening.{widening_follows}
@@ -35,6 +41,7 @@ use Rattle.fields_follow.proofs.Reducing.{GivesNumber, number_to}
 use Rattle.fields_follow.proofs.ScanAssigning.{scans_leave}
 use Rattle.fields_follow.proofs.Reductions.{GivesRegister, fold_type, folds_give}
 use Rattle.fields_follow.proofs.Sends.{sends_leave}
+use Rattle.fields_follow.proofs.SinglePositions.{reads_follow}
 use Rattle.fields_follow.proofs.Starts.{Starts}
 use Rattle.fields_follow.proofs.ScalarOperating.{changing_leaves}
 
@@ -127,12 +134,22 @@ module _ (g : Setting) (scope : Scope) (active : Active) (known : KnowsFields g 
             subst (λ (v : Value). R v u out f) (sym number) (subst (λ (t : State). R (Scalar w) t out f) (sym same) (subst (λ (o : Out). R (Scalar w) st o f) (sym place)
             (number_to g alive has (type_of e).elem d s st R r w f (fold_type e is) dest (number_again r w f within given) within)))
 
+-- a read of one position of a variable of the file
+read_follows : (g : Setting) (scope : Scope) (active : Active) → KnowsFields g scope active → (has : HasRegisters g) (alive : Variable → Type 0) (n : ℕ) (ty : ValueType) (place : Place) (p : _) (indexes : Row_of-TExpr _) (x : Variable) (of : ℕ)
+    → IsIn (naming g.may alive) (T.LeftIndex' ty place p indexes x of) → HasCode g.typed g.instance n (T.LeftIndex' ty place p indexes x of) → AreDone g has alive scope active false (are_quiet indexes) indexes
+    → (d : Draft) (s : CodeState) (st : State) (R : Value → State → Out → Draft → Type 0) (r : ℕ) → Begun g alive d → At g s (length d.code) → Sim g alive st s → Dest g has alive ty.elem d s R r
+    → Follows g R s (evaluated scope (T.LeftIndex' ty place p indexes x of) active st) (computed_to g.typed (layout g) (O.Scalar r) (T.LeftIndex' ty place p indexes x of) d)
+unfolding IsIn IsOfFile
+read_follows g scope active known has alive n ty place p indexes (V.File k) of is c done d s st R r free here sim dest = reads_follow g has alive scope active known n ty place p indexes k of is.0 is.3 c done d s st R r free here sim dest
+read_follows g scope active known has alive n ty place p indexes x of is c done d s st R r free here sim dest = absurd (known.positions x is.1)
+
 -- every effect, every fold and every context of it follows
 pub besides : (g : Setting) (scope : Scope) (active : Active) → KnowsFields g scope active → (has : HasRegisters g) → BesideFollows KnowsFields g has scope active
 besides g scope active known has = record {
   expressions = record {
     effects = λ alive files n ready e h among c d s st free here sim. effect_follows g scope active known has alive n ready e (record { code = c; among = among }) d s st free here files sim (known.effects e h);
     folds = λ alive files n ready e h among c d s st R r free here sim dest. fold_follows g scope active known has alive n ready e (record { code = c; among = among }) d s st free here files sim (known.folds e h) R r dest;
+    reads = λ alive files n ready ty place p indexes x of is c done d s st R r free here sim dest. read_follows g scope active known has alive n ty place p indexes x of is c done d s st R r free here sim dest;
   };
   locals = locals_clear g scope active known;
   wheres = λ alive files n ready shape test p first second h among c f contexts one other. where_follows g has scope active known alive files n ready shape test p first second (known.conditions shape test h) among c f contexts one other;

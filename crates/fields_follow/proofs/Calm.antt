@@ -92,6 +92,7 @@ alone_in names (T.Assign' ty place op p target q value) h among = (h.0, h.1, tar
 alone_in names (T.Step' ty op order p target) h among = (h.0, h.1, target_in names target h.2 among)
 alone_in names (T.Call' ty index p arguments) h among = absurd h.1
 alone_in names (T.Reduce' ty op p operand) h among = absurd h.1
+alone_in names (T.LeftIndex' ty place p indexes x of) h among = absurd h.1
 alone_in names _ h among = absurd h
 
 -- where its targets stand
@@ -176,6 +177,7 @@ module _ (scope other : Scope) (active others : Active) where
       ∙ sym (ap (λ (o : Outcome Target). then_do o (λ at after. stepped other others op order ty at after)) (there.1 other others st))
   alone_same (T.Call' ty index p arguments) h st = absurd h.1
   alone_same (T.Reduce' ty op p operand) h st = absurd h.1
+  alone_same (T.LeftIndex' ty place p indexes x of) h st = absurd h.1
   alone_same _ h st = absurd h
 
   pub calm_same : (e : TExpr) → IsCalm e → (st : State) → evaluated scope e active st ≡ evaluated other e others st

@@ -84,6 +84,7 @@ pub mod SendMeans
 pub mod Sends
 pub mod SendValues
 pub mod SendWrites
+pub mod SinglePositions
 pub mod Sizes
 pub mod Spreading
 pub mod Starts

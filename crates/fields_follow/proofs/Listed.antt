@@ -1,14 +1,15 @@
 -- Instructions with lists of coordinates: what stands in the unit where its description has such a step, and what the
 -- image has for it.
-use Rattle.std.proofs.Common.{◌≡◌, ◌∙◌, ℕ, ◌+◌, ◌<◌, ◌≤◌, List, [], length, map, slice_get, Option, Some, ap, subst}
+use Rattle.std.proofs.Common.{◌≡◌, ◌∙◌, ℕ, ◌+◌, ◌<◌, ◌≤◌, List, [], length, map, slice_get, Option, Some, ap, subst, Vec, Global}
 use Rattle.std.specs.List.{slice_index_or}
 use Rattle.cstar_base.specs.declared.operators.Place.{Place}
 use Rattle.cstar_link.specs.Linked.{moved_by}
-use Rattle.lower_base.specs.Drafts.{ChecksTarget, Draft, MakesAddress, Step, step as step_of, with_instr, with_step}
+use Rattle.lower_base.specs.Drafts.{ChecksTarget, Draft, FrontChecksTarget, FrontMakesAddress, MakesAddress, Step, step as step_of, with_instr, with_step}
 use Rattle.paris_code.specs.declared.instr.Instr.{Instr}
 use Rattle.paris_code.specs.declared.instr.Instr.TheVariants as I
 use Rattle.paris_code.specs.declared.operands.Coordinate.{Coordinate}
 use Rattle.paris_code.specs.declared.operands.Field.{Field}
+use Rattle.paris_code.specs.declared.operands.RegisterCoordinate.{RegisterCoordinate}
 use Rattle.paris_code.specs.declared.operands.SignedCoordinate.{SignedCoordinate}
 use Rattle.paris_code.specs.declared.program.Image.{Image}
 use Rattle.paris_code.specs.Code.{CodeState, begun, begun_at, step}
@@ -78,6 +79,36 @@ checks_it set place coordinates (I.CheckGrid t at steps) same = cc
 checks_it set place coordinates (I.FrontMakeAddress dest t list) same = cc
 checks_it set place coordinates (I.FrontCheckTarget t at list) same = cc
 checks_it set place coordinates i same = cc
+
+-- those of the front end, whose coordinates are registers
+registers_made : Step → ℕ × (ℕ × List ℕ)
+registers_made (FrontMakesAddress d set registers) = (d, (set, registers))
+registers_made _ = (0, (0, []))
+
+registers_checked : Place → Step → ℕ × (Place × List RegisterCoordinate)
+registers_checked p (FrontChecksTarget set place registers) = (set, (place, registers))
+registers_checked p _ = (0, (p, []))
+
+front_makes : (d set : ℕ) (registers : List ℕ) (i : Instr) → step_of i ≡ FrontMakesAddress d set registers → (list : Vec ℕ Global) × ((i ≡ I.FrontMakeAddress d set list) × (list.items ≡ registers))
+unfolding step_of registers_made
+front_makes d set registers (I.FrontMakeAddress e t list) same =
+    let parts = ap registers_made same in (list, (ap (λ (x : ℕ × (ℕ × List ℕ)). I.FrontMakeAddress x.0 x.1.0 list) parts, ap (λ (x : ℕ × (ℕ × List ℕ)). x.1.1) parts))
+front_makes d set registers (I.MakeAddress e t list) same = cc
+front_makes d set registers (I.CheckTarget t place list) same = cc
+front_makes d set registers (I.CheckGrid t place steps) same = cc
+front_makes d set registers (I.FrontCheckTarget t place list) same = cc
+front_makes d set registers i same = cc
+
+front_checks : (set : ℕ) (place : Place) (registers : List RegisterCoordinate) (i : Instr) → step_of i ≡ FrontChecksTarget set place registers → (list : Vec RegisterCoordinate Global) × ((i ≡ I.FrontCheckTarget set place list) × (list.items ≡ registers))
+unfolding step_of registers_checked
+front_checks set place registers (I.FrontCheckTarget t at list) same =
+    let parts = ap (registers_checked place) same in
+    (list, (ap (λ (x : ℕ × (Place × List RegisterCoordinate)). I.FrontCheckTarget x.0 x.1.0 list) parts, ap (λ (x : ℕ × (Place × List RegisterCoordinate)). x.1.1) parts))
+front_checks set place registers (I.MakeAddress e t list) same = cc
+front_checks set place registers (I.CheckTarget t at list) same = cc
+front_checks set place registers (I.CheckGrid t at steps) same = cc
+front_checks set place registers (I.FrontMakeAddress e t list) same = cc
+front_checks set place registers i same = cc
 
 -- the same with the fields moved
 made_over : (p : List ℕ) (d : Field) (set : ℕ) (list : _) (over : Instr) → IsMoved p (I.MakeAddress d set list) over → MakesIt (moved p d) set (map (moved_coordinate p) list.items) over
@@ -151,6 +182,15 @@ module _ (g : Setting) where
         moved_there = h.there ∙ ap (λ (i : Instr). Some (moved_by (start g) i)) other.is;
         moved_items = other.items ∙ ap (map (moved_signed places)) own.items;
       }
+
+  -- those of the front end are in the image as they are
+  pub front_make_stands : (at d set : ℕ) (registers : List ℕ) → Stands at (FrontMakesAddress d set registers) → (list : Vec ℕ Global) × ((list.items ≡ registers) × (slice_get g.image.code.items (start g + at) ≡ Some (I.FrontMakeAddress d set list)))
+  front_make_stands at d set registers h =
+      let own = front_makes d set registers h.instr h.is in (own.0, (own.1.1, h.there ∙ ap (λ (i : Instr). Some (moved_by (start g) i)) (subst (λ (i : Instr). IsMoved places i h.over) own.1.0 h.moved)))
+
+  pub front_check_stands : (at set : ℕ) (place : Place) (registers : List RegisterCoordinate) → Stands at (FrontChecksTarget set place registers) → (list : Vec RegisterCoordinate Global) × ((list.items ≡ registers) × (slice_get g.image.code.items (start g + at) ≡ Some (I.FrontCheckTarget set place list)))
+  front_check_stands at set place registers h =
+      let own = front_checks set place registers h.instr h.is in (own.0, (own.1.1, h.there ∙ ap (λ (i : Instr). Some (moved_by (start g) i)) (subst (λ (i : Instr). IsMoved places i h.over) own.1.0 h.moved)))
 
   -- the code begins what stands in the image where it is
   pub begins_there : (at : ℕ) (i : Instr) (s : CodeState) → slice_get g.image.code.items (start g + at) ≡ Some i → At g s at → step g.image s ≡ begun g.image i s

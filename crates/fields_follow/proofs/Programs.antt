@@ -74,6 +74,7 @@ module _ (t : Typed) (image : Image) (p : IsParallelProgram t) (codable : IsCoda
     same_extents = same_extents (main_held turns) 0 p.main p.is_main [] turns;
     effects = λ e h. h;
     folds = λ e h. h;
+    positions = λ x h. h;
     conditions = λ set e h. h;
     locals = λ info h. h;
     kept = record { saved = λ entry. ⊥; has = λ m. Unit {0} };
@@ -129,6 +130,7 @@ module _ (t : Typed) (image : Image) (p : IsParallelProgram t) (codable : IsCoda
         same_extents = same_extents held_called number b is back m;
         effects = λ e h. h;
         folds = λ e h. h;
+        positions = λ x h. h;
         conditions = λ set e h. h;
         locals = λ info h. h;
         kept = kept_there;

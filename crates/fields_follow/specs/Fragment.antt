@@ -9,9 +9,10 @@
 -- scalar variables, as scans of them and of ones with operators on these are, and they are the conditions of `where`.
 -- Folds and scans are of the active positions. They are sent to variables of the file, of any shape, by such indexes,
 -- also with an operator that folds. Scalars that change variables, by assignments, steps and `getchar`, are assigned to
--- variables of the file too, also with operators. Blocks may have parallel variables without initialisers, to which
--- nothing is assigned. Under `where` and `everywhere` stand the statements of scalar programs with these, also calls,
--- `return` and jumps that lead out of them.
+-- variables of the file too, also with operators. Scalar expressions read single positions of variables of the file, by
+-- any scalar indexes. Blocks may have parallel variables without initialisers, to which nothing is assigned. Under
+-- `where` and `everywhere` stand the statements of scalar programs with these, also calls, `return` and jumps that lead
+-- out of them.
 use Rattle.std.specs.Prelude.{ℕ, ◌≡◌, ◌<◌, ◌≤◌, ◌+◌, ◌^◌, ◌⊎◌, ◌==◌, true, false, Option, Some, None}
 use Rattle.cstar_base.specs.declared.elem.Elem.{Elem}
 use Rattle.cstar_base.specs.declared.operators.Combiner.TheVariants as C
@@ -82,7 +83,7 @@ alone = record {
   calls = λ used index given. ⊥;
   returns = λ elem. ⊥;
   names = λ x. Unit {0};
-  beside = record { effects = λ e. ⊥; folds = λ e. ⊥; conditions = λ set e. ⊥; widens = λ set. ⊥; variables = λ info. ⊥; locals = λ info. ⊥ };
+  beside = record { effects = λ e. ⊥; folds = λ e. ⊥; positions = λ x. ⊥; conditions = λ set e. ⊥; widens = λ set. ⊥; variables = λ info. ⊥; locals = λ info. ⊥ };
 }
 
 -- a scalar: a constant, or one that is computed
@@ -320,13 +321,19 @@ IsParallelEffect e = IsUpdate e ⊎ (IsFoldOnto e ⊎ (IsScanAssigned e ⊎ (IsC
 abbrev pub IsParallelVariable : VarInfo → Type 0
 IsParallelVariable info = (set : ℕ) × ((info.shape ≡ Some set) × (info.array ≡ None))
 
+-- a variable of the file
+unfoldable pub IsOfFile : Variable → Type 0
+IsOfFile (V.File k) = Unit {0}
+IsOfFile _ = ⊥
+
 -- A program of functions on scalars, without recursion, and of parallel variables of the file and of blocks: such
 -- updates are statements, also within `with` and under contexts, as such folds onto variables are, other such folds
--- stand within scalar expressions, and such conditions narrow which positions are active.
+-- and reads of single positions stand within scalar expressions, and such conditions narrow which positions are active.
 abbrev pub fields_beside : Beside
 fields_beside = record {
   effects = IsParallelEffect;
   folds = IsFold;
+  positions = IsOfFile;
   conditions = IsCondition;
   widens = λ set. Unit {0};
   variables = IsParallelVariable;

@@ -88,6 +88,7 @@ module _ (may : May) (names : Variable → Type 0) (blocks : Open) (fits : Fits 
     expression_open (T.Step' ty op order p target) h n = (h.0, h.1, variable_open target h.2 n)
     expression_open (T.Call' ty index p arguments) h n = (h.0, h.1, all_open arguments h.2 n)
     expression_open (T.Reduce' ty op p operand) h n = (h.0, h.1, among_open (T.Reduce' ty op p operand) n)
+    expression_open (T.LeftIndex' ty place p indexes x of) h n = (h.0, h.1, fits x n.0, all_open indexes h.3 n.1)
     expression_open _ h n = absurd h
 
     all_open : {k : Count} (row : Row_of-TExpr k) → AreIn may row → AllNameOpen blocks row → AreIn (naming may names) row
