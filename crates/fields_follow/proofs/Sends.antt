@@ -16,12 +16,12 @@ use Rattle.source_meaning.specs.Values.{unary_of, Nothing, Parallel, Value}
 use Rattle.code_follows.proofs.Growing.{as_it_was, Extended, extended}
 use Rattle.code_follows.proofs.Settings.{earlier, Setting, and_one, layout}
 use Rattle.code_follows.proofs.Words.{below_word, held_wide}
-use Rattle.fields_follow.specs.Fragment.{AreIndexes, HasPure, IsOperand, IsSent, IsSend, IsSendTarget}
+use Rattle.fields_follow.specs.Fragment.{AreIndexes, HasPure, IsSent, IsSend, IsSendTarget}
 use Rattle.fields_follow.proofs.Passing.{gives_set, After, GivesField, after_same, after_weaker, fields_longer, made_after, then_after}
 use Rattle.fields_follow.proofs.SendCode.{sends_extend, IsLike, itself, like_inner, send_at, send_code, sends_out, spot_at, value_sent}
 use Rattle.fields_follow.proofs.Sending.{BothStand, both_further, both_negated, combined_leaves, negative_sent, operator_sent, sends_never, sent_as, set_leaves}
-use Rattle.fields_follow.proofs.SendValues.{GivesSpread, IsSpread, spread_grows, spread_of, spreads}
-use Rattle.fields_follow.proofs.Sizes.{operand_small, brackets_part}
+use Rattle.fields_follow.proofs.SendValues.{GivesSpread, IsSpread, Sendable, sendable, spread_grows, spread_of}
+use Rattle.fields_follow.proofs.Sizes.{brackets_part}
 use Rattle.cstar_base.specs.declared.operators.Place.{Place}
 use Rattle.cstar_base.proofs.NumberLaws.{kind_bits}
 use Rattle.cstar_tree.specs.declared.syntax.AssignOp.{AssignOp}
@@ -62,7 +62,7 @@ use Rattle.source_meaning.specs.State.{Gives, Outcome, State}
 use Rattle.source_meaning.specs.Targets.{OfTargets, Target}
 use Rattle.source_meaning.proofs.ConstantLaws.{Boxed}
 use Rattle.code_follows.specs.Fragment.{NamesAmong}
-use Rattle.code_follows.proofs.Following.{Extends, HasRegisters, Sim, extends_then}
+use Rattle.code_follows.proofs.Following.{Extends, HasRegisters, Sim, extends_then, held}
 use Rattle.fields_follow.specs.Fields.{IsElement}
 use Rattle.fields_follow.proofs.Computing.{each_after}
 use Rattle.fields_follow.proofs.Extents.{own_extents}
@@ -72,7 +72,6 @@ use Rattle.fields_follow.proofs.Instructions.{extents, place, shapes}
 use Rattle.fields_follow.proofs.Leaving.{Leaves, UpdateLeaves}
 use Rattle.fields_follow.proofs.Lengths.{held_first}
 use Rattle.fields_follow.proofs.Locating.{and_step, located_after}
-use Rattle.fields_follow.proofs.Meaning.{value_in, word_at}
 use Rattle.fields_follow.proofs.News.{for_variable, owner_of}
 use Rattle.fields_follow.proofs.Outcomes.{Ended, after_all, ended_back, ended_on, meant, outcome_follows, then_known}
 use Rattle.fields_follow.proofs.Places.{HoldsTheFields, PlacesFields}
@@ -93,13 +92,13 @@ module _ (g : Setting) (has : HasRegisters g) (alive : Variable → Type 0) (n :
   -- A send follows where what its value is follows, and the send itself leaves what is sent.
   sends_by : (aty ty : ValueType) (place_of sending : Place) (op : AssignOp) (p q : Boxed) (r : _) (indexes : Row_of-TExpr _) (target value : TExpr) (k set of bits : ℕ) (info : VarInfo) (is : IsElement g.typed k info of 0) → IsLike g.typed (layout g) target (T.LeftIndex' ty place_of r indexes (V.File k) of) → ty.shape ≡ Some set → aty ≡ type_of target
       → AreIndexes set indexes → HasPure set indexes → AllCoded g has alive n ready places fields indexes → HasAxes g.typed of (length (items-the_row-TExpr _ indexes)) → taken_bits aty.elem.bits op target value ≡ bits → ((x : ℕ) → divides_by_zero op x ≡ false)
-      → IsSpread g has alive n ready places fields bits set value → HasItsCode g.typed g.instance alive n value
+      → (number : State → ℕ → ℕ) → IsSpread g has alive n ready places fields bits set value number → HasItsCode g.typed g.instance alive n value
       → (d : Draft) (s : CodeState) (st : State) → Starts g alive s (length d.code) d.regs (length d.fields) → Sim g alive st s
-      → ((a : Field) (e : Draft) → BothStand g alive places fields set of k info is d st (λ x. target_of of (extents g set) st indexes x) (λ x. value_in (extents g set) st value x) bits (λ x. word_at (extents g set) st value x) s a e
-      → After g (λ out f. Leaves g alive d f s (sent op aty.elem (type_of value).elem (V.File k) (sent_from fields.scope fields.active set (λ x. target_of of (extents g set) st indexes x) (λ x. value_in (extents g set) st value x)) st)) (send_at g of k info aty op value (next_field set 32 d) a e))
+      → ((a : Field) (e : Draft) → BothStand g alive places fields set of k info is d st (λ x. target_of of (extents g set) st indexes x) (λ x. number st x) bits (λ x. held (type_of value).elem (number st x)) s a e
+      → After g (λ out f. Leaves g alive d f s (sent op aty.elem (type_of value).elem (V.File k) (sent_from fields.scope fields.active set (λ x. target_of of (extents g set) st indexes x) (λ x. number st x)) st)) (send_at g of k info aty op value (next_field set 32 d) a e))
       → UpdateLeaves g alive fields (T.Assign' aty sending op p target q value) d s st
   unfolding each_located located sends_out Extends
-  sends_by aty ty place_of sending op p q r indexes target value k set of bits info is like shaped same are some coded axes took never stands c d s st here sim last =
+  sends_by aty ty place_of sending op p q r indexes target value k set of bits info is like shaped same are some coded axes took never number stands c d s st here sim last =
       outcome_follows g s o Nothing u (λ out f. Leaves g alive d f s u) (λ x t out f. Leaves g alive d f s t) (effect_of g.typed (layout g) e d) (λ out f said. said)
       (after_same g Q (send_code g aty ty place_of sending op p q r indexes target value k set of bits info d like shaped same is took)
       (then_after g Known Q (values_of g.typed (layout g) false (are_quiet indexes) indexes [] first_draft) (λ parts between. then_make (spot_at g of place_of items address parts between) (λ _ after. value_sent g bits set of k info aty op value address after))
@@ -134,10 +133,10 @@ module _ (g : Setting) (has : HasRegisters g) (alive : Variable → Type 0) (n :
       to x = target_of of (extents g set) st indexes x
 
       v : ℕ → ℕ
-      v x = value_in (extents g set) st value x
+      v x = number st x
 
       w : ℕ → ℕ
-      w x = word_at (extents g set) st value x
+      w x = held (type_of value).elem (number st x)
 
       u : State
       u = sent op aty.elem (type_of value).elem (V.File k) (sent_from fields.scope fields.active set to v) st
@@ -206,7 +205,7 @@ module _ (g : Setting) (has : HasRegisters g) (alive : Variable → Type 0) (n :
       send_then : (x : Draft) → Located x → After g Q (value_sent g bits set of k info aty op value address x)
       send_then x (inr early) = after_all g Q (value_sent g bits set of k info aty op value address x) (λ out f. inr (target_ended early))
       send_then x (inl (there, gives)) =
-          then_known g gives.passes.t (meant g fields value st) v st (GivesSpread g has alive n ready places fields bits x gives.passes.t set st value) Q (spread_of g has alive n ready places fields bits set value x) (λ out after. sends_out g of k info aty op value address out after)
+          then_known g gives.passes.t (meant g fields value st) v st (GivesSpread g has alive n ready places fields bits x gives.passes.t set st w) Q (spread_of g has alive n ready places fields bits set value x) (λ out after. sends_out g of k info aty op value address out after)
           (stands x gives.passes.t st gives.passes.at gives.passes.sim) (λ out after. sends_extend g of k info aty op value address out after)
           (λ known out f (a, (is_a, of_value)). after_same g Q (ap (λ (y : Out). sends_out g of k info aty op value address y f) is_a)
           (after_weaker g (λ z h. Leaves g alive d h s u) Q (send_at g of k info aty op value address a f) (λ z h said. inl (means there known, said)) (last a f (record { x = x; address = gives; value = of_value }))))
@@ -240,15 +239,15 @@ module _ (g : Setting) (has : HasRegisters g) (alive : Variable → Type 0) (n :
   -- such a send leaves what it leaves in the source
   abbrev Sends : (aty ty : ValueType) (place_of sending : Place) (op : AssignOp) (p q : Boxed) (target value left : TExpr) (set : ℕ) → Type 0
   Sends aty ty place_of sending op p q target value left set =
-      IsLike g.typed (layout g) target left → ty.shape ≡ Some set → aty ≡ type_of target → HasItsCode g.typed g.instance alive n left → IsOperand set value → HasItsCode g.typed g.instance alive n value
+      IsLike g.typed (layout g) target left → ty.shape ≡ Some set → aty ≡ type_of target → HasItsCode g.typed g.instance alive n left → Sendable g has alive n ready places fields set value → HasItsCode g.typed g.instance alive n value
       → (d : Draft) (s : CodeState) (st : State) → Starts g alive s (length d.code) d.regs (length d.fields) → Sim g alive st s → UpdateLeaves g alive fields (T.Assign' aty sending op p target q value) d s st
 
   sets : (aty ty : ValueType) (place_of sending : Place) (p q : Boxed) (r : _) (indexes : Row_of-TExpr _) (target value : TExpr) (k set of : ℕ) → AreIndexes set indexes × HasPure set indexes → (type_of value).elem.bits ≡ aty.elem.bits → Sends aty ty place_of sending A.Set p q target value (T.LeftIndex' ty place_of r indexes (V.File k) of) set
   unfolding NamesVariables is_send is_sent bare sent_to assign_op_of then_make
-  sets aty ty place_of sending p q r indexes target value k set of are long like shaped same c operand own d s st here sim =
+  sets aty ty place_of sending p q r indexes target value k set of are long like shaped same c h own d s st here sim =
       sends_by aty ty place_of sending A.Set p q r indexes target value k set of bits info is like shaped same are.0 are.1 (all_coded g has alive n ready places fields ty place_of r indexes (V.File k) of c) c.code.names.2
       (taken_plainly aty.elem.bits A.Set target value refl (like.sends ∙ ap is_some shaped) ∙ ap (λ (y : ValueType). y.elem.bits) like.type) (λ x. divides_never A.Set x refl)
-      (spreads g has alive n ready places fields bits set value (kind_bits ty.elem.bits ty.elem.signed ty.elem.kind).0 (kind_bits ty.elem.bits ty.elem.signed ty.elem.kind).1 operand own) own d s st here sim
+      h.number (h.spreads bits (kind_bits ty.elem.bits ty.elem.signed ty.elem.kind).0 (kind_bits ty.elem.bits ty.elem.signed ty.elem.kind).1) own d s st here sim
       (λ a e both. made_after g (λ out f. Leaves g alive d f s u) O.Nothing (with_instr (I.SendWithOverwrite (next_field of bits e) aty.elem (next_field set 32 d) a) (for_variable g of k info e))
       (λ within. set_leaves g alive places fields set of k info is d st to v 0 w s a e (for_variable g of k info e) (as_it_was (for_variable g of k info e)) (both_further g alive places fields set of k info is d st to v bits w s a e of bits (owner_of g k) both) aty.elem (type_of value).elem held_there within))
     where
@@ -265,10 +264,10 @@ module _ (g : Setting) (has : HasRegisters g) (alive : Variable → Type 0) (n :
       to x = target_of of (extents g set) st indexes x
 
       v : ℕ → ℕ
-      v x = value_in (extents g set) st value x
+      v x = h.number st x
 
       w : ℕ → ℕ
-      w x = word_at (extents g set) st value x
+      w x = held (type_of value).elem (h.number st x)
 
       u : State
       u = sent A.Set aty.elem (type_of value).elem (V.File k) (sent_from fields.scope fields.active set to v) st
@@ -278,16 +277,16 @@ module _ (g : Setting) (has : HasRegisters g) (alive : Variable → Type 0) (n :
 
       held_there : (x : ℕ) → (w x % 2 ^ bits ≡ v x) × (v x < 2 ^ bits)
       held_there x =
-          let small : v x < 2 ^ (type_of value).elem.bits = operand_small g alive n places fields set value st s sim operand own x in
+          let small : v x < 2 ^ (type_of value).elem.bits = h.small s st sim x in
           let few : v x < 2 ^ bits = subst (λ (m : ℕ). v x < 2 ^ m) of_type small in
           (held_first (type_of value).elem (v x) bits small (omega (arith, of_type)) ∙ mod-eq_of_lt few, few)
 
   combines : (aty ty : ValueType) (place_of sending : Place) (op : AssignOp) (p q : Boxed) (r : _) (indexes : Row_of-TExpr _) (target value : TExpr) (k set of : ℕ) → AreIndexes set indexes × HasPure set indexes → folds op ≡ true → (type_of value).elem.bits ≡ 32 → Sends aty ty place_of sending op p q target value (T.LeftIndex' ty place_of r indexes (V.File k) of) set
   unfolding NamesVariables sent_to sent_value then_make an_entry
-  combines aty ty place_of sending op p q r indexes target value k set of are folding wide like shaped same c operand own d s st here sim =
+  combines aty ty place_of sending op p q r indexes target value k set of are folding wide like shaped same c h own d s st here sim =
       sends_by aty ty place_of sending op p q r indexes target value k set of 32 info is like shaped same are.0 are.1 (all_coded g has alive n ready places fields ty place_of r indexes (V.File k) of c) c.code.names.2
       (taken_wide aty.elem.bits set op operator.0 target value operator.1 (ap (λ (y : ValueType). y.shape) like.type ∙ shaped)) (λ x. sends_never op x folding)
-      (spreads g has alive n ready places fields 32 set value (omega arith) (omega arith) operand own) own d s st here sim
+      h.number (h.spreads 32 (omega arith) (omega arith)) own d s st here sim
       (λ a e both. after_same g R (ap (λ (x : Option Op). then_make (sent_to x signed aty.elem (next_field of info.elem.bits e) address a (for_variable g of k info e)) finally) operator.1) (by a e operator.0 operator.1 (both_further g alive places fields set of k info is d st to v 32 w s a e of info.elem.bits (owner_of g k) both) (sent_as operator.0)))
     where
       operator : (o : Op) × (assign_op_of op ≡ Some o)
@@ -309,10 +308,10 @@ module _ (g : Setting) (has : HasRegisters g) (alive : Variable → Type 0) (n :
       to x = target_of of (extents g set) st indexes x
 
       v : ℕ → ℕ
-      v x = value_in (extents g set) st value x
+      v x = h.number st x
 
       w : ℕ → ℕ
-      w x = word_at (extents g set) st value x
+      w x = held (type_of value).elem (h.number st x)
 
       u : State
       u = sent op aty.elem (type_of value).elem (V.File k) (sent_from fields.scope fields.active set to v) st
@@ -327,7 +326,7 @@ module _ (g : Setting) (has : HasRegisters g) (alive : Variable → Type 0) (n :
       of_type = ap (λ (y : ValueType). y.elem.bits) (sym (same ∙ like.type))
 
       few : (x : ℕ) → v x < 2 ^ 32
-      few x = below_word (type_of value).elem.bits (v x) wide (operand_small g alive n places fields set value st s sim operand own x)
+      few x = below_word (type_of value).elem.bits (v x) wide (h.small s st sim x)
 
       is_word : (x : ℕ) → w x ≡ v x
       is_word x = held_wide (type_of value).elem (v x) wide (few x)
@@ -374,20 +373,23 @@ module _ (g : Setting) (has : HasRegisters g) (alive : Variable → Type 0) (n :
           i = I.SendWithCombiner (fold_of P.Sub signed) dest aty.elem address source
 
   -- either of these, to what stands within brackets
-  sends_to : (aty : ValueType) (sending : Place) (op : AssignOp) (p q : Boxed) (target left value : TExpr) (set : ℕ) → IsLike g.typed (layout g) target left → IsSendTarget set left → aty ≡ type_of target → HasItsCode g.typed g.instance alive n left → IsSent op aty.elem value → IsOperand set value → HasItsCode g.typed g.instance alive n value
+  sends_to : (aty : ValueType) (sending : Place) (op : AssignOp) (p q : Boxed) (target left value : TExpr) (set : ℕ) → IsLike g.typed (layout g) target left → IsSendTarget set left → aty ≡ type_of target → HasItsCode g.typed g.instance alive n left → IsSent op aty.elem value → Sendable g has alive n ready places fields set value → HasItsCode g.typed g.instance alive n value
       → (d : Draft) (s : CodeState) (st : State) → Starts g alive s (length d.code) d.regs (length d.fields) → Sim g alive st s → UpdateLeaves g alive fields (T.Assign' aty sending op p target q value) d s st
   unfolding IsSendTarget
-  sends_to aty sending op p q target (T.LeftIndex' ty place_of r indexes (V.File k) of) value set like is same c (inl (plainly, long)) operand own d s st here sim =
-      subst (λ (x : AssignOp). UpdateLeaves g alive fields (T.Assign' aty sending x p target q value) d s st) (sym plainly) (sets aty ty place_of sending p q r indexes target value k set of (is.1, is.2) long like is.0 same c operand own d s st here sim)
-  sends_to aty sending op p q target (T.LeftIndex' ty place_of r indexes (V.File k) of) value set like is same c (inr (folding, wide)) operand own d s st here sim =
-      combines aty ty place_of sending op p q r indexes target value k set of (is.1, is.2) folding wide like is.0 same c operand own d s st here sim
-  sends_to aty sending op p q target (T.Brackets' ty r inner) value set like is same c is_sent operand own d s st here sim =
-      sends_to aty sending op p q target inner value set (like_inner g.typed (layout g) target ty r inner is.0 like) is.1 same (brackets_part g alive n places fields ty r inner c) is_sent operand own d s st here sim
-  sends_to aty sending op p q target _ value set like is same c is_sent operand own d s st here sim = absurd is
+  sends_to aty sending op p q target (T.LeftIndex' ty place_of r indexes (V.File k) of) value set like is same c (inl (plainly, long)) h own d s st here sim =
+      subst (λ (x : AssignOp). UpdateLeaves g alive fields (T.Assign' aty sending x p target q value) d s st) (sym plainly) (sets aty ty place_of sending p q r indexes target value k set of (is.1, is.2) long like is.0 same c h own d s st here sim)
+  sends_to aty sending op p q target (T.LeftIndex' ty place_of r indexes (V.File k) of) value set like is same c (inr (folding, wide)) h own d s st here sim =
+      combines aty ty place_of sending op p q r indexes target value k set of (is.1, is.2) folding wide like is.0 same c h own d s st here sim
+  sends_to aty sending op p q target (T.Brackets' ty r inner) value set like is same c is_sent h own d s st here sim =
+      sends_to aty sending op p q target inner value set (like_inner g.typed (layout g) target ty r inner is.0 like) is.1 same (brackets_part g alive n places fields ty r inner c) is_sent h own d s st here sim
+  sends_to aty sending op p q target _ value set like is same c is_sent h own d s st here sim = absurd is
 
   pub sends_leave : (e : TExpr) → IsSend e → HasItsCode g.typed g.instance alive n e → (d : Draft) (s : CodeState) (st : State) → Starts g alive s (length d.code) d.regs (length d.fields) → Sim g alive st s → UpdateLeaves g alive fields e d s st
   unfolding IsSend NamesVariables IsShaped IsLowerable NamesAmong
   sends_leave (T.Assign' ty sending op p target q value) is c d s st here sim =
       sends_to ty sending op p q target target value is.2.0 (itself g.typed (layout g) target) is.2.1.0 is.0 (record { code = record { shaped = target_shaped is.2.0 target is.2.1.0 c.code.shaped.2; lowerable = c.code.lowerable.2; names = c.code.names.0 }; among = c.among.0 })
-      is.1 is.2.1.1 (record { code = record { shaped = c.code.shaped.3; lowerable = c.code.lowerable.3; names = c.code.names.1 }; among = c.among.1 }) d s st here sim
+      is.1 (sendable g has alive n ready places fields is.2.0 value is.2.1.1 own) own d s st here sim
+    where
+      own : HasItsCode g.typed g.instance alive n value
+      own = record { code = record { shaped = c.code.shaped.3; lowerable = c.code.lowerable.3; names = c.code.names.1 }; among = c.among.1 }
   sends_leave _ is c d s st here sim = absurd is

@@ -7,12 +7,12 @@
 -- may be parallel too: each of the other operands then fails only where it is chosen, as the right one of `&&` and `||`
 -- does where the left one does not decide. They are assigned to variables of the file and folded into numbers and onto
 -- scalar variables, as scans of them and of ones with operators on these are, and they are the conditions of `where`.
--- Folds and scans are of the active positions. They are sent to variables of the file, of any shape, by such indexes,
--- also with an operator that folds. Scalars that change variables, by assignments, steps and `getchar`, are assigned to
--- variables of the file too, also with operators. Scalar expressions read single positions of variables of the file, by
--- any scalar indexes. Blocks may have parallel variables without initialisers, to which nothing is assigned. Under
--- `where` and `everywhere` stand the statements of scalar programs with these, also calls, `return` and jumps that lead
--- out of them.
+-- Folds and scans are of the active positions. They are sent, as those scans are, to variables of the file, of any
+-- shape, by such indexes, also with an operator that folds. Scalars that change variables, by assignments, steps and
+-- `getchar`, are assigned to variables of the file too, also with operators. Scalar expressions read single positions
+-- of variables of the file, by any scalar indexes. Blocks may have parallel variables without initialisers, to which
+-- nothing is assigned. Under `where` and `everywhere` stand the statements of scalar programs with these, also calls,
+-- `return` and jumps that lead out of them.
 use Rattle.std.specs.Prelude.{ℕ, ◌≡◌, ◌<◌, ◌≤◌, ◌+◌, ◌^◌, ◌⊎◌, ◌==◌, true, false, Option, Some, None}
 use Rattle.cstar_base.specs.declared.elem.Elem.{Elem}
 use Rattle.cstar_base.specs.declared.operators.Combiner.TheVariants as C
@@ -308,9 +308,9 @@ IsSendTarget set _ = ⊥
 abbrev pub IsSent : AssignOp → Elem → TExpr → Type 0
 IsSent op elem value = ((op ≡ A.Set) × ((type_of value).elem.bits ≡ elem.bits)) ⊎ ((folds op ≡ true) × ((type_of value).elem.bits ≡ 32))
 
--- it is sent from each active position
+-- it is sent from each active position, or a scan of such values is
 unfoldable pub IsSend : TExpr → Type 0
-IsSend (T.Assign' ty place op p target q value) = (ty ≡ type_of target) × IsSent op ty.elem value × ((set : ℕ) × (IsSendTarget set target × IsOperand set value))
+IsSend (T.Assign' ty place op p target q value) = (ty ≡ type_of target) × IsSent op ty.elem value × ((set : ℕ) × (IsSendTarget set target × (IsOperand set value ⊎ IsScan set value)))
 IsSend _ = ⊥
 
 -- a parallel expression whose value is not used
