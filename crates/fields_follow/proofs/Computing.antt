@@ -32,16 +32,16 @@ use Rattle.paris_code.specs.declared.program.Owner.TheVariants as W
 use Rattle.paris_code.specs.Code.{CodeState}
 use Rattle.source_meaning.specs.Expressions.{evaluated}
 use Rattle.source_meaning.specs.State.{State}
-use Rattle.source_meaning.specs.Values.{nonzero, unary_of}
+use Rattle.source_meaning.specs.Values.{Active, nonzero, unary_of}
 use Rattle.source_meaning.proofs.ConstantLaws.{Boxed}
 use Rattle.code_follows.proofs.Following.{Extends, Follows, HasRegisters, Sim, follows_same, held}
 use Rattle.code_follows.proofs.Settings.{Setting, and_one, layout}
-use Rattle.fields_follow.specs.Fragment.{HasItsKind, HasKnownKind, IsNarrowed, IsOperation, IsPure, IsRelation, IsWide}
+use Rattle.fields_follow.specs.Fragment.{HasItsKind, HasKnownKind, IsNarrowed, IsOperation, IsPromoted, IsPure, IsRegistered, IsRelation, IsWide}
 use Rattle.fields_follow.proofs.Starts.{no_home, starts_entry, Starts}
 use Rattle.fields_follow.proofs.Choosing.{choice_valued}
 use Rattle.fields_follow.proofs.Clearing.{joined_more}
 use Rattle.fields_follow.proofs.ConditionCode.{Bit, Truth, bit_not_value, joined_value, operand_at, put_in, relation_value, word_not_value}
-use Rattle.fields_follow.proofs.Conditions.{HaveTheirCode, and_codes, conditions_join, joined_free, or_codes}
+use Rattle.fields_follow.proofs.Conditions.{HaveTheirCode, and_codes, beside_scalar, conditions_join, joined_free, or_codes}
 use Rattle.fields_follow.proofs.Expressions.{Answers, answers_alike, binary_after, convert_after, convert_ended, convert_means, coordinate_after, dot_after, left_index_after, unary_after, unary_ended}
 use Rattle.fields_follow.proofs.Forms.{HasItsCode, IsRead, pure_kept}
 use Rattle.fields_follow.proofs.Instructions.{alike_same, extents, shapes}
@@ -49,17 +49,18 @@ use Rattle.fields_follow.proofs.Leaving.{fields_under, places_under, registers_u
 use Rattle.fields_follow.proofs.Lengths.{operation_most, relates_plainly}
 use Rattle.fields_follow.proofs.Indexing.{AllCoded, AllValued, all_coded}
 use Rattle.fields_follow.proofs.Meaning.{either, unary_means, value_in, word_at}
+use Rattle.fields_follow.proofs.Mixed.{mixed_valued}
 use Rattle.fields_follow.proofs.NarrowKinds.{are_related}
 use Rattle.fields_follow.proofs.Outcomes.{Ended, Given, Known, given_weaker, known_follows, meant}
-use Rattle.fields_follow.proofs.Passing.{After, GivesField, after_same, gives_alike}
+use Rattle.fields_follow.proofs.Passing.{After, GivesField, after_same, gives_alike, passes_all}
 use Rattle.fields_follow.proofs.Places.{HoldsTheFields, PlacesFields}
-use Rattle.fields_follow.proofs.Pure.{and_means, or_means}
+use Rattle.fields_follow.proofs.Pure.{and_meant, and_number, or_meant, or_number}
 use Rattle.fields_follow.proofs.Sizes.{binary_parts, brackets_part, choice_parts, convert_part, pure_at, unary_part, value_small}
 use Rattle.fields_follow.proofs.TestFlags.{LeavesTests, is_truth, truth_is}
 use Rattle.fields_follow.proofs.Testing.{IsDone, IsGiven, IsValued, Says, and_ended, and_given, and_right_ended, brackets_tested, flags_after, kinded_bit, not_truth, or_ended, or_given, or_right_ended, pure_tested, relation_truth, truth_tested, variable_tested}
 use Rattle.fields_follow.proofs.TruthFields.{ComesFrom, bit_joined, several_joined, tests_put, turned_put}
 use Rattle.fields_follow.proofs.TruthValues.{bool_bit, bool_nonzero, by_case}
-use Rattle.fields_follow.proofs.Undecided.{LogicalEnds, LogicalMeans, scalar_valued, undecided_valued}
+use Rattle.fields_follow.proofs.Undecided.{LogicalEnds, LogicalGives, LogicalMeans, LogicalValue, scalar_valued, undecided_valued}
 use Rattle.fields_follow.proofs.Truths.{either_or_both}
 use Rattle.fields_follow.proofs.Values.{IsFlag, next_field, operand_after, variable_after, with_entry}
 
@@ -92,7 +93,7 @@ module _ (g : Setting) (has : HasRegisters g) (alive : Variable → Type 0) (n :
   unfolding value_in
   relation_valued bits set ty place op p q left right shaped related truth d s st here sim =
       follows_same g (Given g (number set whole st) st (Gave bits set whole d s st)) s refl (relation_value g set bits ty place op p q left right d shaped related (relates_plainly op related))
-      (tests_put g has alive n ready places fields set whole d s st (no_home g alive (length d.fields) (length d.fields) (omega arith) here) (λ x. is_truth op 32 (not (type_of left).elem.signed) (value_in (extents g set) st left x) (value_in (extents g set) st right x) related) whole (λ x below. refl) (itself set whole s st) bits
+      (tests_put g has alive n ready places fields set whole d s st (no_home g alive (length d.fields) (length d.fields) (omega arith) here) (λ x. is_truth op 32 (not (type_of left).elem.signed) (value_in (extents g set) st left x) (value_in (extents g set) st right x) related) whole (λ x below. refl) (itself set whole s st) bits (with_entry set bits W.Own d) (Unit {0}) (passes_all g alive (length d.fields) (with_entry set bits W.Own d) s st (Unit {0}) (starts_entry g alive _ _ here) sim) (λ later named late. tt)
       (truth_of g.typed (layout g) whole (with_entry set bits W.Own d)) (truth (with_entry set bits W.Own d) s st (starts_entry g alive _ _ here) sim))
     where
       whole : TExpr
@@ -108,7 +109,8 @@ module _ (g : Setting) (has : HasRegisters g) (alive : Variable → Type 0) (n :
       tests : (bits == 1 && bits_of (kind_of inner) == 1) ≡ false → Valued_at bits set whole
       tests no_bit d s st here sim =
           follows_same g (Given g (number set whole st) st (Gave bits set whole d s st)) s refl (word_not_value g set bits ty p inner d shaped (pure_kept set inner kinded.0) no_bit)
-          (tests_put g has alive n ready places fields set whole d s st (no_home g alive (length d.fields) (length d.fields) (omega arith) here) (λ x. truth_is _) whole (λ x below. refl) (itself set whole s st) bits (zero_tested (operand_at g (bits_of (kind_of inner)) inner) (with_entry set bits W.Own d))
+          (tests_put g has alive n ready places fields set whole d s st (no_home g alive (length d.fields) (length d.fields) (omega arith) here) (λ x. truth_is _) whole (λ x below. refl) (itself set whole s st) bits (with_entry set bits W.Own d) (Unit {0})
+          (passes_all g alive (length d.fields) (with_entry set bits W.Own d) s st (Unit {0}) (starts_entry g alive _ _ here) sim) (λ later named late. tt) (zero_tested (operand_at g (bits_of (kind_of inner)) inner) (with_entry set bits W.Own d))
           (not_truth g has alive n ready places fields set ty p inner shaped kinded c done (with_entry set bits W.Own d) s st (starts_entry g alive _ _ here) sim))
 
       turns : (bits_of (kind_of inner) == 1) ≡ true → Valued_at 1 set whole
@@ -164,6 +166,17 @@ module _ (g : Setting) (has : HasRegisters g) (alive : Variable → Type 0) (n :
           by true bit = subst Last (sym (eqb-true bits 1 bit)) in_one
           by false several = λ f h e1 e2 a b. after_same g (Q bits) (ap (put f h e2) several) (several_joined g has alive n ready places fields set whole d s st (no_home g alive (length d.fields) (length d.fields) (omega arith) here) truth is_or (number set left st) (number set right st) (same st) given f h e1 e2 bits some a b)
 
+  -- the ways of two of which the left one is parallel
+  logical_ways : (is_or : Bool) (bits set : ℕ) (ty : ValueType) (whole left right : TExpr) → 0 < bits → ty.shape ≡ Some set → IsPure set whole → IsWide set (type_of whole) → HasItsCode g.typed g.instance alive n whole → HaveTheirCode g.typed g.instance alive n left right → HasItsKind set left → Done set left
+      → HasItsKind set right ⊎ (IsPromoted set right × IsRegistered right) → (IsPure set right → Done set right) → ((b : Active) → IsPure set right → IsDone (under g b) (registers_under g b has) alive n ready (places_under g b places) (fields_under g b fields.scope fields.same_extents) set right)
+      → LogicalValue g has alive n ready places fields set whole left right is_or → LogicalMeans g has alive n ready places fields is_or set whole left right → LogicalEnds g has alive n ready places fields is_or set whole left right
+      → (IsPure set right → ignores_context right ≡ true → (st : State) → IsGiven g has alive n ready places fields set left st → set < length (shapes g) → IsGiven g has alive n ready places fields set whole st) → LogicalGives g has alive n ready places fields is_or bits set ty whole left right
+  logical_ways is_or bits set ty whole left right some shaped is wide c codes one left_done two right_done right_under value means ends given = either
+      (λ also. by_case (joins left right)
+      (λ join. logical_valued is_or bits set ty whole left right some shaped one also (joined_free left right join) codes left_done (right_done also.0) value (λ st is_left exists. given also.0 (joined_free left right join) st is_left exists) ends.0)
+      (λ apart. undecided_valued g has alive n ready places fields is_or bits set ty whole left right shaped one apart is wide c codes value (left_done.tests one.1) means ends also (λ b. (right_under b also.0).tests also.1)))
+      (λ promoted. scalar_valued g has alive n ready places fields is_or bits set ty whole left right shaped one is wide c codes value (left_done.tests one.1) means ends promoted.0 promoted.1) two
+
   -- a conversion to `bool` is a test
   bool_code : (bits set : ℕ) (ty : ValueType) (p : Boxed) (inner : TExpr) (d : Draft) → ty.shape ≡ Some set → ty.elem.bits ≡ 1 → is_kept inner ≡ false → code bits (T.Convert' ty p inner) d ≡ then_make (tested g.typed (layout g) inner (with_entry set bits W.Own d)) (put_in (next_field set bits d))
   unfolding value_of cast_from spread_by cast_by truth_put then_make an_entry
@@ -191,7 +204,8 @@ module _ (g : Setting) (has : HasRegisters g) (alive : Variable → Type 0) (n :
       follows_same g (Given g (number set whole st) st (Gave bits set whole d s st)) s refl (bool_code bits set ty p inner d shaped one (pure_kept set inner kinded.0))
       (tests_put g has alive n ready places fields set whole d s st (no_home g alive (length d.fields) (length d.fields) (omega arith) here) (λ x. bool_bit ty.elem (type_of inner).elem (value_in (extents g set) st inner x) one) inner
       (λ x below. bool_nonzero ty.elem (type_of inner).elem (value_in (extents g set) st inner x) one (value_small g alive n places fields set inner st s sim kinded.0 c x))
-      (record { gives = λ given. convert_means g has alive n ready places fields set ty p inner st shaped given; ends = λ early. convert_ended g has alive n ready places fields ty p inner s st early }) bits (tested g.typed (layout g) inner (with_entry set bits W.Own d))
+      (record { gives = λ given. convert_means g has alive n ready places fields set ty p inner st shaped given; ends = λ early. convert_ended g has alive n ready places fields ty p inner s st early }) bits (with_entry set bits W.Own d) (Unit {0})
+      (passes_all g alive (length d.fields) (with_entry set bits W.Own d) s st (Unit {0}) (starts_entry g alive _ _ here) sim) (λ later named late. tt) (tested g.typed (layout g) inner (with_entry set bits W.Own d))
       (done.tests kinded.1 (with_entry set bits W.Own d) s st (starts_entry g alive _ _ here) sim))
     where
       whole : TExpr
@@ -262,27 +276,25 @@ mutual
       record { value = λ bits some most. brackets_valued g has alive n ready places fields bits set ty p inner is.0 (part.value bits some most); tests = λ known. brackets_tested g has alive n ready places fields set ty p inner is is.1 (part.tests known) }
   done g has alive n ready places fields set (T.Unary' ty op p operand) is c = unary_done g has alive n ready places fields set ty op p operand is is.0.0 is.2 is.1 c (done g has alive n ready places fields set operand is.2 (unary_part g alive n places fields ty op p operand c))
   done g has alive n ready places fields set (T.LogicalOr' ty p left q right) is c =
-      let codes = or_codes g.typed g.instance alive n set ty p q left right is.1.0 c in
-      let one = done g has alive n ready places fields set left is.1.0 codes.left_code in
-      let means : LogicalMeans g has alive n ready places fields true set (T.LogicalOr' ty p left q right) left right = λ st given other. or_means fields.scope fields.active set ty p q left right (number g has alive n ready places fields set left st) (number g has alive n ready places fields set right st) st is.1.0 given other in
-      let ends : LogicalEnds g has alive n ready places fields true set (T.LogicalOr' ty p left q right) left right = (λ s st early. or_ended g has alive n ready places fields ty p q left right s st early, λ s st given early. or_right_ended g has alive n ready places fields set ty p q left right s st is.1.0 given early) in
+      let codes = or_codes g.typed g.instance alive n set ty p q left right is.0.0 c in
+      let ends : (s : CodeState) (st : State) → Ended g s (meant g fields left st) → Ended g s (meant g fields (T.LogicalOr' ty p left q right) st) = λ s st early. or_ended g has alive n ready places fields ty p q left right s st early in
       by_value g has alive n ready places fields set (T.LogicalOr' ty p left q right) is refl c (λ bits some most. either
-      (λ also. by_case (joins left right)
-      (λ join. logical_valued g has alive n ready places fields true bits set ty (T.LogicalOr' ty p left q right) left right some is.0.0 is.1 also (joined_free left right join) codes one (done g has alive n ready places fields set right also.0 codes.right_code) (λ st q. refl)
-      (λ st given exists. or_given g has alive n ready places fields set ty p q left right st is.1.0 also.0 (joined_free left right join) given exists) (λ s st early. or_ended g has alive n ready places fields ty p q left right s st early))
-      (λ apart. undecided_valued g has alive n ready places fields true bits set ty (T.LogicalOr' ty p left q right) left right is.0.0 is.1 apart is is.0 c codes (λ st q. refl) (one.tests is.1.1) means ends also (λ b. (done (under g b) (registers_under g b has) alive n ready (places_under g b places) (fields_under g b fields.scope fields.same_extents) set right also.0 codes.right_code).tests also.1)))
-      (λ promoted. scalar_valued g has alive n ready places fields true bits set ty (T.LogicalOr' ty p left q right) left right is.0.0 is.1 is is.0 c codes (λ st q. refl) (one.tests is.1.1) means ends promoted.0 promoted.1) is.2)
+      (λ one. logical_ways g has alive n ready places fields true bits set ty (T.LogicalOr' ty p left q right) left right some is.0.0 is is.0 c codes one (done g has alive n ready places fields set left one.0 codes.left_code) is.2 (λ pure. done g has alive n ready places fields set right pure codes.right_code)
+      (λ b pure. done (under g b) (registers_under g b has) alive n ready (places_under g b places) (fields_under g b fields.scope fields.same_extents) set right pure codes.right_code) (λ st x. or_number (extents g set) st set ty p q left right x one.0)
+      (λ st given other. or_meant fields.scope fields.active set ty p q left right (extents g set) st one.0 given other) (ends, λ s st given early. or_right_ended g has alive n ready places fields set ty p q left right s st one.0 given early)
+      (λ pure free st given exists. or_given g has alive n ready places fields set ty p q left right st one.0 pure free given exists))
+      (λ calm. let also = beside_scalar set left right calm codes.right_field is.2 in
+      mixed_valued g has alive n ready places fields true bits set ty p q left right is.0.0 calm also codes ((done g has alive n ready places fields set right also.0 codes.right_code).tests also.1) ends) is.1)
   done g has alive n ready places fields set (T.LogicalAnd' ty p left q right) is c =
-      let codes = and_codes g.typed g.instance alive n set ty p q left right is.1.0 c in
-      let one = done g has alive n ready places fields set left is.1.0 codes.left_code in
-      let means : LogicalMeans g has alive n ready places fields false set (T.LogicalAnd' ty p left q right) left right = λ st given other. and_means fields.scope fields.active set ty p q left right (number g has alive n ready places fields set left st) (number g has alive n ready places fields set right st) st is.1.0 given other in
-      let ends : LogicalEnds g has alive n ready places fields false set (T.LogicalAnd' ty p left q right) left right = (λ s st early. and_ended g has alive n ready places fields ty p q left right s st early, λ s st given early. and_right_ended g has alive n ready places fields set ty p q left right s st is.1.0 given early) in
+      let codes = and_codes g.typed g.instance alive n set ty p q left right is.0.0 c in
+      let ends : (s : CodeState) (st : State) → Ended g s (meant g fields left st) → Ended g s (meant g fields (T.LogicalAnd' ty p left q right) st) = λ s st early. and_ended g has alive n ready places fields ty p q left right s st early in
       by_value g has alive n ready places fields set (T.LogicalAnd' ty p left q right) is refl c (λ bits some most. either
-      (λ also. by_case (joins left right)
-      (λ join. logical_valued g has alive n ready places fields false bits set ty (T.LogicalAnd' ty p left q right) left right some is.0.0 is.1 also (joined_free left right join) codes one (done g has alive n ready places fields set right also.0 codes.right_code) (λ st q. refl)
-      (λ st given exists. and_given g has alive n ready places fields set ty p q left right st is.1.0 also.0 (joined_free left right join) given exists) (λ s st early. and_ended g has alive n ready places fields ty p q left right s st early))
-      (λ apart. undecided_valued g has alive n ready places fields false bits set ty (T.LogicalAnd' ty p left q right) left right is.0.0 is.1 apart is is.0 c codes (λ st q. refl) (one.tests is.1.1) means ends also (λ b. (done (under g b) (registers_under g b has) alive n ready (places_under g b places) (fields_under g b fields.scope fields.same_extents) set right also.0 codes.right_code).tests also.1)))
-      (λ promoted. scalar_valued g has alive n ready places fields false bits set ty (T.LogicalAnd' ty p left q right) left right is.0.0 is.1 is is.0 c codes (λ st q. refl) (one.tests is.1.1) means ends promoted.0 promoted.1) is.2)
+      (λ one. logical_ways g has alive n ready places fields false bits set ty (T.LogicalAnd' ty p left q right) left right some is.0.0 is is.0 c codes one (done g has alive n ready places fields set left one.0 codes.left_code) is.2 (λ pure. done g has alive n ready places fields set right pure codes.right_code)
+      (λ b pure. done (under g b) (registers_under g b has) alive n ready (places_under g b places) (fields_under g b fields.scope fields.same_extents) set right pure codes.right_code) (λ st x. and_number (extents g set) st set ty p q left right x one.0)
+      (λ st given other. and_meant fields.scope fields.active set ty p q left right (extents g set) st one.0 given other) (ends, λ s st given early. and_right_ended g has alive n ready places fields set ty p q left right s st one.0 given early)
+      (λ pure free st given exists. and_given g has alive n ready places fields set ty p q left right st one.0 pure free given exists))
+      (λ calm. let also = beside_scalar set left right calm codes.right_field is.2 in
+      mixed_valued g has alive n ready places fields false bits set ty p q left right is.0.0 calm also codes ((done g has alive n ready places fields set right also.0 codes.right_code).tests also.1) ends) is.1)
   done g has alive n ready places fields set (T.Binary' ty place op p left q right) is c =
       let parts = binary_parts g alive n places fields ty place op p q left right c in
       binary_done g has alive n ready places fields set ty place op p q left right is c (λ pure. done g has alive n ready places fields set left pure parts.0) (λ pure. done g has alive n ready places fields set right pure parts.1)

@@ -49,8 +49,9 @@ use Rattle.cstar_tree.specs.Typed.{type_of}
 use Rattle.fields_follow.specs.Fragment.{IsCondition, IsNarrowed, IsPure}
 use Rattle.fields_follow.proofs.Starts.{Starts}
 use Rattle.fields_follow.proofs.Clearing.{field_at, joined_behind, joined_more, truths_taken}
-use Rattle.fields_follow.proofs.Conditions.{HaveTheirCode, and_codes, conditions_join, joined_free, joined_kinded, or_codes}
+use Rattle.fields_follow.proofs.Conditions.{HaveTheirCode, and_codes, conditions_join, joined_free, joined_kinded, joined_pure, or_codes}
 use Rattle.fields_follow.proofs.Sizes.{brackets_part, convert_part, unary_part, value_small}
+use Rattle.fields_follow.proofs.Pure.{and_number, or_number}
 use Rattle.fields_follow.proofs.Places.{HoldsTheFields, IsFileField, PlacesFields, stands_here}
 use Rattle.fields_follow.proofs.Computing.{both_flagged, condition_bit, condition_tested}
 use Rattle.fields_follow.proofs.Testing.{and_ended, and_given, or_ended, or_given}
@@ -403,13 +404,17 @@ module _ (g : Setting) where
           chosen U.Minus (inr h) code last ended of_operand = let wrong = h.0 in cc
           chosen U.Complement (inr h) code last ended of_operand = let wrong = h.0 in cc
       truth_computed (T.LogicalOr' ty p left q right) is c last ended =
+          let one = joined_pure set left right is.0.1 is.1 in
           let also = joined_kinded set left right is.0.2 is.1 in
           let free = joined_free left right is.1 in
-          by_operation true (T.LogicalOr' ty p left q right) left right is.0.1 also free (or_codes g.typed g.instance alive n set ty p q left right is.0.1.0 c) refl (λ given exists. or_given g has alive n ready places fields set ty p q left right st is.0.1.0 also.0 free given exists) (λ early. or_ended g has alive n ready places fields ty p q left right s st early) last ended
+          by_operation true (T.LogicalOr' ty p left q right) left right one also free (or_codes g.typed g.instance alive n set ty p q left right is.0.0.0 c) (λ j x. or_number (extents g set) st set ty p q left right x one.0 j) (λ given exists. or_given g has alive n ready places fields set ty p q left right st one.0 also.0 free given exists)
+          (λ early. or_ended g has alive n ready places fields ty p q left right s st early) last ended
       truth_computed (T.LogicalAnd' ty p left q right) is c last ended =
+          let one = joined_pure set left right is.0.1 is.1 in
           let also = joined_kinded set left right is.0.2 is.1 in
           let free = joined_free left right is.1 in
-          by_operation false (T.LogicalAnd' ty p left q right) left right is.0.1 also free (and_codes g.typed g.instance alive n set ty p q left right is.0.1.0 c) refl (λ given exists. and_given g has alive n ready places fields set ty p q left right st is.0.1.0 also.0 free given exists) (λ early. and_ended g has alive n ready places fields ty p q left right s st early) last ended
+          by_operation false (T.LogicalAnd' ty p left q right) left right one also free (and_codes g.typed g.instance alive n set ty p q left right is.0.0.0 c) (λ j x. and_number (extents g set) st set ty p q left right x one.0 j) (λ given exists. and_given g has alive n ready places fields set ty p q left right st one.0 also.0 free given exists)
+          (λ early. and_ended g has alive n ready places fields ty p q left right s st early) last ended
       truth_computed (T.Binary' ty place op p left q right) is c last ended =
           by_test (T.Binary' ty place op p left q right) (is.1, inr (inl is.0)) is.0 c (λ x. truth_bit (extents g set) st set bits (T.Binary' ty place op p left q right) x is) (relation_code set offset bits ty place op p q left right d is.1.0.0 is.0 (relates_plainly op is.0)) last ended
       truth_computed _ is c last ended = absurd is

@@ -45,6 +45,7 @@ pub mod LocalWrites
 pub mod LocalsCleared
 pub mod Locating
 pub mod Meaning
+pub mod Mixed
 pub mod Named
 pub mod Naming
 pub mod NarrowKinds

@@ -18,7 +18,7 @@ use Rattle.source_meaning.specs.Constants.{constant_of, is_constant}
 use Rattle.source_meaning.specs.Expressions.{evaluated, mapped, operated}
 use Rattle.source_meaning.specs.State.{Ends, Fault, Gives, Outcome, State, then_do}
 use Rattle.source_meaning.specs.Targets.{read, variable_target}
-use Rattle.source_meaning.specs.Values.{Active, Nothing, Parallel, Scalar, Scope, Value, at, each, failing, nonzero, positions, unary_of, unless}
+use Rattle.source_meaning.specs.Values.{Active, Nothing, Parallel, Scalar, Scope, Value, at, each, failing, nonzero, number, positions, unary_of, unless}
 use Rattle.source_meaning.proofs.ConstantLaws.{Boxed, value_means}
 use Rattle.lower_comm.specs.declared.news.NewsStep.{NewsStep}
 use Rattle.lower_comm.specs.News.{all_go_by_news, checked_step, step_of}
@@ -51,6 +51,14 @@ computed_in st e q = at (given_in (evaluated nowhere e nobody st)) q
 unfoldable pub scalar_in : State → TExpr → ℕ → ℕ
 scalar_in st e q = elim (constant_of e) [ Some word ↦ word | None ↦ computed_in st e q ]
 
+-- that of a scalar that decides, and the number of a first operand, which may be one
+abbrev pub decided_in : State → TExpr → ℕ
+decided_in st e = number (given_in (evaluated nowhere e nobody st))
+
+unfoldable pub first_in : Option ℕ → ℕ → ℕ → ℕ
+first_in None scalar parallel = scalar
+first_in (Some set) scalar parallel = parallel
+
 -- the coordinate on an axis to which a step leads, round the ends
 unfoldable pub coordinate_behind : List ℕ → ℕ → Option NewsStep → ℕ → ℕ
 coordinate_behind extents axis None q = 0
@@ -69,8 +77,8 @@ unfoldable mutual
   value_in extents st (T.Promote' ty p operand) q = scalar_in st operand q
   value_in extents st (T.Unary' ty op p operand) q = unary_of op (value_in extents st operand q)
   value_in extents st (T.Binary' ty place op p left r right) q = outcome op 32 (not (type_of left).elem.signed) (value_in extents st left q) (value_in extents st right q)
-  value_in extents st (T.LogicalOr' ty p left r right) q = from_bool (nonzero (value_in extents st left q) || nonzero (value_in extents st right q))
-  value_in extents st (T.LogicalAnd' ty p left r right) q = from_bool (nonzero (value_in extents st left q) && nonzero (value_in extents st right q))
+  value_in extents st (T.LogicalOr' ty p left r right) q = from_bool (nonzero (first_in (type_of left).shape (decided_in st left) (value_in extents st left q)) || nonzero (value_in extents st right q))
+  value_in extents st (T.LogicalAnd' ty p left r right) q = from_bool (nonzero (first_in (type_of left).shape (decided_in st left) (value_in extents st left q)) && nonzero (value_in extents st right q))
   value_in extents st (T.Choice' ty p test r first s second) q = if nonzero (value_in extents st test q) then value_in extents st first q else value_in extents st second q
   value_in extents st (T.Convert' ty p operand) q = converted ty.elem (type_of operand).elem (value_in extents st operand q)
   value_in extents st (T.Pcoord ty axis) q = coordinate extents.own q axis

@@ -14,6 +14,7 @@ use Rattle.source_meaning.specs.State.{State}
 use Rattle.phase_meaning.proofs.Widths.{cut_cut}
 use Rattle.code_follows.proofs.Following.{Extends, Keeps, Sim, held, keeps_all, keeps_less, keeps_on}
 use Rattle.code_follows.proofs.Growing.{Extended, as_it_was, extended}
+use Rattle.code_follows.proofs.Jumping.{moved_to, sim_moved}
 use Rattle.code_follows.proofs.Settings.{OpenAmong, At, Reaches, Setting, Within, and_one, code_more, earlier, onto, start, stay}
 use Rattle.fields_follow.specs.Fields.{IsElement}
 use Rattle.fields_follow.proofs.Bits.{first_number}
@@ -23,7 +24,7 @@ use Rattle.fields_follow.proofs.Lengths.{held_first}
 use Rattle.fields_follow.proofs.Places.{HoldsTheFields, IsOwnField, PlacesFields, names_first}
 use Rattle.fields_follow.proofs.Variables.{Carries}
 use Rattle.fields_follow.proofs.Writing.{PutsNext, next_written, puts_next}
-use Rattle.fields_follow.proofs.Starts.{Starts, starts_next}
+use Rattle.fields_follow.proofs.Starts.{Starts, starts_later, starts_next}
 use Rattle.fields_follow.proofs.Locals.{IsNoHome}
 
 longer : {A : Type 0} (xs ys zs : List A) → ys ≡ xs ++ zs → length xs ≤ length ys
@@ -112,6 +113,18 @@ module _ (g : Setting) where
       stays = λ wanted h first last p below own ends before low after high.
           b.stays (use_two wanted) h first last p (omega (arith, below, more)) own ends before (let l = code_longer d e a.grown.0 a.grown.1 in omega (arith, low, l)) after high
           ∙ a.stays (use_one wanted) h first last p below own ends before low after (let l = code_longer e f b.grown.0 b.grown.1 in omega (arith, high, l));
+    }
+
+    -- a piece, and a jump behind it over code
+    abbrev pub passes_moved : (bound : ℕ) (d e f : Draft) (s : CodeState) (st : State) (used : Type 0) (p : Passes bound d e s st used) (k : ℕ) → Extended e k f → (place : ℕ) → p.t.at ≤ place → Reaches g p.t (moved_to g alive place p.t) → At g (moved_to g alive place p.t) (length f.code) → Passes bound d f s st used
+    passes_moved bound d e f s st used p k more place behind go there = record {
+      grown = (p.grown.0 + k, extended d e f p.grown.0 k p.grown.1 more);
+      t = moved_to g alive place p.t;
+      go = onto g s p.t (moved_to g alive place p.t) p.go go;
+      at = starts_later g alive p.t (moved_to g alive place p.t) (length e.code) e.regs (length e.fields) (length f.code) f.regs (length f.fields) (code_longer e f k more) more.regs (fields_longer e f k more) there p.at;
+      registers = p.registers;
+      sim = sim_moved g alive st p.t place behind p.sim;
+      stays = λ wanted h first last q below own ends before low after high. p.stays wanted h first last q below own ends before low after (let l = code_longer e f k more in omega (arith, high, l));
     }
 
     -- entries and registers that are taken before it are no part of the code

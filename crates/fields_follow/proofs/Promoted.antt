@@ -51,7 +51,7 @@ use Rattle.source_meaning.proofs.ConstantLaws.{Boxed}
 use Rattle.std.specs.Prelude.{is_none}
 
 -- what an outcome gives, whatever surrounds it
-unfoldable ignoring : (scope : Scope) (active : Active) (e : TExpr) (st : State) → IsCalm e → ignores_context e ≡ true → evaluated scope e active st ≡ Gives (given_in (evaluated nowhere e nobody st)) st
+unfoldable pub ignoring : (scope : Scope) (active : Active) (e : TExpr) (st : State) → IsCalm e → ignores_context e ≡ true → evaluated scope e active st ≡ Gives (given_in (evaluated nowhere e nobody st)) st
 unfolding given_in
 ignoring scope active e st calm free =
     let same : evaluated scope e active st ≡ evaluated nowhere e nobody st = calm_same scope nowhere active nobody e calm st in

@@ -19,13 +19,13 @@ use Rattle.cstar_tree.specs.Typed.{type_of}
 use Rattle.code_lengths.specs.Naming.{HasVariable, plain}
 use Rattle.source_meaning.specs.Expressions.{evaluated}
 use Rattle.source_meaning.specs.State.{Gives, Outcome, State, then_do}
-use Rattle.source_meaning.specs.Values.{Active, Parallel, Scope, Value, at, convert_to, each, nonzero, own_coordinate}
+use Rattle.source_meaning.specs.Values.{Active, Parallel, Scope, Value, at, convert_to, each, nonzero, own_coordinate, number}
 use Rattle.vp_sets.specs.Positions.{coordinate, number_at, positions_fit}
 use Rattle.lower_comm.specs.News.{all_go_by_news}
 use Rattle.lower_expr.specs.Operands.{ignores_context}
-use Rattle.fields_follow.specs.Fragment.{AreWrapping, IsPure}
+use Rattle.fields_follow.specs.Fragment.{AreWrapping, IsPure, IsCalm}
 use Rattle.fields_follow.proofs.Extents.{NameExtents, extents_in}
-use Rattle.fields_follow.proofs.Meaning.{Extents, as_shaped, binary_means, coordinates_behind, either, left_of, read_is, right_of, unary_means, value_by_news, value_in}
+use Rattle.fields_follow.proofs.Meaning.{Extents, as_shaped, binary_means, coordinates_behind, either, left_of, read_is, right_of, unary_means, value_by_news, value_in, decided_in, first_in, given_in, nobody, nowhere}
 use Rattle.fields_follow.specs.Fields.{IsElement}
 use Rattle.fields_follow.proofs.Forms.{element_is, pure_shape}
 use Rattle.fields_follow.proofs.Gets.{wrapping_goes}
@@ -34,7 +34,10 @@ use Rattle.code_follows.proofs.Settings.{Setting}
 use Rattle.fields_follow.proofs.Instructions.{SameExtents, extents}
 use Rattle.fields_follow.proofs.Outcomes.{meant}
 use Rattle.fields_follow.proofs.Places.{HoldsTheFields, PlacesFields}
-use Rattle.fields_follow.proofs.Promoted.{promoted_free}
+use Rattle.fields_follow.proofs.Calm.{calm_same, calm_scalar}
+use Rattle.fields_follow.proofs.Truths.{either_or_both}
+use Rattle.code_follows.proofs.Branching.{decides}
+use Rattle.fields_follow.proofs.Promoted.{promoted_free, ignoring}
 
 -- an operator that ignores the context divides nothing, and its operands ignore it
 pub ignores_both : (op : Op) (left right : TExpr) → (not (divides op) && ignores_context left && ignores_context right) ≡ true → (divides op ≡ false) × (ignores_context left ≡ true) × (ignores_context right ≡ true)
@@ -81,6 +84,100 @@ pub and_means : (scope : Scope) (active : Active) (set : ℕ) (ty : ValueType) (
 unfolding then_do at
 and_means scope active set ty p q left right v w st is one other =
     and_so scope active set ty p q left right v st is one ∙ ap (λ (o : Outcome Value). then_do o (λ y after. Source.Gives (Parallel (λ x. from_bool (nonzero (v x) && nonzero (at y x)))) after)) other
+
+-- so what they mean has the numbers of both
+pub or_number : (extents : Extents) (st : State) (set : ℕ) (ty : ValueType) (p q : Boxed) (left right : TExpr) (x : ℕ) → IsPure set left → from_bool (nonzero (value_in extents st left x) || nonzero (value_in extents st right x)) ≡ value_in extents st (T.LogicalOr' ty p left q right) x
+unfolding value_in first_in
+or_number extents st set ty p q left right x is = ap (λ (o : Option ℕ). from_bool (nonzero (first_in o (decided_in st left) (value_in extents st left x)) || nonzero (value_in extents st right x))) (sym (pure_shape set left is))
+
+pub and_number : (extents : Extents) (st : State) (set : ℕ) (ty : ValueType) (p q : Boxed) (left right : TExpr) (x : ℕ) → IsPure set left → from_bool (nonzero (value_in extents st left x) && nonzero (value_in extents st right x)) ≡ value_in extents st (T.LogicalAnd' ty p left q right) x
+unfolding value_in first_in
+and_number extents st set ty p q left right x is = ap (λ (o : Option ℕ). from_bool (nonzero (first_in o (decided_in st left) (value_in extents st left x)) && nonzero (value_in extents st right x))) (sym (pure_shape set left is))
+
+module _ (scope : Scope) (active : Active) (set : ℕ) (ty : ValueType) (p q : Boxed) (left right : TExpr) (extents : Extents) (st : State) (is : IsPure set left) where
+  abbrev numbers : TExpr → ℕ → ℕ
+  numbers e x = value_in extents st e x
+
+  pub or_meant : evaluated scope left active st ≡ Source.Gives (Parallel (numbers left)) st → evaluated scope right (where_zero set (Parallel (numbers left)) active) st ≡ Source.Gives (Parallel (numbers right)) st → evaluated scope (T.LogicalOr' ty p left q right) active st ≡ Source.Gives (Parallel (numbers (T.LogicalOr' ty p left q right))) st
+  or_meant one other = or_means scope active set ty p q left right (numbers left) (numbers right) st is one other ∙ ap (λ (f : ℕ → ℕ). Source.Gives (Parallel f) st) (λ j x. or_number extents st set ty p q left right x is j)
+
+  pub and_meant : evaluated scope left active st ≡ Source.Gives (Parallel (numbers left)) st → evaluated scope right (where_nonzero set (Parallel (numbers left)) active) st ≡ Source.Gives (Parallel (numbers right)) st → evaluated scope (T.LogicalAnd' ty p left q right) active st ≡ Source.Gives (Parallel (numbers (T.LogicalAnd' ty p left q right))) st
+  and_meant one other = and_means scope active set ty p q left right (numbers left) (numbers right) st is one other ∙ ap (λ (f : ℕ → ℕ). Source.Gives (Parallel f) st) (λ j x. and_number extents st set ty p q left right x is j)
+
+-- ---- with a scalar left operand
+
+abbrev pub logical_of : Bool → ValueType → Boxed → TExpr → Boxed → TExpr → TExpr
+logical_of is_or ty p left q right = if is_or then T.LogicalOr' ty p left q right else T.LogicalAnd' ty p left q right
+
+-- one that decides, and one that does not
+pub decided_so : (is_or a b : Bool) → decides is_or a ≡ true → either_or_both is_or a b ≡ is_or
+decided_so true true b e = refl
+decided_so true false b e = cc
+decided_so false true b e = cc
+decided_so false false b e = refl
+
+pub undecided_so : (is_or a b : Bool) → decides is_or a ≡ false → either_or_both is_or a b ≡ b
+undecided_so true true b e = cc
+undecided_so true false b e = refl
+undecided_so false true b e = refl
+undecided_so false false b e = cc
+
+module _ (is_or : Bool) (set : ℕ) (ty : ValueType) (p q : Boxed) (left right : TExpr) (shaped : ty.shape ≡ Some set) (calm : IsCalm left) where
+  abbrev whole : TExpr
+  whole = logical_of is_or ty p left q right
+
+  pub scalar_number : (extents : Extents) (st : State) (x : ℕ) → value_in extents st whole x ≡ from_bool (either_or_both is_or (nonzero (decided_in st left)) (nonzero (value_in extents st right x)))
+  unfolding value_in first_in
+  scalar_number extents st x = by is_or
+    where
+      by : (is_or : Bool) → value_in extents st (logical_of is_or ty p left q right) x ≡ from_bool (either_or_both is_or (nonzero (decided_in st left)) (nonzero (value_in extents st right x)))
+      by true = ap (λ (o : Option ℕ). from_bool (nonzero (first_in o (decided_in st left) (value_in extents st left x)) || nonzero (value_in extents st right x))) (calm_scalar left calm)
+      by false = ap (λ (o : Option ℕ). from_bool (nonzero (first_in o (decided_in st left) (value_in extents st left x)) && nonzero (value_in extents st right x))) (calm_scalar left calm)
+
+  module _ (scope : Scope) (active : Active) (v : Value) (st : State) (given : evaluated scope left active st ≡ Source.Gives v st) where
+    pub decided_is : decided_in st left ≡ number v
+    unfolding given_in
+    decided_is = ap (λ (o : Outcome Value). number (given_in o)) (sym (calm_same scope nowhere active nobody left calm st) ∙ given)
+
+    -- the right one is evaluated where it does not decide
+    pub scalar_so : evaluated scope whole active st ≡ (if decides is_or (nonzero (number v)) then Source.Gives (Parallel (λ x. from_bool is_or)) st else then_do (evaluated scope right active st) (λ y after. Source.Gives (Parallel (λ x. from_bool (nonzero (at y x)))) after))
+    unfolding evaluated then_do or_then and_then each
+    scalar_so = by is_or
+      where
+        decided : Bool → Outcome Value
+        decided b = Source.Gives (Parallel (λ x. from_bool b)) st
+
+        other : Outcome Value
+        other = then_do (evaluated scope right active st) (λ y after. Source.Gives (Parallel (λ x. from_bool (nonzero (at y x)))) after)
+
+        either_way : (b : Bool) → (elim b as (λ _. Outcome Value) [ true ↦ decided true | false ↦ other ]) ≡ (if b then decided true else other)
+        either_way true = refl
+        either_way false = refl
+
+        both_ways : (b : Bool) → (elim b as (λ _. Outcome Value) [ true ↦ other | false ↦ decided false ]) ≡ (if not b then decided false else other)
+        both_ways true = refl
+        both_ways false = refl
+
+        by : (is_or : Bool) → evaluated scope (logical_of is_or ty p left q right) active st ≡ (if decides is_or (nonzero (number v)) then decided is_or else other)
+        by true =
+            ap (λ (o : Outcome Value). then_do o (λ x after. or_then ty.shape (type_of left).shape x (λ a u. evaluated scope right a u) active after)) given
+            ∙ (λ i. or_then (shaped i) (calm_scalar left calm i) v (λ a u. evaluated scope right a u) active st) ∙ either_way (nonzero (number v))
+        by false =
+            ap (λ (o : Outcome Value). then_do o (λ x after. and_then ty.shape (type_of left).shape x (λ a u. evaluated scope right a u) active after)) given
+            ∙ (λ i. and_then (shaped i) (calm_scalar left calm i) v (λ a u. evaluated scope right a u) active st) ∙ both_ways (nonzero (number v))
+
+    pub scalar_meant : (extents : Extents) → (decides is_or (nonzero (number v)) ≡ false → evaluated scope right active st ≡ Source.Gives (Parallel (λ x. value_in extents st right x)) st) → evaluated scope whole active st ≡ Source.Gives (Parallel (λ x. value_in extents st whole x)) st
+    unfolding then_do at
+    scalar_meant extents other = scalar_so ∙ by (decides is_or (nonzero (number v))) refl
+      where
+        number_is : (x : ℕ) → value_in extents st whole x ≡ from_bool (either_or_both is_or (nonzero (number v)) (nonzero (value_in extents st right x)))
+        number_is x = scalar_number extents st x ∙ ap (λ (m : ℕ). from_bool (either_or_both is_or (nonzero m) (nonzero (value_in extents st right x)))) decided_is
+
+        by : (b : Bool) → decides is_or (nonzero (number v)) ≡ b → (if b then Source.Gives (Parallel (λ x. from_bool is_or)) st else then_do (evaluated scope right active st) (λ y after. Source.Gives (Parallel (λ x. from_bool (nonzero (at y x)))) after)) ≡ Source.Gives (Parallel (λ x. value_in extents st whole x)) st
+        by true shut = ap (λ (f : ℕ → ℕ). Source.Gives (Parallel f) st) (λ j x. (ap from_bool (sym (decided_so is_or (nonzero (number v)) (nonzero (value_in extents st right x)) shut)) ∙ sym (number_is x)) j)
+        by false free =
+            ap (λ (o : Outcome Value). then_do o (λ y after. Source.Gives (Parallel (λ x. from_bool (nonzero (at y x)))) after)) (other free)
+            ∙ ap (λ (f : ℕ → ℕ). Source.Gives (Parallel f) st) (λ j x. (ap from_bool (sym (undecided_so is_or (nonzero (number v)) (nonzero (value_in extents st right x)) free)) ∙ sym (number_is x)) j)
 
 -- three that ignore the context
 all_ignore : (test first second : TExpr) → (ignores_context test && ignores_context first && ignores_context second) ≡ true → (ignores_context test ≡ true) × (ignores_context first ≡ true) × (ignores_context second ≡ true)
@@ -132,12 +229,14 @@ module _ (scope : Scope) (set : ℕ) (extents : Extents) (same : extents.own ≡
       (either (λ h. pure_means active left st h parts.1) (λ h. promoted_free scope active set extents left st h parts.1) (left_of set left right is.2)) (either (λ h. pure_means active right st h parts.2) (λ h. promoted_free scope active set extents right st h parts.2) (right_of set left right is.2))
   pure_means active (T.LogicalOr' ty p left q right) st is free =
       let parts = both_ignore left right free in
-      or_means scope active set ty p q left right (λ x. value_in extents st left x) (λ x. value_in extents st right x) st is.1.0 (pure_means active left st is.1.0 parts.0)
-      (either (λ h. pure_means (where_zero set (Parallel (λ q. value_in extents st left q)) active) right st h.0 parts.1) (λ h. promoted_free scope (where_zero set (Parallel (λ q. value_in extents st left q)) active) set extents right st h.0 parts.1) is.2)
+      let other : (a : Active) → evaluated scope right a st ≡ Gives (Parallel (λ x. value_in extents st right x)) st = λ a. either (λ h. pure_means a right st h.0 parts.1) (λ h. promoted_free scope a set extents right st h.0 parts.1) is.2 in
+      either (λ h. or_meant scope active set ty p q left right extents st h.0 (pure_means active left st h.0 parts.0) (other (where_zero set (Parallel (λ q. value_in extents st left q)) active)))
+      (λ calm. scalar_meant true set ty p q left right is.0.0 calm scope active (given_in (evaluated nowhere left nobody st)) st (ignoring scope active left st calm parts.0) extents (λ free. other active)) is.1
   pure_means active (T.LogicalAnd' ty p left q right) st is free =
       let parts = both_ignore left right free in
-      and_means scope active set ty p q left right (λ x. value_in extents st left x) (λ x. value_in extents st right x) st is.1.0 (pure_means active left st is.1.0 parts.0)
-      (either (λ h. pure_means (where_nonzero set (Parallel (λ q. value_in extents st left q)) active) right st h.0 parts.1) (λ h. promoted_free scope (where_nonzero set (Parallel (λ q. value_in extents st left q)) active) set extents right st h.0 parts.1) is.2)
+      let other : (a : Active) → evaluated scope right a st ≡ Gives (Parallel (λ x. value_in extents st right x)) st = λ a. either (λ h. pure_means a right st h.0 parts.1) (λ h. promoted_free scope a set extents right st h.0 parts.1) is.2 in
+      either (λ h. and_meant scope active set ty p q left right extents st h.0 (pure_means active left st h.0 parts.0) (other (where_nonzero set (Parallel (λ q. value_in extents st left q)) active)))
+      (λ calm. scalar_meant false set ty p q left right is.0.0 calm scope active (given_in (evaluated nowhere left nobody st)) st (ignoring scope active left st calm parts.0) extents (λ free. other active)) is.1
   pure_means active (T.Choice' ty p test q first r second) st is free =
       let parts = all_ignore test first second free in
       let v : ℕ → ℕ = λ x. value_in extents st test x in

@@ -55,7 +55,7 @@ use Rattle.fields_follow.proofs.Passing.{After, after_same, made_after, passes_a
 use Rattle.fields_follow.proofs.Places.{HoldsTheFields, PlacesFields, names_first, stands_here}
 use Rattle.fields_follow.proofs.Variables.{Carries}
 use Rattle.paris_code.specs.Spans.{IsNamedAt}
-use Rattle.fields_follow.proofs.Pure.{and_means, and_so, or_means, or_so, pure_means}
+use Rattle.fields_follow.proofs.Pure.{and_meant, and_so, or_meant, or_so, pure_means}
 use Rattle.fields_follow.proofs.NarrowKinds.{AreRelated, zero_told}
 use Rattle.fields_follow.proofs.Sizes.{binary_parts}
 use Rattle.fields_follow.proofs.Values.{FindsOrFails, Gives, IsFlag, Valued, code_of, finds_read, starts_found, operand_after, operand_of, variable_has}
@@ -269,12 +269,12 @@ module _ (g : Setting) (has : HasRegisters g) (alive : Variable → Type 0) (n :
   pub or_given : (set : ℕ) (ty : ValueType) (p q : Boxed) (left right : TExpr) (st : State) → IsPure set left → IsPure set right → ignores_context right ≡ true → IsGiven set left st → set < length (shapes g) → IsGiven set (T.LogicalOr' ty p left q right) st
   unfolding value_in
   or_given set ty p q left right st is also free given exists =
-      or_means fields.scope fields.active set ty p q left right (numbers_of set left st) (numbers_of set right st) st is given (ignoring_means set right st (where_zero set (Parallel (numbers_of set left st)) fields.active) also free exists)
+      or_meant fields.scope fields.active set ty p q left right (extents g set) st is given (ignoring_means set right st (where_zero set (Parallel (numbers_of set left st)) fields.active) also free exists)
 
   pub and_given : (set : ℕ) (ty : ValueType) (p q : Boxed) (left right : TExpr) (st : State) → IsPure set left → IsPure set right → ignores_context right ≡ true → IsGiven set left st → set < length (shapes g) → IsGiven set (T.LogicalAnd' ty p left q right) st
   unfolding value_in
   and_given set ty p q left right st is also free given exists =
-      and_means fields.scope fields.active set ty p q left right (numbers_of set left st) (numbers_of set right st) st is given (ignoring_means set right st (where_nonzero set (Parallel (numbers_of set left st)) fields.active) also free exists)
+      and_meant fields.scope fields.active set ty p q left right (extents g set) st is given (ignoring_means set right st (where_nonzero set (Parallel (numbers_of set left st)) fields.active) also free exists)
 
   pub or_ended : (ty : ValueType) (p q : Boxed) (left right : TExpr) (s : CodeState) (st : State) → Ended g s (meant g fields left st) → Ended g s (meant g fields (T.LogicalOr' ty p left q right) st)
   unfolding evaluated

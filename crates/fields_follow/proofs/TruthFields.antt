@@ -24,7 +24,7 @@ use Rattle.source_meaning.specs.State as Source
 use Rattle.source_meaning.specs.State.{State}
 use Rattle.source_meaning.specs.Values.{Parallel, nonzero}
 use Rattle.code_follows.proofs.Following.{Extends, Follows, HasRegisters, Sim, held}
-use Rattle.code_follows.proofs.Growing.{extended}
+use Rattle.code_follows.proofs.Growing.{Extended, extended}
 use Rattle.code_follows.proofs.Settings.{OpenAmong, Setting, Within, and_one, layout}
 use Rattle.fields_follow.proofs.Clearing.{joined_behind, joined_more, own_joined}
 use Rattle.fields_follow.proofs.ConditionCode.{Bit, Truth, flag_after, joined_in, put_in, stored_behind, turned_in}
@@ -32,10 +32,10 @@ use Rattle.fields_follow.proofs.Expressions.{Answers, own_result}
 use Rattle.fields_follow.proofs.Instructions.{Puts, extents, shapes}
 use Rattle.fields_follow.proofs.Leaving.{PassesTests}
 use Rattle.fields_follow.proofs.Meaning.{value_in, word_at}
-use Rattle.fields_follow.proofs.Outcomes.{Ended, Given, Known, known_follows, meant, then_known}
-use Rattle.fields_follow.proofs.Passing.{After, Behind, GivesField, after_same, code_longer, flags_of, made_after, names_second, names_third}
+use Rattle.fields_follow.proofs.Outcomes.{Ended, Given, Known, ended_back, known_follows, meant, then_known}
+use Rattle.fields_follow.proofs.Passing.{After, Behind, GivesField, Passes, after_same, code_longer, fields_longer, flags_of, made_after, names_second, names_third, passes_on}
 use Rattle.fields_follow.proofs.PassingTests.{passes_of, tests_on}
-use Rattle.fields_follow.proofs.Places.{HoldsTheFields, IsOwnField, PlacesFields, stands_here}
+use Rattle.fields_follow.proofs.Places.{HoldsTheFields, IsOwnField, PlacesFields, names_first, stands_here}
 use Rattle.fields_follow.proofs.TestFlags.{LeavesTests}
 use Rattle.fields_follow.proofs.TruthPuts.{at_once, bit_moved, flag_stored, puts_bit, puts_flags, puts_joined, puts_turned, through_bit}
 use Rattle.fields_follow.proofs.TruthValues.{bit_converted}
@@ -70,31 +70,36 @@ module _ (g : Setting) (has : HasRegisters g) (alive : Variable → Type 0) (n :
     taken_less : (bits : ℕ) → length d.fields ≤ length (with_entry set bits W.Own d).fields
     taken_less bits = let one = one_more set bits W.Own d in omega (arith, one)
 
+    still_less : (bits : ℕ) (from : Draft) (k : ℕ) → Extended (with_entry set bits W.Own d) k from → length d.fields ≤ length from.fields
+    still_less bits from k more = let one = one_more set bits W.Own d in let l = fields_longer (with_entry set bits W.Own d) from k more in omega (arith, one, l)
+
     active : (t : CodeState) → Sim g alive st t → set < length (shapes g) → (q : ℕ) → q < processors (shapes g) set → is_active (shapes g) t.memory set q ≡ true → fields.active set q ≡ true
     active t sim exists q below on = sym (flags_of g alive places fields st t set q sim exists below) ∙ on
 
-    -- behind its test
+    -- behind its test, before which code has left what stands
     module _ (inner : TExpr) (same_truth : (q : ℕ) → q < processors (shapes g) set → nonzero (value_in (extents g set) st inner q) ≡ nonzero (value_in (extents g set) st e q)) (comes : ComesFrom set e inner s st) where
-      abbrev Tests : ℕ → Made (Unit {0}) → Type 0
-      Tests bits made = Follows g (Given g (number set inner st) st (λ _ f. LeavesTests g alive fields (with_entry set bits W.Own d) s set st (number set inner st) f)) s (meant g fields inner st) made
-
-      abbrev Puts_tests : ℕ → Type 0
-      Puts_tests bits = (made : Made (Unit {0})) → Tests bits made → Follows g (Given g (number set e st) st (Gave bits set e d s st)) s (meant g fields e st) (then_make made (put_in (next_field set bits d)))
+      abbrev Puts_tests : ℕ → Type 1
+      Puts_tests bits =
+          (from : Draft) (used : Type 0) (before : Passes g alive (length d.fields) (with_entry set bits W.Own d) from s st used) → ((later : ℕ) → IsNamedAt g.unit (length d.fields) later → length from.code ≤ later → used) → (made : Made (Unit {0}))
+          → Follows g (Given g (number set inner st) st (λ _ f. LeavesTests g alive fields from before.t set st (number set inner st) f)) before.t (meant g fields inner st) made
+          → Follows g (Given g (number set e st) st (Gave bits set e d s st)) s (meant g fields e st) (then_make made (put_in (next_field set bits d)))
 
       stores_flags : Puts_tests 1
-      unfolding Extends step_of
-      stores_flags made tests =
+      unfolding Extends step_of passes_on
+      stores_flags from used before wanted made tests =
           known_follows g s (meant g fields e st) (number set e st) st (Gave 1 set e d s st) (then_make made (put_in dest)) (after_same g (Q 1) (at_once set (length d.fields) made)
-          (then_known g s (meant g fields inner st) (number set inner st) st (λ _ f. LeavesTests g alive fields (with_entry set 1 W.Own d) s set st (number set inner st) f) (Q 1) made (flag_stored dest) tests (λ x e2. (1, and_one g i e2))
+          (then_known g before.t (meant g fields inner st) (number set inner st) st (λ _ f. LeavesTests g alive fields from before.t set st (number set inner st) f) (Q 1) made (flag_stored dest) tests (λ x e2. (1, and_one g i e2))
           (λ given x e2 left. made_after g (Q 1) (O.Field dest) (with_instr i e2) (λ within.
           let exists : set < length (shapes g) = (places.ends (length e2.code) i dest [] (stands_here g i e2 within refl) refl tt refl).0 in
           let on = active left.leaves.t left.leaves.sim exists in
           inl (
             comes.gives given,
-            own_result g has alive n ready places fields 1 set d e2 s st (λ q. word_at (extents g set) st e q) i within none (passes_of g alive (length d.fields) (with_entry set 1 W.Own d) e2 s st (Unit {0}) (taken_less 1) left.leaves tt)
+            own_result g has alive n ready places fields 1 set d e2 s st (λ q. word_at (extents g set) st e q) i within none
+                (passes_on g alive (length d.fields) (length d.fields) (with_entry set 1 W.Own d) from e2 s st used (Unit {0}) (Unit {0}) (omega arith) before (passes_of g alive (length d.fields) from e2 before.t st (Unit {0}) (still_less 1 from before.grown.0 before.grown.1) left.leaves tt)
+                (λ u. wanted (length e2.code) (names_first g i dest [] (length e2.code) (stands_here g i e2 within refl) refl) (code_longer from e2 left.leaves.grown.0 left.leaves.grown.1)) (λ u. tt))
                 (as_words (λ v. Puts g set i dest left.leaves.t v) (puts_flags g set (length d.fields) left.leaves.t (number set e st) (λ q below active_there. left.flags q below (on q below active_there) ∙ same_truth q below) truth)),
           )))
-          (λ early x e2. inr (comes.ends early))))
+          (λ early x e2. inr (comes.ends (ended_back g s before.t (meant g fields inner st) before.go early)))))
         where
           dest : Field
           dest = next_field set 1 d
@@ -103,11 +108,11 @@ module _ (g : Setting) (has : HasRegisters g) (alive : Variable → Type 0) (n :
           i = I.StoreTest dest
 
       moves_flag : (bits : ℕ) → (bits == 1) ≡ false → Puts_tests bits
-      unfolding Extends step_of
-      moves_flag bits several made tests =
+      unfolding Extends step_of passes_on
+      moves_flag bits several from used before wanted made tests =
           known_follows g s (meant g fields e st) (number set e st) st (Gave bits set e d s st) (then_make made (put_in dest)) (after_same g (Q bits) (through_bit set (length d.fields) bits made several)
-          (then_known g s (meant g fields inner st) (number set inner st) st (Truth g alive places fields (with_entry set bits W.Own d) s set st (number set inner st)) (Q bits) (then_make made (stored_behind set)) (bit_moved dest)
-          (flag_after g alive places fields (meant g fields inner st) (number set inner st) set (number set inner st) (with_entry set bits W.Own d) s st made tests) (λ kept e2. (1, and_one g (I.Move false dest kept) e2))
+          (then_known g before.t (meant g fields inner st) (number set inner st) st (Truth g alive places fields from before.t set st (number set inner st)) (Q bits) (then_make made (stored_behind set)) (bit_moved dest)
+          (flag_after g alive places fields (meant g fields inner st) (number set inner st) set (number set inner st) from before.t st made tests) (λ kept e2. (1, and_one g (I.Move false dest kept) e2))
           (λ given kept e2 bit. made_after g (Q bits) (O.Field dest) (with_instr (I.Move false dest kept) e2) (λ within.
           let i : Instr = I.Move false dest kept in
           let behind : Behind g kept e2 = (length e2.code, (names_second g i dest kept [] (length e2.code) (stands_here g i e2 within refl) refl, omega arith)) in
@@ -115,10 +120,11 @@ module _ (g : Setting) (has : HasRegisters g) (alive : Variable → Type 0) (n :
           inl (
             comes.gives given,
             own_result g has alive n ready places fields bits set d e2 s st (λ q. word_at (extents g set) st e q) i within none
-                (passes_of g alive (length d.fields) (with_entry set bits W.Own d) e2 s st (Behind g kept e2) (taken_less bits) bit.passes behind)
+                (passes_on g alive (length d.fields) (length d.fields) (with_entry set bits W.Own d) from e2 s st used (Unit {0}) (Unit {0}) (omega arith) before (passes_of g alive (length d.fields) from e2 before.t st (Behind g kept e2) (still_less bits from before.grown.0 before.grown.1) bit.passes behind)
+                (λ u. wanted (length e2.code) (names_first g i dest (kept ∷ []) (length e2.code) (stands_here g i e2 within refl) refl) (code_longer from e2 bit.passes.grown.0 bit.passes.grown.1)) (λ u. tt))
                 (as_words (λ v. Puts g set i dest bit.passes.t v) (puts_bit g set dest kept bit.passes.t (number set e st) bit.len (λ q below active_there. bit.are behind q below (on q below active_there) ∙ ap from_bool (same_truth q below)) truth)),
           )))
-          (λ early x e2. inr (comes.ends early))))
+          (λ early x e2. inr (comes.ends (ended_back g s before.t (meant g fields inner st) before.go early)))))
         where
           dest : Field
           dest = next_field set bits d

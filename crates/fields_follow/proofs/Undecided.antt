@@ -463,7 +463,7 @@ module _ (g : Setting) (has : HasRegisters g) (alive : Variable → Type 0) (n :
           known_follows g s (meant g fields whole st) (number set whole st) st (Answers g has alive n ready places fields (IsFlag whole) bits (length d.fields) d s set st words) (logical_by is_or ty.shape bits (condition_of g.typed (layout g) left) (condition_of g.typed (layout g) right) d)
           (after_same g Q (logical_code d ∙ (λ i. then_make (test_of left (tests_from d)) (λ _ e. behind (λ y. again_is y i) f saved e)))
           (after_delayed g Q (tests_from d) (then_make (test_of left (tests_from d)) (λ _ e. behind again f saved e))
-          (extends_then g (tests_from d) (test_of left (tests_from d)) (λ _ e. behind again f saved e) (test_grows left codes.left_code codes.left_field (tests_from d)) (λ _ e. behind_grows again grows f saved e)) (λ within.
+          (extends_then g (tests_from d) (test_of left (tests_from d)) (λ _ e. behind again f saved e) (test_grows left codes.left_code (codes.left_gives, pure_kept set left kinded.0) (tests_from d)) (λ _ e. behind_grows again grows f saved e)) (λ within.
           then_known g (first within).passes.t (meant g fields left st) v st (λ _ e. LeavesTests g alive fields (tests_from d) (first within).passes.t set st v e) Q (test_of left (tests_from d)) (λ _ e. behind again f saved e) (left_tested (tests_from d) (first within).passes.t st (first within).passes.at (first within).passes.sim)
           (λ _ e. behind_grows again grows f saved e) (λ is_left _ e l. right_after is_left within e l) (λ early x e. inr (left_ends (ended_back g s (first within).passes.t (meant g fields left st) (first within).passes.go early))))))
 

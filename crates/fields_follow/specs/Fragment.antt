@@ -5,7 +5,7 @@
 -- operators, conversions, casts and `?:`, and change nothing; they fail where a divisor is 0 at an active position, or
 -- that of a scalar is, or where an index does not lie within its extent at one, and nowhere else. The condition of `?:`
 -- may be parallel too: each of the other operands then fails only where it is chosen, as the right one of `&&` and `||`
--- does where the left one does not decide. They are assigned to variables of the file and folded into numbers and onto
+-- does where the left one does not decide, which may be a scalar. They are assigned to variables of the file and folded into numbers and onto
 -- scalar variables, as scans of them and of ones with operators on these are, and they are the conditions of `where`.
 -- Folds and scans are of the active positions. They are sent, as those scans are, to variables of the file, of any
 -- shape, by such indexes, also with an operator that folds. Scalars that change variables, by assignments, steps and
@@ -163,7 +163,7 @@ IsRelation set op left right = (relates op ≡ true) × (HasKnownKind left ⊎ I
 -- A parallel expression that is not promoted; of an operator's two operands one may be. Operators work at 32 bits, to
 -- which narrower values are converted. Truth values are relations, `!`, conversions to `bool`, and two values that are
 -- joined by `&&` or `||`, of which the right one is computed where the left one does not decide, and may be a promoted
--- scalar.
+-- scalar; the left one may be a scalar that changes nothing.
 -- A get goes round the ends of the grid, or its indexes, into any shape, are such expressions and promoted scalars,
 -- which fail where they do not lie within the extents at an active position. `?:` chooses one of two values at each
 -- position, which may be promoted, and each is computed where it is chosen.
@@ -173,8 +173,8 @@ unfoldable mutual
   IsPure set (T.Variable ty (V.Local k)) = ty.shape ≡ Some set
   IsPure set (T.Brackets' ty p inner) = (ty ≡ type_of inner) × IsPure set inner
   IsPure set (T.Unary' ty op p operand) = IsWide set ty × (((negates op ≡ false) × IsWide set (type_of operand)) ⊎ ((negates op ≡ true) × HasKnownKind operand)) × IsPure set operand
-  IsPure set (T.LogicalOr' ty p left q right) = IsWide set ty × (IsPure set left × HasKnownKind left) × ((IsPure set right × HasKnownKind right) ⊎ (IsPromoted set right × IsRegistered right))
-  IsPure set (T.LogicalAnd' ty p left q right) = IsWide set ty × (IsPure set left × HasKnownKind left) × ((IsPure set right × HasKnownKind right) ⊎ (IsPromoted set right × IsRegistered right))
+  IsPure set (T.LogicalOr' ty p left q right) = IsWide set ty × ((IsPure set left × HasKnownKind left) ⊎ IsCalm left) × ((IsPure set right × HasKnownKind right) ⊎ (IsPromoted set right × IsRegistered right))
+  IsPure set (T.LogicalAnd' ty p left q right) = IsWide set ty × ((IsPure set left × HasKnownKind left) ⊎ IsCalm left) × ((IsPure set right × HasKnownKind right) ⊎ (IsPromoted set right × IsRegistered right))
   IsPure set (T.Binary' ty place op p left q right) =
       IsWide set ty × (IsOperation op right ⊎ IsRelation set op left right) × ((IsPure set left × (IsPure set right ⊎ IsPromoted set right)) ⊎ (IsPromoted set left × IsPure set right)) × IsWide set (type_of left) × IsWide set (type_of right)
   IsPure set (T.Choice' ty p test q first r second) = IsWide set ty × (IsPure set test × HasKnownKind test) × (IsPure set first ⊎ IsPromoted set first) × (IsPure set second ⊎ IsPromoted set second) × IsWide set (type_of first) × IsWide set (type_of second)

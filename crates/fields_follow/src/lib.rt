@@ -16,8 +16,8 @@ ghost use Rattle.fields_follow.specs.Laws.{ParallelCodeMeansSource};
 /// Parallel expressions are of such variables, of gets from neighbours that wrap around, `[(. + 1) %% dimof(S, 0)]x`,
 /// and, of any shape, by indexes that are parallel expressions, also with `.`, or promoted scalars, of own coordinates
 /// and of promoted scalars, which are computed and change nothing, converted to any type, with the operators `+ - * / %
-/// %% & | ^ ~ << >> <? >?`, but for a division by the constant 0, of truth values: relations, `!`, `&&` and `||`, and
-/// of `?:`. Where a divisor is 0 at an active position, or an index lies outside its extent there, both end with that
+/// %% & | ^ ~ << >> <? >?`, but for a division by the constant 0, of truth values: relations, `!`, `&&` and `||`, one
+/// operand of which may be a scalar, and of `?:`. Where a divisor is 0 at an active position, or an index lies outside its extent there, both end with that
 /// fault at the least such one. The conditions of `where` are such expressions. Scans of them, and operators on scans,
 /// are folded, and assigned to variables other than `bool`; so are promoted scalars that change scalar variables.
 /// Parallel expressions are sent, too, to such variables of any shape at such indexes, also with an operator that
