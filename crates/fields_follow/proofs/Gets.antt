@@ -1,12 +1,12 @@
--- The code of a get from neighbours round the ends of the grid: steps by NEWS that are not checked.
-use Rattle.std.proofs.Common.{◌≡◌, ◌∙◌, ℕ, suc, ◌+◌, ◌<◌, ◌==◌, ◌&&◌, Bool, true, false, List, [], ◌∷◌, ◌++◌, length, Option, Some, refl, sym, ap, subst, arith, if◌then◌else◌, append_assoc, length-append}
+-- The steps of a get from neighbours: each leads round the ends of the grid.
+use Rattle.std.proofs.Common.{◌≡◌, ◌∙◌, ℕ, suc, ◌+◌, ◌<◌, ◌==◌, ◌&&◌, Bool, true, false, List, [], ◌∷◌, ◌++◌, length, Option, Some, None, refl, sym, ap, subst, arith, if◌then◌else◌, append_assoc, length-append}
 use Rattle.std.proofs.Math.Seq.{get_or-append_seam, set-append_seam}
 use Rattle.std.specs.Prelude.{is_some, slice_index, slice_set}
 use Rattle.std.proofs.lemmas.Bool.{eqb-true}
 use Rattle.cstar_base.specs.Numbers.{number_of}
 use Rattle.cstar_tree.specs.declared.typed.TExpr.{TExpr, Row_of-TExpr, end_of-TExpr, items-the_row-TExpr, more_of-TExpr}
 use Rattle.lower_comm.specs.declared.news.NewsStep.{NewsStep}
-use Rattle.lower_comm.specs.Messages.{checked_part, grid_steps, moving_part, moving_steps}
+use Rattle.lower_comm.specs.Messages.{moving_part, moving_steps}
 use Rattle.lower_comm.specs.News.{all_go_by_news, step_of}
 use Rattle.paris_code.specs.declared.operands.GridStep.{GridStep}
 use Rattle.paris_code.specs.declared.operands.Konst.TheVariants as K
@@ -15,11 +15,10 @@ use Rattle.phase_meaning.proofs.Alike.{coordinate_below}
 use Rattle.vp_sets.specs.Positions.{are_inside, are_positive, coordinate, coordinates, moved, number_at, position_count, shifted}
 use Rattle.vp_sets.proofs.PositionLaws.{count_positive, coordinates_inside, coordinates_of_number, extent_positive, inside_after_set, length-coordinates, number_of_coordinates}
 use Rattle.code_follows.proofs.Settings.{Setting}
-use Rattle.fields_follow.specs.Fragment.{AreWrapping}
+use Rattle.fields_follow.specs.Fragment.{AreSteps}
 use Rattle.fields_follow.proofs.Extents.{NameExtents}
 use Rattle.fields_follow.proofs.Hops.{AreMoves, origin}
 use Rattle.fields_follow.proofs.Instructions.{extents, shapes}
-use Rattle.fields_follow.proofs.Meaning.{coordinate_behind, coordinates_behind}
 use Rattle.fields_follow.proofs.Wrapping.{moved_within, still_there}
 
 -- one index an axis
@@ -29,21 +28,21 @@ names_long [] end_of-TExpr names = refl
 names_long (extent ∷ extents) (more_of-TExpr index rest) names = ap suc (names_long extents rest names.1)
 names_long extents row names = absurd names
 
--- all of them go by NEWS, and none is checked
-pub wrapping_goes : {k : _} (set axis : ℕ) (row : Row_of-TExpr k) → AreWrapping set axis row → all_go_by_news set axis (items-the_row-TExpr _ row) ≡ true
-unfolding AreWrapping all_go_by_news
-wrapping_goes set axis end_of-TExpr are = refl
-wrapping_goes set axis (more_of-TExpr index rest) are = ap (λ (o : Option NewsStep). is_some o && all_go_by_news set (axis + 1) (items-the_row-TExpr _ rest)) are.0.1.1.0 ∙ wrapping_goes set (axis + 1) rest are.1
+-- all of them go by NEWS
+pub all_go : {k : _} (set axis : ℕ) (row : Row_of-TExpr k) → AreSteps set axis row → all_go_by_news set axis (items-the_row-TExpr _ row) ≡ true
+unfolding AreSteps all_go_by_news
+all_go set axis end_of-TExpr are = refl
+all_go set axis (more_of-TExpr index rest) are = ap (λ (o : Option NewsStep). is_some o && all_go_by_news set (axis + 1) (items-the_row-TExpr _ rest)) are.0.1.1 ∙ all_go set (axis + 1) rest are.1
 
-unchecked : (axis : ℕ) (o : Option NewsStep) (step : NewsStep) → o ≡ Some step → step.checked ≡ false → checked_part axis o ≡ []
-unfolding checked_part
-unchecked axis o step is free = ap (checked_part axis) is ∙ ap (λ (b : Bool). if b then record { axis = axis; step = K.Imm step.by } ∷ [] else []) free
+-- the coordinate on an axis to which a step leads, round the ends
+unfoldable pub coordinate_behind : List ℕ → ℕ → Option NewsStep → ℕ → ℕ
+coordinate_behind ys axis None q = 0
+coordinate_behind ys axis (Some step) q = moved (slice_index ys axis) (coordinate ys q axis) (number_of 32 true step.by)
 
-pub wrapping_unchecked : {k : _} (set axis : ℕ) (row : Row_of-TExpr k) → AreWrapping set axis row → grid_steps set axis (items-the_row-TExpr _ row) ≡ []
-unfolding AreWrapping grid_steps
-wrapping_unchecked set axis end_of-TExpr are = refl
-wrapping_unchecked set axis (more_of-TExpr index rest) are =
-    ap (λ (steps : List GridStep). steps ++ grid_steps set (axis + 1) (items-the_row-TExpr _ rest)) (unchecked axis (step_of set axis index) are.0.1.0 are.0.1.1.0 are.0.1.1.1) ∙ wrapping_unchecked set (axis + 1) rest are.1
+-- those to which indexes lead from a position, from this axis on
+unfoldable pub coordinates_behind : List ℕ → ℕ → ℕ → List TExpr → ℕ → List ℕ
+coordinates_behind ys of axis [] q = []
+coordinates_behind ys of axis (index ∷ indexes) q = coordinate_behind ys axis (step_of of axis index) q ∷ coordinates_behind ys of (axis + 1) indexes q
 
 module _ (g : Setting) (set : ℕ) (positive : are_positive (extents g set).own ≡ true) where
   abbrev xs : List ℕ
@@ -93,26 +92,26 @@ module _ (g : Setting) (set : ℕ) (positive : are_positive (extents g set).own 
             ∙ ap (number_at xs) put,
       )
 
-  wrapping_leads : {k : _} (axis : ℕ) (row : Row_of-TExpr k) (front back : List ℕ) (q : ℕ) → q < position_count xs → AreWrapping set axis row → axis ≡ length front → coordinates xs q ≡ front ++ back → length (items-the_row-TExpr _ row) ≡ length back
+  each_leads : {k : _} (axis : ℕ) (row : Row_of-TExpr k) (front back : List ℕ) (q : ℕ) → q < position_count xs → AreSteps set axis row → axis ≡ length front → coordinates xs q ≡ front ++ back → length (items-the_row-TExpr _ row) ≡ length back
       → Leads axis front (items-the_row-TExpr _ row) q
-  unfolding AreWrapping moving_steps coordinates_behind AreMoves origin coordinate
-  wrapping_leads axis end_of-TExpr front [] q below are at all long = (tt, ap (are_inside xs) (sym all) ∙ coordinates_inside xs q positive, sym (ap (number_at xs) (sym all) ∙ number_of_coordinates xs q positive below))
-  wrapping_leads axis end_of-TExpr front (c ∷ back) q below are at all long = cc
-  wrapping_leads axis (more_of-TExpr index rest) front [] q below are at all long = cc
-  wrapping_leads axis (more_of-TExpr index rest) front (c ∷ back) q below are at all long =
-      let (moves, inside, same) = wrapping_leads (axis + 1) rest (front ++ c ∷ []) back q below are.1 (ap (λ (n : ℕ). n + 1) at ∙ sym (length-append front (c ∷ []))) (all ∙ sym (append_assoc front (c ∷ []) back)) (let l = long in omega (arith, l)) in
+  unfolding AreSteps moving_steps coordinates_behind AreMoves origin coordinate
+  each_leads axis end_of-TExpr front [] q below are at all long = (tt, ap (are_inside xs) (sym all) ∙ coordinates_inside xs q positive, sym (ap (number_at xs) (sym all) ∙ number_of_coordinates xs q positive below))
+  each_leads axis end_of-TExpr front (c ∷ back) q below are at all long = cc
+  each_leads axis (more_of-TExpr index rest) front [] q below are at all long = cc
+  each_leads axis (more_of-TExpr index rest) front (c ∷ back) q below are at all long =
+      let (moves, inside, same) = each_leads (axis + 1) rest (front ++ c ∷ []) back q below are.1 (ap (λ (n : ℕ). n + 1) at ∙ sym (length-append front (c ∷ []))) (all ∙ sym (append_assoc front (c ∷ []) back)) (let l = long in omega (arith, l)) in
       let behind : List ℕ = coordinates_behind xs set (axis + 1) (items-the_row-TExpr _ rest) q in
       let joined : (front ++ c ∷ []) ++ behind ≡ front ++ c ∷ behind = append_assoc front (c ∷ []) behind in
       let own : coordinate xs q axis ≡ c = ap (slice_index (coordinates xs q)) at ∙ ap (λ (cs : List ℕ). slice_index cs (length front)) all ∙ get_or-append_seam front c back 0 in
       let there : axis < length xs = (let a = length-coordinates xs q in let b : length (coordinates xs q) ≡ length front + length (c ∷ back) = ap length all ∙ length-append front (c ∷ back) in omega (arith, a, b, at)) in
       subst (λ (o : Option NewsStep). AreMoves g set (moving_part axis o ++ moving_steps set (axis + 1) (items-the_row-TExpr _ rest)) × (are_inside xs (front ++ coordinate_behind xs axis o q ∷ behind) ≡ true)
-      × (origin g set (moving_part axis o ++ moving_steps set (axis + 1) (items-the_row-TExpr _ rest)) q ≡ number_at xs (front ++ coordinate_behind xs axis o q ∷ behind))) (sym are.0.1.1.0)
+      × (origin g set (moving_part axis o ++ moving_steps set (axis + 1) (items-the_row-TExpr _ rest)) q ≡ number_at xs (front ++ coordinate_behind xs axis o q ∷ behind))) (sym are.0.1.1)
       (one_axis axis front c are.0.1.0 (moving_steps set (axis + 1) (items-the_row-TExpr _ rest)) behind q at there own moves (ap (are_inside xs) (sym joined) ∙ inside) (same ∙ ap (number_at xs) joined))
 
   -- so the steps of a get lead to the position that its indexes name
-  pub steps_move : {k : _} (row : Row_of-TExpr k) → AreWrapping set 0 row → length (items-the_row-TExpr _ row) ≡ length xs → AreMoves g set (moving_steps set 0 (items-the_row-TExpr _ row))
-  steps_move row are long = (wrapping_leads 0 row [] (coordinates xs 0) 0 (count_positive xs positive) are refl refl (long ∙ sym (length-coordinates xs 0))).0
+  pub steps_move : {k : _} (row : Row_of-TExpr k) → AreSteps set 0 row → length (items-the_row-TExpr _ row) ≡ length xs → AreMoves g set (moving_steps set 0 (items-the_row-TExpr _ row))
+  steps_move row are long = (each_leads 0 row [] (coordinates xs 0) 0 (count_positive xs positive) are refl refl (long ∙ sym (length-coordinates xs 0))).0
 
-  pub steps_lead : {k : _} (row : Row_of-TExpr k) (q : ℕ) → AreWrapping set 0 row → length (items-the_row-TExpr _ row) ≡ length xs → q < processors (shapes g) set
+  pub steps_lead : {k : _} (row : Row_of-TExpr k) (q : ℕ) → AreSteps set 0 row → length (items-the_row-TExpr _ row) ≡ length xs → q < processors (shapes g) set
       → origin g set (moving_steps set 0 (items-the_row-TExpr _ row)) q ≡ number_at xs (coordinates_behind xs set 0 (items-the_row-TExpr _ row) q)
-  steps_lead row q are long below = (wrapping_leads 0 row [] (coordinates xs q) q below are refl refl (long ∙ sym (length-coordinates xs q))).2
+  steps_lead row q are long below = (each_leads 0 row [] (coordinates xs q) q below are refl refl (long ∙ sym (length-coordinates xs q))).2

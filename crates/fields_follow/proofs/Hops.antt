@@ -18,7 +18,7 @@ use Rattle.paris_code.specs.Arguments.{konst_number}
 use Rattle.paris_code.specs.Code.{CodeState, Goes, applied, begun}
 use Rattle.paris_code.specs.Fetching.{at_active, at_all, of_neighbour}
 use Rattle.paris_code.specs.Meaning.{after}
-use Rattle.paris_code.specs.Memory.{field_number, processors}
+use Rattle.paris_code.specs.Memory.{field_number, is_active, processors}
 use Rattle.paris_code.specs.Shapes.{bits_at}
 use Rattle.paris_code.specs.Spans.{IsNamedAt, StandsAt}
 use Rattle.paris_code.specs.Writes.{Write, written}
@@ -96,9 +96,9 @@ module _ (g : Setting) where
   origin set [] q = q
   origin set (step ∷ steps) q = neighbour set step.axis (konst_number step.step []) (origin set steps q)
 
-  -- the same numbers at the positions that there are
-  pub puts_same : (set : ℕ) (i : Instr) (d : Field) (s : CodeState) (v w : ℕ → ℕ) → ((p : ℕ) → p < processors (shapes g) set → v p ≡ w p) → Puts g set i d s v → Puts g set i d s w
-  puts_same set i d s v w same h = record {
+  -- the same numbers at the active positions
+  pub puts_where : (set : ℕ) (i : Instr) (d : Field) (s : CodeState) (v w : ℕ → ℕ) → ((p : ℕ) → p < processors (shapes g) set → is_active (shapes g) s.memory set p ≡ true → v p ≡ w p) → Puts g set i d s v → Puts g set i d s w
+  puts_where set i d s v w same h = record {
     plain = h.plain;
     simple = h.simple;
     others = h.others;
@@ -106,10 +106,13 @@ module _ (g : Setting) where
     write = h.write;
     run = h.run;
     writes = h.writes;
-    value = λ p below on. h.value p below on ∙ ap (λ (n : ℕ). n % 2 ^ d.len) (same p below);
-    small = λ p below on. subst (λ (n : ℕ). n < 2 ^ 32) (same p below) (h.small p below on);
+    value = λ p below on. h.value p below on ∙ ap (λ (n : ℕ). n % 2 ^ d.len) (same p below on);
+    small = λ p below on. subst (λ (n : ℕ). n < 2 ^ 32) (same p below on) (h.small p below on);
     goes = h.goes;
   }
+
+  pub puts_same : (set : ℕ) (i : Instr) (d : Field) (s : CodeState) (v w : ℕ → ℕ) → ((p : ℕ) → p < processors (shapes g) set → v p ≡ w p) → Puts g set i d s v → Puts g set i d s w
+  puts_same set i d s v w same h = puts_where set i d s v w (λ p below on. same p below) h
 
   module _ (places : PlacesFields g) (fields : HoldsTheFields g) (alive : Variable → Type 0) where
     -- a step into an own entry that is named later

@@ -4,11 +4,12 @@ use Rattle.std.proofs.Common.{◌≡◌, ◌∙◌, ℕ, ◌+◌, ◌<◌, ◌�
 use Rattle.std.specs.List.{slice_index_or}
 use Rattle.cstar_base.specs.declared.operators.Place.{Place}
 use Rattle.cstar_link.specs.Linked.{moved_by}
-use Rattle.lower_base.specs.Drafts.{ChecksTarget, Draft, FrontChecksTarget, FrontMakesAddress, MakesAddress, Step, step as step_of, with_instr, with_step}
+use Rattle.lower_base.specs.Drafts.{ChecksGrid, ChecksTarget, Draft, FrontChecksTarget, FrontMakesAddress, MakesAddress, Step, step as step_of, with_instr, with_step}
 use Rattle.paris_code.specs.declared.instr.Instr.{Instr}
 use Rattle.paris_code.specs.declared.instr.Instr.TheVariants as I
 use Rattle.paris_code.specs.declared.operands.Coordinate.{Coordinate}
 use Rattle.paris_code.specs.declared.operands.Field.{Field}
+use Rattle.paris_code.specs.declared.operands.GridStep.{GridStep}
 use Rattle.paris_code.specs.declared.operands.RegisterCoordinate.{RegisterCoordinate}
 use Rattle.paris_code.specs.declared.operands.SignedCoordinate.{SignedCoordinate}
 use Rattle.paris_code.specs.declared.program.Image.{Image}
@@ -110,6 +111,22 @@ front_checks set place registers (I.CheckGrid t at steps) same = cc
 front_checks set place registers (I.FrontMakeAddress e t list) same = cc
 front_checks set place registers i same = cc
 
+-- and that of one that checks steps, which are numbers
+grid_checked : Place → Step → ℕ × (Place × List GridStep)
+grid_checked p (ChecksGrid set place steps) = (set, (place, steps))
+grid_checked p _ = (0, (p, []))
+
+checks_grid : (set : ℕ) (place : Place) (steps : List GridStep) (i : Instr) → step_of i ≡ ChecksGrid set place steps → (list : Vec GridStep Global) × ((i ≡ I.CheckGrid set place list) × (list.items ≡ steps))
+unfolding step_of grid_checked
+checks_grid set place steps (I.CheckGrid t at list) same =
+    let parts = ap (grid_checked place) same in
+    (list, (ap (λ (x : ℕ × (Place × List GridStep)). I.CheckGrid x.0 x.1.0 list) parts, ap (λ (x : ℕ × (Place × List GridStep)). x.1.1) parts))
+checks_grid set place steps (I.MakeAddress e t list) same = cc
+checks_grid set place steps (I.CheckTarget t at list) same = cc
+checks_grid set place steps (I.FrontMakeAddress dest t list) same = cc
+checks_grid set place steps (I.FrontCheckTarget t at list) same = cc
+checks_grid set place steps i same = cc
+
 -- the same with the fields moved
 made_over : (p : List ℕ) (d : Field) (set : ℕ) (list : _) (over : Instr) → IsMoved p (I.MakeAddress d set list) over → MakesIt (moved p d) set (map (moved_coordinate p) list.items) over
 made_over p d set list (I.MakeAddress e t other) is = record {
@@ -192,6 +209,17 @@ module _ (g : Setting) where
   front_check_stands at set place registers h =
       let own = front_checks set place registers h.instr h.is in (own.0, (own.1.1, h.there ∙ ap (λ (i : Instr). Some (moved_by (start g) i)) (subst (λ (i : Instr). IsMoved places i h.over) own.1.0 h.moved)))
 
+  -- and that of one that checks steps, which has no fields
+  pub record GridStands (at set : ℕ) (place : Place) (steps : List GridStep) : Type 0 where
+    pub list : _
+    pub moved_there : slice_get g.image.code.items (start g + at) ≡ Some (I.CheckGrid set place list)
+    pub items : list.items ≡ steps
+
+  pub grid_stands : (at set : ℕ) (place : Place) (steps : List GridStep) → Stands at (ChecksGrid set place steps) → GridStands at set place steps
+  grid_stands at set place steps h =
+      let (list, (is, items)) = checks_grid set place steps h.instr h.is in
+      record { list = list; moved_there = h.there ∙ ap (λ (i : Instr). Some (moved_by (start g) i)) (subst (λ (i : Instr). IsMoved places i h.over) is h.moved); items = items }
+
   -- the code begins what stands in the image where it is
   pub begins_there : (at : ℕ) (i : Instr) (s : CodeState) → slice_get g.image.code.items (start g + at) ≡ Some i → At g s at → step g.image s ≡ begun g.image i s
   unfolding step
@@ -205,3 +233,7 @@ module _ (g : Setting) where
   pub with_target : (e : Draft) (at set : ℕ) (place : Place) (coordinates : List SignedCoordinate) (h : TargetStands at set place coordinates) → with_instr (I.CheckTarget set place h.list) e ≡ with_step (ChecksTarget set place coordinates) e
   unfolding with_instr step_of
   with_target e at set place coordinates h = ap (λ (cs : List SignedCoordinate). with_step (ChecksTarget set place cs) e) h.items
+
+  pub with_grid : (e : Draft) (at set : ℕ) (place : Place) (steps : List GridStep) (h : GridStands at set place steps) → with_instr (I.CheckGrid set place h.list) e ≡ with_step (ChecksGrid set place steps) e
+  unfolding with_instr step_of
+  with_grid e at set place steps h = ap (λ (cs : List GridStep). with_step (ChecksGrid set place cs) e) h.items

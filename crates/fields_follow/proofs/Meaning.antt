@@ -1,13 +1,13 @@
 -- The numbers that pure parallel expressions mean, and what their promoted parts do.
-use Rattle.std.proofs.Common.{◌≡◌, ◌∙◌, ℕ, zero, suc, ◌+◌, Bool, true, false, not, ◌&&◌, ◌||◌, ◌==◌, List, [], ◌∷◌, Option, Some, None, refl, sym, ap, subst, inl, inr, if◌then◌else◌, ◌⊎◌}
-use Rattle.std.specs.Prelude.{slice_index, unsigned_abs}
+use Rattle.std.proofs.Common.{◌≡◌, ◌∙◌, ℕ, zero, suc, Bool, true, false, not, ◌&&◌, ◌||◌, ◌==◌, List, [], ◌∷◌, Option, Some, None, refl, ap, subst, inl, inr, if◌then◌else◌, ◌⊎◌}
+use Rattle.std.specs.Prelude.{unsigned_abs}
 use Rattle.std.specs.Int.{from_bool}
 use Rattle.cstar_base.specs.declared.faults.RunFault.TheVariants.{DivZero}
 use Rattle.cstar_base.specs.declared.operators.Op.{Op}
 use Rattle.cstar_base.specs.declared.operators.Place.{Place}
 use Rattle.cstar_base.specs.Operators.{divides, outcome}
 use Rattle.cstar_base.specs.Orders.{least_below, or_else}
-use Rattle.cstar_tree.specs.declared.typed.TExpr.{TExpr, Row_of-TExpr, end_of-TExpr, items-the_row-TExpr, more_of-TExpr}
+use Rattle.cstar_tree.specs.declared.typed.TExpr.{TExpr, Row_of-TExpr, end_of-TExpr, more_of-TExpr}
 use Rattle.cstar_tree.specs.declared.typed.TExpr as T
 use Rattle.cstar_tree.specs.declared.typed.UnaryOp.{UnaryOp}
 use Rattle.cstar_tree.specs.declared.typed.ValueType.{ValueType}
@@ -20,9 +20,7 @@ use Rattle.source_meaning.specs.State.{Ends, Fault, Gives, Outcome, State, then_
 use Rattle.source_meaning.specs.Targets.{read, variable_target}
 use Rattle.source_meaning.specs.Values.{Active, Nothing, Parallel, Scalar, Scope, Value, at, each, failing, nonzero, number, positions, unary_of, unless}
 use Rattle.source_meaning.proofs.ConstantLaws.{Boxed, value_means}
-use Rattle.lower_comm.specs.declared.news.NewsStep.{NewsStep}
-use Rattle.lower_comm.specs.News.{all_go_by_news, checked_step, step_of}
-use Rattle.vp_sets.specs.Positions.{coordinate, moved, number_at}
+use Rattle.vp_sets.specs.Positions.{coordinate, number_at}
 use Rattle.fields_follow.specs.Fragment.{IsPromoted, IsPure}
 use Rattle.cstar_base.specs.Numbers.{converted, number_of}
 use Rattle.code_follows.proofs.Following.{held}
@@ -59,16 +57,6 @@ unfoldable pub first_in : Option ℕ → ℕ → ℕ → ℕ
 first_in None scalar parallel = scalar
 first_in (Some set) scalar parallel = parallel
 
--- the coordinate on an axis to which a step leads, round the ends
-unfoldable pub coordinate_behind : List ℕ → ℕ → Option NewsStep → ℕ → ℕ
-coordinate_behind extents axis None q = 0
-coordinate_behind extents axis (Some step) q = moved (slice_index extents axis) (coordinate extents q axis) (number_of 32 true step.by)
-
--- those to which indexes lead from a position, from this axis on
-unfoldable pub coordinates_behind : List ℕ → ℕ → ℕ → List TExpr → ℕ → List ℕ
-coordinates_behind extents of axis [] q = []
-coordinates_behind extents of axis (index ∷ indexes) q = coordinate_behind extents axis (step_of of axis index) q ∷ coordinates_behind extents of (axis + 1) indexes q
-
 unfoldable mutual
   -- the number at a position of a shape with these extents
   pub value_in : Extents → State → TExpr → ℕ → ℕ
@@ -83,7 +71,7 @@ unfoldable mutual
   value_in extents st (T.Convert' ty p operand) q = converted ty.elem (type_of operand).elem (value_in extents st operand q)
   value_in extents st (T.Pcoord ty axis) q = coordinate extents.own q axis
   value_in extents st (T.Dot ty axis) q = coordinate extents.own q axis
-  value_in extents st (T.LeftIndex' ty place p indexes x of) q = st.parallel x 0 (number_at (extents.of of) (if all_go_by_news of 0 (items-the_row-TExpr _ indexes) then coordinates_behind extents.own of 0 (items-the_row-TExpr _ indexes) q else coordinates_named extents st indexes q))
+  value_in extents st (T.LeftIndex' ty place p indexes x of) q = st.parallel x 0 (number_at (extents.of of) (coordinates_named extents st indexes q))
   value_in extents st _ q = 0
 
   -- the coordinates that indexes name
@@ -91,26 +79,9 @@ unfoldable mutual
   coordinates_named extents st end_of-TExpr q = []
   coordinates_named extents st (more_of-TExpr index rest) q = unsigned_abs (number_of (type_of index).elem.bits (type_of index).elem.signed (value_in extents st index q)) ∷ coordinates_named extents st rest q
 
--- what a get reads, round the ends of the grid and by the router
-pub value_by_news : (extents : Extents) (st : State) (ty : ValueType) (place : Place) (p : _) (indexes : Row_of-TExpr _) (x : Variable) (of q : ℕ) → all_go_by_news of 0 (items-the_row-TExpr _ indexes) ≡ true
-    → value_in extents st (T.LeftIndex' ty place p indexes x of) q ≡ st.parallel x 0 (number_at (extents.of of) (coordinates_behind extents.own of 0 (items-the_row-TExpr _ indexes) q))
-unfolding value_in
-value_by_news extents st ty place p indexes x of q goes = ap (λ (b : Bool). st.parallel x 0 (number_at (extents.of of) (if b then coordinates_behind extents.own of 0 (items-the_row-TExpr _ indexes) q else coordinates_named extents st indexes q))) goes
-
-pub value_by_router : (extents : Extents) (st : State) (ty : ValueType) (place : Place) (p : _) (indexes : Row_of-TExpr _) (x : Variable) (of q : ℕ) → all_go_by_news of 0 (items-the_row-TExpr _ indexes) ≡ false
-    → value_in extents st (T.LeftIndex' ty place p indexes x of) q ≡ st.parallel x 0 (number_at (extents.of of) (coordinates_named extents st indexes q))
-unfolding value_in
-value_by_router extents st ty place p indexes x of q goes = ap (λ (b : Bool). st.parallel x 0 (number_at (extents.of of) (if b then coordinates_behind extents.own of 0 (items-the_row-TExpr _ indexes) q else coordinates_named extents st indexes q))) goes
-
 -- and as a word
 abbrev pub word_at : Extents → State → TExpr → ℕ → ℕ
 word_at extents st e q = held (type_of e).elem (value_in extents st e q)
-
--- an operator other than the remainder leads to a step that is checked
-pub always_checked : (o : Option ℕ) (step : NewsStep) → checked_step o ≡ Some step → step.checked ≡ true
-unfolding checked_step
-always_checked None step is = cc
-always_checked (Some k) step is = ap (λ (o : Option NewsStep). elim o as (λ _. Bool) [ None ↦ true | Some s ↦ s.checked ]) (sym is)
 
 -- a type of a shape, by its parts
 pub as_shaped : (ty : ValueType) (set : ℕ) → ty.shape ≡ Some set → ty ≡ record { elem = ty.elem; shape = Some set }

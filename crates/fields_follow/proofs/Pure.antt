@@ -1,39 +1,25 @@
 -- What pure parallel expressions mean: a number at each position, with the state as it was.
-use Rattle.std.proofs.Common.{◌≡◌, ◌∙◌, ◌&&◌, ◌||◌, if◌then◌else◌, not, Bool, ℕ, true, false, refl, List, Option, Some, sym, ap, subst}
+use Rattle.std.proofs.Common.{◌≡◌, ◌∙◌, ◌&&◌, ◌||◌, if◌then◌else◌, not, Bool, ℕ, true, false, refl, List, Option, Some, sym, ap}
 use Rattle.cstar_base.specs.declared.operators.Op.{Op}
-use Rattle.cstar_base.specs.declared.operators.Place.{Place}
 use Rattle.cstar_base.specs.Operators.{divides}
 use Rattle.std.specs.Int.{from_bool}
 use Rattle.source_meaning.specs.Narrowing.{and_then, choose, or_then, where_nonzero, where_zero}
 use Rattle.source_meaning.specs.State as Source
 use Rattle.source_meaning.proofs.ConstantLaws.{Boxed}
-use Rattle.cstar_tree.specs.declared.typed.TExpr.{Row_of-TExpr, TExpr, items-the_row-TExpr}
+use Rattle.cstar_tree.specs.declared.typed.TExpr.{TExpr}
 use Rattle.cstar_tree.specs.declared.typed.TExpr as T
-use Rattle.cstar_tree.specs.declared.typed.Typed.{Typed}
 use Rattle.cstar_tree.specs.declared.typed.ValueType.{ValueType}
-use Rattle.cstar_tree.specs.declared.typed.VarInfo.{VarInfo}
 use Rattle.cstar_tree.specs.declared.typed.Variable.TheVariants as V
-use Rattle.cstar_tree.specs.Conversions.{parallel}
-use Rattle.cstar_tree.specs.StatementTypes.{variable_info}
 use Rattle.cstar_tree.specs.Typed.{type_of}
-use Rattle.code_lengths.specs.Naming.{HasVariable, plain}
 use Rattle.source_meaning.specs.Expressions.{evaluated}
 use Rattle.source_meaning.specs.State.{Gives, Outcome, State, then_do}
 use Rattle.source_meaning.specs.Values.{Active, Parallel, Scope, Value, at, convert_to, each, nonzero, own_coordinate, number}
-use Rattle.vp_sets.specs.Positions.{coordinate, number_at, positions_fit}
-use Rattle.lower_comm.specs.News.{all_go_by_news}
+use Rattle.vp_sets.specs.Positions.{coordinate}
 use Rattle.lower_expr.specs.Operands.{ignores_context}
-use Rattle.fields_follow.specs.Fragment.{AreWrapping, IsPure, IsCalm}
-use Rattle.fields_follow.proofs.Extents.{NameExtents, extents_in}
-use Rattle.fields_follow.proofs.Meaning.{Extents, as_shaped, binary_means, coordinates_behind, either, left_of, read_is, right_of, unary_means, value_by_news, value_in, decided_in, first_in, given_in, nobody, nowhere}
-use Rattle.fields_follow.specs.Fields.{IsElement}
-use Rattle.fields_follow.proofs.Forms.{element_is, pure_shape}
-use Rattle.fields_follow.proofs.Gets.{wrapping_goes}
-use Rattle.fields_follow.proofs.Neighbours.{get_means}
-use Rattle.code_follows.proofs.Settings.{Setting}
-use Rattle.fields_follow.proofs.Instructions.{SameExtents, extents}
-use Rattle.fields_follow.proofs.Outcomes.{meant}
-use Rattle.fields_follow.proofs.Places.{HoldsTheFields, PlacesFields}
+use Rattle.fields_follow.specs.Fragment.{IsPure, IsCalm}
+use Rattle.fields_follow.proofs.Meaning.{Extents, as_shaped, binary_means, either, left_of, read_is, right_of, unary_means, value_in, decided_in, first_in, given_in, nobody, nowhere}
+use Rattle.fields_follow.proofs.Forms.{pure_shape}
+use Rattle.fields_follow.proofs.Instructions.{extents}
 use Rattle.fields_follow.proofs.Calm.{calm_same, calm_scalar}
 use Rattle.fields_follow.proofs.Truths.{either_or_both}
 use Rattle.code_follows.proofs.Branching.{decides}
@@ -207,14 +193,6 @@ choice_means scope active set ty p q r test first second v a b st is tested one 
     ∙ ap (λ (o : Outcome Value). then_do o (λ y between. then_do (evaluated scope second (where_zero set (Parallel v) active) between) (λ z after. Source.Gives (Parallel (λ x. if nonzero (v x) then at y x else at z x)) after))) one
     ∙ ap (λ (o : Outcome Value). then_do o (λ z after. Source.Gives (Parallel (λ x. if nonzero (v x) then a x else at z x)) after)) other
 
--- the shape is a grid of few positions, with the extents that are known
-abbrev pub IsGrid : Scope → (ℕ → List ℕ) → ℕ → Type 0
-IsGrid scope extents set = (extents set ≡ scope.extents set) × (positions_fit (scope.extents set) ≡ true)
-
--- that of a variable of the file is one
-abbrev pub AreGrids : Scope → Typed → ℕ → Type 0
-AreGrids scope t set = (k : ℕ) (info : VarInfo) → IsElement t k info set 0 → IsGrid scope (extents_in t) set
-
 -- one that ignores the context has its value under every context, and never fails
 module _ (scope : Scope) (set : ℕ) (extents : Extents) (same : extents.own ≡ scope.extents set) where
   pub pure_means : (active : Active) (e : TExpr) (st : State) → IsPure set e → ignores_context e ≡ true → evaluated scope e active st ≡ Gives (Parallel (λ q. value_in extents st e q)) st
@@ -252,20 +230,3 @@ module _ (scope : Scope) (set : ℕ) (extents : Extents) (same : extents.own ≡
   pure_means active (T.Dot ty axis) st is free = ap (λ (o : Option ℕ). Gives (own_coordinate scope o axis) st) is.0 ∙ ap (λ (xs : List ℕ). Gives (Parallel (λ q. coordinate xs q axis)) st) (sym same)
   pure_means active (T.LeftIndex' ty place p indexes (V.File k) of) st is free = cc
   pure_means active _ st is free = absurd is
-
--- a shape of the image is such a grid
-pub are_grids : (g : Setting) (scope : Scope) → PlacesFields g → SameExtents g scope → (set : ℕ) → AreGrids scope g.typed set
-are_grids g scope places same set k info is =
-    let exists = places.exists k 0 set info is in ((places.grids set exists).0 ∙ sym (same set exists), subst (λ (xs : List ℕ). positions_fit xs ≡ true) (sym (same set exists)) (places.grids set exists).1)
-
--- a get from neighbours that wraps around never fails
-pub get_gives : (g : Setting) (places : PlacesFields g) (fields : HoldsTheFields g) (n : ℕ) (ty : ValueType) (place : Place) (p : _) (indexes : Row_of-TExpr _) (k of set : ℕ) (st : State) → ty.shape ≡ Some set → of ≡ set → AreWrapping set 0 indexes
-    → HasVariable g.typed g.instance n (V.File k) (plain (parallel ty.elem of)) → NameExtents (extents_in g.typed of) indexes
-    → meant g fields (T.LeftIndex' ty place p indexes (V.File k) of) st ≡ Gives (Parallel (λ q. value_in (extents g set) st (T.LeftIndex' ty place p indexes (V.File k) of) q)) st
-get_gives g places fields n ty place p indexes k of set st shaped same are v names =
-    let element = element_is g.typed g.instance n k set (parallel ty.elem of) (ap Some same) v in
-    let grid : IsGrid fields.scope (extents_in g.typed) set = are_grids g fields.scope places fields.same_extents set k (variable_info v.word (plain (parallel ty.elem of)) v.start) element in
-    get_means fields.scope fields.active set k ty place p indexes of st shaped same are grid.1 (subst (λ (xs : List ℕ). NameExtents xs indexes) (ap (extents_in g.typed) same ∙ grid.0) names)
-    ∙ ap (λ (xs : List ℕ). Gives (Parallel (λ q. st.parallel (V.File k) 0 (number_at xs (coordinates_behind xs of 0 (items-the_row-TExpr _ indexes) q)))) st) (fields.same_extents set (places.exists k 0 set (variable_info v.word (plain (parallel ty.elem of)) v.start) element))
-    ∙ ap (λ (m : ℕ). Gives (Parallel (λ q. st.parallel (V.File k) 0 (number_at (extents g m).own (coordinates_behind (extents g set).own of 0 (items-the_row-TExpr _ indexes) q)))) st) (sym same)
-    ∙ ap (λ (f : ℕ → ℕ). Gives (Parallel f) st) (λ j q. sym (value_by_news (extents g set) st ty place p indexes (V.File k) of q (ap (λ (m : ℕ). all_go_by_news m 0 (items-the_row-TExpr _ indexes)) same ∙ wrapping_goes set 0 indexes are)) j)

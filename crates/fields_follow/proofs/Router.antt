@@ -44,7 +44,7 @@ use Rattle.source_meaning.specs.Values.{Parallel}
 use Rattle.code_follows.proofs.Following.{Extends, HasRegisters, Sim, held}
 use Rattle.code_follows.proofs.Growing.{Extended, extended}
 use Rattle.code_follows.proofs.Settings.{Setting, Within, and_one, earlier, layout}
-use Rattle.fields_follow.specs.Fragment.{AreIndexes, AreWrapping, HasPure, IsPure}
+use Rattle.fields_follow.specs.Fragment.{AreIndexes, AreSteps, HasPure, IsPure}
 use Rattle.fields_follow.specs.Fields.{IsElement}
 use Rattle.fields_follow.proofs.Extents.{get_names, own_extents}
 use Rattle.fields_follow.proofs.Forms.{HasItsCode, element_is}
@@ -58,7 +58,6 @@ use Rattle.fields_follow.proofs.News.{file_everywhere, for_variable, get_last, o
 use Rattle.fields_follow.proofs.Outcomes.{Ended, after_all, ended_on, meant}
 use Rattle.fields_follow.proofs.Passing.{After, Behind, GivesField, Passes, after_same, fields_longer, flags_of, gives_numbers, gives_set, made_after, names_second, passes_all, passes_from, passes_on, puts_own, small_there, then_after}
 use Rattle.fields_follow.proofs.Places.{HoldsTheFields, PlacesFields, stands_here}
-use Rattle.fields_follow.proofs.Pure.{get_gives}
 use Rattle.fields_follow.proofs.RouterCode.{behind_indexes, for_got, got, got_field, plain_get, router_code, wide_get}
 use Rattle.fields_follow.proofs.Routing.{indexes_at, outside_at, routed_faults, routed_gives, routed_value, target_of}
 use Rattle.fields_follow.proofs.Starts.{no_home, starts_entry, Starts}
@@ -294,13 +293,13 @@ module _ (g : Setting) where
         to = target_of of (extents g set) st indexes
 
         same : (q : ℕ) → held ty.elem (st.parallel (V.File k) 0 (to q)) ≡ word_at (extents g set) st e q
-        same q = ap (λ (x : ℕ). held ty.elem x) (sym (routed_value (extents g set) st ty place_of p indexes (V.File k) of q goes))
+        same q = ap (λ (x : ℕ). held ty.elem x) (sym (routed_value (extents g set) st ty place_of p indexes (V.File k) of q))
 
         means : all_meant g has alive n ready places fields indexes st ≡ Source.Gives given st → outside_at fields.scope fields.active set of given ≡ None → meant g fields e st ≡ Source.Gives (Parallel (λ q. value_in (extents g set) st e q)) st
         means known clear =
             routed_gives fields.scope fields.active ty place_of p indexes (V.File k) set of given st shaped known clear
             ∙ ap (λ (xs : List ℕ). Source.Gives (Parallel (λ q. st.parallel (V.File k) 0 (named_by xs given q))) st) (fields.same_extents of also)
-            ∙ ap (λ (w : ℕ → ℕ). Source.Gives (Parallel w) st) (λ j q. sym (routed_value (extents g set) st ty place_of p indexes (V.File k) of q goes) j)
+            ∙ ap (λ (w : ℕ → ℕ). Source.Gives (Parallel w) st) (λ j q. sym (routed_value (extents g set) st ty place_of p indexes (V.File k) of q) j)
 
         by : (parts : List Out) (between : Draft) → KnowsAll g has alive n ready places fields set bound d1 s st indexes [] parts between → After g Q (behind_indexes g set of k info ty place_of items f at parts between)
         by parts between (inr early) =
@@ -334,7 +333,7 @@ module _ (g : Setting) where
             behind : Extended between (1 + 1 + (0 + more.0)) (whole located)
             behind = extended between located (whole located) (1 + 1) (0 + more.0) (extended between checked located 1 1 (and_step _ between) (and_step _ checked)) (extended located (for_variable g of k info located) (whole located) 0 more.0 (and_entry of info.elem.bits (owner_of g k) located) more.1)
 
-    -- so a get is read, round the ends of the grid or by the router
+    -- so a get is read, from neighbours or by the router
     pub indexed_last : (ty : ValueType) (place_of : Place) (p : _) (indexes : Row_of-TExpr _) (k set of offset bits bound : ℕ) (spot : Draft → Made Spot) (d : Draft) (s : CodeState) (st : State) → bits ≤ 32 → IsPure set (T.LeftIndex' ty place_of p indexes (V.File k) of) → HasItsCode g.typed g.instance alive n (T.LeftIndex' ty place_of p indexes (V.File k) of)
         → AllValued g has alive n ready places fields set indexes → spot d ≡ indexed_spot g.typed (layout g) (T.LeftIndex' ty place_of p indexes (V.File k) of) (values_of g.typed (layout g) false (are_quiet indexes) indexes) d → bound ≤ length d.fields
         → Starts g alive s (length d.code) d.regs (length d.fields) → Sim g alive st s → (Q : Out → Draft → Type 0)
@@ -351,9 +350,9 @@ module _ (g : Setting) where
         e : TExpr
         e = T.LeftIndex' ty place_of p indexes (V.File k) of
 
-        by : ((of ≡ set) × AreWrapping set 0 indexes) ⊎ ((all_go_by_news of 0 (items-the_row-TExpr _ indexes) ≡ false) × AreIndexes set indexes × HasPure set indexes) → After g Q (index_read_to g.typed (layout g) e spot (O.Field f) d)
+        by : ((of ≡ set) × AreSteps set 0 indexes) ⊎ ((all_go_by_news of 0 (items-the_row-TExpr _ indexes) ≡ false) × AreIndexes set indexes × HasPure set indexes) → After g Q (index_read_to g.typed (layout g) e spot (O.Field f) d)
         by (inl (same, are)) =
             let names = get_names g.typed g.instance n of set indexes same are c.code.names.1 c.code.names.2 in
-            get_last g alive n places fields ty place_of p indexes k of set offset bits spot bound d s st most is.0 same are c.code.names.0 names less here sim Q (last (get_gives g places fields n ty place_of p indexes k of set st is.0 same are c.code.names.0 names))
+            get_last g alive n places fields ty place_of p indexes k of set offset bits spot bound d s st most is.0 same are c.code.names.0 names less here sim Q last ended
         by (inr (goes, are, some)) =
             routed_last ty place_of p indexes k set of offset bits bound (are_quiet indexes) spot d s st most is.0 goes are some (all_coded g has alive n ready places fields ty place_of p indexes (V.File k) of c) valued c.code.names.0 c.code.names.2 spot_is less here sim Q last ended

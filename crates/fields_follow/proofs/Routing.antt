@@ -1,6 +1,6 @@
 -- What a get by the router means: the positions that its indexes name, and a fault where one of them does not lie within
 -- its extent at an active position.
-use Rattle.std.proofs.Common.{◌≡◌, ◌∙◌, ℕ, suc, false, not, List, [], ◌∷◌, length, Option, Some, None, refl, sym, ap}
+use Rattle.std.proofs.Common.{◌≡◌, ◌∙◌, ℕ, suc, not, List, [], ◌∷◌, length, Option, Some, None, refl, sym, ap}
 use Rattle.std.specs.Prelude.{unsigned_abs}
 use Rattle.cstar_base.specs.Numbers.{number_of}
 use Rattle.cstar_base.specs.declared.faults.RunFault.TheVariants.{Index}
@@ -10,14 +10,13 @@ use Rattle.cstar_tree.specs.declared.typed.TExpr as T
 use Rattle.cstar_tree.specs.declared.typed.ValueType.{ValueType}
 use Rattle.cstar_tree.specs.declared.typed.Variable.{Variable}
 use Rattle.cstar_tree.specs.Typed.{type_of}
-use Rattle.lower_comm.specs.News.{all_go_by_news}
 use Rattle.source_meaning.specs.Expressions.{evaluated, operands}
 use Rattle.source_meaning.specs.Gets.{Operand, are_within, coordinates_of, gotten, index_at, named_by}
 use Rattle.source_meaning.specs.State.{Ends, Fault, Gives, Outcome, State, then_do}
 use Rattle.source_meaning.specs.Targets.{indexed_target, position_target, read}
 use Rattle.source_meaning.specs.Values.{Active, Parallel, Scope, at, failing, unless}
 use Rattle.vp_sets.specs.Positions.{number_at}
-use Rattle.fields_follow.proofs.Meaning.{Extents, coordinates_named, value_by_router, value_in}
+use Rattle.fields_follow.proofs.Meaning.{Extents, coordinates_named, value_in}
 
 -- the values of indexes, with their types
 unfoldable pub indexes_at : {k : _} → Extents → State → Row_of-TExpr k → List Operand
@@ -39,10 +38,10 @@ coordinates_same extents st (more_of-TExpr index rest) q = ap (λ (cs : List ℕ
 abbrev pub target_of : {k : _} → ℕ → Extents → State → Row_of-TExpr k → ℕ → ℕ
 target_of of extents st row q = named_by (extents.of of) (indexes_at extents st row) q
 
-pub routed_value : (extents : Extents) (st : State) (ty : ValueType) (place : Place) (p : _) (indexes : Row_of-TExpr _) (x : Variable) (of q : ℕ) → all_go_by_news of 0 (items-the_row-TExpr _ indexes) ≡ false
+pub routed_value : (extents : Extents) (st : State) (ty : ValueType) (place : Place) (p : _) (indexes : Row_of-TExpr _) (x : Variable) (of q : ℕ)
     → value_in extents st (T.LeftIndex' ty place p indexes x of) q ≡ st.parallel x 0 (target_of of extents st indexes q)
-unfolding named_by
-routed_value extents st ty place p indexes x of q goes = value_by_router extents st ty place p indexes x of q goes ∙ ap (λ (cs : List ℕ). st.parallel x 0 (number_at (extents.of of) cs)) (sym (coordinates_same extents st indexes q))
+unfolding named_by value_in
+routed_value extents st ty place p indexes x of q = ap (λ (cs : List ℕ). st.parallel x 0 (number_at (extents.of of) cs)) (sym (coordinates_same extents st indexes q))
 
 module _ (scope : Scope) (active : Active) where
   -- where an index of a set does not lie within its extent of a shape

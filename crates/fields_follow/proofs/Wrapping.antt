@@ -1,24 +1,22 @@
 -- Coordinates that are moved round the ends of their axis, as the source and the machine reckon them.
-use Rattle.std.proofs.Common.{◌≡◌, ◌∙◌, ℕ, ◌+◌, ◌-◌, ◌%◌, ◌<◌, ◌≤◌, ◌^◌, ℤ, pos, negsuc, ◌+ℤ◌, ◌-ℤ◌, Bool, true, false, ◌||◌, ◌==◌, Some, None, refl, sym, ap, inl, inr, ◌⊎◌, if◌then◌else◌, arith}
+use Rattle.std.proofs.Common.{◌≡◌, ◌∙◌, ℕ, ◌+◌, ◌-◌, ◌%◌, ◌<◌, ◌≤◌, ◌^◌, ℤ, pos, negsuc, ◌+ℤ◌, Bool, true, false, ◌||◌, ◌==◌, Some, None, refl, ap, inl, inr, ◌⊎◌, if◌then◌else◌, arith}
 use Rattle.std.specs.Prelude.{nat_le, unsigned_abs}
 use Rattle.std.specs.Int.{int_rem_euclid}
 use Rattle.std.proofs.lemmas.Bool.{cases_lt}
 use Rattle.std.proofs.lemmas.Bool.Decides.{nat_tests}
-use Rattle.std.proofs.lemmas.Int.{ints}
 use Rattle.std.proofs.lemmas.Nat.{mod_below}
 use Rattle.std.proofs.Math.Nat.{mod-eq_of_lt}
+use Rattle.communication_laws.specs.Steps.{IsStep}
+use Rattle.communication_laws.proofs.Steps.{sums_with_steps}
 use Rattle.cstar_base.specs.Numbers.{number_of, residue}
 use Rattle.cstar_base.specs.Operators.{floor_rem, modulus_of, operand}
-use Rattle.cstar_base.proofs.NumberLaws.{number_in_lower, number_in_upper, number_unsigned}
+use Rattle.cstar_base.proofs.NumberLaws.{number_in_lower, number_unsigned}
 use Rattle.code_follows.proofs.Standing.{some_same}
 use Rattle.lower_comm.specs.News.{near, negated}
 use Rattle.source_meaning.specs.Gets.{is_within}
 use Rattle.vp_sets.specs.Positions.{moved}
 
--- the number of a step, as 32 bits: few, or the negative of few
-abbrev pub IsStep : ℕ → Type 0
-IsStep k = (k < 2 ^ 32) × ((k ≤ 2 ^ 20) ⊎ (2 ^ 32 ≤ k + 2 ^ 20))
-
+-- the number of a step is few, or the negative of few
 pub near_is : (k m : ℕ) → near k ≡ Some m → k < 2 ^ 32 → (k ≡ m) × IsStep k
 unfolding near negated
 near_is k m is few = by (nat_le k (2 ^ 20)) (nat_le ((2 ^ 32 - k) % 2 ^ 32) (2 ^ 20)) refl refl is
@@ -37,22 +35,6 @@ turned_step k (few, inl low) = (omega arith, by (cases_lt 0 k))
     by (inr none) = inl (omega (arith, none))
 turned_step k (few, inr high) = (omega arith, inl (omega (arith, few, high)))
 
--- a coordinate and a step, as a signed word
-stepped_word : (own k : ℕ) → own ≤ 2 ^ 20 → IsStep k → number_of 32 true ((own + k) % 2 ^ 32) ≡ pos own +ℤ number_of 32 true k
-stepped_word own k low (few, inl near) =
-    let sum : (own + k) % 2 ^ 32 ≡ own + k = omega (arith, low, near) in
-    ap (number_of 32 true) sum ∙ number_in_lower 32 (own + k) (omega (arith, low, near)) ∙ sym (ap (λ (z : ℤ). pos own +ℤ z) (number_in_lower 32 k (omega (arith, near))))
-stepped_word own k low (few, inr far) =
-    by (cases_lt (own + k) (2 ^ 32)) ∙ sym (ap (λ (z : ℤ). pos own +ℤ z) (number_in_upper 32 k (omega (arith, far))))
-  where
-    by : (own + k < 2 ^ 32) ⊎ (2 ^ 32 ≤ own + k) → number_of 32 true ((own + k) % 2 ^ 32) ≡ pos own +ℤ (pos k -ℤ pos (2 ^ 32))
-    by (inl inside) =
-        let sum : (own + k) % 2 ^ 32 ≡ own + k = omega (arith, inside) in
-        ap (number_of 32 true) sum ∙ number_in_upper 32 (own + k) (omega (arith, far)) ∙ omega (arith, ints)
-    by (inr over) =
-        let sum : (own + k) % 2 ^ 32 ≡ own + k - 2 ^ 32 = omega (arith, over, low, few) in
-        ap (number_of 32 true) sum ∙ number_in_lower 32 (own + k - 2 ^ 32) (omega (arith, over, low, few)) ∙ omega (arith, ints, over)
-
 -- the remainder of a whole number is a word
 wrapped_within : (z : ℤ) (extent : ℕ) → 0 < extent → unsigned_abs (int_rem_euclid z (pos extent)) < extent
 wrapped_within (pos n) extent some = mod_below n extent some
@@ -70,7 +52,7 @@ wrapped_word extent own k some few below step =
     let divisor : (extent == 0) ≡ false = grind (arith, nat_tests, some) in
     ap (λ (b : Bool). if b then 0 else residue 32 (floor_rem (number_of 32 true ((own + k) % 2 ^ 32)) (number_of 32 true extent))) divisor
     ∙ ap (λ (z : ℤ). residue 32 (floor_rem (number_of 32 true ((own + k) % 2 ^ 32)) z)) (number_in_lower 32 extent (omega (arith, few)))
-    ∙ ap (λ (z : ℤ). residue 32 (int_rem_euclid z (pos extent))) (stepped_word own k (omega (arith, below, few)) step)
+    ∙ ap (λ (z : ℤ). residue 32 (int_rem_euclid z (pos extent))) (sums_with_steps own k (omega (arith, below, few)) step)
     ∙ remainder_is (pos own +ℤ number_of 32 true k) extent some few
 
 pub moved_within : (extent own : ℕ) (k : ℤ) → 0 < extent → moved extent own k < extent

@@ -1,22 +1,23 @@
 -- The programs with parallel variables of which it is said so far that their code means them. Their parallel
 -- expressions are pure ones, of variables of the file and of blocks of all types, gets of the file's ones from
--- neighbours round the ends of the grid and, of any shape, by indexes that are such expressions, also with `.`, or
--- promoted scalars, own coordinates, truth values of such expressions, and promoted scalars, which are computed by
--- operators, conversions, casts and `?:`, and change nothing; they fail where a divisor is 0 at an active position, or
--- that of a scalar is, or where an index does not lie within its extent at one, and nowhere else. The condition of `?:`
--- may be parallel too: each of the other operands then fails only where it is chosen, as the right one of `&&` and `||`
--- does where the left one does not decide, which may be a scalar. They are assigned to variables of the file and folded into numbers and onto
--- scalar variables, as scans of them and of ones with operators on these are, and they are the conditions of `where`.
--- Folds and scans are of the active positions. They are sent, as those scans are, to variables of the file, of any
--- shape, by such indexes, also with an operator that folds. Scalars that change variables, by assignments, steps and
--- `getchar`, are assigned to variables of the file too, also with operators. Scalar expressions read single positions
--- of variables of the file, by any scalar indexes. Blocks may have parallel variables without initialisers, to which
--- nothing is assigned. Under `where` and `everywhere` stand the statements of scalar programs with these, also calls,
--- `return` and jumps that lead out of them.
+-- neighbours, round the ends of the grid or not, and, of any shape, by indexes that are such expressions, also with
+-- `.`, or promoted scalars, own coordinates, truth values of such expressions, and promoted scalars, which are computed
+-- by operators, conversions, casts and `?:`, and change nothing; they fail where a divisor is 0 at an active position,
+-- or that of a scalar is, or where an index does not lie within its extent at one, and nowhere else. The condition of
+-- `?:` may be parallel too: each of the other operands then fails only where it is chosen, as the right one of `&&` and
+-- `||` does where the left one does not decide, which may be a scalar. They are assigned to variables of the file and
+-- folded into numbers and onto scalar variables, as scans of them and of ones with operators on these are, and they are
+-- the conditions of `where`. Folds and scans are of the active positions. They are sent, as those scans are, to
+-- variables of the file, of any shape, by such indexes, also with an operator that folds. Scalars that change
+-- variables, by assignments, steps and `getchar`, are assigned to variables of the file too, also with operators.
+-- Scalar expressions read single positions of variables of the file, by any scalar indexes. Blocks may have parallel
+-- variables without initialisers, to which nothing is assigned. Under `where` and `everywhere` stand the statements of
+-- scalar programs with these, also calls, `return` and jumps that lead out of them.
 use Rattle.std.specs.Prelude.{ℕ, ◌≡◌, ◌<◌, ◌≤◌, ◌+◌, ◌^◌, ◌⊎◌, ◌==◌, true, false, Option, Some, None}
 use Rattle.cstar_base.specs.declared.elem.Elem.{Elem}
 use Rattle.cstar_base.specs.declared.operators.Combiner.TheVariants as C
 use Rattle.cstar_base.specs.declared.operators.Op.{Op}
+use Rattle.cstar_base.specs.declared.operators.Op.TheVariants as O
 use Rattle.cstar_base.specs.Operators.{divides}
 use Rattle.cstar_tree.specs.declared.syntax.AssignOp.{AssignOp}
 use Rattle.cstar_tree.specs.declared.syntax.AssignOp.TheVariants as A
@@ -114,21 +115,22 @@ IsOffset set axis (T.Brackets' ty p inner) = IsOffset set axis inner
 IsOffset set axis (T.Binary' ty place op p left q right) = (ty.shape ≡ Some set) × IsDot set axis left × IsPromoted set right
 IsOffset set axis _ = ⊥
 
--- an index of this axis, with the types that typing gives
+-- an index of this axis that is a step from the own coordinate, with the types that typing gives
 unfoldable pub IsIndex : ℕ → ℕ → TExpr → Type 0
 IsIndex set axis (T.Brackets' ty p inner) = (ty ≡ type_of inner) × IsIndex set axis inner
 IsIndex set axis (T.Dot ty own) = IsWide set ty × (own ≡ axis)
-IsIndex set axis (T.Binary' ty place op p left q right) = IsWide set ty × ((type_of left).elem.signed ≡ true) × IsOffset set axis left
+IsIndex set axis (T.Binary' ty place O.Mod p left q right) = IsWide set ty × ((type_of left).elem.signed ≡ true) × IsOffset set axis left × IsPromoted set right
+IsIndex set axis (T.Binary' ty place op p left q right) = IsWide set ty × (ty.elem.signed ≡ true) × IsOffset set axis (T.Binary' ty place op p left q right)
 IsIndex set axis _ = ⊥
 
--- it goes by NEWS, and never leads out of the grid: `.`, or `(. + k) %% dimof(shape, axis)`
-abbrev pub IsWrapping : ℕ → ℕ → TExpr → Type 0
-IsWrapping set axis index = IsIndex set axis index × ((step : NewsStep) × ((step_of set axis index ≡ Some step) × (step.checked ≡ false)))
+-- it goes by NEWS: `.`, `. + k` and `. - k`, which may lead out of the grid, and `(. + k) %% dimof(shape, axis)`
+abbrev pub IsStepping : ℕ → ℕ → TExpr → Type 0
+IsStepping set axis index = IsIndex set axis index × ((step : NewsStep) × (step_of set axis index ≡ Some step))
 
 -- the indexes of a get, from this axis on
-unfoldable pub AreWrapping : {k : _} → ℕ → ℕ → Row_of-TExpr k → Type 0
-AreWrapping set axis end_of-TExpr = Unit {0}
-AreWrapping set axis (more_of-TExpr index rest) = IsWrapping set axis index × AreWrapping set (axis + 1) rest
+unfoldable pub AreSteps : {k : _} → ℕ → ℕ → Row_of-TExpr k → Type 0
+AreSteps set axis end_of-TExpr = Unit {0}
+AreSteps set axis (more_of-TExpr index rest) = IsStepping set axis index × AreSteps set (axis + 1) rest
 
 -- a promoted scalar that is computed
 abbrev pub IsSpread : TExpr → Type 0
@@ -164,9 +166,9 @@ IsRelation set op left right = (relates op ≡ true) × (HasKnownKind left ⊎ I
 -- which narrower values are converted. Truth values are relations, `!`, conversions to `bool`, and two values that are
 -- joined by `&&` or `||`, of which the right one is computed where the left one does not decide, and may be a promoted
 -- scalar; the left one may be a scalar that changes nothing.
--- A get goes round the ends of the grid, or its indexes, into any shape, are such expressions and promoted scalars,
--- which fail where they do not lie within the extents at an active position. `?:` chooses one of two values at each
--- position, which may be promoted, and each is computed where it is chosen.
+-- A get is from neighbours, or its indexes, into any shape, are such expressions and promoted scalars, which fail where
+-- they do not lie within the extents at an active position. `?:` chooses one of two values at each position, which may
+-- be promoted, and each is computed where it is chosen.
 unfoldable mutual
   pub IsPure : ℕ → TExpr → Type 0
   IsPure set (T.Variable ty (V.File k)) = ty.shape ≡ Some set
@@ -181,7 +183,7 @@ unfoldable mutual
   IsPure set (T.Convert' ty p operand) = (ty.shape ≡ Some set) × (((ty.elem.bits == 1) ≡ false) ⊎ ((ty.elem.bits ≡ 1) × HasKnownKind operand)) × IsPure set operand
   IsPure set (T.Pcoord ty axis) = IsWide set ty
   IsPure set (T.Dot ty axis) = IsWide set ty
-  IsPure set (T.LeftIndex' ty place p indexes (V.File k) of) = (ty.shape ≡ Some set) × (((of ≡ set) × AreWrapping set 0 indexes) ⊎ ((all_go_by_news of 0 (items-the_row-TExpr _ indexes) ≡ false) × AreIndexes set indexes × HasPure set indexes))
+  IsPure set (T.LeftIndex' ty place p indexes (V.File k) of) = (ty.shape ≡ Some set) × (((of ≡ set) × AreSteps set 0 indexes) ⊎ ((all_go_by_news of 0 (items-the_row-TExpr _ indexes) ≡ false) × AreIndexes set indexes × HasPure set indexes))
   IsPure set _ = ⊥
 
   -- indexes of the current shape, some of which may be promoted scalars, but not all
