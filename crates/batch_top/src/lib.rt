@@ -9,6 +9,3 @@ mod jobs;
 mod words;
 
 pub use batch::cstar_batch;
-
-#[cfg(test)]
-mod tests;

@@ -15,6 +15,3 @@ pub use laws::{boards_cross_threads, every_moment, steps_are_events};
 pub use pass::Pass;
 pub use tree::{combine_all, work};
 pub use words::Words;
-
-#[cfg(test)]
-mod tests;

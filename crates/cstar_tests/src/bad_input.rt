@@ -10,7 +10,7 @@ fn any_bytes_are_refused_or_run(rt: HostRuntime) {
             panic!(rt; "no memory");
         };
         assert!(rt; done.status == 0 || done.status == 3, "at {byte}");
-        assert_eq!(rt; done.out.taken(), b"".as_slice(), "at {byte}");
+        assert!(rt; done.out.taken().is_empty(), "at {byte}");
     }
 }
 
@@ -24,7 +24,6 @@ fn a_program_that_breaks_off_is_refused(rt: HostRuntime) {
         let Ok(done) = command(&rt, rt.alloc(), &["a.cs"], &text[..end], SOUND) else {
             panic!(rt; "no memory");
         };
-        assert_eq!(rt; done.status, 3, "at {end}");
-        assert_eq!(rt; done.out.taken(), b"".as_slice(), "at {end}");
+        assert!(rt; done.status == 3 && done.out.taken().is_empty(), "at {end}");
     }
 }

@@ -39,6 +39,23 @@ pub struct Done {
     pub err: MemSink,
 }
 
+/// What a command is to come to: its status, and what its sinks are to take.
+#[derive(Clone, Copy)]
+pub struct Answer<'a> {
+    pub status: u8,
+    pub out: &'a [u8],
+    pub err: &'a [u8],
+}
+
+impl Done {
+    /// Whether the command came to this answer.
+    pub fn is(&self, answer: Answer) -> bool {
+        self.status == answer.status
+            && self.out.taken() == answer.out
+            && self.err.taken() == answer.err
+    }
+}
+
 fn strings(alloc: Global, words: &[&str]) -> Result<Vec<String>, Memory> {
     let mut all = Vec::new(alloc);
     for word in words {
@@ -63,6 +80,20 @@ fn output(alloc: Global, failing: &[u64], keep: u32) -> Result<MemSink, Memory> 
         MemSink::new(alloc, ROOM, failing)
     } else {
         MemSink::partial(alloc, ROOM, failing, keep)
+    }
+}
+
+/// Whether the command on `a.cs` comes to this answer, where that has this text.
+pub fn answers<R: Threads + Sync>(
+    rt: &R,
+    alloc: Global,
+    text: &[u8],
+    outside: Outside,
+    answer: Answer,
+) -> bool {
+    match command(rt, alloc, &["a.cs"], text, outside) {
+        Ok(done) => done.is(answer),
+        Err(Memory) => false,
     }
 }
 

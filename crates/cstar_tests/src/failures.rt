@@ -1,6 +1,6 @@
 //! An outside that fails: the status says so, and nothing more is put.
 
-use crate::bench::{Outside, SOUND, command};
+use crate::bench::{Answer, Done, Outside, SOUND, answers, command};
 
 const FIRST: &str =
     "shape [8]S;\nint:S v;\nmain() { with (S) { v = 3; v = v + v; printf(\"%d\\n\", += v); } }";
@@ -10,25 +10,27 @@ const SUM: &str =
 
 const THREE_PUTS: &str = "main() { printf(\"a\"); printf(\"b\"); printf(\"c\"); }";
 
+/// What a command comes to whose output or error output fails.
+const WRITE_FAULT: Answer<'static> = Answer {
+    status: 6,
+    out: b"",
+    err: b"",
+};
+
 #[test]
 fn a_failed_put_is_a_write_fault(rt: HostRuntime) {
     let outside = Outside { out: &[1], ..SOUND };
-    let Ok(done) = command(&rt, rt.alloc(), &["a.cs"], FIRST.as_bytes(), outside) else {
-        panic!(rt; "no memory");
-    };
-    assert_eq!(rt; done.status, 6);
-    assert_eq!(rt; done.out.taken(), b"".as_slice());
-    assert_eq!(rt; done.err.taken(), b"".as_slice());
+    assert!(rt; answers(&rt, rt.alloc(), FIRST.as_bytes(), outside, WRITE_FAULT));
 }
 
 #[test]
 fn a_failed_put_in_mid_stream_leaves_a_prefix(rt: HostRuntime) {
     let outside = Outside { out: &[2], ..SOUND };
-    let Ok(done) = command(&rt, rt.alloc(), &["a.cs"], FIRST.as_bytes(), outside) else {
-        panic!(rt; "no memory");
+    let answer = Answer {
+        out: b"48",
+        ..WRITE_FAULT
     };
-    assert_eq!(rt; done.status, 6);
-    assert_eq!(rt; done.out.taken(), b"48".as_slice());
+    assert!(rt; answers(&rt, rt.alloc(), FIRST.as_bytes(), outside, answer));
 }
 
 #[test]
@@ -36,12 +38,7 @@ fn a_failed_put_on_the_error_output_is_a_write_fault(rt: HostRuntime) {
     let outside = Outside { err: &[1], ..SOUND };
     let text =
         b"shape [8]S; int:S p, q, d; int s;\nmain() { with (S) { p = pcoord(0);\ns = p;\n} }\n";
-    let Ok(done) = command(&rt, rt.alloc(), &["a.cs"], text, outside) else {
-        panic!(rt; "no memory");
-    };
-    assert_eq!(rt; done.status, 6);
-    assert_eq!(rt; done.out.taken(), b"".as_slice());
-    assert_eq!(rt; done.err.taken(), b"".as_slice());
+    assert!(rt; answers(&rt, rt.alloc(), text, outside, WRITE_FAULT));
 }
 
 /// Which call of the input fails, and then the output and the status.
@@ -62,14 +59,28 @@ fn a_failed_input_is_an_input_fault(rt: HostRuntime) {
         };
         let text =
             b"main() { printf(\"%d \", getchar()); printf(\"%d \", getchar()); printf(\"%d\", getchar()); }";
-        let Ok(done) = command(&rt, rt.alloc(), &["a.cs"], text, outside) else {
-            panic!(rt; "no memory");
+        let answer = Answer {
+            status: *status,
+            out: out.as_bytes(),
+            err: if *status == 7 { b"input fault\n" } else { b"" },
         };
-        let err: &[u8] = if *status == 7 { b"input fault\n" } else { b"" };
-        assert_eq!(rt; done.status, *status, "call {call}");
-        assert_eq!(rt; done.out.taken(), out.as_bytes(), "call {call}");
-        assert_eq!(rt; done.err.taken(), err, "call {call}");
+        assert!(rt;
+            answers(&rt, rt.alloc(), text, outside, answer),
+            "call {call}"
+        );
     }
+}
+
+/// Whether a command that puts `abc` by three puts left a prefix of it, where the call with this
+/// number fails and keeps so many bytes.
+fn left_a_prefix(done: &Done, call: u64, keep: u32) -> bool {
+    let taken = done.out.taken();
+    let ended = if done.status == 6 {
+        call > 1 || taken.len() <= keep as usize
+    } else {
+        done.status == 0 && call > 1 && taken == b"abc".as_slice()
+    };
+    ended && b"abc".starts_with(taken) && done.err.taken().is_empty()
 }
 
 #[test]
@@ -85,18 +96,10 @@ fn a_failed_put_leaves_the_bytes_before_it(rt: HostRuntime) {
             let Ok(done) = command(&rt, rt.alloc(), &["a.cs"], text, outside) else {
                 panic!(rt; "no memory");
             };
-            assert!(rt; b"abc".starts_with(done.out.taken()), "call {call}");
             assert!(rt;
-                call > 1 || done.out.taken().len() <= keep as usize,
-                "keep {keep}"
+                left_a_prefix(&done, call, keep),
+                "call {call}, keep {keep}"
             );
-            assert!(rt;
-                done.status == 6 || done.out.taken() == b"abc".as_slice(),
-                "call {call}"
-            );
-            assert!(rt; done.status == 6 || done.status == 0, "call {call}");
-            assert!(rt; call > 1 || done.status == 6, "call {call}");
-            assert_eq!(rt; done.err.taken(), b"".as_slice(), "call {call}");
         }
     }
 }
@@ -109,33 +112,28 @@ static FETCHED: [(&str, &str); 3] = [
 ];
 
 #[test]
-fn a_failed_fetch_cannot_read(rt: HostRuntime) {
-    for (text, _out) in &FETCHED {
-        let outside = Outside {
-            shelf: &[1],
-            ..SOUND
-        };
-        let Ok(done) = command(&rt, rt.alloc(), &["a.cs"], text.as_bytes(), outside) else {
-            panic!(rt; "no memory");
-        };
-        assert_eq!(rt; done.status, 5);
-        assert_eq!(rt; done.out.taken(), b"".as_slice());
-        assert_eq!(rt; done.err.taken(), b"cannot read a.cs\n".as_slice());
-    }
-}
-
-#[test]
 fn a_file_is_fetched_once(rt: HostRuntime) {
+    let unread = Answer {
+        status: 5,
+        out: b"",
+        err: b"cannot read a.cs\n",
+    };
     for (text, out) in &FETCHED {
-        let outside = Outside {
-            shelf: &[2],
-            ..SOUND
+        let read = Answer {
+            status: 0,
+            out: out.as_bytes(),
+            err: b"",
         };
-        let Ok(done) = command(&rt, rt.alloc(), &["a.cs"], text.as_bytes(), outside) else {
-            panic!(rt; "no memory");
-        };
-        assert_eq!(rt; done.status, 0);
-        assert_eq!(rt; done.out.taken(), out.as_bytes());
+        for (call, answer) in [(1, unread), (2, read)] {
+            let outside = Outside {
+                shelf: &[call],
+                ..SOUND
+            };
+            assert!(rt;
+                answers(&rt, rt.alloc(), text.as_bytes(), outside, answer),
+                "call {call}"
+            );
+        }
     }
 }
 
@@ -144,6 +142,10 @@ fn a_file_that_is_not_there_cannot_be_read(rt: HostRuntime) {
     let Ok(done) = command(&rt, rt.alloc(), &["b.cs"], FIRST.as_bytes(), SOUND) else {
         panic!(rt; "no memory");
     };
-    assert_eq!(rt; done.status, 5);
-    assert_eq!(rt; done.err.taken(), b"cannot read b.cs\n".as_slice());
+    let answer = Answer {
+        status: 5,
+        out: b"",
+        err: b"cannot read b.cs\n",
+    };
+    assert!(rt; done.is(answer));
 }

@@ -1,6 +1,6 @@
 //! Runs that are kept on a shelf, of which calls may fail, and what becomes of its files.
 
-use crate::bench::{Done, SOUND, command_on, shelf_with};
+use crate::bench::{Answer, Done, SOUND, command_on, shelf_with};
 use cstar_base::Memory;
 use cstar_io::{MemShelf, Open, Shelf, ShelfErr};
 use std::alloc::Global;
@@ -34,6 +34,23 @@ fn keeping<R: Threads + Sync>(
     Ok(Kept { done, point })
 }
 
+/// What a run comes to that puts this, and whose point cannot be kept.
+fn unkept(out: &[u8]) -> Answer<'_> {
+    Answer {
+        status: 9,
+        out,
+        err: b"cannot save k.pt\n",
+    }
+}
+
+/// Whether two points were kept, and are the same.
+fn keep_the_same(first: &Kept, second: &Kept) -> bool {
+    match (&first.point, &second.point) {
+        (Some(before), Some(after)) => before.as_slice() == after.as_slice(),
+        _ => false,
+    }
+}
+
 #[test]
 fn a_run_that_cannot_be_kept_says_so(rt: HostRuntime) {
     let Ok(mut shelf) = shelf_with(rt.alloc(), COUNTS.as_bytes(), &[2]) else {
@@ -43,9 +60,7 @@ fn a_run_that_cannot_be_kept_says_so(rt: HostRuntime) {
     let Ok(kept) = keeping(&rt, rt.alloc(), &words, &mut shelf) else {
         panic!(rt; "no memory");
     };
-    assert_eq!(rt; kept.done.status, 9);
-    assert_eq!(rt; kept.done.out.taken(), b"0 1 ".as_slice());
-    assert_eq!(rt; kept.done.err.taken(), b"cannot save k.pt\n".as_slice());
+    assert!(rt; kept.done.is(unkept(b"0 1 ")));
     assert!(rt; kept.point.is_none());
 }
 
@@ -58,8 +73,12 @@ fn a_run_that_ends_keeps_nothing(rt: HostRuntime) {
     let Ok(kept) = keeping(&rt, rt.alloc(), &words, &mut shelf) else {
         panic!(rt; "no memory");
     };
-    assert_eq!(rt; kept.done.status, 0);
-    assert_eq!(rt; kept.done.out.taken(), b"0 1 2 3 4 ".as_slice());
+    let answer = Answer {
+        status: 0,
+        out: b"0 1 2 3 4 ",
+        err: b"",
+    };
+    assert!(rt; kept.done.is(answer));
     assert!(rt; kept.point.is_none());
     let Ok(text) = shelf.fetch("a.cs", LIMIT) else {
         panic!(rt; "the program is not there");
@@ -80,14 +99,14 @@ fn a_run_that_goes_no_further_is_kept_as_it_was(rt: HostRuntime) {
     let Ok(second) = keeping(&rt, rt.alloc(), &words, &mut shelf) else {
         panic!(rt; "no memory");
     };
-    assert_eq!(rt; first.done.status, 4);
-    assert_eq!(rt; second.done.status, 4);
-    assert_eq!(rt; first.done.out.taken(), b"".as_slice());
-    assert_eq!(rt; second.done.out.taken(), b"".as_slice());
-    let (Some(before), Some(after)) = (first.point, second.point) else {
-        panic!(rt; "no point is kept");
+    let answer = Answer {
+        status: 4,
+        out: b"",
+        err: b"stopped after 0 turns\n",
     };
-    assert_eq!(rt; before.as_slice(), after.as_slice());
+    assert!(rt; first.done.is(answer));
+    assert!(rt; second.done.is(answer));
+    assert!(rt; keep_the_same(&first, &second));
 }
 
 #[test]
@@ -104,11 +123,12 @@ fn a_point_stays_where_the_next_cannot_be_kept(rt: HostRuntime) {
     let Ok(second) = keeping(&rt, rt.alloc(), &words, &mut shelf) else {
         panic!(rt; "no memory");
     };
-    assert_eq!(rt; first.done.status, 4);
-    assert_eq!(rt; second.done.status, 9);
-    assert_eq!(rt; second.done.out.taken(), b"2 3 ".as_slice());
-    let (Some(before), Some(after)) = (first.point, second.point) else {
-        panic!(rt; "no point is kept");
+    let answer = Answer {
+        status: 4,
+        out: b"0 1 ",
+        err: b"stopped after 2 turns\n",
     };
-    assert_eq!(rt; before.as_slice(), after.as_slice());
+    assert!(rt; first.done.is(answer));
+    assert!(rt; second.done.is(unkept(b"2 3 ")));
+    assert!(rt; keep_the_same(&first, &second));
 }

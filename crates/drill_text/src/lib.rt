@@ -5,6 +5,3 @@ mod draws;
 mod text;
 
 pub use text::drill_text;
-
-#[cfg(test)]
-mod tests;

@@ -11,6 +11,3 @@ pub use book::{Book, Jobs};
 pub use entry::Entry;
 pub use judge::Judge;
 pub use report::Report;
-
-#[cfg(test)]
-mod tests;

@@ -9,6 +9,3 @@ mod stop;
 
 pub use callers::{Callers, MOST_CALLERS, MOST_JOBS};
 pub use stop::Stop;
-
-#[cfg(test)]
-mod tests;

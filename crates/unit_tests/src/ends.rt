@@ -111,18 +111,27 @@ fn sink_fails_where_it_is_told(rt: HostRuntime) -> Result<(), Fail> {
     Ok(())
 }
 
+/// Whether a fetch of so many bytes at most gives these, or fails where none are wanted.
+pub fn fetches<S: Shelf>(shelf: &mut S, name: &str, most: u32, wanted: Option<&[u8]>) -> bool {
+    match (shelf.fetch(name, most), wanted) {
+        (Ok(bytes), Some(wanted)) => bytes.as_slice() == wanted,
+        (Err(ShelfErr::Failed), None) => true,
+        _ => false,
+    }
+}
+
 #[test]
 fn shelf_answers_behind_a_failure(rt: HostRuntime) -> Result<(), Fail> {
     let mut shelf = shelf_of(rt.alloc(), &[1, 5])?;
-    assert_eq!(rt; shelf.fetch("a", 9), Err(ShelfErr::Failed));
-    assert_eq!(rt; shelf.fetch("a", 9)?.as_slice(), b"hello".as_slice());
-    assert_eq!(rt; shelf.fetch("a", 2)?.as_slice(), b"hel".as_slice());
-    assert_eq!(rt; shelf.fetch("b", 9), Err(ShelfErr::Failed));
+    assert!(rt; fetches(&mut shelf, "a", 9, None));
+    assert!(rt; fetches(&mut shelf, "a", 9, Some(b"hello")));
+    assert!(rt; fetches(&mut shelf, "a", 2, Some(b"hel")));
+    assert!(rt; fetches(&mut shelf, "b", 9, None));
     assert_eq!(rt; shelf.keep("a", b"x"), Err(ShelfErr::Failed));
     assert_eq!(rt; shelf.keep("b", b"new"), Ok(()));
     assert_eq!(rt; shelf.keep("a", b"bye"), Ok(()));
-    assert_eq!(rt; shelf.fetch("b", 9)?.as_slice(), b"new".as_slice());
-    assert_eq!(rt; shelf.fetch("a", 9)?.as_slice(), b"bye".as_slice());
+    assert!(rt; fetches(&mut shelf, "b", 9, Some(b"new")));
+    assert!(rt; fetches(&mut shelf, "a", 9, Some(b"bye")));
     Ok(())
 }
 

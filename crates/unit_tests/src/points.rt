@@ -59,17 +59,16 @@ fn loads(rt: HostRuntime) -> Result<(), Fail> {
 
 #[test]
 fn tells_where_bytes_leave(rt: HostRuntime) -> Result<(), Fail> {
-    assert_eq!(rt; left_at(rt.alloc(), b"PARISCP2"), Some(7));
-    assert_eq!(rt; left_at(rt.alloc(), b"PARISCP1\x02"), Some(8));
-    assert_eq!(rt; left_at(rt.alloc(), b"PARISCP1\x00\x03"), Some(9));
-    assert_eq!(rt; left_at(rt.alloc(), &BYTES[..48]), Some(48));
-    assert_eq!(rt;
-        left_at(
-            rt.alloc(),
-            b"PARISCP1\x00\x00\x00\x00\x00\x00\xff\xff\xff\xff"
-        ),
-        Some(18)
-    );
+    let rows: [(&[u8], u32); 5] = [
+        (b"PARISCP2", 7),
+        (b"PARISCP1\x02", 8),
+        (b"PARISCP1\x00\x03", 9),
+        (&BYTES[..48], 48),
+        (b"PARISCP1\x00\x00\x00\x00\x00\x00\xff\xff\xff\xff", 18),
+    ];
+    for (bytes, at) in rows {
+        assert_eq!(rt; left_at(rt.alloc(), bytes), Some(at));
+    }
     let mut more = BYTES.to_vec(rt.alloc())?;
     more.push(0)?;
     assert_eq!(rt; left_at(rt.alloc(), more.as_slice()), Some(49));

@@ -1,5 +1,6 @@
 ghost use Rattle.std.specs.Prelude.{◌≤◌};
 
+use crate::ends::fetches;
 use cstar_io::{Failed, RealShelf, RealSink, RealSource, Shelf, ShelfErr, Sink, Source, SureSink};
 use std::fs::File;
 use std::io::{ErrorKind, Read, Write};
@@ -80,13 +81,13 @@ fn a_late_write_fails(rt: HostRuntime) -> Result<(), Fail> {
 fn files_are_kept_and_fetched(rt: HostRuntime) -> Result<(), Fail> {
     let name = "cstar_io_files_are_kept";
     let mut shelf = RealShelf::new(&rt, rt.alloc());
-    assert_eq!(rt; shelf.fetch(name, 9), Err(ShelfErr::Failed));
-    assert_eq!(rt; shelf.fetch(".", 9), Err(ShelfErr::Failed));
+    assert!(rt; fetches(&mut shelf, name, 9, None));
+    assert!(rt; fetches(&mut shelf, ".", 9, None));
     assert_eq!(rt; shelf.keep(name, b"longer"), Ok(()));
     assert_eq!(rt; shelf.keep(name, b"short"), Ok(()));
-    assert_eq!(rt; shelf.fetch(name, 5)?.as_slice(), b"short".as_slice());
-    assert_eq!(rt; shelf.fetch(name, 4)?.as_slice(), b"short".as_slice());
-    assert_eq!(rt; shelf.fetch(name, 3)?.as_slice(), b"shor".as_slice());
+    assert!(rt; fetches(&mut shelf, name, 5, Some(b"short")));
+    assert!(rt; fetches(&mut shelf, name, 4, Some(b"short")));
+    assert!(rt; fetches(&mut shelf, name, 3, Some(b"shor")));
     assert_eq!(rt; shelf.keep(".", b"short"), Err(ShelfErr::Failed));
     assert!(rt; fs::metadata(&rt, "cstar_io_files_are_kept.0").is_err());
     fs::remove_file(&rt, name)?;
@@ -101,8 +102,8 @@ fn a_file_is_kept_beside_the_old_one_first(rt: HostRuntime) -> Result<(), Fail> 
     fs::write(&rt, other, b"mine")?;
     let mut shelf = RealShelf::new(&rt, rt.alloc());
     assert_eq!(rt; shelf.keep(name, b"new"), Ok(()));
-    assert_eq!(rt; shelf.fetch(name, 9)?.as_slice(), b"new".as_slice());
-    assert_eq!(rt; shelf.fetch(other, 9)?.as_slice(), b"mine".as_slice());
+    assert!(rt; fetches(&mut shelf, name, 9, Some(b"new")));
+    assert!(rt; fetches(&mut shelf, other, 9, Some(b"mine")));
     assert!(rt; fs::metadata(&rt, "cstar_io_kept_beside.1").is_err());
     assert_eq!(rt;
         shelf.keep("cstar_io_no_folder/kept", b"new"),

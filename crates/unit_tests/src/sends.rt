@@ -1,6 +1,10 @@
 use combine_core::{Add, Combine, Event, Message, MinOf, Phase};
 use std::test::Fail;
 
+fn deliver(worker: u32, index: u32) -> Event {
+    Event::Deliver { worker, index }
+}
+
 // Three messages to two cells, of which the second is not the first in line.
 #[test]
 fn a_message_waits_for_those_before_it(rt: HostRuntime) -> Result<(), Fail> {
@@ -23,42 +27,23 @@ fn a_message_waits_for_those_before_it(rt: HostRuntime) -> Result<(), Fail> {
         }),
     ]?;
     let mut phase = Phase::new(alloc, Add, vec![in alloc; 5, 0]?, slots)?;
-    assert!(rt; phase.step(Event::Claim { worker: 0 })?);
-    assert!(rt;
-        !phase.step(Event::Deliver {
-            worker: 0,
-            index: 1
-        })?
-    );
-    assert!(rt;
-        phase.step(Event::Deliver {
-            worker: 0,
-            index: 0
-        })?
-    );
-    assert!(rt;
-        phase.step(Event::Deliver {
-            worker: 0,
-            index: 1
-        })?
-    );
-    assert!(rt; phase.step(Event::Split { worker: 0 })?);
-    assert!(rt; phase.step(Event::Claim { worker: 1 })?);
-    assert!(rt;
-        !phase.step(Event::Deliver {
-            worker: 1,
-            index: 2
-        })?
-    );
-    assert!(rt; !phase.step(Event::Join { into: 1, from: 1 })?);
-    assert!(rt; phase.step(Event::Join { into: 0, from: 1 })?);
-    assert!(rt; !phase.step(Event::Claim { worker: 1 })?);
-    assert!(rt;
-        phase.step(Event::Deliver {
-            worker: 0,
-            index: 2
-        })?
-    );
+    // each step, and whether it can be done
+    let steps = [
+        (Event::Claim { worker: 0 }, true),
+        (deliver(0, 1), false),
+        (deliver(0, 0), true),
+        (deliver(0, 1), true),
+        (Event::Split { worker: 0 }, true),
+        (Event::Claim { worker: 1 }, true),
+        (deliver(1, 2), false),
+        (Event::Join { into: 1, from: 1 }, false),
+        (Event::Join { into: 0, from: 1 }, true),
+        (Event::Claim { worker: 1 }, false),
+        (deliver(0, 2), true),
+    ];
+    for (event, done) in steps {
+        assert_eq!(rt; phase.step(event)?, done);
+    }
     Ok(())
 }
 

@@ -1,6 +1,8 @@
-//! Tests of passes and of sends by several workers.
+//! Tests of boards, and of passes and sends by several workers.
 #![tactic(auto)]
 
+#[cfg(test)]
+mod boards;
 #[cfg(test)]
 mod sends;
 #[cfg(test)]
