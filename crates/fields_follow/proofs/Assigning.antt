@@ -1,28 +1,19 @@
--- Assignments to parallel variables and steps of them follow.
-use Rattle.std.proofs.Common.{◌⊎◌, ◌≡◌, ◌∙◌, ℕ, ◌+◌, ◌<◌, ◌≤◌, ◌%◌, ◌^◌, ◌==◌, ◌&&◌, ◌||◌, Bool, true, false, not, length, Option, Some, None, refl, sym, ap, subst, arith, inl, inr, if◌then◌else◌, lit<, ◌∷◌, []}
-use Rattle.std.specs.Prelude.{is_none}
+-- Assignments to parallel variables: what comes last writes the variable, and then it has what the source stores.
+use Rattle.std.proofs.Common.{◌⊎◌, ◌≡◌, ◌∙◌, ℕ, ◌+◌, ◌<◌, ◌%◌, ◌^◌, ◌==◌, ◌&&◌, Bool, true, false, not, length, Option, Some, None, refl, sym, ap, subst, arith, inl, inr, if◌then◌else◌}
 use Rattle.std.proofs.lemmas.Bool.{eq-eqb}
-use Rattle.std.specs.Int.{from_bool}
-use Rattle.std.proofs.Math.Nat.{mod-eq_of_lt, pow-le-pow_right}
 use Rattle.std.proofs.lemmas.Nat.{mod_below, pow_pos}
-use Rattle.source_meaning.specs.Values.{nonzero}
 use Rattle.cstar_base.specs.declared.elem.Elem.{Elem}
 use Rattle.cstar_base.specs.declared.operators.Op.{Op}
-use Rattle.cstar_base.specs.declared.operators.Op.TheVariants as P
 use Rattle.cstar_base.specs.declared.operators.Place.{Place}
 use Rattle.cstar_base.specs.declared.faults.RunFault.TheVariants.{DivZero}
 use Rattle.cstar_base.specs.Operators.{divides, outcome}
 use Rattle.cstar_tree.specs.declared.syntax.AssignOp.{AssignOp}
 use Rattle.cstar_tree.specs.declared.syntax.AssignOp.TheVariants as A
-use Rattle.cstar_tree.specs.declared.syntax.StepOp.{StepOp}
-use Rattle.cstar_tree.specs.declared.syntax.StepOp.TheVariants as Sp
-use Rattle.cstar_tree.specs.declared.typed.StepOrder.{StepOrder}
 use Rattle.cstar_tree.specs.declared.typed.TExpr.{TExpr}
 use Rattle.cstar_tree.specs.declared.typed.TExpr as T
 use Rattle.cstar_tree.specs.declared.typed.ValueType.{ValueType}
 use Rattle.cstar_tree.specs.declared.typed.VarInfo.{VarInfo}
 use Rattle.cstar_tree.specs.declared.typed.Variable.{Variable}
-use Rattle.cstar_tree.specs.declared.typed.Variable.TheVariants as V
 use Rattle.cstar_tree.specs.Typed.{type_of}
 use Rattle.code_lengths.specs.Lowerable.{IsLowerable}
 use Rattle.code_lengths.specs.Naming.{NamesVariables}
@@ -30,113 +21,87 @@ use Rattle.code_lengths.specs.Ready.{IsReadyButForFields}
 use Rattle.code_lengths.specs.Shaped.{IsShaped}
 use Rattle.lower_base.specs.declared.emit.Out.{Out}
 use Rattle.lower_base.specs.declared.emit.Out.TheVariants as O
-use Rattle.lower_base.specs.Drafts.{Draft, Made, Makes, an_entry, first_bits, step as step_of, then_make, with_instr}
+use Rattle.lower_base.specs.Drafts.{Draft, Made, Makes, first_bits, then_make, with_instr}
 use Rattle.lower_base.specs.Kinds.{bits_of, is_bitwise, kind_of}
-use Rattle.lower_base.specs.Operators.{assign_op_of, operation_of, relates}
+use Rattle.lower_base.specs.Operators.{assign_op_of}
 use Rattle.lower_expr.specs.declared.operands.Own.{Own}
-use Rattle.lower_expr.specs.Effects.{assignment_effect, assigned_own, effect_of, folds, put_to, step_effect, stepped_own, variable_assigned, variable_operated, variable_stepped, whole_of, writes_itself}
-use Rattle.lower_expr.specs.Kinds.{is_modular, operation_bits, works_within}
+use Rattle.lower_expr.specs.Effects.{assignment_effect, assigned_own, effect_of, folds, put_to, variable_assigned, variable_operated, whole_of, writes_itself}
+use Rattle.lower_expr.specs.Kinds.{operation_bits, works_within}
 use Rattle.lower_expr.specs.Operands.{own_of, standing}
 use Rattle.lower_expr.specs.Steps.{assigned_signed}
-use Rattle.lower_expr.specs.Values.{step_operation, value_of}
+use Rattle.lower_expr.specs.Values.{value_of}
 use Rattle.paris_code.specs.declared.instr.Instr.{Instr}
-use Rattle.paris_code.specs.declared.instr.Instr.TheVariants as I
 use Rattle.paris_code.specs.declared.operands.Field.{Field}
-use Rattle.paris_code.specs.declared.operands.Konst.TheVariants as K
-use Rattle.paris_code.specs.declared.program.Owner.TheVariants as W
 use Rattle.paris_code.specs.Code.{CodeState}
 use Rattle.paris_code.specs.Memory.{processors}
-use Rattle.paris_code.specs.Writes.{written}
-use Rattle.source_meaning.specs.Reductions.{promoted, updated}
+use Rattle.source_meaning.specs.Reductions.{updated}
 use Rattle.source_meaning.specs.State as Source
 use Rattle.source_meaning.specs.State.{Gives, Outcome, State, with_positions}
-use Rattle.source_meaning.specs.Targets.{OfElement, assigned, step_op}
+use Rattle.source_meaning.specs.Targets.{OfElement, assigned}
 use Rattle.source_meaning.specs.Values.{Parallel, Value}
 use Rattle.source_meaning.proofs.ConstantLaws.{Boxed}
-use Rattle.cstar_base.proofs.NumberLaws.{kind_bits}
-use Rattle.code_follows.proofs.Following.{HasRegisters, Sim, held, keeps_less}
-use Rattle.code_follows.proofs.Growing.{Extended, extended}
-use Rattle.code_follows.proofs.Settings.{Setting, Within, and_one, layout, onto, start}
-use Rattle.code_follows.proofs.Words.{below_word}
-use Rattle.fields_follow.specs.Fragment.{HasOperation, IsOperand, IsOperation, IsPromoted, IsPure, IsTarget, IsUpdate, IsWide}
-use Rattle.fields_follow.specs.Fields.{IsElement, file_number}
-use Rattle.fields_follow.proofs.Deciding.{truth_last}
-use Rattle.fields_follow.proofs.TruthValues.{IsPlain, IsTruth, truth_bit, truth_or_plain}
+use Rattle.code_follows.proofs.Following.{HasRegisters, Sim, delayed, follows_same, held, nothing_said}
+use Rattle.code_follows.proofs.Growing.{extended}
+use Rattle.code_follows.proofs.Settings.{Setting, Within, and_one, layout}
+use Rattle.code_follows.proofs.Values.{extends_grown}
+use Rattle.fields_follow.specs.Fragment.{HasOperation, IsOperation, IsTarget}
+use Rattle.fields_follow.proofs.Clearing.{field_at}
 use Rattle.fields_follow.proofs.Dividing.{zero_at, zero_there}
-use Rattle.fields_follow.proofs.Forms.{HasItsCode, field_is, operand_shape}
-use Rattle.fields_follow.proofs.Lengths.{held_first, modular_keeps}
-use Rattle.fields_follow.proofs.Instructions.{Puts, extents, operation_below, place, puts_operate_constant, shapes, word_in}
-use Rattle.fields_follow.proofs.Meaning.{value_in, word_at}
+use Rattle.fields_follow.proofs.Forms.{HasItsCode}
+use Rattle.fields_follow.proofs.Instructions.{Puts, operation_below, shapes}
+use Rattle.fields_follow.proofs.Lengths.{Keeps}
 use Rattle.fields_follow.proofs.Outcomes.{Ended, meant, outcome_follows}
 use Rattle.fields_follow.proofs.Leaving.{Leaves, PassesTests, UpdateLeaves}
-use Rattle.fields_follow.proofs.Passing.{fields_longer, After, Passes, after_same, code_longer, made_after, passes_all}
+use Rattle.fields_follow.proofs.Passing.{After, Passes, after_same}
 use Rattle.fields_follow.proofs.PassingTests.{tests_passed}
-use Rattle.fields_follow.proofs.Places.{HoldsTheFields, IsFileField, PlacesFields, names_first, stands_here}
-use Rattle.fields_follow.proofs.Updates.{IsFileTarget, assign_ends, assign_means, assigned_divides, assigned_is, divides_as, divides_never, file_target, promoted_wide, step_means, updated_is}
-use Rattle.fields_follow.proofs.Sizes.{operand_small}
+use Rattle.fields_follow.proofs.Places.{HoldsTheFields, PlacesFields}
+use Rattle.fields_follow.proofs.Updates.{Targets, assign_ends, assign_means, assigned_divides, assigned_is, divides_as, divides_never, targets, updated_is}
 use Rattle.fields_follow.proofs.Totals.{held_below}
-use Rattle.fields_follow.proofs.Values.{and_entry, next_field, one_more, taken, variable_has, with_entry}
-use Rattle.fields_follow.proofs.Writing.{TakesBehind, entry_and_below, entry_ends, few, file_sim, instr_takes, own_stays}
-use Rattle.fields_follow.proofs.Effects.{IsEntryFor, in_place_last, put_last}
-use Rattle.fields_follow.proofs.Expressions.{operand_at}
+use Rattle.fields_follow.proofs.Values.{Finds, FindsOrFails, finds_read, starts_found}
+use Rattle.fields_follow.proofs.VariableWrites.{entry_and_below, leaves_from, takes_has, writes_leave}
+use Rattle.fields_follow.proofs.Variables.{Carries}
+use Rattle.fields_follow.proofs.Writing.{TakesBehind, instr_takes}
+use Rattle.fields_follow.proofs.Effects.{CarriesFrom, GivesOperand, in_place_last}
 use Rattle.code_follows.specs.Fragment.{NamesAmong}
-use Rattle.fields_follow.proofs.Starts.{starts_entry, Starts, starts_later}
-use Rattle.fields_follow.proofs.Variables.{file_carries}
-use Rattle.paris_code.specs.Spans.{IsNamedAt}
+use Rattle.fields_follow.proofs.Starts.{Starts}
+use Rattle.code_lengths.proofs.Agreeing.{lengths_if_made}
 
 module _ (g : Setting) (has : HasRegisters g) (alive : Variable → Type 0) (n : ℕ) (ready : (d : Draft) → IsReadyButForFields g.typed g.instance (layout g) n d) (places : PlacesFields g) (fields : HoldsTheFields g) where
-  -- What comes last writes the variable where it is active: with the entry for it before, the code leaves a state that
-  -- has what the source stores.
-  module _ (set k : ℕ) (info : VarInfo) (is : IsElement g.typed k info set 0) (d : Draft) (s : CodeState) (st : State) where
-    abbrev pub entered : Draft
-    entered = with_entry set info.elem.bits (W.File (file_number g.typed k 0)) d
+  -- ---- what comes last writes the variable
 
-    abbrev variable : Field
-    variable = next_field set info.elem.bits d
+  -- With the entry for it before, which code finds, it leaves a state that has what the source stores.
+  module _ (set : ℕ) (y : Variable) (info : VarInfo) (living : alive y) (d : Draft) (inside : Within g d) (found : Finds g has alive n ready places fields set y info d) where
+    abbrev pub variable : Field
+    variable = field_at set found.f.offset info.elem.bits
 
-    pub entry_for : IsEntryFor g has alive n ready places fields k variable entered
-    entry_for e m longer within = taken g set info.elem.bits (W.File (file_number g.typed k 0)) d e m within longer
+    pub carried : CarriesFrom g has alive n ready places fields y info set variable found.e
+    carried e m more within = subst (λ (f : Field). Carries g alive y info set f) (found.whole inside) (found.carries e m more within)
+
+    -- the variable with all its bits is that entry
+    pub variable_is : (target : TExpr) (next : Out → Draft → Made Out) → (type_of target).elem ≡ info.elem → then_make (whole_of g.typed (layout g) target (record { shape = Some set; variable = y }) d) next ≡ next (O.Field variable) found.e
+    unfolding standing then_make first_bits
+    variable_is target next same =
+        ap (λ (elem : Elem). then_make (standing g.typed (layout g) elem.bits (record { shape = Some set; variable = y }) d) next) same
+        ∙ ap (λ (m : Made Field). then_make (then_make m (λ f after. Makes (O.Field (first_bits info.elem.bits f)) after)) next) found.is
+        ∙ ap (λ (f : Field). next (O.Field (record f { len = info.elem.bits })) found.e) (found.whole inside)
 
     -- the numbers are the lowest bits of the words that are put, and beyond the positions too they are of the type
     abbrev AreStored : (ℕ → ℕ) → (ℕ → ℕ) → Type 0
     AreStored v w = ((p : ℕ) → p < processors (shapes g) set → v p < 2 ^ 32 → w p ≡ v p % 2 ^ info.elem.bits) × ((p : ℕ) → w p < 2 ^ info.elem.bits)
 
-    leaves : (v w : ℕ → ℕ) → AreStored v w → (e2 f : Draft) (used : Type 0) → Within g f → (p : PassesTests g alive entered e2 s st used) → used → TakesBehind g set variable e2 f p.t v
-        → Leaves g alive d f s (with_positions (V.File k) 0 (fields.active set) w st)
-    leaves v w same e2 f used within p wanted last =
-        let x : Extended entered (p.grown.0 + last.more.0) f = extended entered e2 f p.grown.0 last.more.0 p.grown.1 last.more.1 in
-        let file : IsFileField g k 0 variable = entry_for f (p.grown.0 + last.more.0) x within in
-        let ends = entry_ends g places fields alive set k 0 info variable is refl file refl in
-        let longer = code_longer e2 f last.more.0 last.more.1 in
-        let more = one_more set info.elem.bits (W.File (file_number g.typed k 0)) d in
-        record {
-          grown = (0 + (p.grown.0 + last.more.0), extended d entered f 0 (p.grown.0 + last.more.0) (and_entry set info.elem.bits (W.File (file_number g.typed k 0)) d) x);
-          t = record p.t { at = last.place; memory = written last.takes.write p.t.memory };
-          go = onto g s p.t (record p.t { at = last.place; memory = written last.takes.write p.t.memory }) p.go last.go;
-          at = starts_later g alive p.t (record p.t { at = last.place; memory = written last.takes.write p.t.memory }) (length e2.code) e2.regs (length e2.fields) (length f.code) f.regs (length f.fields) longer last.more.1.regs (fields_longer e2 f last.more.0 last.more.1) last.at p.at;
-          registers = keeps_less g d entered s p.t (and_entry set info.elem.bits (W.File (file_number g.typed k 0)) d).regs p.registers;
-          sim = file_sim g places fields alive set variable p.t st v p.sim refl ends.0 ends.1 last.takes k 0 info is refl file last.place (let there = last.at in let first = p.at.stands in omega (arith, there, first, longer)) (fields.active set) w (λ q below. refl)
-              (λ q below on. same.0 q below (few g places fields alive set variable p.t st v p.sim refl ends.0 ends.1 last.takes q below on)) same.1;
-          stays = λ h first final q none below own ends_below before low after high.
-              own_stays g places fields alive set variable p.t st v p.sim refl ends.0 ends.1 last.takes k 0 info is refl file h q own
-              ∙ p.stays wanted h first final q (omega (arith, below, more)) own ends_below before low after (omega (arith, high, longer));
-        }
+    pub leaves : (s : CodeState) (st : State) (v w : ℕ → ℕ) → AreStored v w → (e2 f : Draft) (used : Type 0) → Within g f → (p : PassesTests g alive found.e e2 s st used) → used → TakesBehind g set variable e2 f p.t v → Leaves g alive d f s (with_positions y 0 (fields.active set) w st)
+    leaves s st v w same e2 f used within p wanted last =
+        let c : Carries g alive y info set variable = carried f (p.grown.0 + last.behind.more.0) (extended found.e e2 f p.grown.0 last.behind.more.0 p.grown.1 last.behind.more.1) within in
+        leaves_from g alive d found.e f s (with_positions y 0 (fields.active set) w st) found.grown
+        (writes_leave g places fields alive y info set variable c living found.e e2 f s st used p wanted last.takes.write last.behind (fields.active set) w
+        (takes_has g places fields alive y info set variable c living p.t st p.sim v w last.takes (length e2.code) last.behind.place p.at.stands last.behind.later last.behind.named same.0) same.1)
 
     -- by an instruction behind code of values alone
-    pub leaves_value : (v w : ℕ → ℕ) → AreStored v w → (e2 : Draft) (i : Instr) → Within g (with_instr i e2) → (p : Passes g alive (length entered.fields) entered e2 s st (Unit {0})) → Puts g set i variable p.t v
-        → Leaves g alive d (with_instr i e2) s (with_positions (V.File k) 0 (fields.active set) w st)
+    pub leaves_value : (s : CodeState) (st : State) (v w : ℕ → ℕ) → AreStored v w → (e2 : Draft) (i : Instr) → Within g (with_instr i e2) → (p : Passes g alive (length found.e.fields) found.e e2 s st (Unit {0})) → Puts g set i variable p.t v → Leaves g alive d (with_instr i e2) s (with_positions y 0 (fields.active set) w st)
     unfolding tests_passed
-    leaves_value v w same e2 i within p puts =
-        let file : IsFileField g k 0 variable = entry_for (with_instr i e2) (p.grown.0 + 1) (extended entered e2 (with_instr i e2) p.grown.0 1 p.grown.1 (and_one g i e2)) within in
-        leaves v w same e2 (with_instr i e2) (Unit {0}) within (tests_passed g alive (length entered.fields) entered e2 s st (Unit {0}) (omega arith) p) tt (instr_takes g set i variable e2 p.t v (entry_and_below g places fields alive set k 0 info variable is refl file refl) within p.at.stands puts)
-
-    -- the variable with all its bits is that entry
-    pub variable_is : (target : TExpr) (next : Out → Draft → Made Out) → (type_of target).elem ≡ info.elem
-        → then_make (whole_of g.typed (layout g) target (record { shape = Some set; variable = V.File k }) d) next ≡ next (O.Field variable) entered
-    unfolding standing then_make an_entry first_bits
-    variable_is target next same =
-        ap (λ (elem : Elem). then_make (standing g.typed (layout g) elem.bits (record { shape = Some set; variable = V.File k }) d) next) same
-        ∙ ap (λ (m : Made Field). then_make (then_make m (λ f after. Makes (O.Field (first_bits info.elem.bits f)) after)) next) (field_is g k 0 set info d is)
+    leaves_value s st v w same e2 i within p puts =
+        leaves s st v w same e2 (with_instr i e2) (Unit {0}) within (tests_passed g alive (length found.e.fields) found.e e2 s st (Unit {0}) (omega arith) p) tt
+        (instr_takes g set i variable e2 p.t v (entry_and_below g places fields alive y info set variable (carried (with_instr i e2) (p.grown.0 + 1) (extended found.e e2 (with_instr i e2) p.grown.0 1 p.grown.1 (and_one g i e2)) within)) within p.at.stands puts)
 
   -- what an assignment without an operator stores
   pub plainly : (op : AssignOp) (to from : Elem) (old w : ℕ) → assign_op_of op ≡ None → updated op to from old w ≡ w
@@ -156,13 +121,13 @@ module _ (g : Setting) (has : HasRegisters g) (alive : Variable → Type 0) (n :
   plainly A.Min to from old w e = cc
   plainly A.Max to from old w e = cc
 
-  pub own_is : (set k : ℕ) (op : AssignOp) (target value : TExpr) → own_of 1 target ≡ Some (record { shape = Some set; variable = V.File k }) → HasOperation op (type_of target).elem value → assigned_own op target value ≡ Some (record { shape = Some set; variable = V.File k })
+  pub own_is : (set : ℕ) (y : Variable) (op : AssignOp) (target value : TExpr) → own_of 1 target ≡ Some (record { shape = Some set; variable = y }) → HasOperation op (type_of target).elem value → assigned_own op target value ≡ Some (record { shape = Some set; variable = y })
   unfolding writes_itself folds works_within
-  own_is set k op target value own known =
+  own_is set y op target value own known =
       ap (λ (o : Option Own). elim o as (λ _. Option Own) [ Some own ↦ if writes_itself own op (type_of target).elem value then Some own else None | None ↦ None ]) own ∙ by (assign_op_of op) known
     where
       mine : Own
-      mine = record { shape = Some set; variable = V.File k }
+      mine = record { shape = Some set; variable = y }
 
       elem : Elem
       elem = (type_of target).elem
@@ -178,265 +143,151 @@ module _ (g : Setting) (has : HasRegisters g) (alive : Variable → Type 0) (n :
       by None h = refl
       by (Some x) h = ap (λ (b : Bool). if b then Some mine else None) (within x (h.2, h.3))
 
-  assigns : (ty : ValueType) (place : Place) (op : AssignOp) (p q : Boxed) (target value : TExpr) (set : ℕ) → ty ≡ type_of target → IsTarget set target → HasOperation op ty.elem value → IsOperand set value → NamesVariables g.typed g.instance n target → HasItsCode g.typed g.instance alive n value
-      → (d : Draft) (s : CodeState) (st : State) → Starts g alive s (length d.code) d.regs (length d.fields) → Sim g alive st s
-      → UpdateLeaves g alive fields (T.Assign' ty place op p target q value) d s st
-  unfolding effect_of assignment_effect variable_operated
-  assigns ty place op p q target value set same is_target operates is_value names c d s st here sim =
-      outcome_follows g s o (Parallel w) u (λ out e. Leaves g alive d e s u) (λ v t out e. Leaves g alive d e s t) (effect_of g.typed (layout g) (T.Assign' ty place op p target q value) d) (λ out e said. said)
-      (after_same g Q
-      (ap (λ (o : Option Own). elim o as (λ _. Made Out) [ Some own ↦ then_make (whole_of g.typed (layout g) target own d) (λ dest after. variable_assigned g.typed (layout g) op place target value dest after) | None ↦ value_of g.typed (layout g) ty.elem.bits (T.Assign' ty place op p target q value) d ]) (own_is set h.k op target value h.own (subst (λ (y : ValueType). HasOperation op y.elem value) same operates))
-      ∙ variable_is set h.k h.info h.is d s st target (λ dest after. variable_assigned g.typed (layout g) op place target value dest after) h.elem)
-      (by (assign_op_of op) refl (subst (λ (y : Elem). HasOperation op y value) is_elem operates) is_value))
+  -- ---- where an assignment or a step begins
+
+  pub record Begins (set : ℕ) (target : TExpr) (d : Draft) (s : CodeState) (st : State) : Type 0 where
+    pub to : Targets g.typed g.instance alive set target
+    pub inside : Within g d
+    pub found : Finds g has alive n ready places fields set to.x to.info d
+    pub here : Starts g alive s (length found.e.code) found.e.regs (length found.e.fields)
+    pub sim : Sim g alive st s
+
+  abbrev pub entry_of : (set : ℕ) (target : TExpr) (d : Draft) (s : CodeState) (st : State) → Begins set target d s st → Field
+  entry_of set target d s st b = variable set b.to.x b.to.info b.to.living d b.inside b.found
+
+  -- its code finds the entry of the variable, or there is none
+  pub where_found : (e target : TExpr) (set : ℕ) (next : Out → Draft → Made Out) (d : Draft) (s : CodeState) (st : State) → (to : Targets g.typed g.instance alive set target) → HasItsCode g.typed g.instance alive n e → effect_of g.typed (layout g) e d ≡ then_make (whole_of g.typed (layout g) target (record { shape = Some set; variable = to.x }) d) next
+      → Starts g alive s (length d.code) d.regs (length d.fields) → Sim g alive st s → (Begins set target d s st → UpdateLeaves g alive fields e d s st) → UpdateLeaves g alive fields e d s st
+  unfolding standing then_make
+  where_found e target set next d s st to c code here sim follows =
+      delayed g R d s (meant g fields e st) (effect_of g.typed (layout g) e d) (extends_grown g has alive _ d _ _ ((lengths_if_made g.typed g.instance (layout g)).effect n e d c.code (ready d)))
+      (λ inside. by inside (finds_read g has alive n ready places fields set to.x to.info d to.read to.living to.known to.parallel to.one s st sim))
     where
-      h : IsFileTarget g.typed set target
-      h = file_target g.typed g.instance n set target is_target names
+      R : Value → State → Out → Draft → Type 0
+      R v u out f = Leaves g alive d f s u
 
-      is_elem : ty.elem ≡ h.info.elem
-      is_elem = ap (λ (y : ValueType). y.elem) same ∙ h.elem
+      by : Within g d → FindsOrFails g has alive n ready places fields set to.x to.info d → UpdateLeaves g alive fields e d s st
+      by inside (inl fails) = follows_same g R s refl (code ∙ ap (λ (m : Made Field). then_make (then_make m (λ f after. Makes (O.Field (first_bits (type_of target).elem.bits f)) after)) next) fails) (nothing_said g R s (meant g fields e st))
+      by inside (inr found) = follows (record { to = to; inside = inside; found = found; here = starts_found g has alive n ready places fields set to.x to.info d s found here; sim = sim })
 
-      bits : ℕ
-      bits = h.info.elem.bits
+  -- ---- assignments
 
-      most : bits ≤ 32
-      most = (kind_bits h.info.elem.bits h.info.elem.signed h.info.elem.kind).1
+  module _ (ty : ValueType) (place : Place) (op : AssignOp) (p q : Boxed) (target value : TExpr) (set : ℕ) (same : ty ≡ type_of target) (operates : HasOperation op ty.elem value) where
+    abbrev whole : TExpr
+    whole = T.Assign' ty place op p target q value
 
-      old : ℕ → ℕ
-      old = λ x. st.parallel (V.File h.k) 0 x
+    effect_is : (d : Draft) (to : Targets g.typed g.instance alive set target) → effect_of g.typed (layout g) whole d ≡ then_make (whole_of g.typed (layout g) target (record { shape = Some set; variable = to.x }) d) (λ dest after. variable_assigned g.typed (layout g) op place target value dest after)
+    unfolding effect_of assignment_effect
+    effect_is d to =
+        ap (λ (o : Option Own). elim o as (λ _. Made Out) [ Some own ↦ then_make (whole_of g.typed (layout g) target own d) (λ dest after. variable_assigned g.typed (layout g) op place target value dest after) | None ↦ value_of g.typed (layout g) ty.elem.bits (T.Assign' ty place op p target q value) d ])
+        (own_is set to.x op target value to.own (subst (λ (y : ValueType). HasOperation op y.elem value) same operates))
 
-      number : ℕ → ℕ
-      number = λ x. value_in (extents g set) st value x
+    pub where_assigned : IsTarget set target → HasItsCode g.typed g.instance alive n whole → (d : Draft) (s : CodeState) (st : State) → Starts g alive s (length d.code) d.regs (length d.fields) → Sim g alive st s → (Begins set target d s st → HasItsCode g.typed g.instance alive n value → UpdateLeaves g alive fields whole d s st)
+        → UpdateLeaves g alive fields whole d s st
+    unfolding NamesVariables IsShaped IsLowerable NamesAmong
+    where_assigned is_target c d s st here sim follows =
+        let to = targets g.typed g.instance alive n set target is_target c.code.names.0 c.among.0 in
+        where_found whole target set (λ dest after. variable_assigned g.typed (layout g) op place target value dest after) d s st to c (effect_is d to) here sim
+        (λ b. follows b (record { code = record { shaped = c.code.shaped.3; lowerable = c.code.lowerable.3; names = c.code.names.1 }; among = c.among.1 }))
 
-      w : ℕ → ℕ
-      w = λ x. updated op ty.elem (type_of value).elem (old x) (number x)
+    module _ (d : Draft) (s : CodeState) (st : State) (b : Begins set target d s st) where
+      pub is_elem : ty.elem ≡ b.to.info.elem
+      is_elem = ap (λ (y : ValueType). y.elem) same ∙ b.to.elem
 
-      u : State
-      u = with_positions (V.File h.k) 0 (fields.active set) w st
+      pub shaped : ty.shape ≡ Some set
+      shaped = ap (λ (y : ValueType). y.shape) same ∙ b.to.shape
 
-      d1 : Draft
-      d1 = with_entry set bits (W.File (file_number g.typed h.k 0)) d
+      abbrev bits : ℕ
+      bits = b.to.info.elem.bits
 
-      f : Field
-      f = next_field set bits d
+      abbrev f : Field
+      f = entry_of set target d s st b
 
-      o : Outcome Value
-      o = meant g fields (T.Assign' ty place op p target q value) st
+      abbrev pub code : Option Op → Made Out
+      code o = elim o as (λ _. Made Out) [ None ↦ put_to g.typed (layout g) (O.Field f) value b.found.e | Some x ↦ variable_operated g.typed (layout g) x place target value (O.Field f) b.found.e ]
 
-      Q : Out → Draft → Type 0
-      Q out e = ((o ≡ Gives (Parallel w) u) × Leaves g alive d e s u) ⊎ Ended g s o
+      pub code_is : effect_of g.typed (layout g) whole d ≡ code (assign_op_of op)
+      code_is = effect_is d b.to ∙ variable_is set b.to.x b.to.info b.to.living d b.inside b.found target (λ dest after. variable_assigned g.typed (layout g) op place target value dest after) b.to.elem
 
-      -- the value is given in the source
-      IsGiven : Type 0
-      IsGiven = meant g fields value st ≡ Gives (Parallel number) st
+      -- of a value with these numbers, if the source gives it
+      module _ (number : ℕ → ℕ) where
+        abbrev old : ℕ → ℕ
+        old = λ y. st.parallel b.to.x 0 y
 
-      shaped : ty.shape ≡ Some set
-      shaped = ap (λ (y : ValueType). y.shape) same ∙ h.shape
+        abbrev pub stored : ℕ → ℕ
+        stored = λ y. updated op ty.elem (type_of value).elem (old y) (number y)
 
-      stored_then : IsGiven → o ≡ assigned fields.scope fields.active place op ty (type_of value) (OfElement (V.File h.k) 0 set) (Parallel number) st
-      stored_then given = assign_means fields.scope fields.active set ty place op p q target value (V.File h.k) number st (h.means fields.scope fields.active st) given
+        abbrev u : State
+        u = with_positions b.to.x 0 (fields.active set) stored st
 
-      plain_given : assign_op_of op ≡ None → IsGiven → o ≡ Gives (Parallel w) u
-      plain_given none given = stored_then given ∙ assigned_is fields.scope fields.active set (V.File h.k) place op ty (type_of value) number st shaped (λ x. divides_never op (number x) none)
+        abbrev o : Outcome Value
+        o = meant g fields whole st
 
-      -- with an operator, where that divides by no 0
-      WithOperator : Op → Type 0
-      WithOperator x = (assign_op_of op ≡ Some x) × ((IsOperation x value × ((type_of value).elem.bits ≡ 32) × ((bits == 1) ≡ false) × (operation_bits bits x value ≡ bits)) × IsOperand set value)
+        abbrev pub IsGiven : Type 0
+        IsGiven = meant g fields value st ≡ Gives (Parallel number) st
 
-      by_zero : Option ℕ → Outcome Value
-      by_zero z = elim z as (λ _. Outcome Value) [ None ↦ Gives (Parallel w) u | Some y ↦ Source.Ends (Source.Fault DivZero place (Some y)) st ]
+        abbrev pub Q : Out → Draft → Type 0
+        Q out e = ((o ≡ Gives (Parallel stored) u) × Leaves g alive d e s u) ⊎ Ended g s o
 
-      divided_so : (x : Op) → WithOperator x → IsGiven → set < length (shapes g) → divides x ≡ true → o ≡ by_zero (zero_at g fields set (λ y. word_at (extents g set) st value y))
-      divided_so x (is, (known, is_operand)) given there divided =
-          stored_then given
-          ∙ assigned_divides fields.scope fields.active set (V.File h.k) place op ty (type_of value) number st shaped (λ y. divides_as op x (number y) is ∙ ap (λ (c : Bool). c && number y == 0) divided)
-          ∙ ap by_zero (zero_there g fields set number (λ y. word_at (extents g set) st value y) there (λ y below. operand_at g has alive n ready places fields set value st s sim is_operand (operand_shape set value is_operand, known.1) c y))
+        pub assigned_follows : After g Q (code (assign_op_of op)) → UpdateLeaves g alive fields whole d s st
+        assigned_follows h =
+            outcome_follows g s o (Parallel stored) u (λ out e. Leaves g alive d e s u) (λ v t out e. Leaves g alive d e s t) (effect_of g.typed (layout g) whole d) (λ out e said. said) (after_same g Q code_is h)
 
-      operator_given : (x : Op) → WithOperator x → IsGiven → set < length (shapes g) → (divides x ≡ true → zero_at g fields set (λ y. word_at (extents g set) st value y) ≡ None) → o ≡ Gives (Parallel w) u
-      operator_given x so given there never = by (divides x) refl
-        where
-          by : (b : Bool) → divides x ≡ b → o ≡ Gives (Parallel w) u
-          by true divided = divided_so x so given there divided ∙ ap by_zero (never divided)
-          by false plain = stored_then given ∙ assigned_is fields.scope fields.active set (V.File h.k) place op ty (type_of value) number st shaped (λ y. divides_as op x (number y) so.0 ∙ ap (λ (c : Bool). c && number y == 0) plain)
+        stored_then : IsGiven → o ≡ assigned fields.scope fields.active place op ty (type_of value) (OfElement b.to.x 0 set) (Parallel number) st
+        stored_then given = assign_means fields.scope fields.active set ty place op p q target value b.to.x number st (b.to.means fields.scope fields.active st) given
 
-      value_ended : Ended g s (meant g fields value st) → Ended g s o
-      value_ended early = record {
-        early = early.early;
-        state = early.state;
-        is = assign_ends fields.scope fields.active set ty place op p q target value (V.File h.k) early.early early.state st (h.means fields.scope fields.active st) early.is;
-        finishes = early.finishes;
-      }
+        pub plain_given : assign_op_of op ≡ None → IsGiven → o ≡ Gives (Parallel stored) u
+        plain_given none given = stored_then given ∙ assigned_is fields.scope fields.active set b.to.x place op ty (type_of value) number st shaped (λ y. divides_never op (number y) none)
 
-      code : Option Op → Made Out
-      code o = elim o as (λ _. Made Out) [ None ↦ put_to g.typed (layout g) (O.Field f) value d1 | Some x ↦ variable_operated g.typed (layout g) x place target value (O.Field f) d1 ]
+        pub value_ended : Ended g s (meant g fields value st) → Ended g s o
+        value_ended early = record {
+          early = early.early;
+          state = early.state;
+          is = assign_ends fields.scope fields.active set ty place op p q target value b.to.x early.early early.state st (b.to.means fields.scope fields.active st) early.is;
+          finishes = early.finishes;
+        }
 
-      bit_below : (b : Bool) → from_bool b < 2 ^ bits
-      bit_below b = let least : 2 ^ 1 ≤ 2 ^ bits = pow-le-pow_right (lit< tt) (kind_bits h.info.elem.bits h.info.elem.signed h.info.elem.kind).0 in by b least
-        where
-          by : (b : Bool) → 2 ^ 1 ≤ 2 ^ bits → from_bool b < 2 ^ bits
-          by true least = omega (arith, least)
-          by false least = omega (arith, least)
+        -- without an operator, where the last instruction puts words with these lowest bits
+        pub plain_after : assign_op_of op ≡ None → (v : ℕ → ℕ) → ((y : ℕ) → number y < 2 ^ bits) → ((y : ℕ) → number y ≡ v y % 2 ^ bits)
+            → ((IsGiven → (e2 : Draft) (i : Instr) → Within g (with_instr i e2) → (passes : Passes g alive (length b.found.e.fields) b.found.e e2 s st (Unit {0})) → Puts g set i f passes.t v → Q (O.Field f) (with_instr i e2)) → (Ended g s (meant g fields value st) → (x : Out) (e : Draft) → Q x e) → After g Q (put_to g.typed (layout g) (O.Field f) value b.found.e))
+            → After g Q (code (assign_op_of op))
+        plain_after none v few lowest last =
+            let plain : (y : ℕ) → stored y ≡ number y = λ y. plainly op ty.elem (type_of value).elem (old y) (number y) none in
+            after_same g Q (ap code none)
+            (last (λ given e2 i within passes puts. inl (plain_given none given, leaves_value set b.to.x b.to.info b.to.living d b.inside b.found s st v stored ((λ y below small. plain y ∙ lowest y), λ y. subst (λ (m : ℕ). m < 2 ^ bits) (sym (plain y)) (few y)) e2 i within passes puts)) (λ early x e. inr (value_ended early)))
 
-      -- what is stored without an operator
-      plain_stored : assign_op_of op ≡ None → (type_of value).elem.bits ≡ bits → IsOperand set value → (x : ℕ) → (w x ≡ word_at (extents g set) st value x % 2 ^ bits) × (w x < 2 ^ bits)
-      plain_stored none long is_operand x =
-          let small : number x < 2 ^ (type_of value).elem.bits = operand_small g alive n places fields set value st s sim is_operand c x in
-          let few : number x < 2 ^ bits = subst (λ (b : ℕ). number x < 2 ^ b) long small in
-          let stored : w x ≡ number x = plainly op ty.elem (type_of value).elem (old x) (number x) none in (
-            stored ∙ sym (held_first (type_of value).elem (number x) bits small (omega (arith, long)) ∙ mod-eq_of_lt few),
-            subst (λ (m : ℕ). m < 2 ^ bits) (sym stored) few,
-          )
+        -- with one: its code writes the variable in place
+        abbrev by_zero : Option ℕ → Outcome Value
+        by_zero z = elim z as (λ _. Outcome Value) [ None ↦ Gives (Parallel stored) u | Some y ↦ Source.Ends (Source.Fault DivZero place (Some y)) st ]
 
-      plain_put : assign_op_of op ≡ None → (type_of value).elem.bits ≡ bits → IsOperand set value → (IsPure set value × IsPlain bits value) ⊎ IsPromoted set value → After g Q (code (assign_op_of op))
-      plain_put is known is_operand any =
-          after_same g Q (ap code is)
-          (put_last g has alive n ready places fields set (length d.fields) bits value (kind_bits h.info.elem.bits h.info.elem.signed h.info.elem.kind).0 most any c d1 s st (starts_entry g alive _ _ here) sim Q
-          (λ given e2 i within passes puts. inl (plain_given is given, leaves_value set h.k h.info h.is d s st (λ x. word_at (extents g set) st value x) w (λ x below small. (plain_stored is known is_operand x).0, λ x. (plain_stored is known is_operand x).1) e2 i within passes puts)) (λ early out e. inr (value_ended early)))
+        divided_so : (x : Op) → assign_op_of op ≡ Some x → IsGiven → set < length (shapes g) → divides x ≡ true → o ≡ by_zero (zero_at g fields set number)
+        divided_so x is given there divided =
+            stored_then given
+            ∙ assigned_divides fields.scope fields.active set b.to.x place op ty (type_of value) number st shaped (λ y. divides_as op x (number y) is ∙ ap (λ (c : Bool). c && number y == 0) divided)
+            ∙ ap by_zero (zero_there g fields set number number there (λ y below. refl))
 
-      truth_put : assign_op_of op ≡ None → IsTruth set bits value → After g Q (code (assign_op_of op))
-      truth_put is truth =
-          let few : (x : ℕ) → number x < 2 ^ bits = λ x. subst (λ (m : ℕ). m < 2 ^ bits) (sym (truth_bit (extents g set) st set bits value x truth)) (bit_below (nonzero (number x))) in
-          let stored : (x : ℕ) → w x ≡ number x = λ x. plainly op ty.elem (type_of value).elem (old x) (number x) is in
-          after_same g Q (ap code is)
-          (truth_last g has alive n ready places fields set h.k (length d.fields) bits h.info h.is (kind_bits h.info.elem.bits h.info.elem.signed h.info.elem.kind).0 refl d1 s st (starts_entry g alive _ _ here) sim (entry_for set h.k h.info h.is d s st) Q value truth c
-          (λ given e2 f2 used within passes wanted last. inl (plain_given is given, leaves set h.k h.info h.is d s st number w (λ x below small. stored x ∙ sym (mod-eq_of_lt (few x)), λ x. subst (λ (m : ℕ). m < 2 ^ bits) (sym (stored x)) (few x)) e2 f2 used within passes wanted last)) (λ early out e. inr (value_ended early)))
+        operator_given : (x : Op) → assign_op_of op ≡ Some x → IsGiven → set < length (shapes g) → (divides x ≡ true → zero_at g fields set number ≡ None) → o ≡ Gives (Parallel stored) u
+        operator_given x is given there never = by (divides x) refl
+          where
+            by : (c : Bool) → divides x ≡ c → o ≡ Gives (Parallel stored) u
+            by true divided = divided_so x is given there divided ∙ ap by_zero (never divided)
+            by false plain = stored_then given ∙ assigned_is fields.scope fields.active set b.to.x place op ty (type_of value) number st shaped (λ y. divides_as op x (number y) is ∙ ap (λ (c : Bool). c && number y == 0) plain)
 
-      pure_put : assign_op_of op ≡ None → (type_of value).elem.bits ≡ bits → IsPure set value → IsTruth set bits value ⊎ IsPlain bits value → After g Q (code (assign_op_of op))
-      pure_put is known pure (inl truth) = truth_put is truth
-      pure_put is known pure (inr plain) = plain_put is known (inl pure) (inl (pure, plain))
-
-      by : (o : Option Op) → assign_op_of op ≡ o → (elim o as (λ _. Type 0) [ None ↦ (type_of value).elem.bits ≡ bits | Some o ↦ IsOperation o value × ((type_of value).elem.bits ≡ 32) × ((bits == 1) ≡ false) × (operation_bits bits o value ≡ bits) ]) → IsOperand set value
-          → After g Q (code (assign_op_of op))
-      by None is known (inl pure) = pure_put is known pure (truth_or_plain set bits value pure)
-      by None is known (inr promoted) = plain_put is known (inr promoted) (inr promoted)
-      by (Some x) is known is_operand =
-          let signed : Bool = assigned_signed x (type_of target).elem (type_of value).elem in
-          let wide : IsWide set (type_of value) = (operand_shape set value is_operand, known.1) in
-          let given_by : ℕ → ℕ = λ y. outcome x 32 (not (assigned_signed x h.info.elem (type_of value).elem)) (held h.info.elem (old y)) (number y) in
-          let operated : (y : ℕ) → w y ≡ given_by y % 2 ^ bits = λ y.
-          ap (λ (e : Elem). updated op e (type_of value).elem (old y) (number y)) is_elem
-          ∙ updated_is op x h.info.elem (type_of value).elem (old y) (number y) is known.2 known.1
-          (operation_below x (assigned_signed x h.info.elem (type_of value).elem) (held h.info.elem (old y)) (number y) known.0.0 (held_below h.info.elem (old y)) (below_word (type_of value).elem.bits _ known.1 (operand_small g alive n places fields set value st s sim is_operand c y))) in
-          after_same g Q (ap code is)
-          (in_place_last g has alive n ready places fields set (length d.fields) (V.File h.k) h.info x signed place value d1 s st (λ e m longer within. file_carries g alive places fields set h.k h.info f h.is (entry_for set h.k h.info h.is d s st e m longer within) refl refl) known.0 known.3 is_operand c (starts_entry g alive _ _ here) sim Q
-          (λ given there never e2 i within passes puts. inl (
-            operator_given x (is, (known, is_operand)) given there never,
-            leaves_value set h.k h.info h.is d s st (λ y. outcome x 32 (not signed) (held h.info.elem (old y)) (word_at (extents g set) st value y)) w (
-              λ y below small.
-                  operated y
-                  ∙ ap (λ (m : ℕ). outcome x 32 (not (assigned_signed x h.info.elem (type_of value).elem)) (held h.info.elem (old y)) m % 2 ^ bits) (sym (operand_at g has alive n ready places fields set value st s sim is_operand wide c y))
-                  ∙ ap (λ (e : Elem). outcome x 32 (not (assigned_signed x e (type_of value).elem)) (held h.info.elem (old y)) (word_at (extents g set) st value y) % 2 ^ bits) (sym h.elem),
-              λ y. subst (λ (m : ℕ). m < 2 ^ bits) (sym (operated y)) (mod_below (given_by y) (2 ^ bits) (pow_pos bits)),
-            ) e2 i within passes puts,
-          )) (λ early out e. inr (value_ended early))
-          (λ given there divided y none ends out e. inr (record { early = Source.Fault DivZero place (Some y); state = st; is = divided_so x (is, (known, is_operand)) given there divided ∙ ap by_zero none; finishes = ends })))
-
-  -- one more, or one less
-  abbrev stepping : StepOp → Op
-  stepping Sp.Increment = P.Add
-  stepping Sp.Decrement = P.Sub
-
-  step_known : (op : StepOp) → relates (stepping op) ≡ false
-  unfolding relates
-  step_known Sp.Increment = refl
-  step_known Sp.Decrement = refl
-
-  step_assigns : (op : StepOp) → assign_op_of (step_op op) ≡ Some (stepping op)
-  unfolding assign_op_of
-  step_assigns Sp.Increment = refl
-  step_assigns Sp.Decrement = refl
-
-  step_operates : (op : StepOp) (signed : Bool) → step_operation op ≡ operation_of (stepping op) signed
-  unfolding step_operation operation_of
-  step_operates Sp.Increment signed = refl
-  step_operates Sp.Decrement signed = refl
-
-  step_modular : (op : StepOp) → is_modular (stepping op) ≡ true
-  unfolding is_modular
-  step_modular Sp.Increment = refl
-  step_modular Sp.Decrement = refl
-
-  stepped_is : (set k : ℕ) (target : TExpr) → own_of 1 target ≡ Some (record { shape = Some set; variable = V.File k }) → ((type_of target).elem.bits == 1) ≡ false → stepped_own target ≡ Some (record { shape = Some set; variable = V.File k })
-  stepped_is set k target own no_truth =
-      ap (λ (o : Option Own). elim o as (λ _. Option Own) [ Some own ↦ if is_none own.shape || not ((type_of target).elem.bits == 1) then Some own else None | None ↦ None ]) own
-      ∙ ap (λ (b : Bool). if not b then Some mine else None) no_truth
-    where
-      mine : Own
-      mine = record { shape = Some set; variable = V.File k }
-
-  steps : (ty : ValueType) (op : StepOp) (order : StepOrder) (p : Boxed) (target : TExpr) (set : ℕ) → ty ≡ type_of target → IsTarget set target → (ty.elem.bits == 1) ≡ false → NamesVariables g.typed g.instance n target
-      → (d : Draft) (s : CodeState) (st : State) → Starts g alive s (length d.code) d.regs (length d.fields) → Sim g alive st s
-      → UpdateLeaves g alive fields (T.Step' ty op order p target) d s st
-  unfolding effect_of step_effect variable_stepped word_in step_of
-  steps ty op order p target set same is_target no_truth names d s st here sim =
-      outcome_follows g s (meant g fields (T.Step' ty op order p target) st) means.0 u (λ out e. Leaves g alive d e s u) (λ v t out e. Leaves g alive d e s t) (effect_of g.typed (layout g) (T.Step' ty op order p target) d) (λ out e said. said)
-      (after_same g Q
-      (ap (λ (o : Option Own). elim o as (λ _. Made Out) [ Some own ↦ then_make (whole_of g.typed (layout g) target own d) (λ dest after. variable_stepped (layout g) (type_of target).elem op dest after) | None ↦ value_of g.typed (layout g) ty.elem.bits (T.Step' ty op order p target) d ]) (stepped_is set h.k target h.own (ap (λ (y : ValueType). y.elem.bits == 1) (sym same) ∙ no_truth))
-      ∙ variable_is set h.k h.info h.is d s st target (λ dest after. variable_stepped (layout g) (type_of target).elem op dest after) h.elem
-      ∙ ap (λ act. Makes (O.Field f) (with_instr (I.OperateConstant act f f (K.Imm 1)) d1)) (step_operates op signed))
-      (made_after g Q (O.Field f) (with_instr i d1) (λ within.
-      let file : IsFileField g h.k 0 f = entry_for set h.k h.info h.is d s st (with_instr i d1) 1 (and_one g i d1) within in
-      let named : IsNamedAt g.unit f.offset (length d1.code) = names_first g i f (f ∷ []) (length d1.code) (stands_here g i d1 within refl) refl in
-      let behind : s.at ≤ start g + length d1.code = (let at = here.stands in omega (arith, at)) in
-      let numbers = variable_has g has alive n ready places fields set (V.File h.k) h.info f s st (file_carries g alive places fields set h.k h.info f h.is file refl refl) (length d1.code) named behind sim in
-      inl (
-        means.1,
-        leaves_value set h.k h.info h.is d s st (λ x. outcome (stepping op) 32 (not signed) (held elem (old x)) 1) w
-            (λ x below small. moved x, λ x. subst (λ (m : ℕ). m < 2 ^ elem.bits) (sym (moved x)) (mod_below (given_by x) (2 ^ elem.bits) (pow_pos elem.bits)))
-            d1 i within (passes_all g alive (length d1.fields) d1 s st (Unit {0}) (starts_entry g alive _ _ here) sim)
-            (puts_operate_constant g elem.bits set (stepping op) signed f f (K.Imm 1) s (λ q. held elem (old q)) (step_known op) (modular_keeps (stepping op) signed elem.bits 1 (step_modular op) (kind_bits elem.bits elem.signed elem.kind).1) refl numbers.0 (omega arith)),
-      ))))
-    where
-      h : IsFileTarget g.typed set target
-      h = file_target g.typed g.instance n set target is_target names
-
-      elem : Elem
-      elem = h.info.elem
-
-      is_elem : ty.elem ≡ elem
-      is_elem = ap (λ (y : ValueType). y.elem) same ∙ h.elem
-
-      old : ℕ → ℕ
-      old = λ x. st.parallel (V.File h.k) 0 x
-
-      w : ℕ → ℕ
-      w = λ x. updated (step_op op) ty.elem (promoted ty.elem) (old x) 1
-
-      u : State
-      u = with_positions (V.File h.k) 0 (fields.active set) w st
-
-      d1 : Draft
-      d1 = with_entry set elem.bits (W.File (file_number g.typed h.k 0)) d
-
-      f : Field
-      f = next_field set elem.bits d
-
-      signed : Bool
-      signed = assigned_signed (stepping op) elem (promoted elem)
-
-      i : Instr
-      i = I.OperateConstant (operation_of (stepping op) signed) f f (K.Imm 1)
-
-      given_by : ℕ → ℕ
-      given_by = λ x. outcome (stepping op) 32 (not signed) (held elem (old x)) 1
-
-      moved : (x : ℕ) → w x ≡ given_by x % 2 ^ elem.bits
-      moved x =
-          ap (λ (e : Elem). updated (step_op op) e (promoted e) (old x) 1) is_elem
-          ∙ updated_is (step_op op) (stepping op) elem (promoted elem) (old x) 1 (step_assigns op) (ap (λ (e : Elem). e.bits == 1) (sym is_elem) ∙ no_truth) (promoted_wide elem) (operation_below (stepping op) signed (held elem (old x)) 1 (step_known op) (held_below elem (old x)) (omega arith))
-
-      means : (v : Value) × (meant g fields (T.Step' ty op order p target) st ≡ Gives v u)
-      means = step_means fields.scope fields.active set ty op order p target (V.File h.k) st (ap (λ (y : ValueType). y.shape) same ∙ h.shape) (h.means fields.scope fields.active st)
-
-      Q : Out → Draft → Type 0
-      Q out e = ((meant g fields (T.Step' ty op order p target) st ≡ Gives means.0 u) × Leaves g alive d e s u) ⊎ Ended g s (meant g fields (T.Step' ty op order p target) st)
-
-  -- an update leaves what it leaves in the source
-  pub updates_leave : (e : TExpr) → IsUpdate e → HasItsCode g.typed g.instance alive n e → (d : Draft) (s : CodeState) (st : State) → Starts g alive s (length d.code) d.regs (length d.fields) → Sim g alive st s → UpdateLeaves g alive fields e d s st
-  unfolding IsUpdate NamesVariables IsShaped IsLowerable NamesAmong
-  updates_leave (T.Assign' ty place op p target q value) is c =
-      assigns ty place op p q target value set_of is.1.0 is.1.1 is.1.2 is.1.3 c.code.names.0 (record { code = record { shaped = c.code.shaped.3; lowerable = c.code.lowerable.3; names = c.code.names.1 }; among = c.among.1 })
-    where
-      set_of : ℕ
-      set_of = is.0
-  updates_leave (T.Step' ty op order p target) is c = steps ty op order p target is.0 is.1.0 is.1.1 is.1.2 c.code.names
-  updates_leave _ is c = absurd is
+        pub operator_after : (x : Op) → assign_op_of op ≡ Some x → IsOperation x value × ((type_of value).elem.bits ≡ 32) × ((ty.elem.bits == 1) ≡ false) × (operation_bits ty.elem.bits x value ≡ ty.elem.bits) → ((y : ℕ) → number y < 2 ^ 32) → ((signed : Bool) (y : ℕ) → Keeps x signed (operation_bits bits x value) (number y))
+            → GivesOperand g has alive n ready places fields bits set x value st number number → HasItsCode g.typed g.instance alive n value → After g Q (code (assign_op_of op))
+        unfolding variable_operated
+        operator_after x is known few keeps right c =
+            let signed : Bool = assigned_signed x (type_of target).elem (type_of value).elem in
+            let given_by : ℕ → ℕ = λ y. outcome x 32 (not signed) (held b.to.info.elem (old y)) (number y) in
+            let operated : (y : ℕ) → stored y ≡ given_by y % 2 ^ bits = λ y.
+            ap (λ (e : Elem). updated op e (type_of value).elem (old y) (number y)) is_elem
+            ∙ updated_is op x b.to.info.elem (type_of value).elem (old y) (number y) is (ap (λ (e : Elem). e.bits == 1) (sym is_elem) ∙ known.2) known.1
+            (operation_below x (assigned_signed x b.to.info.elem (type_of value).elem) (held b.to.info.elem (old y)) (number y) known.0.0 (held_below b.to.info.elem (old y)) (few y))
+            ∙ ap (λ (e : Elem). outcome x 32 (not (assigned_signed x e (type_of value).elem)) (held b.to.info.elem (old y)) (number y) % 2 ^ bits) (sym b.to.elem) in
+            after_same g Q (ap code is)
+            (in_place_last g has alive n ready places fields set b.found.f.offset b.to.x b.to.info x signed place value number number b.found.e s st (carried set b.to.x b.to.info b.to.living d b.inside b.found) known.0.0 (subst (λ (e : Elem). operation_bits e.bits x value ≡ e.bits) is_elem known.3) (λ y. keeps signed y) right c b.here b.sim Q
+            (λ given there never e2 i within passes puts. inl (
+              operator_given x is given there never,
+              leaves_value set b.to.x b.to.info b.to.living d b.inside b.found s st given_by stored ((λ y below small. operated y), λ y. subst (λ (m : ℕ). m < 2 ^ bits) (sym (operated y)) (mod_below (given_by y) (2 ^ bits) (pow_pos bits))) e2 i within passes puts,
+            )) (λ early z e. inr (value_ended early))
+            (λ given there divided y none finishes z e. inr (record { early = Source.Fault DivZero place (Some y); state = st; is = divided_so x is given there divided ∙ ap by_zero none; finishes = finishes })))

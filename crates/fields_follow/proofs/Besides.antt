@@ -25,7 +25,7 @@ use Rattle.code_follows.proofs.Parts.{BesideFollows}
 use Rattle.code_follows.proofs.Settings.{At, Begun, Reaches, Setting, Within, layout, onto}
 use Rattle.code_follows.proofs.Values.{Dest}
 use Rattle.fields_follow.specs.Fragment.{IsFold, IsOfFile, IsParallelEffect}
-use Rattle.fields_follow.proofs.Assigning.{updates_leave}
+use Rattle.fields_follow.proofs.Updating.{updates_leave}
 use Rattle.fields_follow.proofs.Contexts.{where_follows}
 use Rattle.fields_follow.proofs.Widening.{widening_follows}
 use Rattle.fields_follow.proofs.FoldingOnto.{onto_leaves}
@@ -43,7 +43,7 @@ use Rattle.fields_follow.proofs.Reductions.{GivesRegister, fold_type, folds_give
 use Rattle.fields_follow.proofs.Sends.{sends_leave}
 use Rattle.fields_follow.proofs.SinglePositions.{reads_follow}
 use Rattle.fields_follow.proofs.Starts.{Starts}
-use Rattle.fields_follow.proofs.ScalarOperating.{changing_leaves}
+use Rattle.fields_follow.proofs.ScalarAssigning.{changing_leaves}
 
 module _ (g : Setting) (scope : Scope) (active : Active) (known : KnowsFields g scope active) (has : HasRegisters g) where
   module _ (alive : Variable → Type 0) (n : ℕ) (ready : (d : Draft) → IsReadyButForFields g.typed g.instance (layout g) n d) (e : TExpr) (c : HasItsCode g.typed g.instance alive n e) (d : Draft) (s : CodeState) (st : State) (begun : Begun g alive d) (at_place : At g s (length d.code)) (files : (k : ℕ) → alive (V.File k)) (sim : Sim g alive st s) where

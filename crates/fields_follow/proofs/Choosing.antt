@@ -249,7 +249,7 @@ module _ (g : Setting) (has : HasRegisters g) (alive : Variable → Type 0) (n :
         tells_at u last sim_there named early late stays = (
           of.0,
           λ x below on.
-              ap (λ (m : ℕ). m == 0) (field_lasts g alive places fields known begun s set st (words test) a e gives u last sim_there stays named early late x below)
+              ap (λ (m : ℕ). m == 0) (field_lasts g alive places fields known begun s set st (words test) a e gives st u last (λ variable is q. refl) sim_there stays named early late x below)
               ∙ told.1 x below (flags_of g alive places fields st t set x gives.passes.sim of.1 below ∙ sym (flags_of g alive places fields st u set x sim_there of.1 below) ∙ on),
         )
 

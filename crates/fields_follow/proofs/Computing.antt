@@ -324,7 +324,7 @@ module _ (g : Setting) (has : HasRegisters g) (alive : Variable → Type 0) (n :
       → Follows g (Given g (λ q. value_in (extents g set) st e q) st (λ out f. (h : Field) × ((out ≡ O.Field h) × GivesField g alive bits (length d.fields) d s set st (λ q. value_in (extents g set) st e q) h f))) s (meant g fields e st) (operand g has alive n ready places fields bits quiet e d)
   whole_after bits set e quiet some most pure wide c d s st here sim =
       given_weaker g s (meant g fields e st) (λ q. value_in (extents g set) st e q) st (Gave g has alive n ready places fields bits set e d s st) (λ out f. (h : Field) × ((out ≡ O.Field h) × GivesField g alive bits (length d.fields) d s set st (λ q. value_in (extents g set) st e q) h f)) (operand g has alive n ready places fields bits quiet e d)
-      (λ out f (h, (is, (gives, apart))). (h, (is, gives_alike g alive places fields bits (length d.fields) d s set st (λ q. word_at (extents g set) st e q) (λ q. value_in (extents g set) st e q) h f (alike_same g bits set _ _ (λ q below few. sym (pure_at g alive n places fields set e st s sim pure wide c q))) gives)))
+      (λ out f (h, (is, (gives, apart))). (h, (is, (gives_alike g alive places fields bits (length d.fields) d s set st (λ q. word_at (extents g set) st e q) (λ q. value_in (extents g set) st e q) h f (alike_same g bits set _ _ (λ q below few. sym (pure_at g alive n places fields set e st s sim pure wide c q))) gives).0)))
       (operand_after g has alive n ready places fields bits set e quiet pure c (pure_after bits set e some most pure c) d s st here sim)
 
   -- the code of the test of a value

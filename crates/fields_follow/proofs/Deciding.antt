@@ -44,22 +44,21 @@ use Rattle.source_meaning.proofs.ConstantLaws.{Boxed}
 use Rattle.code_follows.proofs.Following.{Extends, HasRegisters, Sim}
 use Rattle.code_follows.proofs.Growing.{Extended, extended}
 use Rattle.code_follows.proofs.Settings.{Setting, Within, and_one, layout}
-use Rattle.fields_follow.specs.Fields.{IsElement}
 use Rattle.cstar_tree.specs.Typed.{type_of}
 use Rattle.fields_follow.specs.Fragment.{IsCondition, IsNarrowed, IsPure}
 use Rattle.fields_follow.proofs.Starts.{Starts}
-use Rattle.fields_follow.proofs.Clearing.{field_at, joined_behind, joined_more, truths_taken}
+use Rattle.fields_follow.proofs.Clearing.{both_pass, field_at, joined_behind, joined_more, variable_joined}
 use Rattle.fields_follow.proofs.Conditions.{HaveTheirCode, and_codes, conditions_join, joined_free, joined_kinded, joined_pure, or_codes}
 use Rattle.fields_follow.proofs.Sizes.{brackets_part, convert_part, unary_part, value_small}
 use Rattle.fields_follow.proofs.Pure.{and_number, or_number}
-use Rattle.fields_follow.proofs.Places.{HoldsTheFields, IsFileField, PlacesFields, stands_here}
+use Rattle.fields_follow.proofs.Places.{HoldsTheFields, PlacesFields, stands_here}
 use Rattle.fields_follow.proofs.Computing.{both_flagged, condition_bit, condition_tested}
 use Rattle.fields_follow.proofs.Testing.{and_ended, and_given, or_ended, or_given}
 use Rattle.fields_follow.proofs.Expressions.{convert_ended, convert_means, unary_ended}
 use Rattle.fields_follow.proofs.Lengths.{relates_plainly}
 use Rattle.fields_follow.proofs.Outcomes.{Ended, meant, then_known}
 use Rattle.fields_follow.proofs.TruthValues.{IsPlain, IsTruth, bool_nonzero, truth_bit, truth_converted, truth_or_plain, truth_word}
-use Rattle.fields_follow.proofs.Effects.{computed_last}
+use Rattle.fields_follow.proofs.Effects.{CarriesFrom, computed_last}
 use Rattle.fields_follow.proofs.NarrowKinds.{zero_told}
 use Rattle.std.proofs.lemmas.Nat.{mod_below}
 use Rattle.fields_follow.proofs.Truths.{either_or_both, truth_still}
@@ -70,7 +69,9 @@ use Rattle.fields_follow.proofs.Meaning.{unary_means, value_in, word_at}
 use Rattle.fields_follow.proofs.Leaving.{PassesTests}
 use Rattle.fields_follow.proofs.Passing.{After, Behind, after_same, code_longer, flags_of, made_after, names_second, names_third}
 use Rattle.fields_follow.proofs.PassingTests.{tests_on, tests_passed}
-use Rattle.fields_follow.proofs.Writing.{TakesBehind, entry_and_below, instr_takes}
+use Rattle.fields_follow.proofs.Variables.{Carries}
+use Rattle.fields_follow.proofs.VariableWrites.{entry_and_below}
+use Rattle.fields_follow.proofs.Writing.{TakesBehind, instr_takes}
 use Rattle.fields_follow.proofs.TestFlags.{LeavesTests, truth_is}
 use Rattle.fields_follow.proofs.TruthPuts.{at_once, bit_moved, flag_stored, puts_bit, puts_flags, puts_joined, puts_turned, through_bit}
 
@@ -152,9 +153,8 @@ module _ (g : Setting) where
   -- ---- what it means, and what its code leaves
 
   module _ (has : HasRegisters g) (alive : Variable → Type 0) (n : ℕ) (ready : (d : Draft) → IsReadyButForFields g.typed g.instance (layout g) n d) (places : PlacesFields g) (fields : HoldsTheFields g) where
-    -- What is said where a truth value goes to a variable of the file, behind code of conditions, is said of its code.
-    module _ (set k offset bits : ℕ) (info : VarInfo) (is_element : IsElement g.typed k info set 0) (some : 0 < bits) (word : info.elem.bits ≡ bits) (d : Draft) (s : CodeState) (st : State) (here : Starts g alive s (length d.code) d.regs (length d.fields)) (sim : Sim g alive st s)
-        (entry : (f : Draft) (m : ℕ) → Extended d m f → Within g f → IsFileField g k 0 (field_at set offset bits)) (Q : Out → Draft → Type 0) where
+    -- What is said where a truth value goes to a variable, behind code of conditions, is said of its code.
+    module _ (set offset bits : ℕ) (x : Variable) (living : alive x) (info : VarInfo) (some : 0 < bits) (d : Draft) (s : CodeState) (st : State) (here : Starts g alive s (length d.code) d.regs (length d.fields)) (sim : Sim g alive st s) (carries : CarriesFrom g has alive n ready places fields x info set (field_at set offset bits) d) (Q : Out → Draft → Type 0) where
       abbrev f : Field
       f = field_at set offset bits
 
@@ -172,11 +172,14 @@ module _ (g : Setting) where
       abbrev Ends : TExpr → Type 0
       Ends e = Ended g s (meant g fields e st) → (x : Out) (e2 : Draft) → Q x e2
 
-      -- by an instruction behind such code
+      -- the field carries the variable behind such code
+      carried : (m : ℕ) (e2 f2 : Draft) (used : Type 0) → PassesTests g alive d e2 s st used → Extended e2 m f2 → Within g f2 → Carries g alive x info set f
+      carried m e2 f2 used p more within = carries f2 (p.grown.0 + m) (extended d e2 f2 p.grown.0 m p.grown.1 more) within
+
+      -- by an instruction behind it
       takes_behind : (len : ℕ) → len ≡ bits → (i : Instr) (e2 : Draft) (v : ℕ → ℕ) (used : Type 0) (p : PassesTests g alive d e2 s st used) → Within g (with_instr i e2) → Puts g set i (field_at set offset len) p.t v → TakesBehind g set f e2 (with_instr i e2) p.t v
       takes_behind len same i e2 v used p within puts =
-          let file : IsFileField g k 0 f = entry (with_instr i e2) (p.grown.0 + 1) (extended d e2 (with_instr i e2) p.grown.0 1 p.grown.1 (and_one g i e2)) within in
-          instr_takes g set i f e2 p.t v (entry_and_below g places fields alive set k 0 info f is_element word file refl) within p.at.stands (subst (λ (m : ℕ). Puts g set i (field_at set offset m) p.t v) same puts)
+          instr_takes g set i f e2 p.t v (entry_and_below g places fields alive x info set f (carried 1 e2 (with_instr i e2) used p (and_one g i e2) within)) within p.at.stands (subst (λ (m : ℕ). Puts g set i (field_at set offset m) p.t v) same puts)
 
       is_bit : (n : ℕ) → n < 2 ^ 1 → (b : Bool) → (n == 0) ≡ b → n ≡ from_bool (not (n == 0))
       is_bit n few true e = eqb-true n 0 e ∙ sym (ap (λ (b : Bool). from_bool (not b)) e)
@@ -199,7 +202,7 @@ module _ (g : Setting) where
               let is_one : bits ≡ 1 = sym same ∙ one in
               let puts : Puts g set (I.StoreTest (field_at set offset 1)) (field_at set offset 1) left.leaves.t (words_of e) =
               puts_flags g set offset left.leaves.t (words_of e)
-              (λ q below on. left.flags q below (sym (flags_of g alive places fields st left.leaves.t set q left.leaves.sim (subst (λ (m : ℕ). m < length (shapes g)) refl (places.exists k 0 set info is_element)) below) ∙ on) ∙ same_truth q below) truth in
+              (λ q below on. left.flags q below (sym (flags_of g alive places fields st left.leaves.t set q left.leaves.sim (carried 1 e2 (with_instr (I.StoreTest (field_at set offset 1)) e2) (Unit {0}) left.leaves (and_one g (I.StoreTest (field_at set offset 1)) e2) within).exists below) ∙ on) ∙ same_truth q below) truth in
               subst (λ (m : ℕ). Q (O.Field (field_at set offset m)) (with_instr (I.StoreTest (field_at set offset 1)) e2)) is_one
               (last (gives given) e2 (with_instr (I.StoreTest (field_at set offset 1)) e2) (Unit {0}) within left.leaves tt (takes_behind 1 (sym is_one) (I.StoreTest (field_at set offset 1)) e2 (words_of e) (Unit {0}) left.leaves within puts)))) (λ early. ended (ends early)))
 
@@ -278,7 +281,9 @@ module _ (g : Setting) where
           by false several =
               after_same g Q (joined_code is_or set offset bits e left right d join several)
               (both_flagged g has alive n ready places fields set left right is also same codes d s st here sim Q (λ a b e2. joined_last is_or set offset bits a b e2) (λ a b e2. (2, joined_more g is_or set offset bits a b e2)) (λ given exists a b e1 e2 one two. made_after g Q (O.Field f) (joined_behind is_or set offset bits a b e2) (λ within.
-              let (passes, takes) = truths_taken g places fields alive set k offset info is_element bits some word is_or a b d e1 e2 s st (words_of left) (words_of right) one two (let some_bits = some in grind (arith, nat_tests, several, some_bits)) (λ m longer. entry (joined_behind is_or set offset bits a b e2) m longer within) within in
+              let many : 1 < bits = let some_bits = some in grind (arith, nat_tests, several, some_bits) in
+              let both = both_pass g places fields alive set offset bits some is_or a b d e1 e2 s st (words_of left) (words_of right) one two within in
+              let (passes, takes) = variable_joined g places fields alive set offset bits many x living info (carried 2 e2 (joined_behind is_or set offset bits a b e2) (Unit {0}) both (joined_more g is_or set offset bits a b e2) within) is_or a b d e1 e2 s st (words_of left) (words_of right) here one two within in
               last (gives given exists) e2 (joined_behind is_or set offset bits a b e2) (Unit {0}) within passes tt (subst (λ (v : ℕ → ℕ). TakesBehind g set f e2 (joined_behind is_or set offset bits a b e2) passes.t v) value takes))) (λ early. ended (ends early)))
 
       truth_computed : (e : TExpr) → IsTruth set bits e → HasItsCode g.typed g.instance alive n e → Last e → Ends e → After g Q (computed_to g.typed (layout g) (O.Field f) e d)

@@ -20,7 +20,7 @@ use Rattle.code_lengths.specs.Ready.{IsReadyButForFields}
 use Rattle.lower_base.specs.declared.emit.Out.{Out}
 use Rattle.lower_base.specs.declared.emit.Out.TheVariants as O
 use Rattle.lower_base.specs.Drafts.{Draft, Fails, Made, Makes, a_field, an_entry, in_field, step as step_of, then_make, with_instr}
-use Rattle.lower_base.specs.Operators.{negates}
+use Rattle.lower_base.specs.Operators.{negates, relates}
 use Rattle.lower_expr.specs.Effects.{binary_to, bits_for, cast_to, computed_to, converted_to, field_binary_to, field_operated, fits_field, goes_unchanged, gone_to, keeps_bits, logical_to, moved, put_to}
 use Rattle.lower_expr.specs.Kinds.{done_as, operand_bits, operation_bits, reads_signed, unary_bits}
 use Rattle.lower_expr.specs.Operands.{is_plus, is_quiet, operand_by}
@@ -36,28 +36,28 @@ use Rattle.paris_code.specs.Code.{CodeState}
 use Rattle.source_meaning.specs.Expressions.{evaluated}
 use Rattle.source_meaning.specs.State as Source
 use Rattle.source_meaning.specs.State.{State}
-use Rattle.source_meaning.specs.Values.{Value}
+use Rattle.source_meaning.specs.Values.{Parallel, Value}
 use Rattle.source_meaning.proofs.ConstantLaws.{Boxed}
 use Rattle.vp_sets.specs.Positions.{coordinate}
-use Rattle.code_follows.proofs.Following.{Finishes, HasRegisters, Sim, extends_then, held}
+use Rattle.code_follows.proofs.Following.{Finishes, Follows, HasRegisters, Sim, extends_then, held}
 use Rattle.code_follows.proofs.Growing.{Extended}
 use Rattle.code_follows.proofs.Words.{held_wide}
 use Rattle.code_follows.proofs.Settings.{Setting, Within, and_one, layout, start}
 use Rattle.code_follows.specs.Fragment.{NamesAmong}
-use Rattle.fields_follow.specs.Fragment.{HasKnownKind, IsOperand, IsOperation, IsPromoted, IsPure, IsRelation, IsWide}
+use Rattle.fields_follow.specs.Fragment.{HasKnownKind, IsOperation, IsPromoted, IsPure, IsRelation, IsWide}
 use Rattle.fields_follow.proofs.Arms.{PutsLast as Puts_last, field_at, promoted_last, value_last}
 use Rattle.fields_follow.proofs.Forms.{HasItsCode, HasItsWord, IsRead, pure_kept, pure_word}
 use Rattle.fields_follow.proofs.Dividing.{zero_at}
-use Rattle.fields_follow.proofs.Outcomes.{Ended, ended_back, meant, then_known}
+use Rattle.fields_follow.proofs.Outcomes.{Ended, Given, ended_back, meant, then_known}
 use Rattle.fields_follow.proofs.Hops.{puts_same}
 use Rattle.fields_follow.proofs.Instructions.{AreAlike, Puts, alike_same, extents, shapes, puts_alike, puts_coordinate, puts_extended}
 use Rattle.fields_follow.proofs.Lengths.{Keeps, divides_wide}
 use Rattle.fields_follow.proofs.Meaning.{as_shaped, read_is, right_of, unary_means, value_in, word_at}
 use Rattle.fields_follow.proofs.Indexing.{all_coded}
 use Rattle.fields_follow.proofs.Router.{indexed_last}
-use Rattle.fields_follow.proofs.Operands.{GivesRight, Takes, fields_after, operated_after, operated_extends, right_after, right_extends}
+use Rattle.fields_follow.proofs.Operands.{GivesRight, Takes, fields_after, operated_after, operated_extends, right_extends}
 use Rattle.fields_follow.proofs.Passing.{After, Behind, GivesField, Passes, after_same, fields_longer, made_after, passes_all, passes_from, then_after, names_second}
-use Rattle.fields_follow.proofs.Places.{HoldsTheFields, IsFileField, PlacesFields, stands_here}
+use Rattle.fields_follow.proofs.Places.{HoldsTheFields, PlacesFields, stands_here}
 use Rattle.fields_follow.proofs.Promoted.{IsComputed, promoted_stands}
 use Rattle.fields_follow.proofs.Sizes.{binary_parts, brackets_part, convert_part, unary_part}
 use Rattle.fields_follow.proofs.Totals.{held_below}
@@ -324,43 +324,41 @@ module _ (g : Setting) (has : HasRegisters g) (alive : Variable → Type 0) (n :
       same (inl h) = ap (code put) h.is ∙ sym (ap (code moves) h.is)
       same (inr h) = ap (code put) h.no_word ∙ h.computed f d ∙ ap (λ (m : Made Out). then_make m (λ v after. put_value (O.Field f) v after)) (sym (h.code true bits d)) ∙ sym (ap (code moves) h.no_word)
 
-  -- The field is an entry for a variable of the file wherever the draft is within the unit.
-  abbrev pub IsEntryFor : ℕ → Field → Draft → Type 0
-  IsEntryFor k f d = (e : Draft) (m : ℕ) → Extended d m e → Within g e → IsFileField g k 0 f
-
   -- the field carries a variable there
   abbrev pub CarriesFrom : Variable → VarInfo → ℕ → Field → Draft → Type 0
   CarriesFrom x info set f d = (e : Draft) (m : ℕ) → Extended d m e → Within g e → Carries g alive x info set f
 
-  -- an operator on the field of a variable and a value
-  pub in_place_last : (set offset : ℕ) (x : Variable) (info : VarInfo) (op : Op) (signed : Bool) (place : Place) (value : TExpr) (d : Draft) (s : CodeState) (st : State) → CarriesFrom x info set (field_at set offset info.elem.bits) d
-      → IsOperation op value → operation_bits info.elem.bits op value ≡ info.elem.bits → IsOperand set value → HasItsCode g.typed g.instance alive n value → Starts g alive s (length d.code) d.regs (length d.fields) → Sim g alive st s → (Q : Out → Draft → Type 0)
-      → (IsGiven set value st → set < length (shapes g) → (divides op ≡ true → zero_at g fields set (words_of set value st) ≡ None) → (e2 : Draft) (i : Instr) → Within g (with_instr i e2) → (p : Passes g alive (length d.fields) d e2 s st (Unit {0})) → Puts g set i (field_at set offset info.elem.bits) p.t (λ q. outcome op 32 (not signed) (held info.elem (st.parallel x 0 q)) (words_of set value st q)) → Q (O.Field (field_at set offset info.elem.bits)) (with_instr i e2))
+  -- the code of a right operand gives it, where the source gives it these numbers, whose words these are
+  abbrev pub GivesOperand : ℕ → ℕ → Op → TExpr → State → (ℕ → ℕ) → (ℕ → ℕ) → Type 0
+  GivesOperand bits set op value st v w =
+      (e : Draft) (t : CodeState) → Starts g alive t (length e.code) e.regs (length e.fields) → Sim g alive st t
+      → Follows g (Given g v st (λ right f. Takes op right × GivesRight g has alive n ready places fields bits (length e.fields) e t set st w right f)) t (meant g fields value st) (right_by (operand bits true value) op value e)
+
+  -- an operator on the field of a variable and such a value
+  pub in_place_last : (set offset : ℕ) (x : Variable) (info : VarInfo) (op : Op) (signed : Bool) (place : Place) (value : TExpr) (number w : ℕ → ℕ) (d : Draft) (s : CodeState) (st : State) → CarriesFrom x info set (field_at set offset info.elem.bits) d → relates op ≡ false → operation_bits info.elem.bits op value ≡ info.elem.bits
+      → ((q : ℕ) → Keeps op signed (operation_bits info.elem.bits op value) (w q)) → GivesOperand info.elem.bits set op value st number w → HasItsCode g.typed g.instance alive n value → Starts g alive s (length d.code) d.regs (length d.fields) → Sim g alive st s → (Q : Out → Draft → Type 0)
+      → (meant g fields value st ≡ Source.Gives (Parallel number) st → set < length (shapes g) → (divides op ≡ true → zero_at g fields set w ≡ None) → (e2 : Draft) (i : Instr) → Within g (with_instr i e2) → (p : Passes g alive (length d.fields) d e2 s st (Unit {0})) → Puts g set i (field_at set offset info.elem.bits) p.t (λ q. outcome op 32 (not signed) (held info.elem (st.parallel x 0 q)) (w q)) → Q (O.Field (field_at set offset info.elem.bits)) (with_instr i e2))
       → (Ended g s (meant g fields value st) → (x : Out) (after : Draft) → Q x after)
-      → (IsGiven set value st → set < length (shapes g) → divides op ≡ true → (q : ℕ) → zero_at g fields set (words_of set value st) ≡ Some q → Finishes g (Source.Fault DivZero place (Some q)) st s → (x : Out) (after : Draft) → Q x after)
+      → (meant g fields value st ≡ Source.Gives (Parallel number) st → set < length (shapes g) → divides op ≡ true → (q : ℕ) → zero_at g fields set w ≡ Some q → Finishes g (Source.Fault DivZero place (Some q)) st s → (x : Out) (after : Draft) → Q x after)
       → After g Q (field_operated g.typed (layout g) op signed place (field_at set offset info.elem.bits) value d)
   unfolding field_operated then_make an_entry passes_from
-  in_place_last set offset x info op signed place value d s st carries known works isin c here sim Q last ended fault =
+  in_place_last set offset x info op signed place value number w d s st carries operates works keeps right c here sim Q last ended fault =
       then_after g (GivesField g alive bits (length d1.fields) d1 s set st v) Q (Makes f d1) (λ a begun. then_make (right_by (operand bits true value) op value begun) (λ right after. right_operated op signed place f a right spare after))
       (made_after g (GivesField g alive bits (length d1.fields) d1 s set st v) f d1 (λ within. record {
         passes = passes_all g alive (length d1.fields) d1 s st (Behind g f d1) (starts_entry g alive _ _ here) sim;
         stands = inr (record { x = x; info = info; carries = carries d1 0 (and_entry set bits W.Own d) within; len = refl; fits = omega arith; same = λ q below. (refl, held_below info.elem (st.parallel x 0 q)) });
       }))
-      (λ a begun. extends_then g begun (right_by (operand bits true value) op value begun) (λ right after. right_operated op signed place f a right spare after) (right_extends g (operand bits true value) op value (λ after. operand_grows g has alive n ready places fields bits value c true after) begun) (λ right after. operated_extends g op signed place f a spare right after known.0))
-      (λ a e1 one. then_known g one.passes.t (meant g fields value st) (λ q. value_in (extents g set) st value q) st (λ right e. Takes op right × GivesRight g has alive n ready places fields bits (length e1.fields) e1 one.passes.t set st w right e) Q (right_by (operand bits true value) op value e1) (λ right after. right_operated op signed place f a right spare after)
-      (right_after g has alive n ready places fields bits set op value known.1 isin c (λ pure. pure_after g has alive n ready places fields bits set value (kind_bits info.elem.bits info.elem.signed info.elem.kind).0 most pure c) e1 one.passes.t st one.passes.at one.passes.sim)
-      (λ right after. operated_extends g op signed place f a spare right after known.0)
-      (λ given right e2 two. operated_after g has alive n ready places fields bits (length d1.fields) set op signed place f a v w d e1 e2 s st (no_home g alive (length d.fields) (length d.fields) (omega arith) here) known.0 (λ divided. sym works ∙ divides_wide bits op value divided)
-      (λ q. subst (λ (x : ℕ). Keeps op signed x (w q)) works (operands_keep g has alive n ready places fields bits set op signed value st most known isin c q)) refl (let first = one_more set bits W.Own d in omega (arith, first)) (fields_longer d1 e1 one.passes.grown.0 one.passes.grown.1) one right
+      (λ a begun. extends_then g begun (right_by (operand bits true value) op value begun) (λ right after. right_operated op signed place f a right spare after) (right_extends g (operand bits true value) op value (λ after. operand_grows g has alive n ready places fields bits value c true after) begun) (λ right after. operated_extends g op signed place f a spare right after operates))
+      (λ a e1 one. then_known g one.passes.t (meant g fields value st) number st (λ right e. Takes op right × GivesRight g has alive n ready places fields bits (length e1.fields) e1 one.passes.t set st w right e) Q (right_by (operand bits true value) op value e1) (λ right after. right_operated op signed place f a right spare after)
+      (right e1 one.passes.t one.passes.at one.passes.sim) (λ right after. operated_extends g op signed place f a spare right after operates)
+      (λ given right e2 two. operated_after g has alive n ready places fields bits (length d1.fields) set op signed place f a v w d e1 e2 s st (no_home g alive (length d.fields) (length d.fields) (omega arith) here) operates (λ divided. sym works ∙ divides_wide bits op value divided)
+      (λ q. subst (λ (x : ℕ). Keeps op signed x (w q)) works (keeps q)) refl (let first = one_more set bits W.Own d in omega (arith, first)) (fields_longer d1 e1 one.passes.grown.0 one.passes.grown.1) one right
       (λ y same. omega arith) two.0 two.1 Q
       (λ there never e3 i within p puts. last given there never e3 i within (passes_from g alive (length d.fields) d d1 e3 s st (Unit {0}) (and_entry set bits W.Own d) p) puts) (λ there divided q none ends. fault given there divided q none ends))
       (λ early. ended (ended_back g s one.passes.t (meant g fields value st) one.passes.go early)))
     where
       bits : ℕ
       bits = info.elem.bits
-
-      most : bits ≤ 32
-      most = (kind_bits info.elem.bits info.elem.signed info.elem.kind).1
 
       f : Field
       f = field_at set offset bits
@@ -373,6 +371,3 @@ module _ (g : Setting) (has : HasRegisters g) (alive : Variable → Type 0) (n :
 
       v : ℕ → ℕ
       v = λ q. held info.elem (st.parallel x 0 q)
-
-      w : ℕ → ℕ
-      w = words_of set value st

@@ -53,7 +53,7 @@ use Rattle.fields_follow.proofs.Lengths.{Keeps, converted_first, divides_wide, h
 use Rattle.fields_follow.proofs.Meaning.{as_shaped, left_of, right_of, unary_means, value_in, word_at}
 use Rattle.fields_follow.proofs.Operands.{fields_after}
 use Rattle.fields_follow.proofs.Outcomes.{Ended, Given, Known, ended_on, follows_like, known_follows, meant, then_known}
-use Rattle.fields_follow.proofs.Passing.{After, Behind, Passes, after_same, fields_longer, gives_alike, gives_from, gives_numbers, gives_on, gives_set, made_after, names_second, passes_all, puts_own}
+use Rattle.fields_follow.proofs.Passing.{After, Behind, Passes, after_same, fields_longer, gives_alike, gives_from, gives_numbers, gives_on, gives_set, made_after, names_second, next_own, passes_all, puts_own, stands_less}
 use Rattle.fields_follow.proofs.Places.{HoldsTheFields, PlacesFields, stands_here}
 use Rattle.fields_follow.proofs.Promoted.{IsComputed, promoted_stands}
 use Rattle.fields_follow.proofs.Router.{indexed_last}
@@ -112,6 +112,7 @@ module _ (g : Setting) (has : HasRegisters g) (alive : Variable → Type 0) (n :
   -- what the last instruction writes to the entry that was taken first is the value
   pub own_result : {flag : Type 0} (bits set : ℕ) (d e2 : Draft) (s : CodeState) (st : State) (v : ℕ → ℕ) (i : Instr) → Within g (with_instr i e2) → IsNoHome g (OpenAmong g alive) (length d.fields) → (p : Passes g alive (length d.fields) (with_entry set bits W.Own d) e2 s st (Unit {0})) → Puts g set i (next_field set bits d) p.t v
       → Answers flag bits (length d.fields) d s set st v (O.Field (next_field set bits d)) (with_instr i e2)
+  unfolding puts_own next_own gives_on gives_from stands_less
   own_result bits set d e2 s st v i within none p puts =
       let d1 : Draft = with_entry set bits W.Own d in
       let dest : Field = next_field set bits d in
@@ -125,7 +126,7 @@ module _ (g : Setting) (has : HasRegisters g) (alive : Variable → Type 0) (n :
             gives_from g alive bits (length d.fields) d d1 (with_instr i e2) s set st v dest (and_entry set bits W.Own d)
                 (gives_on g alive bits (length d.fields) (length d.fields) d1 e2 (with_instr i e2) s set st v dest (Unit {0}) (omega arith) p (λ b. tt)
                 (puts_own g alive places fields bits (length d.fields) set i dest e2 p.t st v (omega arith) (omega (arith, longer, first)) (taken g set bits W.Own d (with_instr i e2) (p.grown.0 + 1) within later) none refl refl within p.at p.sim puts)),
-            λ one k info is more. places.own_file k 0 set info dest is (taken g set bits W.Own d (with_instr i e2) (p.grown.0 + 1) within later),
+            λ one. tt,
           ),
         ),
       )
@@ -269,7 +270,7 @@ module _ (g : Setting) (has : HasRegisters g) (alive : Variable → Type 0) (n :
 
   -- words that are alike are given alike
   pub answers_alike : (one other : Type 0) → (other → one) → (bits bound : ℕ) (d : Draft) (s : CodeState) (set : ℕ) (st : State) (v w : ℕ → ℕ) → AreAlike g bits set v w → (out : Out) (e : Draft) → Answers one bits bound d s set st v out e → Answers other bits bound d s set st w out e
-  answers_alike one other less bits bound d s set st v w alike out e (f, (is, (gives, apart))) = (f, (is, (gives_alike g alive places fields bits bound d s set st v w f e alike gives, λ flag. apart (less flag))))
+  answers_alike one other less bits bound d s set st v w alike out e (f, (is, (gives, narrow))) = let both = gives_alike g alive places fields bits bound d s set st v w f e alike gives in (f, (is, (both.0, λ flag. both.1 (narrow (less flag)))))
 
   pub unary_after : (bits set : ℕ) (ty : ValueType) (op : UnaryOp) (p : Boxed) (inner : TExpr) → bits ≤ 32 → negates op ≡ false → IsWide set (type_of inner) → IsPure set (T.Unary' ty op p inner) → HasItsCode g.typed g.instance alive n (T.Unary' ty op p inner) → IsValued bits set inner → IsValued bits set (T.Unary' ty op p inner)
   unfolding value_of unary_by is_plus negates done_as IsPure value_in kind_of bits_of

@@ -241,13 +241,13 @@ module _ (g : Setting) (alive : Variable → Type 0) (places : PlacesFields g) (
         taken = instr_takes (under g b) set i f e p.t w (λ h below. places.own_and_below f h r.own below) (within_under g b within_put) p.at.stands puts
 
         abbrev put_state : CodeState
-        put_state = record p.t { at = taken.place; memory = written taken.takes.write p.t.memory }
+        put_state = record p.t { at = taken.behind.place; memory = written taken.takes.write p.t.memory }
 
         put_sim : Sim (under g b) alive st put_state
-        put_sim = own_sim (under g b) (places_under g b places) (fields_under g b fields.scope fields.same_extents) alive set f p.t st w p.sim refl ends_here.0 ends_here.1 taken.takes (length e.code) taken.place p.at.stands (let there = taken.at in let here = p.at.stands in let one = put_more in omega (arith, there, here, one)) r.own r.none named_here
+        put_sim = own_sim (under g b) (places_under g b places) (fields_under g b fields.scope fields.same_extents) alive set f p.t st w p.sim refl ends_here.0 ends_here.1 taken.takes (length e.code) taken.behind.place p.at.stands (let there = taken.behind.at in let here = p.at.stands in let one = put_more in omega (arith, there, here, one)) r.own r.none named_here
 
         put_has : HasNumbers (under g b) bits set f put_state w
-        put_has = own_has (under g b) (places_under g b places) (fields_under g b fields.scope fields.same_extents) alive set f p.t st w p.sim refl ends_here.0 ends_here.1 taken.takes taken.place
+        put_has = own_has (under g b) (places_under g b places) (fields_under g b fields.scope fields.same_extents) alive set f p.t st w p.sim refl ends_here.0 ends_here.1 taken.takes taken.behind.place
 
         -- other own entries stay that are named before and behind
         others_stay : (h : Field) (first last q : ℕ) → h.offset < length d.fields → (h.offset ≡ offset → ⊥) → IsOwnField g h → EndsBelow g h → IsNamedAt g.unit h.offset first → first < length d.code → IsNamedAt g.unit h.offset last → length put_draft.code ≤ last → number_in g h put_state q ≡ number_in g h s q
@@ -267,7 +267,7 @@ module _ (g : Setting) (alive : Variable → Type 0) (places : PlacesFields g) (
 
         -- the old context
         loaded : Turned g places alive b fields.active put_draft (I.LoadContext saved) put_state st
-        loaded = load_context g places alive b set saved put_draft put_state st fields.active r.of_set saved_still beside within_last taken.at put_sim
+        loaded = load_context g places alive b set saved put_draft put_state st fields.active r.of_set saved_still beside within_last taken.behind.at put_sim
 
         -- the field where these positions are not active
         left_there : (first : ℕ) → IsNamedAt g.unit offset first → first < length d.code → (q : ℕ) → q < processors (shapes g) set → b set q ≡ false → number_in g f put_state q ≡ number_in g f s q
@@ -288,7 +288,7 @@ module _ (g : Setting) (alive : Variable → Type 0) (places : PlacesFields g) (
         halved = record {
           grown = (x.grown.0 + (p.grown.0 + 2), extended d narrow last_draft x.grown.0 (p.grown.0 + 2) x.grown.1 (extended narrow e last_draft p.grown.0 2 p.grown.1 (extended e put_draft last_draft 1 1 (and_one g i e) (and_one g (I.LoadContext saved) put_draft))));
           t = loaded.t;
-          go = onto g s x.t loaded.t x.go (onto g x.t p.t loaded.t (reaches_again g b p.go) (onto g p.t put_state loaded.t (reaches_again g b taken.go) loaded.go));
+          go = onto g s x.t loaded.t x.go (onto g x.t p.t loaded.t (reaches_again g b p.go) (onto g p.t put_state loaded.t (reaches_again g b taken.behind.go) loaded.go));
           at =
               let one = put_more in
               let two = code_more g (I.LoadContext saved) put_draft in

@@ -149,7 +149,7 @@ module _ (g : Setting) (has : HasRegisters g) (alive : Variable → Type 0) (n :
                   has = record { of_set = refl; exists = context_stored.exists; len = refl; are = λ x below on. (there x below on).0; small = λ x below on. (there x below on).1 };
                 });
               },
-              λ one k info element wider. places.own_file k 0 set info f element own.0,
+              λ one. tt,
             ),
           ),
         )

@@ -71,7 +71,6 @@ pub mod RouterCode
 pub mod Routing
 pub mod Saving
 pub mod ScalarAssigning
-pub mod ScalarOperating
 pub mod Scalars
 pub mod Scanning
 pub mod ScanAssigning
@@ -84,7 +83,6 @@ pub mod Sending
 pub mod SendMeans
 pub mod Sends
 pub mod SendValues
-pub mod SendWrites
 pub mod SinglePositions
 pub mod Sizes
 pub mod Spreading
@@ -98,7 +96,9 @@ pub mod TruthValues
 pub mod Truths
 pub mod Undecided
 pub mod Updates
+pub mod Updating
 pub mod Values
+pub mod VariableWrites
 pub mod Variables
 pub mod Widening
 pub mod Wrapping

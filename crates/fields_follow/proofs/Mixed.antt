@@ -360,7 +360,7 @@ module _ (g : Setting) (has : HasRegisters g) (alive : Variable → Type 0) (n :
                             has = record { of_set = refl; exists = first_ends.0; len = refl; are = numbered; small = λ x below on. subst (λ (m : ℕ). m < 2 ^ 32) (sym (value x)) (from_bool_below is_or) };
                           });
                         },
-                        λ one k info element wider. places.own_file k 0 set info f element own,
+                        λ one. tt,
                       ),
                     ),
                   )

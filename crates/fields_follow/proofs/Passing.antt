@@ -176,22 +176,26 @@ module _ (g : Setting) where
     abbrev pub Stands : ℕ → ℕ → Draft → ℕ → Field → CodeState → State → (ℕ → ℕ) → Type 0
     Stands bits bound e set f t st v = InOwn bits bound e set f t v ⊎ InVariable bits set f st v
 
+    -- if it stands in a variable, that has one bit
+    abbrev pub HasOneBit : {bits bound : ℕ} {e : Draft} {set : ℕ} {f : Field} {t : CodeState} {st : State} {v : ℕ → ℕ} → Stands bits bound e set f t st v → Type 0
+    HasOneBit h = elim h as (λ _. Type 0) [ inl own ↦ Unit {0} | inr variable ↦ variable.info.elem.bits ≡ 1 ]
+
     -- the field is given by code that passes, and it has the lowest bits of the words
     pub record GivesField (bits bound : ℕ) (d : Draft) (s : CodeState) (set : ℕ) (st : State) (v : ℕ → ℕ) (f : Field) (e : Draft) : Type 0 where
       pub passes : Passes bound d e s st (Behind f e)
       pub stands : Stands bits bound e set f passes.t st v
 
     -- an entry that is taken before it is no part of the code
-    pub gives_from : (bits bound : ℕ) (d e f : Draft) (s : CodeState) (set : ℕ) (st : State) (v : ℕ → ℕ) (h : Field) → Extended d 0 e → GivesField bits bound e s set st v h f → GivesField bits bound d s set st v h f
+    unfoldable pub gives_from : (bits bound : ℕ) (d e f : Draft) (s : CodeState) (set : ℕ) (st : State) (v : ℕ → ℕ) (h : Field) → Extended d 0 e → GivesField bits bound e s set st v h f → GivesField bits bound d s set st v h f
     unfolding passes_from
     gives_from bits bound d e f s set st v h taken gives = record { passes = passes_from bound d e f s st (Behind h f) taken gives.passes; stands = gives.stands }
 
-    pub stands_less : (bits bound other : ℕ) (e : Draft) (set : ℕ) (f : Field) (t : CodeState) (st : State) (v : ℕ → ℕ) → bound ≤ other → Stands bits other e set f t st v → Stands bits bound e set f t st v
+    unfoldable pub stands_less : (bits bound other : ℕ) (e : Draft) (set : ℕ) (f : Field) (t : CodeState) (st : State) (v : ℕ → ℕ) → bound ≤ other → Stands bits other e set f t st v → Stands bits bound e set f t st v
     stands_less bits bound other e set f t st v less (inl h) = inl (record { long = h.long; own = h.own; fits = h.fits; ends = h.ends; newer = omega (arith, less, h.newer); older = h.older; somewhere = h.somewhere; named = h.named; before = h.before; has = h.has })
     stands_less bits bound other e set f t st v less (inr h) = inr h
 
     -- behind code that passes
-    pub gives_on : (bits bound other : ℕ) (d e f : Draft) (s : CodeState) (set : ℕ) (st : State) (v : ℕ → ℕ) (h : Field) (one : Type 0) → bound ≤ other → (a : Passes bound d e s st one) → (Behind h f → one) → GivesField bits other e a.t set st v h f → GivesField bits bound d s set st v h f
+    unfoldable pub gives_on : (bits bound other : ℕ) (d e f : Draft) (s : CodeState) (set : ℕ) (st : State) (v : ℕ → ℕ) (h : Field) (one : Type 0) → bound ≤ other → (a : Passes bound d e s st one) → (Behind h f → one) → GivesField bits other e a.t set st v h f → GivesField bits bound d s set st v h f
     unfolding passes_on
     gives_on bits bound other d e f s set st v h one less a wanted gives = record {
       passes = passes_on bound other d e f s st one (Behind h f) (Behind h f) less a gives.passes wanted (λ behind. behind);
@@ -254,41 +258,43 @@ module _ (g : Setting) where
           by (inr variable) = (variable.carries.of_set, variable.carries.exists, variable.len)
 
       -- other words with the same lowest bits are there too
-      pub gives_alike : (bits bound : ℕ) (d : Draft) (s : CodeState) (set : ℕ) (st : State) (v w : ℕ → ℕ) (f : Field) (e : Draft) → AreAlike g bits set v w → GivesField bits bound d s set st v f e → GivesField bits bound d s set st w f e
-      gives_alike bits bound d s set st v w f e alike h = record { passes = h.passes; stands = by h.stands }
+      pub gives_alike : (bits bound : ℕ) (d : Draft) (s : CodeState) (set : ℕ) (st : State) (v w : ℕ → ℕ) (f : Field) (e : Draft) → AreAlike g bits set v w → (h : GivesField bits bound d s set st v f e) → (gives : GivesField bits bound d s set st w f e) × (HasOneBit h.stands → HasOneBit gives.stands)
+      gives_alike bits bound d s set st v w f e alike h = let (stands, narrow) = by h.stands in (record { passes = h.passes; stands = stands }, narrow)
         where
-          by : Stands bits bound e set f h.passes.t st v → Stands bits bound e set f h.passes.t st w
-          by (inl own) = inl (record { long = own.long; own = own.own; fits = own.fits; ends = own.ends; newer = own.newer; older = own.older; somewhere = own.somewhere; named = own.named; before = own.before; has = has_alike g bits set f h.passes.t v w alike own.has })
-          by (inr variable) = inr (record { x = variable.x; info = variable.info; carries = variable.carries; len = variable.len; fits = variable.fits; same = λ p below. let same = variable.same p below in let other = alike p below same.1 in (other.0 ∙ same.0, other.1) })
+          by : (x : Stands bits bound e set f h.passes.t st v) → (y : Stands bits bound e set f h.passes.t st w) × (HasOneBit x → HasOneBit y)
+          by (inl own) = (inl (record { long = own.long; own = own.own; fits = own.fits; ends = own.ends; newer = own.newer; older = own.older; somewhere = own.somewhere; named = own.named; before = own.before; has = has_alike g bits set f h.passes.t v w alike own.has }), λ one. one)
+          by (inr variable) = (inr (record { x = variable.x; info = variable.info; carries = variable.carries; len = variable.len; fits = variable.fits; same = λ p below. let same = variable.same p below in let other = alike p below same.1 in (other.0 ∙ same.0, other.1) }), λ one. one)
 
       -- fewer bits of a field that is given
-      pub gives_first : (bits fewer bound : ℕ) (d : Draft) (s : CodeState) (set : ℕ) (st : State) (v : ℕ → ℕ) (f : Field) (e : Draft) → fewer ≤ bits → GivesField bits bound d s set st v f e → GivesField fewer bound d s set st v (record f { len = fewer }) e
-      gives_first bits fewer bound d s set st v f e less h = record { passes = h.passes; stands = by h.stands }
+      pub gives_first : (bits fewer bound : ℕ) (d : Draft) (s : CodeState) (set : ℕ) (st : State) (v : ℕ → ℕ) (f : Field) (e : Draft) → fewer ≤ bits → (h : GivesField bits bound d s set st v f e) → (gives : GivesField fewer bound d s set st v (record f { len = fewer }) e) × (HasOneBit h.stands → HasOneBit gives.stands)
+      gives_first bits fewer bound d s set st v f e less h = let (stands, narrow) = by h.stands in (record { passes = h.passes; stands = stands }, narrow)
         where
-          by : Stands bits bound e set f h.passes.t st v → Stands fewer bound e set (record f { len = fewer }) h.passes.t st v
+          by : (x : Stands bits bound e set f h.passes.t st v) → (y : Stands fewer bound e set (record f { len = fewer }) h.passes.t st v) × (HasOneBit x → HasOneBit y)
           by (inl own) =
-              let fits : fewer ≤ f.len = subst (λ (n : ℕ). fewer ≤ n) (sym own.has.len) less in
-              inl (record {
-                long = own.long;
-                own = own.own;
-                fits = omega (arith, fits, own.fits);
-                ends = own.ends;
-                newer = own.newer;
-                older = own.older;
-                somewhere = own.somewhere;
-                named = own.named;
-                before = own.before;
-                has = record {
-                  of_set = own.has.of_set;
-                  exists = own.has.exists;
-                  len = refl;
-                  are = λ p below on.
-                      first_there set (record f { len = fewer }) f.len st h.passes.t h.passes.sim own.has.of_set own.has.exists fits (omega (arith, own.ends, own.fits)) p below
-                      ∙ ap (λ (n : ℕ). n % 2 ^ fewer) (own.has.are p below on) ∙ cut_cut (v p) fewer bits less;
-                  small = own.has.small;
-                };
-              })
-          by (inr variable) = inr (record { x = variable.x; info = variable.info; carries = variable.carries; len = refl; fits = (let whole = subst (λ (n : ℕ). n ≤ variable.info.elem.bits) variable.len variable.fits in omega (arith, less, whole)); same = λ p below. (sym (cut_cut (v p) fewer bits less) ∙ ap (λ (n : ℕ). n % 2 ^ fewer) (variable.same p below).0 ∙ cut_cut (held variable.info.elem (st.parallel variable.x 0 p)) fewer bits less, (variable.same p below).1) })
+              let fits : fewer ≤ f.len = subst (λ (n : ℕ). fewer ≤ n) (sym own.has.len) less in (
+                inl (record {
+                  long = own.long;
+                  own = own.own;
+                  fits = omega (arith, fits, own.fits);
+                  ends = own.ends;
+                  newer = own.newer;
+                  older = own.older;
+                  somewhere = own.somewhere;
+                  named = own.named;
+                  before = own.before;
+                  has = record {
+                    of_set = own.has.of_set;
+                    exists = own.has.exists;
+                    len = refl;
+                    are = λ p below on.
+                        first_there set (record f { len = fewer }) f.len st h.passes.t h.passes.sim own.has.of_set own.has.exists fits (omega (arith, own.ends, own.fits)) p below
+                        ∙ ap (λ (n : ℕ). n % 2 ^ fewer) (own.has.are p below on) ∙ cut_cut (v p) fewer bits less;
+                    small = own.has.small;
+                  };
+                }),
+                λ one. one,
+              )
+          by (inr variable) = (inr (record { x = variable.x; info = variable.info; carries = variable.carries; len = refl; fits = (let whole = subst (λ (n : ℕ). n ≤ variable.info.elem.bits) variable.len variable.fits in omega (arith, less, whole)); same = λ p below. (sym (cut_cut (v p) fewer bits less) ∙ ap (λ (n : ℕ). n % 2 ^ fewer) (variable.same p below).0 ∙ cut_cut (held variable.info.elem (st.parallel variable.x 0 p)) fewer bits less, (variable.same p below).1) }), λ one. one)
 
       -- and behind code that passes, where an instruction names the field then
       pub still_numbers : (bits bound other : ℕ) (d : Draft) (s : CodeState) (set : ℕ) (st : State) (v : ℕ → ℕ) (f : Field) (e e2 : Draft) (used : Type 0) → (h : GivesField bits bound d s set st v f e) → (b : Passes other e e2 h.passes.t st used) → used → length e.fields ≤ other → Behind f e2
@@ -313,7 +319,7 @@ module _ (g : Setting) where
           by (inr variable) = in_variable_has bits set f st v b.t variable b.sim behind.0 behind.1.0 (there_behind b.t e2 behind.0 b.at.stands behind.1.1)
 
       -- an instruction by which an own entry takes numbers
-      pub next_own : (bits bound : ℕ) (set : ℕ) (i : Instr) (d : Field) (e : Draft) (s : CodeState) (st : State) (v : ℕ → ℕ) → bound ≤ d.offset → d.offset < length e.fields → IsOwnField g d → IsNoHome g (OpenAmong g alive) d.offset → d.set ≡ set → d.len ≡ bits
+      unfoldable pub next_own : (bits bound : ℕ) (set : ℕ) (i : Instr) (d : Field) (e : Draft) (s : CodeState) (st : State) (v : ℕ → ℕ) → bound ≤ d.offset → d.offset < length e.fields → IsOwnField g d → IsNoHome g (OpenAmong g alive) d.offset → d.set ≡ set → d.len ≡ bits
           → Starts g alive s (length e.code) e.regs (length e.fields) → Sim g alive st s → PutsNext g places fields alive set i d e s v → GivesField bits bound e s set st v d (with_instr i e)
       next_own bits bound set i d e s st v newer older own none of_set long here sim next =
           let w = next_written g places fields alive set i d e s st v here.stands sim of_set next own none in
@@ -344,6 +350,6 @@ module _ (g : Setting) where
             });
           }
 
-      pub puts_own : (bits bound : ℕ) (set : ℕ) (i : Instr) (d : Field) (e : Draft) (s : CodeState) (st : State) (v : ℕ → ℕ) → bound ≤ d.offset → d.offset < length e.fields → IsOwnField g d → IsNoHome g (OpenAmong g alive) d.offset → d.set ≡ set → d.len ≡ bits
+      unfoldable pub puts_own : (bits bound : ℕ) (set : ℕ) (i : Instr) (d : Field) (e : Draft) (s : CodeState) (st : State) (v : ℕ → ℕ) → bound ≤ d.offset → d.offset < length e.fields → IsOwnField g d → IsNoHome g (OpenAmong g alive) d.offset → d.set ≡ set → d.len ≡ bits
           → Within g (with_instr i e) → Starts g alive s (length e.code) e.regs (length e.fields) → Sim g alive st s → Puts g set i d s v → GivesField bits bound e s set st v d (with_instr i e)
       puts_own bits bound set i d e s st v newer older own none of_set long within here sim puts = next_own bits bound set i d e s st v newer older own none of_set long here sim (puts_next g places fields alive set i d e s v within here.stands puts)

@@ -239,7 +239,7 @@ module _ (g : Setting) (has : HasRegisters g) (alive : Variable → Type 0) (n :
       ∙ ap (λ (b : Bool). if b then then_make (a_field (unwrap_or ty.shape 0) bits d) (λ dest begun. extended_by ty.elem.signed dest (next_of g.typed (layout g) ty.elem.bits true operand) begun) else value_of g.typed (layout g) bits operand d) enough)
       (follows_like g s (meant g fields operand st) (meant g fields e st) (λ q. number operand st q) (λ q. number e st q) st (ScanGiven bits operand d s st) (ScanGiven bits e d s st) (value_of g.typed (layout g) bits operand d)
       (λ given. converted_gives ty p operand st is.0.0 given) (λ early. convert_ended g has alive n ready places fields ty p operand s st early)
-      (λ out f (h, (same, (gives, apart))). (h, (same, (gives_alike g alive places fields bits (length d.fields) d s set st (λ q. number operand st q) (λ q. number e st q) h f (λ q below few. let alike = converted_same ty p operand st is q below few in (sym (cut_cut (number e st q) bits 32 most) ∙ ap (λ (m : ℕ). m % 2 ^ bits) alike.0 ∙ cut_cut (number operand st q) bits 32 most, alike.1)) gives, λ flag. apart (flag_converted ty.elem (kind_of operand) (no_flag ty.elem is.0.1) flag))))) (whole d s st here sim))
+      (λ out f (h, (same, (gives, narrow))). let both = gives_alike g alive places fields bits (length d.fields) d s set st (λ q. number operand st q) (λ q. number e st q) h f (λ q below few. let alike = converted_same ty p operand st is q below few in (sym (cut_cut (number e st q) bits 32 most) ∙ ap (λ (m : ℕ). m % 2 ^ bits) alike.0 ∙ cut_cut (number operand st q) bits 32 most, alike.1)) gives in (h, (same, (both.0, λ flag. both.1 (narrow (flag_converted ty.elem (kind_of operand) (no_flag ty.elem is.0.1) flag)))))) (whole d s st here sim))
     where
       e : TExpr
       e = T.Convert' ty p operand

@@ -18,12 +18,12 @@ use Rattle.lower_comm.specs.Messages.{sent_value}
 use Rattle.paris_code.specs.declared.program.Owner.{Owner}
 use Rattle.paris_code.specs.Code.{Goes, CodeState, applied, begun}
 use Rattle.paris_code.specs.Sending.{combining, overwriting}
-use Rattle.paris_code.specs.Spans.{fields_of}
+use Rattle.paris_code.specs.Spans.{IsNamedAt, fields_of}
 use Rattle.paris_code.specs.Writes.{Write, written}
 use Rattle.source_meaning.specs.State.{with_positions, State}
 use Rattle.code_follows.proofs.Settings.{OpenAmong, placed_instr, Setting, Within, and_one}
 use Rattle.fields_follow.proofs.Instructions.{puts_negate, wrote, HasNumbers, has_words, place, shapes}
-use Rattle.fields_follow.proofs.Passing.{Stands, gives_on, puts_own, Behind, GivesField, code_longer, Passes, fields_longer, flags_of, gives_numbers, names_second, names_third, passes_all, passes_from, passes_on, small_there, still_numbers}
+use Rattle.fields_follow.proofs.Passing.{Stands, gives_on, puts_own, Behind, GivesField, code_longer, Passes, fields_longer, flags_of, gives_numbers, names_second, names_third, passes_all, passes_from, passes_on, still_numbers}
 use Rattle.cstar_tree.specs.declared.syntax.AssignOp.{AssignOp}
 use Rattle.cstar_tree.specs.declared.syntax.AssignOp.TheVariants as A
 use Rattle.cstar_tree.specs.declared.typed.VarInfo.{VarInfo}
@@ -44,12 +44,14 @@ use Rattle.fields_follow.specs.Fields.{IsElement}
 use Rattle.fields_follow.proofs.Fields.{HoldsFields}
 use Rattle.fields_follow.proofs.Leaving.{Leaves}
 use Rattle.fields_follow.proofs.News.{for_variable, owner_of}
-use Rattle.fields_follow.proofs.Places.{HoldsTheFields, IsFileField, PlacesFields, stands_here}
+use Rattle.fields_follow.proofs.PassingTests.{tests_passed}
+use Rattle.fields_follow.proofs.Places.{HoldsTheFields, IsFileField, PlacesFields, names_first, stands_here}
 use Rattle.fields_follow.proofs.SendMeans.{sent_from, set_few}
-use Rattle.fields_follow.proofs.SendWrites.{sent_leaves}
 use Rattle.fields_follow.proofs.Starts.{no_home, starts_entry}
 use Rattle.fields_follow.proofs.Values.{and_entry, next_field, one_more, taken, with_entry}
-use Rattle.fields_follow.proofs.Writing.{entry_place}
+use Rattle.fields_follow.proofs.VariableWrites.{entry_and_below, writes_leave}
+use Rattle.fields_follow.proofs.Variables.{Carries, file_carries}
+use Rattle.fields_follow.proofs.Writing.{instr_writes}
 
 -- what an operator that folds is in an assignment
 pub operator_sent : (op : AssignOp) → folds op ≡ true → (o : Op) × (assign_op_of op ≡ Some o)
@@ -156,11 +158,17 @@ module _ (g : Setting) (alive : Variable → Type 0) (places : PlacesFields g) (
     file : IsFileField g k 0 variable
     file = taken g of info.elem.bits (owner_of g k) y (with_instr i e) (m + 1) within (extended (for_variable g of k info y) e (with_instr i e) m 1 grown (and_one g i e))
 
+    carries : Carries g alive (V.File k) info of variable
+    carries = file_carries g alive places fields of k info variable is file refl refl
+
+    named : IsNamedAt g.unit variable.offset (length e.code)
+    named = names_first g i variable (at ∷ a ∷ []) (length e.code) (stands_here g i e within plain) names
+
     was : HoldsFields g.typed g.image fields.active st t.memory
     was = fields.opens (OpenAmong g alive) t.at st t.memory passes.sim.memory
 
     small : (q : ℕ) → st.parallel (V.File k) 0 q < 2 ^ info.elem.bits
-    small q = small_there g alive places fields of k info st t is passes.sim q
+    small q = carries.small st t passes.sim q
 
     -- the machine has the targets of the source, what is sent, and the variable
     targets_there : HasTargets (shapes g) t.memory (place g at) send
@@ -177,11 +185,14 @@ module _ (g : Setting) (alive : Variable → Type 0) (places : PlacesFields g) (
         numbers.1.are p inside (flags_of g alive places fields st t set p passes.sim numbers.1.exists inside ∙ on) ∙ same p
 
     variable_there : (p : ℕ) → p < processors (shapes g) of → true ≡ true → field_number t.memory (place g variable) p ≡ st.parallel (V.File k) 0 p
-    variable_there p below all = ap (λ (f : Field). field_number t.memory f p) (entry_place g places fields alive of k 0 info variable is refl file refl) ∙ was.numbers k 0 of p info is below
+    variable_there p below all = carries.numbers st t passes.sim (length e.code) named (let there = passes.at.stands in omega (arith, there)) p below
 
     sends_leaves : (write : Write) → write.run ≡ place g variable → begun g.image (placed_instr g i) t ≡ Goes (wrote g write t) → (value : ℕ → ℕ) → ((q : ℕ) → value q < 2 ^ info.elem.bits)
         → ((q : ℕ) → q < processors (shapes g) of → field_number (written write t.memory) (place g variable) q ≡ (with_positions (V.File k) 0 (λ x. is_sent_to send x) value st).parallel (V.File k) 0 q) → Leaves g alive d (with_instr i e) s (with_positions (V.File k) 0 (λ x. is_sent_to send x) value st)
-    sends_leaves write run goes value few has = sent_leaves g places fields alive of k info is variable file refl refl d e i s st within plain passes write run goes (λ x. is_sent_to send x) value few has
+    unfolding tests_passed
+    sends_leaves write run goes value few has =
+        writes_leave g places fields alive (V.File k) info of variable carries (passes.at.files k) d e (with_instr i e) s st (Unit {0}) (tests_passed g alive (length d.fields) d e s st (Unit {0}) (omega arith) passes) tt write
+        (instr_writes g i variable (at ∷ a ∷ []) e t write (entry_and_below g places fields alive (V.File k) info of variable carries) within passes.at.stands plain names run goes) (λ x. is_sent_to send x) value has few
 
   -- without an operator
   pub set_leaves : (m : ℕ) (w : ℕ → ℕ) (s : CodeState) (a : Field) (y e : Draft) → Extended (for_variable g of k info y) m e → BothStand info.elem.bits w s a e → (to_elem from : Elem) → ((q : ℕ) → (w q % 2 ^ info.elem.bits ≡ v q) × (v q < 2 ^ info.elem.bits))

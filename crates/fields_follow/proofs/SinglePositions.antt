@@ -77,14 +77,13 @@ use Rattle.fields_follow.proofs.Fields.{HoldsFields}
 use Rattle.fields_follow.proofs.Forms.{element_is, field_is}
 use Rattle.fields_follow.proofs.Instructions.{extents, place as place_of, shapes}
 use Rattle.fields_follow.proofs.Knowing.{KnowsFields}
-use Rattle.fields_follow.proofs.Leaving.{fields_under, places_under, under, within_under}
+use Rattle.fields_follow.proofs.Leaving.{places_under, under, within_under}
 use Rattle.fields_follow.proofs.Listed.{begins_there, front_check_stands, front_make_stands}
 use Rattle.fields_follow.proofs.Locating.{and_step}
 use Rattle.fields_follow.proofs.News.{for_variable, owner_of}
 use Rattle.fields_follow.proofs.Outcomes.{ended_follows}
 use Rattle.fields_follow.proofs.Places.{IsFileField}
 use Rattle.fields_follow.proofs.Values.{and_entry, next_field, taken}
-use Rattle.fields_follow.proofs.Writing.{entry_place}
 
 -- ---- indexes in registers
 
@@ -550,7 +549,7 @@ module _ (g : Setting) (has : HasRegisters g) (alive : Variable → Type 0) (sco
 
               has_variable : (x : ℕ) → x < processors (shapes g) of → true ≡ true → field_number t.memory (place_of g a) x ≡ u.parallel (V.File k) 0 x
               has_variable x below all =
-                  ap (λ (y : Field). field_number t.memory y x) (entry_place (under g active) (places_under g active known.places) (fields_under g active scope known.same_extents) alive of k 0 info a is refl file refl) ∙ was.numbers k 0 of x info is below
+                  ap (λ (y : Field). field_number t.memory y x) ((places_under g active known.places).file k 0 info a is refl file) ∙ was.numbers k 0 of x info is below
 
       pub reads_follow : (d : Draft) (s : CodeState) (st : State) (R : Value → State → Out → Draft → Type 0) (r : ℕ) → Begun g alive d → At g s (length d.code) → Sim g alive st s → Dest g has alive ty.elem d s R r
           → Follows g R s (evaluated scope single active st) (computed_to g.typed (layout g) (O.Scalar r) single d)

@@ -156,12 +156,12 @@ module _ (g : Setting) (has : HasRegisters g) (alive : Variable → Type 0) (n :
   kinded_bit set e kinded one c whole d s st here sim =
       let is_one : bits_of (kind_of e) ≡ 1 = eqb-true (bits_of (kind_of e)) 1 one in
       given_weaker g s (meant g fields e st) (numbers_of set e st) st (Gives g has alive n ready places fields (IsFlag e) 1 (length d.fields) d s set st (λ q. word_at (extents g set) st e q)) (Bit g alive places fields d s set st (numbers_of set e st)) (operand 1 true e d)
-      (λ x e1 (a, (is, (gives, apart))). (
+      (λ x e1 (a, (is, (gives, narrow))). (
         a,
         (
           is,
           field_truth g alive places fields d s set st (λ q. word_at (extents g set) st e q) (numbers_of set e st) a e1
-              (λ q below. ap (λ (m : ℕ). word_at (extents g set) st e q % 2 ^ m == 0) (sym is_one) ∙ zero_told g alive n places fields set e st s sim kinded c q) (apart is_one) gives,
+              (λ q below. ap (λ (m : ℕ). word_at (extents g set) st e q % 2 ^ m == 0) (sym is_one) ∙ zero_told g alive n places fields set e st s sim kinded c q) gives (narrow is_one),
         ),
       ))
       (operand_after g has alive n ready places fields 1 set e true kinded.0 c whole d s st here sim)

@@ -1,6 +1,6 @@
 -- A truth value in a field that is taken first: the test flags are stored in it, at once or by way of a bit; or it is the
 -- complement of a bit, or two bits joined.
-use Rattle.std.proofs.Common.{◌≡◌, ◌∙◌, ℕ, ◌+◌, ◌<◌, ◌≤◌, ◌==◌, Bool, true, false, [], ◌∷◌, length, refl, sym, ap, subst, arith, inl, inr}
+use Rattle.std.proofs.Common.{◌≡◌, ◌∙◌, ℕ, ◌<◌, ◌≤◌, ◌==◌, Bool, true, false, [], ◌∷◌, length, refl, sym, ap, subst, arith, inl, inr}
 use Rattle.std.specs.Int.{from_bool}
 use Rattle.std.proofs.lemmas.Bool.{eqb-true}
 use Rattle.cstar_base.specs.declared.elem.Elem.{Elem}
@@ -24,23 +24,23 @@ use Rattle.source_meaning.specs.State as Source
 use Rattle.source_meaning.specs.State.{State}
 use Rattle.source_meaning.specs.Values.{Parallel, nonzero}
 use Rattle.code_follows.proofs.Following.{Extends, Follows, HasRegisters, Sim, held}
-use Rattle.code_follows.proofs.Growing.{Extended, extended}
-use Rattle.code_follows.proofs.Settings.{OpenAmong, Setting, Within, and_one, layout}
-use Rattle.fields_follow.proofs.Clearing.{joined_behind, joined_more, own_joined}
+use Rattle.code_follows.proofs.Growing.{Extended}
+use Rattle.code_follows.proofs.Settings.{OpenAmong, Setting, and_one, layout}
+use Rattle.fields_follow.proofs.Clearing.{joined_behind, own_joined}
 use Rattle.fields_follow.proofs.ConditionCode.{Bit, Truth, flag_after, joined_in, put_in, stored_behind, turned_in}
 use Rattle.fields_follow.proofs.Expressions.{Answers, own_result}
 use Rattle.fields_follow.proofs.Instructions.{Puts, extents, shapes}
 use Rattle.fields_follow.proofs.Leaving.{PassesTests}
 use Rattle.fields_follow.proofs.Meaning.{value_in, word_at}
 use Rattle.fields_follow.proofs.Outcomes.{Ended, Given, Known, ended_back, known_follows, meant, then_known}
-use Rattle.fields_follow.proofs.Passing.{After, Behind, GivesField, Passes, after_same, code_longer, fields_longer, flags_of, made_after, names_second, names_third, passes_on}
+use Rattle.fields_follow.proofs.Passing.{After, Behind, GivesField, HasOneBit, Passes, after_same, code_longer, fields_longer, flags_of, made_after, names_second, names_third, passes_on}
 use Rattle.fields_follow.proofs.PassingTests.{passes_of, tests_on}
-use Rattle.fields_follow.proofs.Places.{HoldsTheFields, IsOwnField, PlacesFields, names_first, stands_here}
+use Rattle.fields_follow.proofs.Places.{HoldsTheFields, PlacesFields, names_first, stands_here}
 use Rattle.fields_follow.proofs.TestFlags.{LeavesTests}
 use Rattle.fields_follow.proofs.TruthPuts.{at_once, bit_moved, flag_stored, puts_bit, puts_flags, puts_joined, puts_turned, through_bit}
 use Rattle.fields_follow.proofs.TruthValues.{bit_converted}
 use Rattle.fields_follow.proofs.Truths.{either_or_both, truth_still}
-use Rattle.fields_follow.proofs.Values.{IsFlag, next_field, one_more, taken, with_entry}
+use Rattle.fields_follow.proofs.Values.{IsFlag, next_field, one_more, with_entry}
 use Rattle.fields_follow.proofs.Locals.{IsNoHome}
 
 -- it is its own word
@@ -194,14 +194,12 @@ module _ (g : Setting) (has : HasRegisters g) (alive : Variable → Type 0) (n :
 
       pub several_joined : (bits : ℕ) → 0 < bits → (one : Truth g alive places fields (with_entry set bits W.Own d) s set st v f e1) → Truth g alive places fields e1 one.passes.t set st w h e2
           → After g (Q bits) (Makes (O.Field (next_field set bits d)) (joined_behind is_or set (length d.fields) bits f h e2))
+      unfolding own_joined
       several_joined bits some one two = made_after g (Q bits) (O.Field (next_field set bits d)) behind (λ within.
-          let given = own_joined g places fields alive set bits some is_or f h d e1 e2 s st v w none one two within in
-          inl (is_given, (next_field set bits d, (refl, (as_words (λ v. GivesField g alive bits (length d.fields) d s set st v (next_field set bits d) behind) (subst (λ (v : ℕ → ℕ). GivesField g alive bits (length d.fields) d s set st v (next_field set bits d) behind) (λ j q. same q j) given), λ flag k info is more. places.own_file k 0 set info (next_field set bits d) is (own within))))))
+          inl (is_given, (next_field set bits d, (refl, as_words OneBit (subst OneBit (λ j q. same q j) (own_joined g places fields alive set bits some is_or f h d e1 e2 s st v w none one two within, λ flag. tt))))))
         where
           behind : Draft
           behind = joined_behind is_or set (length d.fields) bits f h e2
 
-          own : Within g behind → IsOwnField g (next_field set bits d)
-          own within =
-              taken g set bits W.Own d behind (one.passes.grown.0 + two.passes.grown.0 + 2) within
-              (extended (with_entry set bits W.Own d) e2 behind (one.passes.grown.0 + two.passes.grown.0) 2 (extended (with_entry set bits W.Own d) e1 e2 one.passes.grown.0 two.passes.grown.0 one.passes.grown.1 two.passes.grown.1) (joined_more g is_or set (length d.fields) bits f h e2))
+          OneBit : (ℕ → ℕ) → Type 0
+          OneBit v = (gives : GivesField g alive bits (length d.fields) d s set st v (next_field set bits d) behind) × (IsFlag e → HasOneBit g alive gives.stands)

@@ -24,7 +24,7 @@ use Rattle.cstar_tree.specs.declared.typed.Variable.{Variable}
 use Rattle.cstar_tree.specs.declared.typed.Variable.TheVariants as V
 use Rattle.cstar_tree.specs.StatementTypes.{variable_info}
 use Rattle.cstar_tree.specs.Typed.{type_of}
-use Rattle.code_lengths.specs.Naming.{NamesVariables, plain}
+use Rattle.code_lengths.specs.Naming.{HasVariable, NamesVariables, plain, variable_named}
 use Rattle.lower_base.specs.Operators.{assign_op_of, is_signed}
 use Rattle.lower_expr.specs.declared.operands.Own.{Own}
 use Rattle.lower_expr.specs.Operands.{own_of}
@@ -36,13 +36,13 @@ use Rattle.source_meaning.specs.Targets.{OfElement, Target, assign_to, assigned,
 use Rattle.source_meaning.specs.Values.{Active, Parallel, Scope, Value, at, each, failing, positions, unless}
 use Rattle.source_meaning.proofs.ConstantLaws.{Boxed}
 use Rattle.cstar_base.proofs.NumberLaws.{kind_bits}
+use Rattle.code_follows.specs.Fragment.{NamesAmong}
 use Rattle.code_follows.proofs.Following.{held}
 use Rattle.code_follows.proofs.Operators.{wide_signed}
 use Rattle.code_follows.proofs.Words.{held_converted}
 use Rattle.fields_follow.proofs.Lengths.{cut_converted}
 use Rattle.fields_follow.specs.Fragment.{IsTarget}
-use Rattle.fields_follow.specs.Fields.{IsElement}
-use Rattle.fields_follow.proofs.Forms.{element_is}
+use Rattle.fields_follow.proofs.Forms.{IsRead}
 use Rattle.fields_follow.proofs.Meaning.{as_shaped, none_fails}
 
 working_so : (o : Op) (to at_type : Elem) (signed : Bool) (old w : ℕ) → (to.bits == 1) ≡ false → at_type.bits ≡ 32 → signed ≡ at_type.signed → outcome o 32 (not signed) (held to old) w < 2 ^ 32
@@ -135,39 +135,52 @@ divides_never A.Rem w e = cc
 divides_never A.Mod w e = cc
 divides_never _ w e = refl
 
--- a target is the variable of a number
-pub record IsFileTarget (t : Typed) (set : ℕ) (target : TExpr) : Type 0 where
-  pub k : ℕ
+-- a target is a variable that is alive, with all its bits
+pub record Targets (t : Typed) (i : Instance) (alive : Variable → Type 0) (set : ℕ) (target : TExpr) : Type 0 where
+  pub x : Variable
   pub info : VarInfo
-  pub own : own_of 1 target ≡ Some (record { shape = Some set; variable = V.File k })
-  pub is : IsElement t k info set 0
+  pub own : own_of 1 target ≡ Some (record { shape = Some set; variable = x })
+  pub read : IsRead x
+  pub living : alive x
+  pub known : variable_named t i x ≡ Some info
+  pub parallel : info.shape ≡ Some set
+  pub one : info.array ≡ None
   pub shape : (type_of target).shape ≡ Some set
   pub elem : (type_of target).elem ≡ info.elem
-  pub means : (scope : Scope) (active : Active) (st : State) → located scope target active st ≡ Gives (OfElement (V.File k) 0 set) st
+  pub means : (scope : Scope) (active : Active) (st : State) → located scope target active st ≡ Gives (OfElement x 0 set) st
 
-pub file_target : (t : Typed) (i : Instance) (n set : ℕ) (target : TExpr) → IsTarget set target → NamesVariables t i n target → IsFileTarget t set target
-unfolding IsTarget own_of NamesVariables located variable_target
-file_target t i n set (T.Variable ty (V.File k)) is v = record {
-  k = k;
+variable_targets : (t : Typed) (i : Instance) (alive : Variable → Type 0) (n set : ℕ) (ty : ValueType) (x : Variable) → IsRead x → alive x → ty.shape ≡ Some set → HasVariable t i n x (plain ty) → Targets t i alive set (T.Variable ty x)
+unfolding own_of located variable_target
+variable_targets t i alive n set ty x read living is v = record {
+  x = x;
   info = variable_info v.word (plain ty) v.start;
-  own = by (is_none ty.shape) (nat_le 1 ty.elem.bits) (let some = (kind_bits ty.elem.bits ty.elem.signed ty.elem.kind).0 in grind (arith, nat_tests, some)) ∙ ap (λ (o : Option ℕ). Some (record { shape = o; variable = V.File k })) is;
-  is = element_is t i n k set ty is v;
+  own = by (is_none ty.shape) (nat_le 1 ty.elem.bits) (let some = (kind_bits ty.elem.bits ty.elem.signed ty.elem.kind).0 in grind (arith, nat_tests, some)) ∙ ap (λ (o : Option ℕ). Some (record { shape = o; variable = x })) is;
+  read = read;
+  living = living;
+  known = v.named;
+  parallel = is;
+  one = refl;
   shape = is;
   elem = refl;
-  means = λ scope active st. ap (λ (o : Option ℕ). Gives (variable_target o (V.File k) 0) st) is;
+  means = λ scope active st. ap (λ (o : Option ℕ). Gives (variable_target o x 0) st) is;
 }
   where
     own : Own
-    own = record { shape = ty.shape; variable = V.File k }
+    own = record { shape = ty.shape; variable = x }
 
     by : (a b : Bool) → b ≡ true → (if a || b then Some own else None) ≡ Some own
     by true b e = refl
     by false true e = refl
     by false false e = cc
-file_target t i n set (T.Brackets' ty p inner) is v =
-    let h = file_target t i n set inner is.1 v in
-    record { k = h.k; info = h.info; own = h.own; is = h.is; shape = ap (λ (y : ValueType). y.shape) is.0 ∙ h.shape; elem = ap (λ (y : ValueType). y.elem) is.0 ∙ h.elem; means = h.means }
-file_target t i n set _ is v = absurd is
+
+pub targets : (t : Typed) (i : Instance) (alive : Variable → Type 0) (n set : ℕ) (target : TExpr) → IsTarget set target → NamesVariables t i n target → NamesAmong alive target → Targets t i alive set target
+unfolding IsTarget own_of NamesVariables NamesAmong located IsRead
+targets t i alive n set (T.Variable ty (V.File k)) is v living = variable_targets t i alive n set ty (V.File k) tt living is v
+targets t i alive n set (T.Variable ty (V.Local k)) is v living = variable_targets t i alive n set ty (V.Local k) tt living is v
+targets t i alive n set (T.Brackets' ty p inner) is v living =
+    let h = targets t i alive n set inner is.1 v living in
+    record { x = h.x; info = h.info; own = h.own; read = h.read; living = h.living; known = h.known; parallel = h.parallel; one = h.one; shape = ap (λ (y : ValueType). y.shape) is.0 ∙ h.shape; elem = ap (λ (y : ValueType). y.elem) is.0 ∙ h.elem; means = h.means }
+targets t i alive n set _ is v living = absurd is
 
 module _ (scope : Scope) (active : Active) where
   -- the state with what is stored

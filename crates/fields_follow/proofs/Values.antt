@@ -1,5 +1,5 @@
 -- The code of a pure parallel expression leaves its numbers in a field, where the source gives them.
-use Rattle.std.proofs.Common.{◌≡◌, ℕ, ◌+◌, Bool, true, false, [], ◌∷◌, ◌++◌, length, Option, Some, None, refl, sym, ap, subst, arith, ◌⊎◌, inl, inr, if◌then◌else◌, length-append, ◌<◌, ◌≤◌, ◌∙◌, slice_get, List}
+use Rattle.std.proofs.Common.{◌≡◌, ℕ, ◌+◌, Bool, true, false, [], ◌∷◌, ◌++◌, length, Option, Some, None, refl, sym, ap, subst, arith, ◌⊎◌, inl, inr, if◌then◌else◌, length-append, ◌<◌, ◌≤◌, ◌∙◌, List}
 use Rattle.cstar_tree.specs.declared.typed.TExpr.{TExpr}
 use Rattle.cstar_tree.specs.declared.typed.TExpr as T
 use Rattle.cstar_tree.specs.declared.typed.ValueType.{ValueType}
@@ -39,15 +39,14 @@ use Rattle.code_follows.proofs.Growing.{Extended, and_instr, as_it_was}
 use Rattle.code_follows.proofs.Settings.{Setting, Within, and_one, layout, start}
 use Rattle.fields_follow.specs.Fragment.{IsPure}
 use Rattle.fields_follow.specs.Fields.{IsElement, file_number}
-use Rattle.fields_follow.proofs.FileFields.{Apart}
 use Rattle.fields_follow.proofs.Forms.{HasItsCode, IsRead, StandsInVariable, field_is, pure_not_held, pure_own, whole_element}
-use Rattle.fields_follow.proofs.Instructions.{HasNumbers, extents, place, puts_extended, shapes}
+use Rattle.fields_follow.proofs.Instructions.{HasNumbers, extents, puts_extended, shapes}
 use Rattle.fields_follow.proofs.Lengths.{held_has}
 use Rattle.fields_follow.proofs.Locals.{IsLocalField, local_is}
 use Rattle.fields_follow.proofs.Meaning.{as_shaped, read_is, value_in, word_at}
 use Rattle.fields_follow.proofs.Outcomes.{Given, given_follows, meant}
-use Rattle.fields_follow.proofs.Passing.{After, Behind, GivesField, after_same, fields_longer, gives_first, gives_from, gives_set, in_variable_has, made_after, names_second, passes_all, passes_from, puts_own}
-use Rattle.fields_follow.proofs.Places.{HoldsTheFields, IsFileField, IsOwnField, PlacesFields, entry_is, of_file, stands_here}
+use Rattle.fields_follow.proofs.Passing.{After, Behind, GivesField, HasOneBit, after_same, fields_longer, gives_first, gives_from, in_variable_has, made_after, names_second, next_own, passes_all, passes_from, puts_own}
+use Rattle.fields_follow.proofs.Places.{HoldsTheFields, IsFileField, IsOwnField, PlacesFields, entry_is, stands_here}
 use Rattle.fields_follow.proofs.Totals.{held_below}
 use Rattle.fields_follow.proofs.Starts.{no_home, starts_entry, starts_wider, Starts}
 use Rattle.fields_follow.proofs.Variables.{Carries, file_carries, local_carries, local_held}
@@ -70,20 +69,10 @@ one_more set len owner d = length-append d.fields (record { set = set; len = len
 abbrev pub IsFlag : TExpr → Type 0
 IsFlag e = bits_of (kind_of e) ≡ 1
 
--- first bits of a field are apart from what the field is apart from
-shorter_apart : (f : Field) (long : ℕ) (h : Field) → f.len ≤ long → Apart (record f { len = long }) h → Apart f h
-shorter_apart f long h less (inl differ) = inl differ
-shorter_apart f long h less (inr (inl low)) = inr (inl (omega (arith, low, less)))
-shorter_apart f long h less (inr (inr high)) = inr (inr high)
-
 module _ (g : Setting) where
   -- an entry that was taken is the unit's
   pub taken : (set len : ℕ) (owner : Owner) (d e : Draft) (n : ℕ) → Within g e → Extended (with_entry set len owner d) n e → IsEntry g.unit (length d.fields) (record { set = set; len = len; owner = owner })
   taken set len owner d e n w x = entry_is g d.fields x.entries (record { set = set; len = len; owner = owner }) e w x.fields
-
-  -- a field is apart from the variables of the file that have more bits than one
-  abbrev pub IsApart : ℕ → Field → Type 0
-  IsApart set f = (k : ℕ) (info : VarInfo) → IsElement g.typed k info set 0 → 1 < info.elem.bits → Apart (place g f) (of_file g k 0)
 
   module _ (has : HasRegisters g) (alive : Variable → Type 0) (n : ℕ) (ready : (d : Draft) → IsReadyButForFields g.typed g.instance (layout g) n d) (places : PlacesFields g) (fields : HoldsTheFields g) where
     -- the code of so many bits of a value, and of an operand
@@ -93,9 +82,9 @@ module _ (g : Setting) where
     abbrev pub operand_of : ℕ → Bool → TExpr → Code
     operand_of bits quiet e = operand_by g.typed (layout g) bits (code_of bits e) quiet e
 
-    -- it gives the lowest bits of its words in a field, which is apart from wider variables if this is so
+    -- It gives the lowest bits of its words in a field. If this is so, a variable in which they stand has one bit.
     abbrev pub Gives : Type 0 → ℕ → ℕ → Draft → CodeState → ℕ → State → (ℕ → ℕ) → Out → Draft → Type 0
-    Gives flag bits bound d s set st v out e = (f : Field) × ((out ≡ O.Field f) × (GivesField g alive bits bound d s set st v f e × (flag → IsApart set f)))
+    Gives flag bits bound d s set st v out e = (f : Field) × ((out ≡ O.Field f) × ((gives : GivesField g alive bits bound d s set st v f e) × (flag → HasOneBit g alive gives.stands)))
 
     -- as many of a parallel expression's value, where the source gives one, and it ends as the source does where that ends
     abbrev pub Valued : ℕ → ℕ → TExpr → Code → Type 0
@@ -103,8 +92,7 @@ module _ (g : Setting) where
         (d : Draft) (s : CodeState) (st : State) → Starts g alive s (length d.code) d.regs (length d.fields) → Sim g alive st s
         → Follows g (Given g (λ q. value_in (extents g set) st e q) st (Gives (IsFlag e) bits (length d.fields) d s set st (λ q. word_at (extents g set) st e q))) s (meant g fields e st) (code d)
 
-    -- The code finds the field of a variable, maybe with an entry more: it carries the variable, and one of a variable of one
-    -- bit is apart from wider ones.
+    -- The code finds the field of a variable, maybe with an entry more: it carries the variable, with all its bits.
     pub record Finds (set : ℕ) (x : Variable) (info : VarInfo) (d : Draft) : Type 0 where
       pub e : Draft
       pub f : Field
@@ -113,7 +101,7 @@ module _ (g : Setting) where
       pub code : e.code ≡ d.code
       pub regs : e.regs ≡ d.regs
       pub carries : (after : Draft) (m : ℕ) → Extended e m after → Within g after → Carries g alive x info set f
-      pub apart : (after : Draft) (m : ℕ) → Extended e m after → Within g after → info.elem.bits ≡ 1 → IsApart set f
+      pub whole : Within g d → f ≡ record { set = set; offset = f.offset; len = info.elem.bits }
 
     -- or there is no code
     abbrev pub FindsOrFails : ℕ → Variable → VarInfo → Draft → Type 0
@@ -130,11 +118,7 @@ module _ (g : Setting) where
       code = refl;
       regs = refl;
       carries = λ after m more within. file_carries g alive places fields set k info f is (entry after m more within) refl refl;
-      apart = λ after m more within one j of of_is wider.
-          subst (λ (x : Field). Apart x (of_file g j 0)) (sym (places.file k 0 info f is refl (entry after m more within))) (places.files_apart k 0 set j 0 set info of is of_is (λ same zero.
-          let same_info : info ≡ of = ap (λ (o : Option VarInfo). elim o as (λ _. VarInfo) [ None ↦ info | Some y ↦ y ]) (sym is.known ∙ ap (λ (m : ℕ). slice_get g.typed.vars.items m) same ∙ of_is.known) in
-          let same_bits : info.elem.bits ≡ of.elem.bits = ap (λ (y : VarInfo). y.elem.bits) same_info in
-          omega (arith, same_bits, one, wider)));
+      whole = λ within. refl;
     }
       where
         owner : Owner
@@ -163,7 +147,7 @@ module _ (g : Setting) where
           code = refl;
           regs = refl;
           carries = λ after m more within. subst (λ (x : Field). Carries g alive (V.Local k) info f.set x) (sym (same after m more within)) (local_carries g alive fields k info f living is st s sim);
-          apart = λ after m more within one j of of_is wider. places.own_file j 0 f.set of h of_is (subst (λ (x : Field). IsOwnField g x) (sym (same after m more within)) is.own);
+          whole = λ within. let found_it = same d 0 (as_it_was d) within in found_it ∙ ap (λ (n : ℕ). record { set = f.set; offset = f.offset; len = n }) is.len ∙ ap (λ (n : ℕ). record { set = f.set; offset = n; len = info.elem.bits }) (ap (λ (x : Field). x.offset) (sym found_it));
         })
 
     -- so those are that expressions read
@@ -216,7 +200,7 @@ module _ (g : Setting) where
                       same = λ q below. (h.value (extents g set) st q, held_below (type_of e).elem (value_in (extents g set) st e q));
                     });
                   },
-                  λ flag j of is wider. shorter_apart (place g (record found.f { len = bits })) found.f.len (of_file g j 0) (subst (λ (m : ℕ). bits ≤ m) (sym carries.len) h.fits) (found.apart found.e 0 (as_it_was found.e) within (h.flag flag) j of is wider),
+                  h.flag,
                 ),
               ),
             )))
@@ -256,7 +240,7 @@ module _ (g : Setting) where
     -- a copy of a variable's field, cut or extended
     field_copied : (bits set : ℕ) (x : Variable) (info : VarInfo) → bits ≤ 32 → (d : Draft) → FindsOrFails set x info (with_entry set bits W.Own d) → (s : CodeState) (st : State) → Starts g alive s (length d.code) d.regs (length d.fields) → Sim g alive st s
         → (flag : Type 0) → After g (Gives flag bits (length d.fields) d s set st (λ q. held info.elem (st.parallel x 0 q))) (field_loaded g.typed (layout g) info.elem.signed x 0 (next_field set bits d) (with_entry set bits W.Own d))
-    unfolding field_loaded then_make step_of After
+    unfolding field_loaded then_make step_of After puts_own next_own gives_from
     field_copied bits set x info most d (inl fails) s st here sim flag =
         after_same g (Gives flag bits (length d.fields) d s set st (λ q. held info.elem (st.parallel x 0 q))) (ap (λ (m : Made Field). then_make m (λ f after. Makes (O.Field (next_field set bits d)) (with_instr (I.Move info.elem.signed (next_field set bits d) f) after))) fails) tt
     field_copied bits set x info most d (inr found) s st here sim flag =
@@ -282,7 +266,7 @@ module _ (g : Setting) where
             (
               gives_from g alive bits (length d.fields) d d1 (with_instr i d2) s set st v dest (and_entry set bits W.Own d)
                   (gives_from g alive bits (length d.fields) d1 d2 (with_instr i d2) s set st v dest found.grown h),
-              λ flag j other other_is more. places.own_file j 0 set other dest other_is own,
+              λ flag. tt,
             ),
           ),
         )))
@@ -305,19 +289,9 @@ module _ (g : Setting) where
         same f x is = ap (λ (o : Out). elim o as (λ _. Field) [ O.Scalar r ↦ f | O.Field y ↦ y | O.Nothing ↦ f ]) is
 
         by : (P × Gives flag bits bound d s set st v (O.Field f) e) ⊎ E → (P × Gives flag fewer bound d s set st v (O.Field (record f { len = fewer })) e) ⊎ E
-        by (inl (p, (x, (is, (gives, apart))))) = inl (
-          p,
-          (
-            record x { len = fewer },
-            (
-              ap (λ (y : Field). O.Field (record y { len = fewer })) (same f x is),
-              (
-                gives_first g alive places fields bits fewer bound d s set st v x e less gives,
-                λ so k info one more. shorter_apart (record (place g x) { len = fewer }) x.len (of_file g k 0) (subst (λ (m : ℕ). fewer ≤ m) (sym (gives_set g alive places fields bits bound d s set st v x e gives).2) less) (apart so k info one more),
-              ),
-            ),
-          ),
-        )
+        by (inl (p, (x, (is, (gives, narrow))))) =
+            let first = gives_first g alive places fields bits fewer bound d s set st v x e less gives in
+            inl (p, (record x { len = fewer }, (ap (λ (y : Field). O.Field (record y { len = fewer })) (same f x is), (first.0, λ so. first.1 (narrow so)))))
         by (inr ends) = inr ends
     first_given bits fewer bound d s set st v flag P E (Makes (O.Scalar r) e) less h = λ w. by (h w)
       where

@@ -18,10 +18,25 @@ use Rattle.fields_follow.proofs.Instructions.{number_in, place, shapes}
 use Rattle.fields_follow.proofs.Locals.{HoldsLocal, IsLocalField, same_local, used_up_to}
 use Rattle.fields_follow.proofs.Places.{HoldsTheFields, IsFileField, PlacesFields, of_file}
 
+module _ (g : Setting) where
+  -- the field is the entry for a variable of the file, or for one of a block
+  unfoldable pub IsEntryFor : Variable → VarInfo → Field → Type 0
+  IsEntryFor (V.File k) info f = IsElement g.typed k info f.set 0 × IsFileField g k 0 f
+  IsEntryFor (V.Local k) info f = IsLocalField g k info f
+  IsEntryFor _ info f = ⊥
+
+  -- which is the variable of that name
+  pub entry_named : (x : Variable) (info : VarInfo) (f : Field) → IsEntryFor x info f → variable_named g.typed g.instance x ≡ Some info
+  unfolding IsEntryFor variable_named
+  entry_named (V.File k) info f is = is.0.known
+  entry_named (V.Local k) info f is = is.known
+  entry_named _ info f is = absurd is
+
 module _ (g : Setting) (alive : Variable → Type 0) where
   -- All bits of a variable stand in the field: where an instruction at this place or behind it names the field, it has
   -- the variable's numbers, which are of its type.
   pub record Carries (x : Variable) (info : VarInfo) (set : ℕ) (f : Field) : Type 0 where
+    pub entry : IsEntryFor g x info f
     pub of_set : f.set ≡ set
     pub exists : set < length (shapes g)
     pub len : f.len ≡ info.elem.bits
@@ -38,7 +53,9 @@ module _ (g : Setting) (alive : Variable → Type 0) where
 
   -- so it carries the variable
   pub file_carries : PlacesFields g → HoldsTheFields g → (set k : ℕ) (info : VarInfo) (f : Field) → IsElement g.typed k info set 0 → IsFileField g k 0 f → f.set ≡ set → f.len ≡ info.elem.bits → Carries (V.File k) info set f
+  unfolding IsEntryFor
   file_carries places fields set k info f is file of_set len = record {
+    entry = (subst (λ (n : ℕ). IsElement g.typed k info n 0) (sym of_set) is, file);
     of_set = of_set;
     exists = places.exists k 0 set info is;
     len = len;
@@ -70,7 +87,9 @@ module _ (g : Setting) (alive : Variable → Type 0) where
 
   -- so that entry carries it
   pub local_carries : HoldsTheFields g → (k : ℕ) (info : VarInfo) (f : Field) → alive (V.Local k) → IsLocalField g k info f → (st : State) (s : CodeState) → Sim g alive st s → Carries (V.Local k) info f.set f
+  unfolding IsEntryFor
   local_carries fields k info f living is st s sim = record {
+    entry = is;
     of_set = refl;
     exists = (local_holds st s sim).exists;
     len = is.len;

@@ -6,13 +6,13 @@
 -- or that of a scalar is, or where an index does not lie within its extent at one, and nowhere else. The condition of
 -- `?:` may be parallel too: each of the other operands then fails only where it is chosen, as the right one of `&&` and
 -- `||` does where the left one does not decide, which may be a scalar. They are assigned to variables of the file and
--- folded into numbers and onto scalar variables, as scans of them and of ones with operators on these are, and they are
--- the conditions of `where`. Folds and scans are of the active positions. They are sent, as those scans are, to
--- variables of the file, of any shape, by such indexes, also with an operator that folds. Scalars that change
--- variables, by assignments, steps and `getchar`, are assigned to variables of the file too, also with operators.
--- Scalar expressions read single positions of variables of the file, by any scalar indexes. Blocks may have parallel
--- variables without initialisers, to which nothing is assigned. Under `where` and `everywhere` stand the statements of
--- scalar programs with these, also calls, `return` and jumps that lead out of them.
+-- of blocks, and folded into numbers and onto scalar variables, as scans of them and of ones with operators on these
+-- are, and they are the conditions of `where`. Folds and scans are of the active positions. They are sent, as those
+-- scans are, to variables of the file, of any shape, by such indexes, also with an operator that folds. Scalars that
+-- change variables, by assignments, steps and `getchar`, are assigned as parallel expressions are, also with operators.
+-- Scalar expressions read single positions of variables of the file, by any scalar indexes. Parallel variables of
+-- blocks have no initialisers. Under `where` and `everywhere` stand the statements of scalar programs with these, also
+-- calls, `return` and jumps that lead out of them.
 use Rattle.std.specs.Prelude.{ℕ, ◌≡◌, ◌<◌, ◌≤◌, ◌+◌, ◌^◌, ◌⊎◌, ◌==◌, true, false, Option, Some, None}
 use Rattle.cstar_base.specs.declared.elem.Elem.{Elem}
 use Rattle.cstar_base.specs.declared.operators.Combiner.TheVariants as C
@@ -203,9 +203,10 @@ IsOperand set e = IsPure set e ⊎ IsPromoted set e
 abbrev pub HasItsKind : ℕ → TExpr → Type 0
 HasItsKind set e = IsPure set e × HasKnownKind e
 
--- what is assigned to: a variable of the file
+-- what is assigned to: a variable of the file or of a block
 unfoldable pub IsTarget : ℕ → TExpr → Type 0
 IsTarget set (T.Variable ty (V.File k)) = ty.shape ≡ Some set
+IsTarget set (T.Variable ty (V.Local k)) = ty.shape ≡ Some set
 IsTarget set (T.Brackets' ty p inner) = (ty ≡ type_of inner) × IsTarget set inner
 IsTarget set _ = ⊥
 
