@@ -31,7 +31,7 @@ use Rattle.source_meaning.proofs.ConstantLaws.{Boxed}
 use Rattle.vp_sets.specs.Positions.{position_count}
 use Rattle.code_follows.proofs.Following.{Finishes, Sim}
 use Rattle.code_follows.proofs.Settings.{Reaches, Setting, Within, and_one, begins_here, earlier, one, placed_instr}
-use Rattle.fields_follow.proofs.Checks.{check_ends, check_passes}
+use Rattle.fields_follow.proofs.Checks.{check_ends, check_passes, check_replies}
 use Rattle.fields_follow.proofs.Instructions.{HasNumbers, Puts, has_words, number_in, puts_operate, shapes}
 use Rattle.fields_follow.proofs.Lengths.{Keeps}
 use Rattle.fields_follow.proofs.Meaning.{binary_means, binary_so, divided_is}
@@ -119,11 +119,7 @@ module _ (g : Setting) (fields : HoldsTheFields g) where
     checked_so : (set : ℕ) (place_of : Place) (b : Field) (w : ℕ → ℕ) (t : CodeState) (st : State) → HasNumbers g 32 set b t w → Sim g alive st t
         → begun g.image (placed_instr g (I.CheckDivisor place_of b)) t ≡ (elim (zero_at set w) as (λ _. Next) [ None ↦ Goes (Machine.onward t) | Some q ↦ Machine.Ends (Machine.Fault DivZero place_of (Some q)) (Machine.onward t) ])
     unfolding begun applied after
-    checked_so set place_of b w t st h sim = ap (λ (o : Option ℕ). replied (placed_instr g (I.CheckDivisor place_of b)) (Machine.onward t) (bad_or_nothing o)) (finds set place_of b w t st h sim) ∙ by (zero_at set w)
-      where
-        by : (o : Option ℕ) → replied (placed_instr g (I.CheckDivisor place_of b)) (Machine.onward t) (bad_or_nothing o) ≡ (elim o as (λ _. Next) [ None ↦ Goes (Machine.onward t) | Some q ↦ Machine.Ends (Machine.Fault DivZero place_of (Some q)) (Machine.onward t) ])
-        by None = refl
-        by (Some q) = refl
+    checked_so set place_of b w t st h sim = ap (λ (o : Option ℕ). replied (placed_instr g (I.CheckDivisor place_of b)) (Machine.onward t) (bad_or_nothing o)) (finds set place_of b w t st h sim) ∙ check_replies (placed_instr g (I.CheckDivisor place_of b)) DivZero place_of (Machine.onward t) (λ q. refl) (zero_at set w)
 
     has_onward : (bits set : ℕ) (f : Field) (t : CodeState) (v : ℕ → ℕ) → HasNumbers g bits set f t v → HasNumbers g bits set f (Machine.onward t) v
     has_onward bits set f t v h = record { of_set = h.of_set; exists = h.exists; len = h.len; are = h.are; small = h.small }

@@ -23,9 +23,9 @@ use Rattle.paris_code.specs.declared.operands.Field.{Field}
 use Rattle.paris_code.specs.declared.operands.SignedCoordinate.{SignedCoordinate}
 use Rattle.paris_code.specs.Checking.{least_failing, set_of_coordinates}
 use Rattle.paris_code.specs.Code as Machine
-use Rattle.paris_code.specs.Code.{CodeState, Goes, Next, applied, arguments_at, begun, replied, step}
+use Rattle.paris_code.specs.Code.{CodeState, Goes, Next, applied, arguments_at, begun, step}
 use Rattle.paris_code.specs.Elementwise.{elementwise}
-use Rattle.paris_code.specs.Meaning.{after, bad_or_nothing}
+use Rattle.paris_code.specs.Meaning.{after}
 use Rattle.paris_code.specs.Memory.{is_active, processors}
 use Rattle.paris_code.specs.Moving.{moved_coordinate, moved_signed}
 use Rattle.paris_code.specs.Operands.{coordinate_of, registers_of_coordinate}
@@ -40,7 +40,7 @@ use Rattle.code_follows.proofs.Following.{Finishes, HasRegisters, Sim}
 use Rattle.code_follows.proofs.Growing.{Extended}
 use Rattle.code_follows.proofs.Settings.{OpenAmong, At, Setting, Within, and_one, code_more, earlier, layout, next_stands}
 use Rattle.fields_follow.specs.Fragment.{AreIndexes, IsPromoted, IsPure, IsRegistered}
-use Rattle.fields_follow.proofs.Checks.{check_ends, check_passes}
+use Rattle.fields_follow.proofs.Checks.{check_ends, check_passes, check_replies}
 use Rattle.code_lengths.specs.Ready.{IsReadyButForFields}
 use Rattle.fields_follow.proofs.Forms.{HasItsCode}
 use Rattle.fields_follow.proofs.Indexing.{AllCoded}
@@ -165,11 +165,7 @@ module _ (g : Setting) where
     check_begun : (set : ℕ) (place_of : Place) (list : _) (s : CodeState)
         → begun g.image (I.CheckTarget set place_of list) s ≡ (elim (least_failing (shapes g) (I.CheckTarget set place_of list) (arguments_at (I.CheckTarget set place_of list) s.registers) s.memory) as (λ _. Next) [ None ↦ Goes (Machine.onward s) | Some q ↦ Machine.Ends (Machine.Fault Index place_of (Some q)) (Machine.onward s) ])
     unfolding begun applied after
-    check_begun set place_of list s = by (least_failing (shapes g) (I.CheckTarget set place_of list) (arguments_at (I.CheckTarget set place_of list) s.registers) s.memory)
-      where
-        by : (o : Option ℕ) → replied (I.CheckTarget set place_of list) (Machine.onward s) (bad_or_nothing o) ≡ (elim o as (λ _. Next) [ None ↦ Goes (Machine.onward s) | Some q ↦ Machine.Ends (Machine.Fault Index place_of (Some q)) (Machine.onward s) ])
-        by None = refl
-        by (Some q) = refl
+    check_begun set place_of list s = check_replies (I.CheckTarget set place_of list) Index place_of (Machine.onward s) (λ q. refl) (least_failing (shapes g) (I.CheckTarget set place_of list) (arguments_at (I.CheckTarget set place_of list) s.registers) s.memory)
 
     -- where no index is outside, each lies within its extent at the active positions
     pub inside : (set of : ℕ) (given : List Operand) → set < length (shapes g) → of < length (shapes g) → outside_at fields.scope fields.active set of given ≡ None → (q : ℕ) → q < processors (shapes g) set → fields.active set q ≡ true → are_within (extents g of).own given q ≡ true

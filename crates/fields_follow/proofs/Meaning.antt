@@ -83,6 +83,12 @@ unfoldable mutual
 abbrev pub word_at : Extents → State → TExpr → ℕ → ℕ
 word_at extents st e q = held (type_of e).elem (value_in extents st e q)
 
+-- three in order
+pub then_ordered : {A B C : Type 0} (o : Outcome A) (f : A → State → Outcome B) (k : B → State → Outcome C) → then_do (then_do o f) k ≡ then_do o (λ x u. then_do (f x u) k)
+unfolding then_do
+then_ordered (Gives x u) f k = refl
+then_ordered (Ends early u) f k = refl
+
 -- a type of a shape, by its parts
 pub as_shaped : (ty : ValueType) (set : ℕ) → ty.shape ≡ Some set → ty ≡ record { elem = ty.elem; shape = Some set }
 as_shaped ty set is i = record { elem = ty.elem; shape = is i }

@@ -38,8 +38,8 @@ use Rattle.paris_code.specs.declared.program.Owner.{Owner}
 use Rattle.paris_code.specs.declared.program.Owner.TheVariants as W
 use Rattle.paris_code.specs.Checking.{least_failing}
 use Rattle.paris_code.specs.Code as Machine
-use Rattle.paris_code.specs.Code.{CodeState, Goes, Next, applied, arguments_at, begun, replied, step}
-use Rattle.paris_code.specs.Meaning.{after, bad_or_nothing}
+use Rattle.paris_code.specs.Code.{CodeState, Goes, Next, applied, arguments_at, begun, step}
+use Rattle.paris_code.specs.Meaning.{after}
 use Rattle.paris_code.specs.Memory.{processors}
 use Rattle.source_meaning.specs.Expressions.{operands}
 use Rattle.source_meaning.specs.Gets.{Operand, are_within, named_by}
@@ -51,7 +51,7 @@ use Rattle.code_follows.proofs.Following.{Sim, held}
 use Rattle.code_follows.proofs.Growing.{Extended, extended}
 use Rattle.code_follows.proofs.Settings.{Setting, Within, earlier, layout, next_stands}
 use Rattle.fields_follow.specs.Fragment.{AreSteps}
-use Rattle.fields_follow.proofs.Checks.{check_ends, check_passes}
+use Rattle.fields_follow.proofs.Checks.{check_ends, check_passes, check_replies}
 use Rattle.fields_follow.proofs.Extents.{NameExtents, extents_in}
 use Rattle.fields_follow.specs.Fields.{IsElement, file_number}
 use Rattle.fields_follow.proofs.Forms.{element_is, field_is}
@@ -161,11 +161,7 @@ module _ (g : Setting) where
   grid_begun : (set : ℕ) (place_of : Place) (list : _) (s : CodeState)
       → begun g.image (I.CheckGrid set place_of list) s ≡ (elim (least_failing (shapes g) (I.CheckGrid set place_of list) (arguments_at (I.CheckGrid set place_of list) s.registers) s.memory) as (λ _. Next) [ None ↦ Goes (Machine.onward s) | Some q ↦ Machine.Ends (Machine.Fault Index place_of (Some q)) (Machine.onward s) ])
   unfolding begun applied after
-  grid_begun set place_of list s = by (least_failing (shapes g) (I.CheckGrid set place_of list) (arguments_at (I.CheckGrid set place_of list) s.registers) s.memory)
-    where
-      by : (o : Option ℕ) → replied (I.CheckGrid set place_of list) (Machine.onward s) (bad_or_nothing o) ≡ (elim o as (λ _. Next) [ None ↦ Goes (Machine.onward s) | Some q ↦ Machine.Ends (Machine.Fault Index place_of (Some q)) (Machine.onward s) ])
-      by None = refl
-      by (Some q) = refl
+  grid_begun set place_of list s = check_replies (I.CheckGrid set place_of list) Index place_of (Machine.onward s) (λ q. refl) (least_failing (shapes g) (I.CheckGrid set place_of list) (arguments_at (I.CheckGrid set place_of list) s.registers) s.memory)
 
   module _ (alive : Variable → Type 0) (n : ℕ) (places : PlacesFields g) (fields : HoldsTheFields g) where
     -- the variable has its words at every position

@@ -1,5 +1,5 @@
--- What a get by the router means: the positions that its indexes name, and a fault where one of them does not lie within
--- its extent at an active position.
+-- What a get means, and the target of a send: the positions that its indexes name, and a fault where one of them does not
+-- lie within its extent at an active position.
 use Rattle.std.proofs.Common.{◌≡◌, ◌∙◌, ℕ, suc, not, List, [], ◌∷◌, length, Option, Some, None, refl, sym, ap}
 use Rattle.std.specs.Prelude.{unsigned_abs}
 use Rattle.cstar_base.specs.Numbers.{number_of}
@@ -10,13 +10,13 @@ use Rattle.cstar_tree.specs.declared.typed.TExpr as T
 use Rattle.cstar_tree.specs.declared.typed.ValueType.{ValueType}
 use Rattle.cstar_tree.specs.declared.typed.Variable.{Variable}
 use Rattle.cstar_tree.specs.Typed.{type_of}
-use Rattle.source_meaning.specs.Expressions.{evaluated, operands}
+use Rattle.source_meaning.specs.Expressions.{evaluated, located, operands}
 use Rattle.source_meaning.specs.Gets.{Operand, are_within, coordinates_of, gotten, index_at, named_by}
 use Rattle.source_meaning.specs.State.{Ends, Fault, Gives, Outcome, State, then_do}
-use Rattle.source_meaning.specs.Targets.{indexed_target, position_target, read}
+use Rattle.source_meaning.specs.Targets.{OfTargets, Target, indexed_target, position_target, read}
 use Rattle.source_meaning.specs.Values.{Active, Parallel, Scope, at, failing, unless}
 use Rattle.vp_sets.specs.Positions.{number_at}
-use Rattle.fields_follow.proofs.Meaning.{Extents, coordinates_named, value_in}
+use Rattle.fields_follow.proofs.Meaning.{Extents, coordinates_named, then_ordered, value_in}
 
 -- the values of indexes, with their types
 unfoldable pub indexes_at : {k : _} → Extents → State → Row_of-TExpr k → List Operand
@@ -48,25 +48,41 @@ module _ (scope : Scope) (active : Active) where
   abbrev pub outside_at : ℕ → ℕ → List Operand → Option (Option ℕ)
   outside_at set of given = failing scope active (Some set) (λ q. not (are_within (scope.extents of) given q))
 
-  targets_so : (ty : ValueType) (place : Place) (p : _) (indexes : Row_of-TExpr _) (x : Variable) (set of : ℕ) (given : List Operand) (st : State) → ty.shape ≡ Some set → operands scope indexes active st ≡ Gives given st
-      → evaluated scope (T.LeftIndex' ty place p indexes x of) active st ≡ then_do (unless (outside_at set of given) Index place st (Gives (position_target (Some set) x (λ q. named_by (scope.extents of) given q)) st)) (λ there after. Gives (read after there) after)
-  unfolding evaluated then_do indexed_target
-  targets_so ty place p indexes x set of given st shaped known =
-      ap (λ (o : Outcome (List Operand)). then_do o (λ given between. then_do (indexed_target scope active ty.shape place x of given between) (λ there after. Gives (read after there) after))) known
-      ∙ ap (λ (o : Option ℕ). then_do (indexed_target scope active o place x of given st) (λ there after. Gives (read after there) after)) shaped
+  -- what the indexes name, behind their values
+  abbrev pub targets_of : ValueType → Place → Variable → ℕ → List Operand → State → Outcome Target
+  targets_of ty place x set given st = indexed_target scope active ty.shape place x set given st
 
-  -- where all lie within them, each position gets the number of its target
+  -- where all lie within their extents, the targets are known
+  pub targets_given : (ty : ValueType) (place : Place) (p : _) (indexes : Row_of-TExpr _) (x : Variable) (set of : ℕ) (given : List Operand) (st : State) → ty.shape ≡ Some set → operands scope indexes active st ≡ Gives given st → outside_at set of given ≡ None
+      → located scope (T.LeftIndex' ty place p indexes x of) active st ≡ Gives (OfTargets x (λ q. named_by (scope.extents of) given q) set) st
+  unfolding located then_do indexed_target unless position_target
+  targets_given ty place p indexes x set of given st shaped known none =
+      ap (λ (o : Outcome (List Operand)). then_do o (λ given after. targets_of ty place x of given after)) known
+      ∙ ap (λ (o : Option ℕ). indexed_target scope active o place x of given st) shaped
+      ∙ ap (λ (o : Option (Option ℕ)). unless o Index place st (Gives (position_target (Some set) x (λ q. named_by (scope.extents of) given q)) st)) none
+
+  -- else the run ends at the least position where one does not
+  pub targets_fault : (ty : ValueType) (place : Place) (p : _) (indexes : Row_of-TExpr _) (x : Variable) (set of : ℕ) (given : List Operand) (st : State) (q : ℕ) → ty.shape ≡ Some set → operands scope indexes active st ≡ Gives given st → outside_at set of given ≡ Some (Some q)
+      → located scope (T.LeftIndex' ty place p indexes x of) active st ≡ Ends (Fault Index place (Some q)) st
+  unfolding located then_do indexed_target unless
+  targets_fault ty place p indexes x set of given st q shaped known some =
+      ap (λ (o : Outcome (List Operand)). then_do o (λ given after. targets_of ty place x of given after)) known
+      ∙ ap (λ (o : Option ℕ). indexed_target scope active o place x of given st) shaped
+      ∙ ap (λ (o : Option (Option ℕ)). unless o Index place st (Gives (position_target (Some set) x (λ q. named_by (scope.extents of) given q)) st)) some
+
+  -- what is read there
+  reads_so : (ty : ValueType) (place : Place) (p : _) (indexes : Row_of-TExpr _) (x : Variable) (of : ℕ) (st : State) → evaluated scope (T.LeftIndex' ty place p indexes x of) active st ≡ then_do (located scope (T.LeftIndex' ty place p indexes x of) active st) (λ there after. Gives (read after there) after)
+  unfolding evaluated located
+  reads_so ty place p indexes x of st = sym (then_ordered (operands scope indexes active st) (λ given after. targets_of ty place x of given after) (λ there after. Gives (read after there) after))
+
+  -- so each position gets the number of its target
   pub routed_gives : (ty : ValueType) (place : Place) (p : _) (indexes : Row_of-TExpr _) (x : Variable) (set of : ℕ) (given : List Operand) (st : State) → ty.shape ≡ Some set → operands scope indexes active st ≡ Gives given st → outside_at set of given ≡ None
       → evaluated scope (T.LeftIndex' ty place p indexes x of) active st ≡ Gives (Parallel (λ q. st.parallel x 0 (named_by (scope.extents of) given q))) st
-  unfolding unless position_target read gotten then_do
-  routed_gives ty place p indexes x set of given st shaped known none =
-      targets_so ty place p indexes x set of given st shaped known
-      ∙ ap (λ (o : Option (Option ℕ)). then_do (unless o Index place st (Gives (position_target (Some set) x (λ q. named_by (scope.extents of) given q)) st)) (λ there after. Gives (read after there) after)) none
+  unfolding read gotten then_do
+  routed_gives ty place p indexes x set of given st shaped known none = reads_so ty place p indexes x of st ∙ ap (λ (o : Outcome Target). then_do o (λ there after. Gives (read after there) after)) (targets_given ty place p indexes x set of given st shaped known none)
 
-  -- else the run ends at the least such position
+  -- or the run ends
   pub routed_faults : (ty : ValueType) (place : Place) (p : _) (indexes : Row_of-TExpr _) (x : Variable) (set of : ℕ) (given : List Operand) (st : State) (q : ℕ) → ty.shape ≡ Some set → operands scope indexes active st ≡ Gives given st → outside_at set of given ≡ Some (Some q)
       → evaluated scope (T.LeftIndex' ty place p indexes x of) active st ≡ Ends (Fault Index place (Some q)) st
-  unfolding unless then_do
-  routed_faults ty place p indexes x set of given st q shaped known some =
-      targets_so ty place p indexes x set of given st shaped known
-      ∙ ap (λ (o : Option (Option ℕ)). then_do (unless o Index place st (Gives (position_target (Some set) x (λ q. named_by (scope.extents of) given q)) st)) (λ there after. Gives (read after there) after)) some
+  unfolding then_do
+  routed_faults ty place p indexes x set of given st q shaped known some = reads_so ty place p indexes x of st ∙ ap (λ (o : Outcome Target). then_do o (λ there after. Gives (read after there) after)) (targets_fault ty place p indexes x set of given st q shaped known some)

@@ -1,55 +1,31 @@
 -- What a send means: its indexes are located, its value is evaluated, and each target takes what is sent to it; it ends
 -- where one of these does.
-use Rattle.std.proofs.Common.{◌≡◌, ◌∙◌, ℕ, ◌<◌, ◌^◌, ◌&&◌, Bool, false, List, Option, Some, None, ap}
+use Rattle.std.proofs.Common.{◌≡◌, ◌∙◌, ℕ, ◌<◌, ◌^◌, ◌&&◌, Bool, false, Option, Some, None, ap}
 use Rattle.cstar_base.specs.Orders.{least_below}
 use Rattle.cstar_base.specs.declared.elem.Elem.{Elem}
-use Rattle.cstar_base.specs.declared.faults.RunFault.TheVariants.{DivZero, Index}
+use Rattle.cstar_base.specs.declared.faults.RunFault.TheVariants.{DivZero}
 use Rattle.cstar_base.specs.declared.operators.Place.{Place}
 use Rattle.cstar_base.specs.declared.operators.Winner.{Winner}
 use Rattle.cstar_tree.specs.declared.syntax.AssignOp.{AssignOp}
 use Rattle.cstar_tree.specs.declared.syntax.AssignOp.TheVariants as A
-use Rattle.cstar_tree.specs.declared.typed.TExpr.{TExpr, Row_of-TExpr}
+use Rattle.cstar_tree.specs.declared.typed.TExpr.{TExpr}
 use Rattle.cstar_tree.specs.declared.typed.TExpr as T
 use Rattle.cstar_tree.specs.declared.typed.ValueType.{ValueType}
 use Rattle.cstar_tree.specs.declared.typed.Variable.{Variable}
 use Rattle.cstar_tree.specs.Typed.{type_of}
-use Rattle.source_meaning.specs.Expressions.{evaluated, located, operands}
-use Rattle.source_meaning.specs.Gets.{Operand, named_by}
+use Rattle.source_meaning.specs.Expressions.{evaluated, located}
 use Rattle.source_meaning.specs.Reductions.{divides_by_zero}
 use Rattle.source_meaning.specs.Sends.{Send, received, sent, value_or, winning_sender}
-use Rattle.source_meaning.specs.State.{Early, Ends, Fault, Gives, Outcome, State, then_do}
-use Rattle.source_meaning.specs.Targets.{OfTargets, Target, assign_to, assigned, indexed_target, position_target}
+use Rattle.source_meaning.specs.State.{Early, Ends, Gives, Outcome, State, then_do}
+use Rattle.source_meaning.specs.Targets.{OfTargets, Target, assign_to, assigned}
 use Rattle.source_meaning.specs.Values.{Active, Nothing, Parallel, Scope, Value, at, failing, positions, unless}
 use Rattle.source_meaning.proofs.ConstantLaws.{Boxed}
 use Rattle.fields_follow.proofs.Meaning.{as_shaped, none_fails}
-use Rattle.fields_follow.proofs.Routing.{outside_at}
 
 module _ (scope : Scope) (active : Active) where
   -- what is sent from the active positions of a set
   abbrev pub sent_from : ℕ → (ℕ → ℕ) → (ℕ → ℕ) → Send
   sent_from set to v = record { count = positions scope set; active = active set; to = to; value = v }
-
-  -- what the indexes name, behind their values
-  abbrev pub targets_of : ValueType → Place → Variable → ℕ → List Operand → State → Outcome Target
-  targets_of ty place x set given st = indexed_target scope active ty.shape place x set given st
-
-  -- where all lie within their extents, the targets are known
-  pub targets_given : (ty : ValueType) (place : Place) (p : _) (indexes : Row_of-TExpr _) (x : Variable) (set of : ℕ) (given : List Operand) (st : State) → ty.shape ≡ Some set → operands scope indexes active st ≡ Gives given st → outside_at scope active set of given ≡ None
-      → located scope (T.LeftIndex' ty place p indexes x of) active st ≡ Gives (OfTargets x (λ q. named_by (scope.extents of) given q) set) st
-  unfolding located then_do indexed_target unless position_target
-  targets_given ty place p indexes x set of given st shaped known none =
-      ap (λ (o : Outcome (List Operand)). then_do o (λ given after. targets_of ty place x of given after)) known
-      ∙ ap (λ (o : Option ℕ). indexed_target scope active o place x of given st) shaped
-      ∙ ap (λ (o : Option (Option ℕ)). unless o Index place st (Gives (position_target (Some set) x (λ q. named_by (scope.extents of) given q)) st)) none
-
-  -- else the run ends at the least position where one does not
-  pub targets_fault : (ty : ValueType) (place : Place) (p : _) (indexes : Row_of-TExpr _) (x : Variable) (set of : ℕ) (given : List Operand) (st : State) (q : ℕ) → ty.shape ≡ Some set → operands scope indexes active st ≡ Gives given st → outside_at scope active set of given ≡ Some (Some q)
-      → located scope (T.LeftIndex' ty place p indexes x of) active st ≡ Ends (Fault Index place (Some q)) st
-  unfolding located then_do indexed_target unless
-  targets_fault ty place p indexes x set of given st q shaped known some =
-      ap (λ (o : Outcome (List Operand)). then_do o (λ given after. targets_of ty place x of given after)) known
-      ∙ ap (λ (o : Option ℕ). indexed_target scope active o place x of given st) shaped
-      ∙ ap (λ (o : Option (Option ℕ)). unless o Index place st (Gives (position_target (Some set) x (λ q. named_by (scope.extents of) given q)) st)) some
 
   -- what is sent arrives, as no send divides
   sent_so : (set : ℕ) (x : Variable) (place : Place) (op : AssignOp) (to from : ValueType) (targets v : ℕ → ℕ) (st : State) → to.shape ≡ Some set → ((q : ℕ) → divides_by_zero op (v q) ≡ false)

@@ -75,8 +75,8 @@ use Rattle.fields_follow.proofs.Locating.{and_step, located_after}
 use Rattle.fields_follow.proofs.News.{for_variable, owner_of}
 use Rattle.fields_follow.proofs.Outcomes.{Ended, after_all, ended_back, ended_on, meant, outcome_follows, then_known}
 use Rattle.fields_follow.proofs.Places.{HoldsTheFields, PlacesFields}
-use Rattle.fields_follow.proofs.Routing.{indexes_at, outside_at, target_of}
-use Rattle.fields_follow.proofs.SendMeans.{send_means, sent_from, target_ends, targets_fault, targets_given, targets_of, value_ends}
+use Rattle.fields_follow.proofs.Routing.{indexes_at, outside_at, target_of, targets_fault, targets_given, targets_of}
+use Rattle.fields_follow.proofs.SendMeans.{send_means, sent_from, target_ends, value_ends}
 use Rattle.fields_follow.proofs.Starts.{Starts, no_home, starts_entry}
 use Rattle.fields_follow.proofs.Updates.{divides_never}
 use Rattle.fields_follow.proofs.Values.{and_entry, next_field, one_more, taken, with_entry}

@@ -80,6 +80,7 @@ use Rattle.fields_follow.proofs.Knowing.{KnowsFields}
 use Rattle.fields_follow.proofs.Leaving.{places_under, under, within_under}
 use Rattle.fields_follow.proofs.Listed.{begins_there, front_check_stands, front_make_stands}
 use Rattle.fields_follow.proofs.Locating.{and_step}
+use Rattle.fields_follow.proofs.Meaning.{then_ordered}
 use Rattle.fields_follow.proofs.News.{for_variable, owner_of}
 use Rattle.fields_follow.proofs.Outcomes.{ended_follows}
 use Rattle.fields_follow.proofs.Places.{IsFileField}
@@ -122,11 +123,6 @@ within_all scope active extents given never = by (are_within extents given 0) ne
 never_fails : (scope : Scope) (active : Active) (extents : List ℕ) (given : List Operand) → are_within extents given 0 ≡ true → failing scope active None (λ p. not (are_within extents given p)) ≡ None
 unfolding failing
 never_fails scope active extents given inside = ap (λ (b : Bool). if not b then Some None else None) inside
-
-then_three : {A B C : Type 0} (o : Outcome A) (f : A → State → Outcome B) (k : B → State → Outcome C) → then_do (then_do o f) k ≡ then_do o (λ x u. then_do (f x u) k)
-unfolding then_do
-then_three (Gives x u) f k = refl
-then_three (Source.Ends early u) f k = refl
 
 module _ (g : Setting) (has : HasRegisters g) (alive : Variable → Type 0) (scope : Scope) (active : Active) where
   -- they have their words, and stand in registers
@@ -555,7 +551,7 @@ module _ (g : Setting) (has : HasRegisters g) (alive : Variable → Type 0) (sco
           → Follows g R s (evaluated scope single active st) (computed_to g.typed (layout g) (O.Scalar r) single d)
       unfolding evaluated located Extends
       reads_follow d s st R r free here sim dest =
-          follows_same g R s (sym (then_three (operands scope indexes active st) (λ given between. indexed_target scope active ty.shape place (V.File k) of given between) (λ there after. Gives (read after there) after))) (read_code r d)
+          follows_same g R s (sym (then_ordered (operands scope indexes active st) (λ given between. indexed_target scope active ty.shape place (V.File k) of given between) (λ there after. Gives (read after there) after))) (read_code r d)
           (then_follows g (Found of k d s) R s s (located scope single active st) (λ there after. Gives (read after there) after) (found_in place of indexes d) (λ q after. read_in q r after) (stay g s) (found_follows d s st free here sim)
           (λ q after. reading_grows q after) (λ there u q f h. reads_there d s R r dest there u q f h))
         where
