@@ -174,6 +174,7 @@ mutual
   among_widened names more fits (T.Variable ty x) h = fits x h
   among_widened names more fits (T.Brackets' ty p inner) h = among_widened names more fits inner h
   among_widened names more fits (T.Convert' ty p operand) h = among_widened names more fits operand h
+  among_widened names more fits (T.ParallelCast' ty p operand) h = among_widened names more fits operand h
   among_widened names more fits (T.Promote' ty p operand) h = among_widened names more fits operand h
   among_widened names more fits (T.Casts' ty elems p operand) h = among_widened names more fits operand h
   among_widened names more fits (T.Unary' ty op p operand) h = among_widened names more fits operand h

@@ -97,6 +97,7 @@ unfoldable mutual
   NamesAmong names (T.Variable ty x) = names x
   NamesAmong names (T.Brackets' ty p inner) = NamesAmong names inner
   NamesAmong names (T.Convert' ty p operand) = NamesAmong names operand
+  NamesAmong names (T.ParallelCast' ty p operand) = NamesAmong names operand
   NamesAmong names (T.Promote' ty p operand) = NamesAmong names operand
   NamesAmong names (T.Casts' ty elems p operand) = NamesAmong names operand
   NamesAmong names (T.Unary' ty op p operand) = NamesAmong names operand

@@ -55,7 +55,7 @@ use Rattle.fields_follow.proofs.Outcomes.{Ended, Given, Known, given_weaker, kno
 use Rattle.fields_follow.proofs.Passing.{After, GivesField, after_same, gives_alike, passes_all}
 use Rattle.fields_follow.proofs.Places.{HoldsTheFields, PlacesFields}
 use Rattle.fields_follow.proofs.Pure.{and_meant, and_number, or_meant, or_number}
-use Rattle.fields_follow.proofs.Sizes.{binary_parts, brackets_part, choice_parts, convert_part, pure_at, unary_part, value_small}
+use Rattle.fields_follow.proofs.Sizes.{binary_parts, brackets_part, cast_code, choice_parts, convert_part, pure_at, unary_part, value_small}
 use Rattle.fields_follow.proofs.TestFlags.{LeavesTests, is_truth, truth_is}
 use Rattle.fields_follow.proofs.Testing.{IsDone, IsGiven, IsValued, Says, and_ended, and_given, and_right_ended, brackets_tested, flags_after, kinded_bit, not_truth, or_ended, or_given, or_right_ended, pure_tested, relation_truth, truth_tested, variable_tested}
 use Rattle.fields_follow.proofs.TruthFields.{ComesFrom, bit_joined, several_joined, tests_put, turned_put}
@@ -259,6 +259,14 @@ module _ (g : Setting) (has : HasRegisters g) (alive : Variable → Type 0) (n :
   convert_done set ty p inner is shaped pure (inl other) c done = by_value set (T.Convert' ty p inner) is refl c (λ bits some most. convert_after g has alive n ready places fields bits set ty p inner some most other is c done.value)
   convert_done set ty p inner is shaped pure (inr bool) c done = by_value set (T.Convert' ty p inner) is refl c (λ bits some most. bool_valued bits set ty p inner shaped bool.0 (pure, bool.1) (convert_part g alive n places fields ty p inner c) done)
 
+  -- a cast to a type of the shape is done as such a conversion
+  cast_done : (set : ℕ) (ty : ValueType) (p : Boxed) (inner : TExpr) → IsPure set (T.ParallelCast' ty p inner) → IsPure set inner → HasItsCode g.typed g.instance alive n (T.ParallelCast' ty p inner) → Done set (T.Convert' ty p inner) → Done set (T.ParallelCast' ty p inner)
+  unfolding has_truth value_of value_in evaluated kind_of
+  cast_done set ty p inner is pure c done = by_value set (T.ParallelCast' ty p inner) is refl c (λ bits some most d s st here sim.
+      follows_same g (Given g (number set (T.Convert' ty p inner) st) st (Gave bits set (T.Convert' ty p inner) d s st)) s refl
+      (sym (ap (λ (b : Bool). if b then register_cast_by ty.elem (code bits inner) d else cast_from g.typed (layout g) bits ty inner (truth_of g.typed (layout g) inner) (λ m. value_of g.typed (layout g) m inner) d) (pure_kept set inner pure)))
+      (done.value bits some most d s st here sim))
+
 mutual
   unfolding IsPure IsNarrowed IsRead has_truth value_of value_in kind_of AllCoded AllValued
 
@@ -304,6 +312,9 @@ mutual
       (λ b pure. (done (under g b) (registers_under g b has) alive n ready (places_under g b places) (fields_under g b fields.scope fields.same_extents) set first pure parts.1).value bits some most)
       (λ b pure. (done (under g b) (registers_under g b has) alive n ready (places_under g b places) (fields_under g b fields.scope fields.same_extents) set second pure parts.2).value bits some most))
   done g has alive n ready places fields set (T.Convert' ty p operand) is c = convert_done g has alive n ready places fields set ty p operand is is.0 is.2 is.1 c (done g has alive n ready places fields set operand is.2 (convert_part g alive n places fields ty p operand c))
+  done g has alive n ready places fields set (T.ParallelCast' ty p operand) is c =
+      let code = cast_code g alive n places fields set ty p operand is.0 is.2 c in
+      cast_done g has alive n ready places fields set ty p operand is is.2 c (convert_done g has alive n ready places fields set ty p operand is is.0 is.2 is.1 code (done g has alive n ready places fields set operand is.2 (convert_part g alive n places fields ty p operand code)))
   done g has alive n ready places fields set (T.Pcoord ty axis) is c = by_value g has alive n ready places fields set (T.Pcoord ty axis) is refl c (λ bits some most. coordinate_after g has alive n ready places fields bits set axis ty is)
   done g has alive n ready places fields set (T.Dot ty axis) is c = by_value g has alive n ready places fields set (T.Dot ty axis) is refl c (λ bits some most. dot_after g has alive n ready places fields bits set axis ty is)
   done g has alive n ready places fields set (T.LeftIndex' ty place p indexes (V.File k) of) is c = by_value g has alive n ready places fields set (T.LeftIndex' ty place p indexes (V.File k) of) is refl c (λ bits some most. left_index_after g has alive n ready places fields bits set ty place p indexes k of most is (each_after g has alive n ready places fields set indexes (all_coded g has alive n ready places fields ty place p indexes (V.File k) of c)) c)

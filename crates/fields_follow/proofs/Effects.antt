@@ -292,6 +292,7 @@ module _ (g : Setting) (has : HasRegisters g) (alive : Variable → Type 0) (n :
       by (inr related) = let wrong = sym plain ∙ related.0 in cc
   computed_last set offset bits (T.Choice' ty p test q first r second) some most is plain c = choice_last set offset bits ty p q r test first second some most is is.1.0 c
   computed_last set offset bits (T.Convert' ty p inner) some most is plain c = converted_last set offset bits ty p inner most plain.0 is c (λ enough. computed_last set offset bits inner some most is.2 (plain.1 enough) (convert_part g alive n places fields ty p inner c))
+  computed_last set offset bits (T.ParallelCast' ty p inner) some most is plain c = moved_last set offset bits (T.ParallelCast' ty p inner) some most is c
   computed_last set offset bits (T.Pcoord ty axis) some most is plain c = coordinate_last set offset bits axis ty is
   computed_last set offset bits (T.Dot ty axis) some most is plain c = moved_last set offset bits (T.Dot ty axis) some most is c
   computed_last set offset bits (T.LeftIndex' ty place p indexes (V.File k) of) some most is plain c = left_index_computed set offset bits ty place p indexes k of most is c

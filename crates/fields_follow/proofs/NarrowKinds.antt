@@ -12,7 +12,7 @@ use Rattle.cstar_tree.specs.declared.typed.ValueType.{ValueType}
 use Rattle.cstar_tree.specs.declared.typed.Variable.{Variable}
 use Rattle.cstar_tree.specs.declared.typed.Variable.TheVariants as V
 use Rattle.cstar_tree.specs.Typed.{type_of}
-use Rattle.lower_base.specs.Kinds.{binary_kind, bits_of, common_kind, is_bitwise, kind_of, truth_type}
+use Rattle.lower_base.specs.Kinds.{binary_kind, bits_of, common_kind, converted_kind, is_bitwise, kind_of, truth_type}
 use Rattle.lower_base.specs.Operators.{relates}
 use Rattle.lower_expr.specs.Kinds.{has_number, kind_with, relation_kind}
 use Rattle.lower_expr.specs.Steps.{word_of}
@@ -36,7 +36,7 @@ use Rattle.fields_follow.proofs.JoinedBits.{bitwise_has}
 use Rattle.fields_follow.proofs.Meaning.{AreOperands, value_in, word_at, left_of, right_of}
 use Rattle.fields_follow.proofs.KnownKinds.{HasWord, bitwise_plain, common_has, convert_has, joined_kind, narrow_has, not_bit, truth_has}
 use Rattle.fields_follow.proofs.Places.{HoldsTheFields, PlacesFields}
-use Rattle.fields_follow.proofs.Sizes.{choice_parts, binary_parts, brackets_part, convert_part, pure_at, value_small, promoted_small}
+use Rattle.fields_follow.proofs.Sizes.{choice_parts, binary_parts, brackets_part, cast_code, convert_part, pure_at, value_small, promoted_small}
 use Rattle.fields_follow.proofs.TestFlags.{is_truth}
 use Rattle.fields_follow.proofs.Totals.{held_below}
 
@@ -78,6 +78,16 @@ module _ (g : Setting) (alive : Variable → Type 0) (n : ℕ) (places : PlacesF
       subst (λ (x : ℕ). HasWord kind x) (held_wide (type_of e).elem (value_in (extents g set) st e q) wide.1 (below_word (type_of e).elem.bits _ wide.1 (promoted_small g alive n places fields set e st s sim promoted c q)))
       (promoted_has g alive n set e st s sim promoted c spread.1 q kind is)
 
+  -- that of one that is converted
+  converts_has : (set : ℕ) (ty : ValueType) (operand : TExpr) (st : State) (s : CodeState) → Sim g alive st s → IsPure set operand → (kind_of operand ≡ None) ⊎ IsNarrowed operand → HasItsCode g.typed g.instance alive n operand → (q : ℕ)
+      → (IsNarrowed operand → (k : Elem) → kind_of operand ≡ Some k → HasWord k (word_at (extents g set) st operand q)) → (kind : Elem) → converted_kind ty.elem (kind_of operand) ≡ Some kind → HasWord kind (held ty.elem (converted ty.elem (type_of operand).elem (value_in (extents g set) st operand q)))
+  converts_has set ty operand st s sim pure so c q before kind is_kind =
+      convert_has ty.elem (type_of operand).elem (kind_of operand) (value_in (extents g set) st operand q) (value_small g alive n places fields set operand st s sim pure c q) (by so) kind is_kind
+    where
+      by : (kind_of operand ≡ None) ⊎ IsNarrowed operand → (k : Elem) → kind_of operand ≡ Some k → HasWord k (word_at (extents g set) st operand q)
+      by (inl none) k some = let wrong = sym none ∙ some in cc
+      by (inr narrowed) k some = before narrowed k some
+
   pub kind_has : (set : ℕ) (e : TExpr) (st : State) (s : CodeState) → Sim g alive st s → IsPure set e → IsNarrowed e → HasItsCode g.typed g.instance alive n e → (q : ℕ) → (kind : Elem) → kind_of e ≡ Some kind → HasWord kind (word_at (extents g set) st e q)
   unfolding IsPure IsNarrowed kind_of value_in binary_kind
   kind_has set (T.Variable ty (V.File k)) st s sim is so c q kind is_kind = narrow_has ty.elem kind _ (value_small g alive n places fields set (T.Variable ty (V.File k)) st s sim is c q) is_kind
@@ -88,14 +98,10 @@ module _ (g : Setting) (alive : Variable → Type 0) (n : ℕ) (places : PlacesF
       subst (λ (y : ValueType). HasWord kind (held y.elem (value_in (extents g set) st inner q))) (sym is.0) (kind_has set inner st s sim is.1 so (brackets_part g alive n places fields ty p inner c) q kind is_kind)
   kind_has set (T.Convert' ty p operand) st s sim is so c q kind is_kind =
       let part = convert_part g alive n places fields ty p operand c in
-      convert_has ty.elem (type_of operand).elem (kind_of operand) (value_in (extents g set) st operand q) (value_small g alive n places fields set operand st s sim is.2 part q) (by so (λ narrowed k is_k. kind_has set operand st s sim is.2 narrowed part q k is_k)) kind is_kind
-    where
-      Has : Type 0
-      Has = (k : Elem) → kind_of operand ≡ Some k → HasWord k (word_at (extents g set) st operand q)
-
-      by : (kind_of operand ≡ None) ⊎ IsNarrowed operand → (IsNarrowed operand → Has) → Has
-      by (inl none) before k some = let wrong = sym none ∙ some in cc
-      by (inr narrowed) before k some = before narrowed k some
+      converts_has set ty operand st s sim is.2 so part q (λ narrowed k is_k. kind_has set operand st s sim is.2 narrowed part q k is_k) kind is_kind
+  kind_has set (T.ParallelCast' ty p operand) st s sim is so c q kind is_kind =
+      let part = convert_part g alive n places fields ty p operand (cast_code g alive n places fields set ty p operand is.0 is.2 c) in
+      converts_has set ty operand st s sim is.2 so part q (λ narrowed k is_k. kind_has set operand st s sim is.2 narrowed part q k is_k) kind is_kind
   kind_has set (T.Unary' ty op p operand) st s sim is so c q kind is_kind =
       truth_has ty.elem kind _ (value_in (extents g set) st operand q == 0) (not_bit op (value_in (extents g set) st operand q) so) is.0.1 (sym (ap (λ (b : Bool). if b then Some truth_type else None) so) ∙ is_kind)
   kind_has set (T.LogicalOr' ty p left r right) st s sim is so c q kind is_kind = truth_has ty.elem kind _ _ refl is.0.1 is_kind

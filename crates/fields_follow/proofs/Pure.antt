@@ -1,6 +1,7 @@
 -- What pure parallel expressions mean: a number at each position, with the state as it was.
 use Rattle.std.proofs.Common.{◌≡◌, ◌∙◌, ◌&&◌, ◌||◌, if◌then◌else◌, not, Bool, ℕ, true, false, refl, List, Option, Some, sym, ap}
 use Rattle.cstar_base.specs.declared.operators.Op.{Op}
+use Rattle.cstar_base.specs.Numbers.{converted}
 use Rattle.cstar_base.specs.Operators.{divides}
 use Rattle.std.specs.Int.{from_bool}
 use Rattle.source_meaning.specs.Narrowing.{and_then, choose, or_then, where_nonzero, where_zero}
@@ -195,6 +196,13 @@ choice_means scope active set ty p q r test first second v a b st is tested one 
 
 -- one that ignores the context has its value under every context, and never fails
 module _ (scope : Scope) (set : ℕ) (extents : Extents) (same : extents.own ≡ scope.extents set) where
+  converts : (active : Active) (ty : ValueType) (operand : TExpr) (st : State) → ty.shape ≡ Some set → evaluated scope operand active st ≡ Gives (Parallel (λ q. value_in extents st operand q)) st
+      → then_do (evaluated scope operand active st) (λ v after. Gives (convert_to ty (type_of operand).elem v) after) ≡ Gives (Parallel (λ q. converted ty.elem (type_of operand).elem (value_in extents st operand q))) st
+  unfolding then_do convert_to each at
+  converts active ty operand st shaped is =
+      ap (λ (o : Outcome Value). then_do o (λ v after. Gives (convert_to ty (type_of operand).elem v) after)) is
+      ∙ ap (λ (y : ValueType). Gives (convert_to y (type_of operand).elem (Parallel (λ q. value_in extents st operand q))) st) (as_shaped ty set shaped)
+
   pub pure_means : (active : Active) (e : TExpr) (st : State) → IsPure set e → ignores_context e ≡ true → evaluated scope e active st ≡ Gives (Parallel (λ q. value_in extents st e q)) st
   unfolding IsPure ignores_context evaluated value_in then_do at convert_to each own_coordinate
   pure_means active (T.Variable ty (V.File k)) st is free = ap (λ (v : Value). Gives v st) (read_is scope active ty set (V.File k) st is)
@@ -223,9 +231,8 @@ module _ (scope : Scope) (set : ℕ) (extents : Extents) (same : extents.own ≡
       choice_means scope active set ty p q r test first second v (λ x. value_in extents st first x) (λ x. value_in extents st second x) st is.1.0 (pure_means active test st is.1.0 parts.0)
       (either (λ h. pure_means among first st h parts.1) (λ h. promoted_free scope among set extents first st h parts.1) is.2)
       (either (λ h. pure_means others second st h parts.2) (λ h. promoted_free scope others set extents second st h parts.2) is.3)
-  pure_means active (T.Convert' ty p operand) st is free =
-      ap (λ (o : Outcome Value). then_do o (λ v after. Gives (convert_to ty (type_of operand).elem v) after)) (pure_means active operand st is.2 free)
-      ∙ ap (λ (y : ValueType). Gives (convert_to y (type_of operand).elem (Parallel (λ q. value_in extents st operand q))) st) (as_shaped ty set is.0)
+  pure_means active (T.Convert' ty p operand) st is free = converts active ty operand st is.0 (pure_means active operand st is.2 free)
+  pure_means active (T.ParallelCast' ty p operand) st is free = converts active ty operand st is.0 (pure_means active operand st is.2 free)
   pure_means active (T.Pcoord ty axis) st is free = ap (λ (o : Option ℕ). Gives (own_coordinate scope o axis) st) is.0 ∙ ap (λ (xs : List ℕ). Gives (Parallel (λ q. coordinate xs q axis)) st) (sym same)
   pure_means active (T.Dot ty axis) st is free = ap (λ (o : Option ℕ). Gives (own_coordinate scope o axis) st) is.0 ∙ ap (λ (xs : List ℕ). Gives (Parallel (λ q. coordinate xs q axis)) st) (sym same)
   pure_means active (T.LeftIndex' ty place p indexes (V.File k) of) st is free = cc

@@ -143,6 +143,7 @@ module _ (g : Setting) (alive : Variable → Type 0) (places : PlacesFields g) (
   pure_number (T.LogicalOr' ty p left r right) st q is = refl
   pure_number (T.LogicalAnd' ty p left r right) st q is = refl
   pure_number (T.Choice' ty p test r first s second) st q is = refl
+  pure_number (T.ParallelCast' ty p operand) st q is = refl
   pure_number (T.Pcoord ty axis) st q is = refl
   pure_number (T.Dot ty axis) st q is = refl
   pure_number (T.LeftIndex' ty place p indexes (V.File k) of) st q is = refl

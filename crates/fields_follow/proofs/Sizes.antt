@@ -1,5 +1,6 @@
 -- The numbers of parallel values are numbers of their types.
-use Rattle.std.proofs.Common.{◌≡◌, ℕ, Bool, if◌then◌else◌, ◌<◌, ◌^◌, true, false, not, Option, Some, None, ◌⊎◌, inl, inr, refl, sym, subst}
+use Rattle.std.proofs.Common.{◌≡◌, ◌∙◌, ℕ, Bool, if◌then◌else◌, ◌<◌, ◌^◌, true, false, not, Option, Some, None, ◌⊎◌, inl, inr, refl, sym, ap, subst}
+use Rattle.std.specs.Prelude.{is_none}
 use Rattle.cstar_base.specs.declared.elem.Elem.{Elem}
 use Rattle.cstar_base.specs.declared.operators.Op.{Op}
 use Rattle.cstar_base.specs.declared.operators.Place.{Place}
@@ -28,7 +29,7 @@ use Rattle.code_follows.proofs.Following.{Sim}
 use Rattle.code_follows.proofs.Settings.{Setting}
 use Rattle.code_follows.proofs.Words.{below_bits, below_word, held_wide}
 use Rattle.fields_follow.specs.Fragment.{HasKnownKind, IsCalm, IsConstant, IsOperation, IsPromoted, IsPure, IsRelation, IsWide}
-use Rattle.fields_follow.proofs.Forms.{HasItsCode, element_is}
+use Rattle.fields_follow.proofs.Forms.{HasItsCode, element_is, pure_shape}
 use Rattle.fields_follow.proofs.Instructions.{extents, operation_below}
 use Rattle.fields_follow.proofs.Meaning.{computed_in, nobody, nowhere, scalar_in, value_in, word_at, given_in}
 use Rattle.fields_follow.proofs.Passing.{small_there}
@@ -64,6 +65,11 @@ module _ (g : Setting) (alive : Variable → Type 0) (n : ℕ) (places : PlacesF
   pub convert_part : (ty : ValueType) (p : Boxed) (inner : TExpr) → HasItsCode g.typed g.instance alive n (T.Convert' ty p inner) → HasItsCode g.typed g.instance alive n inner
   unfolding IsShaped IsLowerable NamesVariables NamesAmong
   convert_part ty p inner h = record { code = record { shaped = h.code.shaped.1; lowerable = h.code.lowerable.1; names = h.code.names }; among = h.among }
+
+  -- a cast to a type of the shape has what such a conversion has
+  pub cast_code : (set : ℕ) (ty : ValueType) (p : Boxed) (inner : TExpr) → ty.shape ≡ Some set → IsPure set inner → HasItsCode g.typed g.instance alive n (T.ParallelCast' ty p inner) → HasItsCode g.typed g.instance alive n (T.Convert' ty p inner)
+  unfolding IsShaped IsLowerable NamesVariables NamesAmong
+  cast_code set ty p inner shaped pure h = record { code = record { shaped = (ap is_none shaped ∙ sym (ap is_none (pure_shape set inner pure)), h.code.shaped.1); lowerable = (h.code.lowerable.0, h.code.lowerable.2); names = h.code.names }; among = h.among }
 
   pub choice_parts : (ty : ValueType) (p q r : Boxed) (test first second : TExpr) → HasItsCode g.typed g.instance alive n (T.Choice' ty p test q first r second) → HasItsCode g.typed g.instance alive n test × HasItsCode g.typed g.instance alive n first × HasItsCode g.typed g.instance alive n second
   unfolding IsShaped IsLowerable NamesVariables NamesAmong
@@ -144,6 +150,7 @@ module _ (g : Setting) (alive : Variable → Type 0) (n : ℕ) (places : PlacesF
       arm e (inl pure) wide code small = below_word (type_of e).elem.bits _ wide.1 (small pure)
       arm e (inr promoted) wide code small = below_word (type_of e).elem.bits _ wide.1 (promoted_small set e st s sim promoted code q)
   value_small set (T.Convert' ty p operand) st s sim is c q = converted_below ty.elem (type_of operand).elem (value_in (extents g set) st operand q)
+  value_small set (T.ParallelCast' ty p operand) st s sim is c q = converted_below ty.elem (type_of operand).elem (value_in (extents g set) st operand q)
   value_small set (T.Pcoord ty axis) st s sim is c q = below_bits ty.elem.bits _ is.1 (places.few set axis q)
   value_small set (T.Dot ty axis) st s sim is c q = below_bits ty.elem.bits _ is.1 (places.few set axis q)
   value_small set (T.LeftIndex' ty place p indexes (V.File k) of) st s sim is c q =

@@ -141,6 +141,7 @@ truth_or_plain set bits (T.Binary' ty place op p left q right) is = by is.1
     by (inr relation) = inl (relation.0, is)
 truth_or_plain set bits (T.Choice' ty p test q first r second) is = inr tt
 truth_or_plain set bits (T.Variable ty x) is = inr tt
+truth_or_plain set bits (T.ParallelCast' ty p operand) is = inr tt
 truth_or_plain set bits (T.Pcoord ty axis) is = inr tt
 truth_or_plain set bits (T.Dot ty axis) is = inr tt
 truth_or_plain set bits (T.LeftIndex' ty place p indexes x of) is = inr tt

@@ -17,16 +17,16 @@ ghost use Rattle.fields_follow.specs.Laws.{ParallelCodeMeansSource};
 /// Parallel expressions are of such variables, of gets of the file's from neighbours, `[. + 1]x`, also round the ends
 /// of the grid, `[(. + 1) %% dimof(S, 0)]x`, and, of any shape, by indexes that are parallel expressions, also with
 /// `.`, or promoted scalars, of own coordinates and of promoted scalars, which are computed and change nothing,
-/// converted to any type, with the operators `+ - * / % %% & | ^ ~ << >> <? >?`, but for a division by the constant 0,
-/// of truth values: relations, `!`, `&&` and `||`, one operand of which may be a scalar, and of `?:`. Where a divisor
-/// is 0 at an active position, or an index lies outside its extent there, both end with that fault at the least such
-/// one. The conditions of `where` are such expressions. Scans of them, and operators on scans, are folded, and assigned
-/// to variables other than `bool`; so are promoted scalars that change scalar variables. Parallel expressions are sent,
-/// too, to variables of the file of any shape at such indexes, also with an operator that folds, and so are promoted
-/// scalars and scans. Scalar expressions read single positions of these, `[3]x`, at any scalar indexes, where both end
-/// alike if one lies outside its extent. What is tested, compared or folded are values of any types, but for bitwise
-/// operations on a narrow one and a constant that is converted to a narrow type; those of `bool` are conditions and
-/// operands of `!`, `&&` and `||` as others are.
+/// converted and cast to any type, with the operators `+ - * / % %% & | ^ ~ << >> <? >?`, but for a division by the
+/// constant 0, of truth values: relations, `!`, `&&` and `||`, one operand of which may be a scalar, and of `?:`. Where
+/// a divisor is 0 at an active position, or an index lies outside its extent there, both end with that fault at the
+/// least such one. The conditions of `where` are such expressions. Scans of them, and operators on scans, are folded,
+/// and assigned to variables other than `bool`; so are promoted scalars that change scalar variables. Parallel
+/// expressions are sent, too, to variables of the file of any shape at such indexes, also with an operator that folds,
+/// and so are promoted scalars and scans. Scalar expressions read single positions of these, `[3]x`, at any scalar
+/// indexes, where both end alike if one lies outside its extent. What is tested, compared or folded are values of any
+/// types, but for bitwise operations on a narrow one and a constant that is converted to a narrow type; those of `bool`
+/// are conditions and operands of `!`, `&&` and `||` as others are.
 pub fn parallel_code_means_source()
     ensures { ParallelCodeMeansSource }
 {}

@@ -47,6 +47,7 @@ module _ (may : May) (names : Variable → Type 0) (blocks : Open) (fits : Fits 
     among_open (T.Variable ty x) n = fits x n
     among_open (T.Brackets' ty p inner) n = among_open inner n
     among_open (T.Convert' ty p operand) n = among_open operand n
+    among_open (T.ParallelCast' ty p operand) n = among_open operand n
     among_open (T.Promote' ty p operand) n = among_open operand n
     among_open (T.Casts' ty elems p operand) n = among_open operand n
     among_open (T.Unary' ty op p operand) n = among_open operand n
