@@ -1,6 +1,6 @@
 -- The code of assignments to scalar variables, and of steps.
 use Rattle.std.specs.List.{All}
-use Rattle.std.proofs.Common.{◌≡◌, ◌∙◌, ℕ, ◌+◌, ◌<◌, ◌^◌, ◌&&◌, Bool, true, not, inl, inr, length-append, Vec, Global, length, slice_index, Option, Some, None, refl, sym, ap, subst, if◌then◌else◌, arith}
+use Rattle.std.proofs.Common.{◌≡◌, ◌∙◌, ℕ, ◌+◌, ◌<◌, ◌^◌, ◌&&◌, Bool, true, false, not, inl, inr, length-append, Vec, Global, length, slice_index, Option, Some, None, refl, sym, ap, subst, if◌then◌else◌, arith}
 use Rattle.std.specs.Prelude.{IfSome, is_none, ◌||◌, ◌==◌}
 use Rattle.cstar_base.specs.declared.elem.Elem.{Elem}
 use Rattle.cstar_base.specs.declared.operators.Op.{Op}
@@ -24,6 +24,7 @@ use Rattle.code_lengths.specs.Lowerable.{Calls, IsLowerable}
 use Rattle.code_lengths.proofs.Drafting.{fresh_grows}
 use Rattle.cstar_tree.specs.Typed.{type_of}
 use Rattle.code_lengths.specs.Naming.{HasVariable, NamesVariables, plain}
+use Rattle.code_lengths.specs.Shaped.{IsShaped, IsTarget}
 use Rattle.cstar_tree.specs.StatementTypes.{variable_info}
 use Rattle.code_lengths.specs.Ready.{HasCode, HaveCode, IsReadyButForFields}
 use Rattle.lower_base.specs.declared.emit.Out.{Out}
@@ -46,10 +47,10 @@ use Rattle.source_meaning.specs.State.{Outcome, State, then_do, with_scalar}
 use Rattle.source_meaning.specs.Targets.{OfScalar, assigned, stepped, step_value}
 use Rattle.source_meaning.specs.Values.{Active, Scalar, Scope, Value, number}
 use Rattle.source_meaning.proofs.ConstantLaws.{Boxed}
-use Rattle.code_follows.specs.Fragment.{AreIn, IsBeside, IsEffect, IsGiven, IsIn, IsWord, Takes, elems_of, naming}
+use Rattle.code_follows.specs.Fragment.{AreIn, IsBeside, IsEffect, IsGiven, IsIn, IsStore, IsWord, Takes, elems_of, naming}
 use Rattle.code_follows.proofs.Changing.{no_place, only_set, operated_set_is, scalar_type, set_is, stepped_is, stepping}
 use Rattle.code_follows.proofs.CallValues.{call_code}
-use Rattle.code_follows.proofs.Expressions.{arguments_do, assign_names, brackets_code, operand, step_names, value_follows}
+use Rattle.code_follows.proofs.Expressions.{arguments_do, assign_names, brackets_code, index_code, operand, step_names, value_follows}
 use Rattle.code_follows.proofs.Growing.{Extended, extended, from_growth}
 use Rattle.code_follows.proofs.Printing.{printf_code, printf_follows}
 use Rattle.code_follows.proofs.Arguments.{AreDone}
@@ -330,6 +331,20 @@ module _ (g : Setting) (has : HasRegisters g) (alive : Variable → Type 0) (n :
   beside : (e : TExpr) → IsBeside (naming g.may alive) e → HasCode g.typed g.instance n e → Runs (λ st. evaluated scope e active st) (λ d. effect_of g.typed (layout g) e d)
   beside e may c d s st free here sim = (calls_follow.beside has).effects alive files n ready e may.0 may.1 c d s st free here sim
 
+  -- a store at a single position
+  store_runs : (ty : ValueType) (place : Place) (op : AssignOp) (p q : Boxed) (target value : TExpr) → ty ≡ type_of target → IsStore (naming g.may alive) op target value → HasCode g.typed g.instance n (T.Assign' ty place op p target q value)
+      → Runs (λ st. evaluated scope (T.Assign' ty place op p target q value) active st) (λ d. effect_of g.typed (layout g) (T.Assign' ty place op p target q value) d)
+  unfolding IsStore IsIn IsShaped IsTarget IsLowerable NamesVariables
+  store_runs ty place A.Set p q (T.LeftIndex' left at r indexes x of) value same h c =
+      let part = assign_names g has alive n files ready scope active calls_follow ty place A.Set p q (T.LeftIndex' left at r indexes x of) value c in
+      let target : HasCode g.typed g.instance n (T.LeftIndex' left at r indexes x of) = record { shaped = c.shaped.2; lowerable = c.lowerable.2; names = part.0 } in
+      subst (λ (t : ValueType). Runs (λ st. evaluated scope (T.Assign' t place A.Set p (T.LeftIndex' left at r indexes x of) q value) active st) (λ d. effect_of g.typed (layout g) (T.Assign' t place A.Set p (T.LeftIndex' left at r indexes x of) q value) d)) (sym same)
+      (λ d s st free here sim.
+      (calls_follow.beside has).stores alive files n ready left at place p q r indexes x of value h.0 target
+      (arguments_do g has alive n files ready scope active calls_follow false (are_quiet indexes) indexes h.0.3 (index_code g has alive n files ready scope active calls_follow left at r indexes x of target)) (scalar_of (naming g.may alive) value h.1) h.2 part.1
+      (λ bits. value_follows g has alive n files ready scope active calls_follow false bits value h.1 part.1) d s st free here sim)
+  store_runs ty place op p q target value same h c = absurd h
+
   pub effect_follows : (e : TExpr) → (IsEffect (naming g.may alive)) e → HasCode g.typed g.instance n e → Runs (λ st. evaluated scope e active st) (λ d. effect_of g.typed (layout g) e d)
   unfolding IsEffect IsIn effect_of evaluated
   effect_follows (T.Printf' ty pieces p arguments) h c = printf_runs ty pieces p arguments h.0 h.1 (printf_code g has alive n files ready scope active calls_follow ty pieces p arguments c)
@@ -349,7 +364,8 @@ module _ (g : Setting) (has : HasRegisters g) (alive : Variable → Type 0) (n :
   effect_follows (T.LogicalAnd' ty p left q right) h c = value_effect (T.LogicalAnd' ty p left q right) h c
   effect_follows (T.Choice' ty p test q first r second) h c = value_effect (T.Choice' ty p test q first r second) h c
   effect_follows (T.Assign' ty place op p target q value) (inl h) c = value_effect (T.Assign' ty place op p target q value) h c
-  effect_follows (T.Assign' ty place op p target q value) (inr h) c = beside (T.Assign' ty place op p target q value) h c
+  effect_follows (T.Assign' ty place op p target q value) (inr (inl h)) c = beside (T.Assign' ty place op p target q value) h c
+  effect_follows (T.Assign' ty place op p target q value) (inr (inr h)) c = store_runs ty place op p q target value h.0 h.1 c
   effect_follows (T.Step' ty op order p target) (inl h) c = value_effect (T.Step' ty op order p target) h c
   effect_follows (T.Step' ty op order p target) (inr h) c = beside (T.Step' ty op order p target) h c
   effect_follows (T.Reduce' ty op p operand) h c = value_effect (T.Reduce' ty op p operand) h c

@@ -1,6 +1,7 @@
 -- What is known of the code of parallel expressions and of contexts, wherever fields are known.
-use Rattle.std.proofs.Common.{ℕ, ◌+◌, ◌≡◌, ◌∙◌, inl, inr, length, arith, sym, subst, false}
+use Rattle.std.proofs.Common.{ℕ, ◌+◌, ◌≡◌, ◌∙◌, inl, inr, length, arith, sym, subst, false, None}
 use Rattle.cstar_base.specs.declared.operators.Place.{Place}
+use Rattle.cstar_tree.specs.declared.syntax.AssignOp.TheVariants as A
 use Rattle.cstar_tree.specs.declared.typed.TExpr.{TExpr, Row_of-TExpr}
 use Rattle.cstar_tree.specs.declared.typed.TExpr as T
 use Rattle.cstar_tree.specs.declared.typed.ValueType.{ValueType}
@@ -13,17 +14,19 @@ use Rattle.lower_base.specs.declared.emit.Out.TheVariants as O
 use Rattle.lower_base.specs.Drafts.{Draft}
 use Rattle.lower_expr.specs.Effects.{computed_to, effect_of}
 use Rattle.lower_expr.specs.Operands.{are_quiet}
+use Rattle.lower_expr.specs.Values.{value_of}
 use Rattle.paris_code.specs.Code.{CodeState}
 use Rattle.source_meaning.specs.Expressions.{evaluated}
 use Rattle.source_meaning.specs.State.{State}
 use Rattle.source_meaning.specs.Values.{Active, Scalar, Scope, Value}
-use Rattle.code_follows.specs.Fragment.{IsIn, naming}
+use Rattle.source_meaning.proofs.ConstantLaws.{Boxed}
+use Rattle.code_follows.specs.Fragment.{IsIn, Takes, naming}
 use Rattle.code_follows.proofs.Arguments.{AreDone}
 use Rattle.code_follows.proofs.Following.{Follows, HasRegisters, IsKept, Ran, Sim}
 use Rattle.code_follows.proofs.Growing.{extended}
 use Rattle.code_follows.proofs.Parts.{BesideFollows}
-use Rattle.code_follows.proofs.Settings.{At, Begun, Reaches, Setting, Within, layout, onto}
-use Rattle.code_follows.proofs.Values.{Dest}
+use Rattle.code_follows.proofs.Settings.{At, Begun, Setting, Within, layout, onto}
+use Rattle.code_follows.proofs.Values.{Dest, Does}
 use Rattle.fields_follow.specs.Fragment.{IsFold, IsOfFile, IsParallelEffect}
 use Rattle.fields_follow.proofs.Updating.{updates_leave}
 use Rattle.fields_follow.proofs.Contexts.{where_follows}
@@ -32,41 +35,26 @@ use Rattle.fields_follow.proofs.FoldingOnto.{onto_leaves}
 use Rattle.fields_follow.proofs.Onto.{LeavesScalars, scalars_stay}
 use Rattle.fields_follow.proofs.Forms.{HasItsCode}
 use Rattle.fields_follow.proofs.LocalsCleared.{locals_clear}
-use Rattle.fields_follow.proofs.Knowing.{HasKept, KnowsFields, StaysNamed, kept_open, lasts_within, sim_close, sim_open}
+use Rattle.fields_follow.proofs.Knowing.{KnowsFields, sim_close, sim_open}
 use Rattle.fields_follow.proofs.Leaving.{Leaves, fields_under, keeps_again, places_under, reaches_again, starts_again, registers_under, under}
 use Rattle.fields_follow.proofs.Ending.{follows_so}
 use Rattle.fields_follow.proofs.Passing.{code_longer}
 use Rattle.fields_follow.proofs.Places.{HoldsTheFields}
 use Rattle.fields_follow.proofs.Reducing.{GivesNumber, number_to}
+use Rattle.fields_follow.proofs.Running.{kept_behind, leaves_ran, starts_there}
 use Rattle.fields_follow.proofs.ScanAssigning.{scans_leave}
 use Rattle.fields_follow.proofs.Reductions.{GivesRegister, fold_type, folds_give}
 use Rattle.fields_follow.proofs.Sends.{sends_leave}
 use Rattle.fields_follow.proofs.SinglePositions.{reads_follow}
+use Rattle.fields_follow.proofs.SingleStores.{stores_follow}
 use Rattle.fields_follow.proofs.Starts.{Starts}
 use Rattle.fields_follow.proofs.ScalarAssigning.{changing_leaves}
 
 module _ (g : Setting) (scope : Scope) (active : Active) (known : KnowsFields g scope active) (has : HasRegisters g) where
   module _ (alive : Variable → Type 0) (n : ℕ) (ready : (d : Draft) → IsReadyButForFields g.typed g.instance (layout g) n d) (e : TExpr) (c : HasItsCode g.typed g.instance alive n e) (d : Draft) (s : CodeState) (st : State) (begun : Begun g alive d) (at_place : At g s (length d.code)) (files : (k : ℕ) → alive (V.File k)) (sim : Sim g alive st s) where
     -- the code starts there
-    here : Starts (under g active) alive s (length d.code) d.regs (length d.fields)
-    here = record { stands = at_place; free = begun.regs; low = begun.code; files = files; opened = begun.opened }
-
-    -- what is kept of the memory lasts over code behind the draft
-    kept_behind : (f : Draft) (t : CodeState) → Within g f → Reaches (under g active) s t → StaysNamed g known.kept.saved (length d.code) (length d.fields) (length f.code) s.memory t.memory → HasKept g alive known.kept t.memory
-    kept_behind f t within go stays =
-        let kept = kept_open g scope active known alive st s sim in
-        ((lasts_within g g.from g.entries g.upto (length d.code) (length d.fields) (length f.code) known.kept begun.code begun.fields within.upto known.lasts).code s.memory t.memory stays go.below kept.0, kept.1)
-
-    -- what code leaves that is of an update, the unit's code follows
-    leaves_ran : (f : Draft) (u : State) → Within g f → Leaves (under g active) alive d f s u → Ran g alive d s u f
-    leaves_ran f u within l = record {
-      grown = l.grown;
-      t = l.t;
-      go = reaches_again g active l.go;
-      at = l.at.stands;
-      sim = sim_close g scope active known alive u l.t l.sim (kept_behind f l.t within l.go (λ h first last p saved. l.stays h first last p ((kept_open g scope active known alive st s sim).1 h.offset saved)));
-      keeps = keeps_again g active d s l.t l.registers;
-    }
+    abbrev here : Starts (under g active) alive s (length d.code) d.regs (length d.fields)
+    here = starts_there g scope active known alive d s st begun at_place files sim
 
     -- so it does what a fold onto a variable leaves
     onto_ran : (f : Draft) (u : State) → Within g f → LeavesScalars (under g active) alive d s st u f → Ran g alive d s u f
@@ -76,7 +64,7 @@ module _ (g : Setting) (scope : Scope) (active : Active) (known : KnowsFields g 
       t = l.t;
       go = reaches_again g active (onto (under g active) s l.passes.t l.t l.passes.go l.writes.go);
       at = l.writes.at;
-      sim = sim_close g scope active known alive u l.t l.writes.sim (kept_behind f l.t within (onto (under g active) s l.passes.t l.t l.passes.go l.writes.go) (λ h first last p saved inside own ends before early after late. scalars_stay (under g active) alive d s st u f l h first last p inside own ends before early after late));
+      sim = sim_close g scope active known alive u l.t l.writes.sim (kept_behind g scope active known alive d s st begun at_place files sim f l.t within (onto (under g active) s l.passes.t l.t l.passes.go l.writes.go) (λ h first last p saved inside own ends before early after late. scalars_stay (under g active) alive d s st u f l h first last p inside own ends before early after late));
       keeps = λ r kept. l.writes.keeps r kept ∙ l.passes.registers r kept;
     }
 
@@ -87,16 +75,16 @@ module _ (g : Setting) (scope : Scope) (active : Active) (known : KnowsFields g 
     -- an update, a fold onto a variable, a scan or a scalar that is assigned, or a send
     effect_follows : IsParallelEffect e → Follows g (λ v u out f. Ran g alive d s u f) s (evaluated scope e active st) (effect_of g.typed (layout g) e d)
     effect_follows (inl is) =
-        follows_so g scope active known (λ v u out f. Leaves (under g active) alive d f s u) (λ v u out f. Ran g alive d s u f) s (evaluated scope e active st) (effect_of g.typed (layout g) e d) (λ v u out f within leaves. leaves_ran f u within leaves)
+        follows_so g scope active known (λ v u out f. Leaves (under g active) alive d f s u) (λ v u out f. Ran g alive d s u f) s (evaluated scope e active st) (effect_of g.typed (layout g) e d) (λ v u out f within leaves. leaves_ran g scope active known alive d s st begun at_place files sim f u within leaves)
         (updates_leave (under g active) (registers_under g active has) alive n ready (places_under g active known.places) there e is c d s st here (sim_open g scope active known alive st s sim))
     effect_follows (inr (inr (inl is))) =
-        follows_so g scope active known (λ v u out f. Leaves (under g active) alive d f s u) (λ v u out f. Ran g alive d s u f) s (evaluated scope e active st) (effect_of g.typed (layout g) e d) (λ v u out f within leaves. leaves_ran f u within leaves)
+        follows_so g scope active known (λ v u out f. Leaves (under g active) alive d f s u) (λ v u out f. Ran g alive d s u f) s (evaluated scope e active st) (effect_of g.typed (layout g) e d) (λ v u out f within leaves. leaves_ran g scope active known alive d s st begun at_place files sim f u within leaves)
         (scans_leave (under g active) (registers_under g active has) alive n ready (places_under g active known.places) there e is c d s st here (sim_open g scope active known alive st s sim))
     effect_follows (inr (inr (inr (inr is)))) =
-        follows_so g scope active known (λ v u out f. Leaves (under g active) alive d f s u) (λ v u out f. Ran g alive d s u f) s (evaluated scope e active st) (effect_of g.typed (layout g) e d) (λ v u out f within leaves. leaves_ran f u within leaves)
+        follows_so g scope active known (λ v u out f. Leaves (under g active) alive d f s u) (λ v u out f. Ran g alive d s u f) s (evaluated scope e active st) (effect_of g.typed (layout g) e d) (λ v u out f within leaves. leaves_ran g scope active known alive d s st begun at_place files sim f u within leaves)
         (sends_leave (under g active) (registers_under g active has) alive n ready (places_under g active known.places) there e is c d s st here (sim_open g scope active known alive st s sim))
     effect_follows (inr (inr (inr (inl is)))) =
-        follows_so g scope active known (λ v u out f. Leaves (under g active) alive d f s u) (λ v u out f. Ran g alive d s u f) s (evaluated scope e active st) (effect_of g.typed (layout g) e d) (λ v u out f within leaves. leaves_ran f u within leaves)
+        follows_so g scope active known (λ v u out f. Leaves (under g active) alive d f s u) (λ v u out f. Ran g alive d s u f) s (evaluated scope e active st) (effect_of g.typed (layout g) e d) (λ v u out f within leaves. leaves_ran g scope active known alive d s st begun at_place files sim f u within leaves)
         (changing_leaves (under g active) (registers_under g active has) alive n ready (places_under g active known.places) there e is c d s st here (sim_open g scope active known alive st s sim))
     effect_follows (inr (inl is)) =
         follows_so g scope active known (λ v u out f. LeavesScalars (under g active) alive d s st u f) (λ v u out f. Ran g alive d s u f) s (evaluated scope e active st) (effect_of g.typed (layout g) e d) (λ v u out f within leaves. onto_ran f u within leaves)
@@ -114,7 +102,7 @@ module _ (g : Setting) (scope : Scope) (active : Active) (known : KnowsFields g 
             go = reaches_again g active p.go;
             at = starts_again g active alive p.t (length given.middle.code) given.middle.regs (length given.middle.fields) p.at;
             registers = keeps_again g active d s p.t p.registers;
-            sim = sim_close g scope active known alive st p.t p.sim (kept_behind f p.t within p.go (λ h first last q saved inside own ends before early after late. p.stays tt h first last q inside own ends before early after (omega (arith, late, longer))));
+            sim = sim_close g scope active known alive st p.t p.sim (kept_behind g scope active known alive d s st begun at_place files sim f p.t within p.go (λ h first last q saved inside own ends before early after late. p.stays tt h first last q inside own ends before early after (omega (arith, late, longer))));
             stays = p.stays;
           };
           puts = record { more = given.puts.more; place = given.puts.place; go = reaches_again g active given.puts.go; at = given.puts.at; few = given.puts.few };
@@ -143,6 +131,17 @@ unfolding IsIn IsOfFile
 read_follows g scope active known has alive n ty place p indexes (V.File k) of is c done d s st R r free here sim dest = reads_follow g has alive scope active known n ty place p indexes k of is.0 is.3 c done d s st R r free here sim dest
 read_follows g scope active known has alive n ty place p indexes x of is c done d s st R r free here sim dest = absurd (known.positions x is.1)
 
+-- a store at one
+store_follows : (g : Setting) (scope : Scope) (active : Active) → KnowsFields g scope active → (has : HasRegisters g) (alive : Variable → Type 0) → ((k : ℕ) → alive (V.File k)) → (n : ℕ) → ((d : Draft) → IsReadyButForFields g.typed g.instance (layout g) n d)
+    → (ty : ValueType) (place sending : Place) (p q : Boxed) (r : _) (indexes : Row_of-TExpr _) (x : Variable) (of : ℕ) (value : TExpr) → IsIn (naming g.may alive) (T.LeftIndex' ty place r indexes x of) → HasCode g.typed g.instance n (T.LeftIndex' ty place r indexes x of)
+    → AreDone g has alive scope active false (are_quiet indexes) indexes → (type_of value).shape ≡ None → Takes ty.elem (type_of value).elem → HasCode g.typed g.instance n value → ((bits : ℕ) → Does g has alive (type_of value).elem false (λ st. evaluated scope value active st) (λ d. value_of g.typed (layout g) bits value d))
+    → (d : Draft) (s : CodeState) (st : State) → Begun g alive d → At g s (length d.code) → Sim g alive st s
+    → Follows g (λ v u out f. Ran g alive d s u f) s (evaluated scope (T.Assign' ty sending A.Set p (T.LeftIndex' ty place r indexes x of) q value) active st) (effect_of g.typed (layout g) (T.Assign' ty sending A.Set p (T.LeftIndex' ty place r indexes x of) q value) d)
+unfolding IsIn IsOfFile
+store_follows g scope active known has alive files n ready ty place sending p q r indexes (V.File k) of value is c done scalar takes own does d s st free here sim =
+    stores_follow g has alive scope active known files n ready ty place sending p q r indexes k of value is.0 is.3 c done scalar takes own does d s st free here sim
+store_follows g scope active known has alive files n ready ty place sending p q r indexes x of value is c done scalar takes own does d s st free here sim = absurd (known.positions x is.1)
+
 -- every effect, every fold and every context of it follows
 pub besides : (g : Setting) (scope : Scope) (active : Active) → KnowsFields g scope active → (has : HasRegisters g) → BesideFollows KnowsFields g has scope active
 besides g scope active known has = record {
@@ -150,6 +149,7 @@ besides g scope active known has = record {
     effects = λ alive files n ready e h among c d s st free here sim. effect_follows g scope active known has alive n ready e (record { code = c; among = among }) d s st free here files sim (known.effects e h);
     folds = λ alive files n ready e h among c d s st R r free here sim dest. fold_follows g scope active known has alive n ready e (record { code = c; among = among }) d s st free here files sim (known.folds e h) R r dest;
     reads = λ alive files n ready ty place p indexes x of is c done d s st R r free here sim dest. read_follows g scope active known has alive n ty place p indexes x of is c done d s st R r free here sim dest;
+    stores = λ alive files n ready ty place sending p q r indexes x of value is c done scalar takes own does d s st free here sim. store_follows g scope active known has alive files n ready ty place sending p q r indexes x of value is c done scalar takes own does d s st free here sim;
   };
   locals = locals_clear g scope active known;
   wheres = λ alive files n ready shape test p first second h among c f contexts one other. where_follows g has scope active known alive files n ready shape test p first second (known.conditions shape test h) among c f contexts one other;

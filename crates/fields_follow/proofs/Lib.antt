@@ -69,6 +69,7 @@ pub mod Relations
 pub mod Router
 pub mod RouterCode
 pub mod Routing
+pub mod Running
 pub mod Saving
 pub mod ScalarAssigning
 pub mod Scalars
@@ -84,6 +85,7 @@ pub mod SendMeans
 pub mod Sends
 pub mod SendValues
 pub mod SinglePositions
+pub mod SingleStores
 pub mod Sizes
 pub mod Spreading
 pub mod Starts

@@ -393,14 +393,14 @@ module _ (g : Setting) (has : HasRegisters g) (alive : Variable → Type 0) (sco
       abbrev items : List TExpr
       items = items-the_row-TExpr _ indexes
 
-      names : HasVariable g.typed g.instance n (V.File k) (plain (parallel ty.elem of)) × HasAxes g.typed of (length items)
+      pub names : HasVariable g.typed g.instance n (V.File k) (plain (parallel ty.elem of)) × HasAxes g.typed of (length items)
       unfolding NamesVariables
       names = (c.names.0, c.names.2)
 
-      abbrev info : VarInfo
+      abbrev pub info : VarInfo
       info = variable_info names.0.word (plain (parallel ty.elem of)) names.0.start
 
-      is : IsElement g.typed k info of 0
+      pub is : IsElement g.typed k info of 0
       is = element_is g.typed g.instance n k of (parallel ty.elem of) refl names.0
 
       exists : of < length (shapes g)

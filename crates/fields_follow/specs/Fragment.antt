@@ -10,9 +10,9 @@
 -- are, and they are the conditions of `where`. Folds and scans are of the active positions. They are sent, as those
 -- scans are, to variables of the file, of any shape, by such indexes, also with an operator that folds. Scalars that
 -- change variables, by assignments, steps and `getchar`, are assigned as parallel expressions are, also with operators.
--- Scalar expressions read single positions of variables of the file, by any scalar indexes. Parallel variables of
--- blocks have no initialisers. Under `where` and `everywhere` stand the statements of scalar programs with these, also
--- calls, `return` and jumps that lead out of them.
+-- Scalar expressions read single positions of variables of the file, by any scalar indexes, and scalars are stored
+-- there. Parallel variables of blocks have no initialisers. Under `where` and `everywhere` stand the statements of
+-- scalar programs with these, also calls, `return` and jumps that lead out of them.
 use Rattle.std.specs.Prelude.{ℕ, ◌≡◌, ◌<◌, ◌≤◌, ◌+◌, ◌^◌, ◌⊎◌, ◌==◌, true, false, Option, Some, None}
 use Rattle.cstar_base.specs.declared.elem.Elem.{Elem}
 use Rattle.cstar_base.specs.declared.operators.Combiner.TheVariants as C

@@ -24,9 +24,9 @@ ghost use Rattle.fields_follow.specs.Laws.{ParallelCodeMeansSource};
 /// and assigned to variables other than `bool`; so are promoted scalars that change scalar variables. Parallel
 /// expressions are sent, too, to variables of the file of any shape at such indexes, also with an operator that folds,
 /// and so are promoted scalars and scans. Scalar expressions read single positions of these, `[3]x`, at any scalar
-/// indexes, where both end alike if one lies outside its extent. What is tested, compared or folded are values of any
-/// types, but for bitwise operations on a narrow one and a constant that is converted to a narrow type; those of `bool`
-/// are conditions and operands of `!`, `&&` and `||` as others are.
+/// indexes, where both end alike if one lies outside its extent. Scalars are stored there, without an operator. What is
+/// tested, compared or folded are values of any types, but for bitwise operations on a narrow one and a constant that
+/// is converted to a narrow type; those of `bool` are conditions and operands of `!`, `&&` and `||` as others are.
 pub fn parallel_code_means_source()
     ensures { ParallelCodeMeansSource }
 {}
