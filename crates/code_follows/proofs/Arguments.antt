@@ -17,7 +17,7 @@ use Rattle.quiet_operands.proofs.Unchanged as Quiet
 use Rattle.source_meaning.specs.Expressions.{evaluated, operands}
 use Rattle.source_meaning.specs.Gets.{Operand}
 use Rattle.source_meaning.specs.State as Source
-use Rattle.source_meaning.specs.State.{Outcome, State, then_do, with_output}
+use Rattle.source_meaning.specs.State.{Outcome, State, then_do}
 use Rattle.source_meaning.specs.Values.{Active, Scope, Value}
 use Rattle.code_follows.specs.Fragment.{elems_of}
 use Rattle.code_follows.proofs.Following.{Arrives, Extends, Follows, HasRegisters, Holds, Keeps, Sim, extends_then, finishes_later, keeps_all, keeps_on, knowing, then_follows}

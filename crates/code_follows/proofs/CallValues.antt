@@ -1,7 +1,7 @@
 -- A call as a value: its arguments, and its result.
 use Rattle.std.proofs.Common.{ℕ, Bool, true, [], Option, Some, sym, subst, arith, Vec, Global}
 use mathlib.Core.Former.{Count}
-use Rattle.cstar_tree.specs.declared.typed.TExpr.{TExpr, Row_of-TExpr, end_of-TExpr, items-the_row-TExpr, more_of-TExpr}
+use Rattle.cstar_tree.specs.declared.typed.TExpr.{Row_of-TExpr, end_of-TExpr, more_of-TExpr}
 use Rattle.cstar_tree.specs.declared.typed.TExpr as T
 use Rattle.cstar_tree.specs.declared.typed.ValueType.{ValueType}
 use Rattle.cstar_tree.specs.declared.typed.Variable.{Variable}

@@ -5,7 +5,7 @@ use Rattle.cstar_compile.specs.Compiled.{IsCompiled}
 use Rattle.cstar_link.specs.Linked.{entries_from}
 use Rattle.cstar_tree.specs.declared.typed.Instance.{Instance}
 use Rattle.cstar_tree.specs.declared.typed.LocalVar.{LocalVar}
-use Rattle.cstar_tree.specs.declared.typed.TStmt.{TStmt, Row_of-TStmt}
+use Rattle.cstar_tree.specs.declared.typed.TStmt.{TStmt}
 use Rattle.cstar_tree.specs.declared.typed.TStmt as S
 use Rattle.cstar_tree.specs.declared.typed.Typed.{Typed}
 use Rattle.cstar_tree.specs.declared.typed.VarInfo.{VarInfo}
@@ -29,7 +29,7 @@ use Rattle.paris_code.specs.Units.{start_at, start_of}
 use Rattle.paris_code.specs.Memory.{BitMemory}
 use Rattle.source_meaning.specs.Programs.{by_owner, calls, entered, left, result_of, run_body, scalar_given, scope_of}
 use Rattle.source_meaning.specs.State as Source
-use Rattle.source_meaning.specs.State.{Outcome, State, is_among, then_do}
+use Rattle.source_meaning.specs.State.{Outcome, State, then_do}
 use Rattle.source_meaning.specs.Statements.{Broke, Continued, Leaving, Onward, Returned, executed, initialised}
 use Rattle.source_meaning.specs.Values.{Active, Scope, Value, each}
 use Rattle.code_follows.specs.Fragment.{IsBody, Beside, IsProgramBeside, OfFileOrParam, IsInStatement}

@@ -25,7 +25,7 @@ use Rattle.paris_code.specs.Code as Machine
 use Rattle.paris_code.specs.Code.{CodeState, Ends, Goes, returned, step}
 use Rattle.source_meaning.specs.Expressions.{evaluated}
 use Rattle.source_meaning.specs.State as Source
-use Rattle.source_meaning.specs.State.{Early, Outcome, State, then_do}
+use Rattle.source_meaning.specs.State.{Outcome, State}
 use Rattle.source_meaning.specs.Statements.{Broke, Continued, Leaving, Onward, Returned, passes, then_go}
 use Rattle.source_meaning.specs.Values.{Active, Scope, Value, nonzero, number}
 use Rattle.code_follows.specs.Fragment.{IsIn, May, elems_of, naming}

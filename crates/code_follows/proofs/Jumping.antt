@@ -8,7 +8,7 @@ use Rattle.paris_code.specs.declared.instr.Instr.{Instr}
 use Rattle.paris_code.specs.declared.instr.Instr.TheVariants as I
 use Rattle.paris_code.specs.declared.operands.Field.{Field}
 use Rattle.paris_code.specs.Code as Machine
-use Rattle.paris_code.specs.Code.{CodeState, Ends, Goes, begun, jumped, turned}
+use Rattle.paris_code.specs.Code.{CodeState, Ends, Goes, begun, jumped}
 use Rattle.paris_code.specs.Spans.{JumpsTo, StandsAt}
 use Rattle.source_meaning.specs.State as Source
 use Rattle.source_meaning.specs.State.{State}

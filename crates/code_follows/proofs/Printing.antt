@@ -7,7 +7,7 @@ use mathlib.Core.Former.{Count}
 use Rattle.cstar_base.specs.Numerals.{word_text}
 use Rattle.cstar_tree.specs.declared.typed.Piece.{Piece}
 use Rattle.cstar_tree.specs.declared.typed.Piece.TheVariants as Pc
-use Rattle.cstar_tree.specs.declared.typed.TExpr.{TExpr, Row_of-TExpr, end_of-TExpr, more_of-TExpr}
+use Rattle.cstar_tree.specs.declared.typed.TExpr.{Row_of-TExpr}
 use Rattle.cstar_tree.specs.declared.typed.TExpr as T
 use Rattle.cstar_tree.specs.declared.typed.ValueType.{ValueType}
 use Rattle.cstar_tree.specs.declared.typed.Variable.TheVariants as V

@@ -33,7 +33,7 @@ use Rattle.code_follows.proofs.Following.{IsScalar, Ran, Sim, held}
 use Rattle.code_follows.proofs.Growing.{Extended, extended}
 use Rattle.code_follows.proofs.Numbered.{numbered_at}
 use Rattle.fields_follow.proofs.Passing.{fields_longer}
-use Rattle.code_follows.proofs.Settings.{HasHome, IsNewIn, IsParallelLocal, OpenAmong, At, Begun, SameBelow, Setting, StandsBelow, Within, and_one, at_next, begins_here, code_more, layout, one_home, one_writes, placed_instr}
+use Rattle.code_follows.proofs.Settings.{HasHome, IsNewIn, IsParallelLocal, OpenAmong, At, Begun, SameBelow, Setting, Within, and_one, at_next, begins_here, code_more, layout, one_home, one_writes, placed_instr}
 use Rattle.code_follows.proofs.Standing.{some_same}
 use Rattle.fields_follow.proofs.Bits.{field_written, active_apart, bits_written, field_apart}
 use Rattle.fields_follow.proofs.Fields.{HoldsFields}

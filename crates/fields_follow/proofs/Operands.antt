@@ -35,7 +35,7 @@ use Rattle.paris_code.specs.Memory.{processors}
 use Rattle.paris_code.specs.Spans.{StandsAt}
 use Rattle.source_meaning.specs.Constants.{then_value}
 use Rattle.source_meaning.specs.State as Source
-use Rattle.source_meaning.specs.State.{Outcome, State, then_do}
+use Rattle.source_meaning.specs.State.{State}
 use Rattle.source_meaning.specs.Values.{Parallel}
 use Rattle.source_meaning.proofs.ConstantLaws.{Boxed}
 use Rattle.code_follows.proofs.Following.{Extends, Finishes, Follows, HasRegisters, Sim, extends_made, extends_then, follows_same}

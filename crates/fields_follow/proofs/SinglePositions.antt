@@ -46,7 +46,7 @@ use Rattle.paris_code.specs.declared.operands.Field.{Field}
 use Rattle.paris_code.specs.declared.operands.RegisterCoordinate.{RegisterCoordinate}
 use Rattle.paris_code.specs.declared.program.Reply.{Reply}
 use Rattle.paris_code.specs.Code as Machine
-use Rattle.paris_code.specs.Code.{CodeState, Goes, Next, applied, begun, checked, replied, step, with_register}
+use Rattle.paris_code.specs.Code.{CodeState, Goes, applied, begun, checked, replied, step, with_register}
 use Rattle.paris_code.specs.Meaning.{after, reply_of}
 use Rattle.paris_code.specs.Memory.{field_number, processors}
 use Rattle.paris_code.specs.Scalar.{address_of, any_register_outside}
