@@ -25,7 +25,7 @@ use Rattle.source_meaning.specs.Expressions.{evaluated}
 use Rattle.source_meaning.specs.State.{State, zeroed}
 use Rattle.source_meaning.specs.Values.{Active, Scope, Value}
 use Rattle.source_meaning.proofs.ConstantLaws.{Boxed}
-use Rattle.code_follows.specs.Fragment.{IsIn, NamesAmong, Takes, naming}
+use Rattle.code_follows.specs.Fragment.{IsIn, May, NamesAmong, Takes, naming}
 use Rattle.code_follows.proofs.Arguments.{AreDone}
 use Rattle.code_follows.proofs.Following.{Follows, HasRegisters, Ran, Sim}
 use Rattle.code_follows.proofs.Growing.{Extended}
@@ -75,9 +75,9 @@ module _ (g : Setting) where
 abbrev pub under_held : Setting → Held → ℕ → ℕ → ℕ → Setting
 under_held g held from entries upto = record g { held = held; from = from; entries = entries; upto = upto }
 
--- its state agrees too at another place, where its memory holds what is to be held
-pub sim_saying : (g : Setting) {held more : Held} {from entries upto first fields last : ℕ} (alive : Variable → Type 0) (st : State) (s : CodeState) (at : ℕ) (m : BitMemory) → more.holds (OpenAmong g alive) at st m
-    → Sim (under_held g held from entries upto) alive st s → Sim (under_held g more first fields last) alive st (record s { at = at; memory = m })
+-- its state agrees too at another place and where it may have others, where its memory holds what is to be held
+pub sim_saying : (g : Setting) {held more : Held} {may other : May} {from entries upto first fields last : ℕ} (alive : Variable → Type 0) (st : State) (s : CodeState) (at : ℕ) (m : BitMemory) → more.holds (OpenAmong g alive) at st m
+    → Sim (record (under_held g held from entries upto) { may = may }) alive st s → Sim (record (under_held g more first fields last) { may = other }) alive st (record s { at = at; memory = m })
 sim_saying g alive st s at m holds h = record {
   registers = h.registers;
   scalars = h.scalars;

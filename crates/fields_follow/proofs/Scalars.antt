@@ -19,6 +19,7 @@ use Rattle.source_meaning.specs.State as Source
 use Rattle.source_meaning.specs.State.{Early, Outcome, State}
 use Rattle.source_meaning.specs.Values.{Scalar, Scope, Value}
 use Rattle.code_follows.specs.Fragment.{IsIn, NamesAmong}
+use Rattle.code_follows.proofs.Besides.{sim_saying}
 use Rattle.code_follows.proofs.Callees.{CallsFollow}
 use Rattle.code_follows.proofs.Expressions.{operand, value_follows as value_does}
 use Rattle.code_follows.proofs.Following.{Arrives, Finishes, Follows, HasRegisters, IsKept, Keeps, Sim, follows_same, held, keeps_all, knowing, follows_other}
@@ -81,50 +82,14 @@ module _ (g : Setting) (has : HasRegisters g) (fields : HoldsTheFields g) (m : B
   within_calm e w = record { more = w.more; code = w.code; entries = w.entries; fields = w.fields; homes = w.homes; homes_are = w.homes_are; regs = w.regs; own = w.own; upto = w.upto }
 
   sim_calm : (alive : Variable → Type 0) (st : State) (s : CodeState) → s.memory ≡ m → Sim g alive st s → Sim calm alive st s
-  sim_calm alive st s same h = record {
-    registers = h.registers;
-    scalars = h.scalars;
-    small = h.small;
-    constants = h.constants;
-    turns = h.turns;
-    output = h.output;
-    input = h.input;
-    returns = h.returns;
-    few = h.few;
-    bytes = h.bytes;
-    memory = (h.memory, same);
-  }
+  sim_calm alive st s same h = sim_saying g alive st s s.at s.memory (h.memory, same) h
 
   sim_back : (alive : Variable → Type 0) (st : State) (s : CodeState) → Sim calm alive st s → Sim g alive st s
-  sim_back alive st s h = record {
-    registers = h.registers;
-    scalars = h.scalars;
-    small = h.small;
-    constants = h.constants;
-    turns = h.turns;
-    output = h.output;
-    input = h.input;
-    returns = h.returns;
-    few = h.few;
-    bytes = h.bytes;
-    memory = h.memory.0;
-  }
+  sim_back alive st s h = sim_saying g alive st s s.at s.memory h.memory.0 h
 
   -- a later state with the memory that was there
   sim_among : (alive : Variable → Type 0) (st : State) (s t : CodeState) → Sim calm alive st s → Sim g alive st t → Sim calm alive st (record t { at = s.at; memory = s.memory })
-  sim_among alive st s t was h = record {
-    registers = h.registers;
-    scalars = h.scalars;
-    small = h.small;
-    constants = h.constants;
-    turns = h.turns;
-    output = h.output;
-    input = h.input;
-    returns = h.returns;
-    few = h.few;
-    bytes = h.bytes;
-    memory = was.memory;
-  }
+  sim_among alive st s t was h = sim_saying g alive st t s.at s.memory was.memory h
 
   keeps_calm : (d : Draft) (s t : CodeState) → Keeps g d s t → Keeps calm d s t
   unfolding IsKept
