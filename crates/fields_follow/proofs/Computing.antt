@@ -36,14 +36,14 @@ use Rattle.source_meaning.specs.Values.{Active, nonzero, unary_of}
 use Rattle.source_meaning.proofs.ConstantLaws.{Boxed}
 use Rattle.code_follows.proofs.Following.{Extends, Follows, HasRegisters, Sim, follows_same, held}
 use Rattle.code_follows.proofs.Settings.{Setting, and_one, layout}
-use Rattle.fields_follow.specs.Fragment.{HasItsKind, HasKnownKind, IsNarrowed, IsOperation, IsPromoted, IsPure, IsRegistered, IsRelation, IsWide}
+use Rattle.fields_follow.specs.Fragment.{HasItsKind, HasKnownKind, IsNarrowed, IsOfFileOrBlock, IsOperation, IsPromoted, IsPure, IsRegistered, IsRelation, IsWide}
 use Rattle.fields_follow.proofs.Starts.{no_home, starts_entry, Starts}
 use Rattle.fields_follow.proofs.Choosing.{choice_valued}
 use Rattle.fields_follow.proofs.Clearing.{joined_more}
 use Rattle.fields_follow.proofs.ConditionCode.{Bit, Truth, bit_not_value, joined_value, operand_at, put_in, relation_value, word_not_value}
 use Rattle.fields_follow.proofs.Conditions.{HaveTheirCode, and_codes, beside_scalar, conditions_join, joined_free, or_codes}
 use Rattle.fields_follow.proofs.Expressions.{Answers, answers_alike, binary_after, convert_after, convert_ended, convert_means, coordinate_after, dot_after, left_index_after, unary_after, unary_ended}
-use Rattle.fields_follow.proofs.Forms.{HasItsCode, IsRead, pure_kept}
+use Rattle.fields_follow.proofs.Forms.{HasItsCode, pure_kept}
 use Rattle.fields_follow.proofs.Instructions.{alike_same, extents, shapes}
 use Rattle.fields_follow.proofs.Leaving.{fields_under, places_under, registers_under, under}
 use Rattle.fields_follow.proofs.Lengths.{operation_most, relates_plainly}
@@ -268,7 +268,7 @@ module _ (g : Setting) (has : HasRegisters g) (alive : Variable → Type 0) (n :
       (done.value bits some most d s st here sim))
 
 mutual
-  unfolding IsPure IsNarrowed IsRead has_truth value_of value_in kind_of AllCoded AllValued
+  unfolding IsPure IsNarrowed IsOfFileOrBlock has_truth value_of value_in kind_of AllCoded AllValued
 
   done : (g : Setting) (has : HasRegisters g) (alive : Variable → Type 0) (n : ℕ) (ready : (d : Draft) → IsReadyButForFields g.typed g.instance (layout g) n d) (places : PlacesFields g) (fields : HoldsTheFields g) (set : ℕ) (e : TExpr) → IsPure set e → HasItsCode g.typed g.instance alive n e → IsDone g has alive n ready places fields set e
   done g has alive n ready places fields set (T.Variable ty (V.File k)) is c = record {
@@ -317,7 +317,7 @@ mutual
       cast_done g has alive n ready places fields set ty p operand is is.2 c (convert_done g has alive n ready places fields set ty p operand is is.0 is.2 is.1 code (done g has alive n ready places fields set operand is.2 (convert_part g alive n places fields ty p operand code)))
   done g has alive n ready places fields set (T.Pcoord ty axis) is c = by_value g has alive n ready places fields set (T.Pcoord ty axis) is refl c (λ bits some most. coordinate_after g has alive n ready places fields bits set axis ty is)
   done g has alive n ready places fields set (T.Dot ty axis) is c = by_value g has alive n ready places fields set (T.Dot ty axis) is refl c (λ bits some most. dot_after g has alive n ready places fields bits set axis ty is)
-  done g has alive n ready places fields set (T.LeftIndex' ty place p indexes (V.File k) of) is c = by_value g has alive n ready places fields set (T.LeftIndex' ty place p indexes (V.File k) of) is refl c (λ bits some most. left_index_after g has alive n ready places fields bits set ty place p indexes k of most is (each_after g has alive n ready places fields set indexes (all_coded g has alive n ready places fields ty place p indexes (V.File k) of c)) c)
+  done g has alive n ready places fields set (T.LeftIndex' ty place p indexes x of) is c = by_value g has alive n ready places fields set (T.LeftIndex' ty place p indexes x of) is refl c (λ bits some most. left_index_after g has alive n ready places fields bits set ty place p indexes x of most is (each_after g has alive n ready places fields set indexes (all_coded g has alive n ready places fields ty place p indexes x of c)) c)
   done g has alive n ready places fields set _ is c = absurd is
 
   -- and so it is of each of the indexes of a get

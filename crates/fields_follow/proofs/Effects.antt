@@ -44,9 +44,9 @@ use Rattle.code_follows.proofs.Growing.{Extended}
 use Rattle.code_follows.proofs.Words.{held_wide}
 use Rattle.code_follows.proofs.Settings.{Setting, Within, and_one, layout, start}
 use Rattle.code_follows.specs.Fragment.{NamesAmong}
-use Rattle.fields_follow.specs.Fragment.{HasKnownKind, IsOperation, IsPromoted, IsPure, IsRelation, IsWide}
+use Rattle.fields_follow.specs.Fragment.{HasKnownKind, IsOfFileOrBlock, IsOperation, IsPromoted, IsPure, IsRelation, IsWide}
 use Rattle.fields_follow.proofs.Arms.{PutsLast as Puts_last, field_at, promoted_last, value_last}
-use Rattle.fields_follow.proofs.Forms.{HasItsCode, HasItsWord, IsRead, pure_kept, pure_word}
+use Rattle.fields_follow.proofs.Forms.{HasItsCode, HasItsWord, pure_kept, pure_word}
 use Rattle.fields_follow.proofs.Dividing.{zero_at}
 use Rattle.fields_follow.proofs.Outcomes.{Ended, Given, ended_back, meant, then_known}
 use Rattle.fields_follow.proofs.Hops.{puts_same}
@@ -93,7 +93,7 @@ module _ (g : Setting) (has : HasRegisters g) (alive : Variable → Type 0) (n :
   PutsWords set offset bits e = PutsLast set (field_at set offset bits) e (λ d. computed_to g.typed (layout g) (O.Field (field_at set offset bits)) e d)
 
   -- a copy of a variable, cut or extended
-  copied_last : (set offset bits : ℕ) (x : Variable) (ty : ValueType) → bits ≤ 32 → IsRead x → ty.shape ≡ Some set → HasItsCode g.typed g.instance alive n (T.Variable ty x) → PutsWords set offset bits (T.Variable ty x)
+  copied_last : (set offset bits : ℕ) (x : Variable) (ty : ValueType) → bits ≤ 32 → IsOfFileOrBlock x → ty.shape ≡ Some set → HasItsCode g.typed g.instance alive n (T.Variable ty x) → PutsWords set offset bits (T.Variable ty x)
   unfolding computed_to read_to spot_of variable_spot loaded in_field field_loaded then_make passes_from value_in evaluated step_of NamesVariables NamesAmong After
   copied_last set offset bits x ty most read shaped c d s st here sim Q last ended =
       after_same g Q (ap (λ (y : ValueType). computed_to g.typed (layout g) (O.Field f) (T.Variable y x) d) (as_shaped ty set shaped))
@@ -264,17 +264,17 @@ module _ (g : Setting) (has : HasRegisters g) (alive : Variable → Type 0) (n :
   gone_same dest Q Fails h = tt
 
   -- a get
-  left_index_computed : (set offset bits : ℕ) (ty : ValueType) (place : Place) (p : _) (indexes : Row_of-TExpr _) (k of : ℕ) → bits ≤ 32 → IsPure set (T.LeftIndex' ty place p indexes (V.File k) of) → HasItsCode g.typed g.instance alive n (T.LeftIndex' ty place p indexes (V.File k) of)
-      → PutsWords set offset bits (T.LeftIndex' ty place p indexes (V.File k) of)
+  left_index_computed : (set offset bits : ℕ) (ty : ValueType) (place : Place) (p : _) (indexes : Row_of-TExpr _) (x : Variable) (of : ℕ) → bits ≤ 32 → IsPure set (T.LeftIndex' ty place p indexes x of) → HasItsCode g.typed g.instance alive n (T.LeftIndex' ty place p indexes x of)
+      → PutsWords set offset bits (T.LeftIndex' ty place p indexes x of)
   unfolding computed_to spot_of
-  left_index_computed set offset bits ty place p indexes k of most is c d s st here sim Q last ended =
+  left_index_computed set offset bits ty place p indexes x of most is c d s st here sim Q last ended =
       gone_same (O.Field (field_at set offset bits)) Q _
-      (indexed_last g has alive n ready places fields ty place p indexes k set of offset bits (length d.fields) (λ after. spot_of g.typed (layout g) (T.LeftIndex' ty place p indexes (V.File k) of) after) d s st most is c
-      (each_after g has alive n ready places fields set indexes (all_coded g has alive n ready places fields ty place p indexes (V.File k) of c)) refl (omega arith) here sim (λ out e. Q (O.Field (field_at set offset bits)) e) last (λ early x after. ended early (O.Field (field_at set offset bits)) after))
+      (indexed_last g has alive n ready places fields ty place p indexes x set of offset bits (length d.fields) (λ after. spot_of g.typed (layout g) (T.LeftIndex' ty place p indexes x of) after) d s st most is c
+      (each_after g has alive n ready places fields set indexes (all_coded g has alive n ready places fields ty place p indexes x of c)) refl (omega arith) here sim (λ out e. Q (O.Field (field_at set offset bits)) e) last (λ early y after. ended early (O.Field (field_at set offset bits)) after))
 
   -- a value that is no truth value
   pub computed_last : (set offset bits : ℕ) (e : TExpr) → 0 < bits → bits ≤ 32 → IsPure set e → IsPlain bits e → HasItsCode g.typed g.instance alive n e → PutsWords set offset bits e
-  unfolding IsPure IsPlain IsRead computed_to value_in NamesVariables evaluated
+  unfolding IsPure IsPlain IsOfFileOrBlock computed_to value_in NamesVariables evaluated
   computed_last set offset bits (T.Variable ty (V.File k)) some most is plain c = copied_last set offset bits (V.File k) ty most tt is c
   computed_last set offset bits (T.Variable ty (V.Local k)) some most is plain c = copied_last set offset bits (V.Local k) ty most tt is c
   computed_last set offset bits (T.Brackets' ty p inner) some most is plain c =
@@ -295,7 +295,7 @@ module _ (g : Setting) (has : HasRegisters g) (alive : Variable → Type 0) (n :
   computed_last set offset bits (T.ParallelCast' ty p inner) some most is plain c = moved_last set offset bits (T.ParallelCast' ty p inner) some most is c
   computed_last set offset bits (T.Pcoord ty axis) some most is plain c = coordinate_last set offset bits axis ty is
   computed_last set offset bits (T.Dot ty axis) some most is plain c = moved_last set offset bits (T.Dot ty axis) some most is c
-  computed_last set offset bits (T.LeftIndex' ty place p indexes (V.File k) of) some most is plain c = left_index_computed set offset bits ty place p indexes k of most is c
+  computed_last set offset bits (T.LeftIndex' ty place p indexes x of) some most is plain c = left_index_computed set offset bits ty place p indexes x of most is c
   computed_last set offset bits (T.LogicalOr' ty p left q right) some most is plain c = logical_last set offset bits true (T.LogicalOr' ty p left q right) left right some most is plain c
   computed_last set offset bits (T.LogicalAnd' ty p left q right) some most is plain c = logical_last set offset bits false (T.LogicalAnd' ty p left q right) left right some most is plain c
   computed_last set offset bits _ some most is plain c = absurd is

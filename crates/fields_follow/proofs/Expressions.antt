@@ -9,7 +9,6 @@ use Rattle.cstar_tree.specs.declared.typed.UnaryOp.{UnaryOp}
 use Rattle.cstar_tree.specs.declared.typed.UnaryOp.TheVariants as U
 use Rattle.cstar_tree.specs.declared.typed.ValueType.{ValueType}
 use Rattle.cstar_tree.specs.declared.typed.Variable.{Variable}
-use Rattle.cstar_tree.specs.declared.typed.Variable.TheVariants as V
 use Rattle.cstar_tree.specs.Typed.{type_of}
 use Rattle.code_lengths.specs.Naming.{plain}
 use Rattle.code_lengths.specs.Ready.{IsReadyButForFields}
@@ -462,17 +461,17 @@ module _ (g : Setting) (has : HasRegisters g) (alive : Variable → Type 0) (n :
           (answers_alike (IsFlag inner) (IsFlag e) (λ one. flag_converted ty.elem (kind_of inner) no_truth one) bits (length d.fields) d s set st (λ q. word_at (extents g set) st inner q) w (convert_alike bits set ty p inner st no_truth (grind (arith, nat_tests, enough)))) (whole bits some most d s st here sim))
 
   -- a get
-  pub left_index_after : (bits set : ℕ) (ty : ValueType) (place : Place) (p : _) (indexes : Row_of-TExpr _) (k of : ℕ) → bits ≤ 32 → IsPure set (T.LeftIndex' ty place p indexes (V.File k) of) → AllValued g has alive n ready places fields set indexes
-      → HasItsCode g.typed g.instance alive n (T.LeftIndex' ty place p indexes (V.File k) of) → IsValued bits set (T.LeftIndex' ty place p indexes (V.File k) of)
+  pub left_index_after : (bits set : ℕ) (ty : ValueType) (place : Place) (p : _) (indexes : Row_of-TExpr _) (x : Variable) (of : ℕ) → bits ≤ 32 → IsPure set (T.LeftIndex' ty place p indexes x of) → AllValued g has alive n ready places fields set indexes
+      → HasItsCode g.typed g.instance alive n (T.LeftIndex' ty place p indexes x of) → IsValued bits set (T.LeftIndex' ty place p indexes x of)
   unfolding value_of index_read_by fresh_for then_make an_entry
-  left_index_after bits set ty place p indexes k of most is valued c d s st here sim =
+  left_index_after bits set ty place p indexes x of most is valued c d s st here sim =
       known_follows g s (meant g fields e st) (number set e st) st (Answers (IsFlag e) bits (length d.fields) d s set st v) (code bits e d)
       (after_same g (Knows bits d s set st e) (ap (λ (o : Option ℕ). then_make (fresh_for o bits d) (λ dest begun. index_read_to g.typed (layout g) e spot dest begun)) (pure_shape set e is))
-      (indexed_last g has alive n ready places fields ty place p indexes k set of (length d.fields) bits (length d.fields) spot (with_entry set bits W.Own d) s st most is c valued refl (let one = one_more set bits W.Own d in omega (arith, one)) (starts_entry g alive _ _ here) sim
+      (indexed_last g has alive n ready places fields ty place p indexes x set of (length d.fields) bits (length d.fields) spot (with_entry set bits W.Own d) s st most is c valued refl (let one = one_more set bits W.Own d in omega (arith, one)) (starts_entry g alive _ _ here) sim
       (Knows bits d s set st e) (λ is_meant e2 i within passes puts. inl (is_meant, own_result bits set d e2 s st v i within (no_home g alive (length d.fields) (length d.fields) (omega arith) here) passes puts)) (λ early x f. inr early)))
     where
       e : TExpr
-      e = T.LeftIndex' ty place p indexes (V.File k) of
+      e = T.LeftIndex' ty place p indexes x of
 
       spot : Draft → Made Spot
       spot = indexed_spot g.typed (layout g) e (values_of g.typed (layout g) false (are_quiet indexes) indexes)

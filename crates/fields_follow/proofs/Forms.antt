@@ -33,7 +33,7 @@ use Rattle.std.proofs.lemmas.Bool.{eqb-true}
 use Rattle.code_follows.proofs.Following.{held as word_of_type}
 use Rattle.code_follows.proofs.Numbers.{held_zero}
 use Rattle.fields_follow.proofs.Totals.{held_below}
-use Rattle.fields_follow.specs.Fragment.{IsCalm, IsConstant, IsDivisor, IsPromoted, IsPure}
+use Rattle.fields_follow.specs.Fragment.{IsCalm, IsConstant, IsDivisor, IsOfFileOrBlock, IsPromoted, IsPure}
 use Rattle.fields_follow.specs.Fields.{IsElement, file_number}
 use Rattle.fields_follow.proofs.FileFields.{first_there}
 use Rattle.fields_follow.proofs.Meaning.{Extents, as_shaped, computed_in, constant_means, mapped_is, no_constant, read_is, scalar_in, value_in, word_at}
@@ -58,7 +58,7 @@ pure_shape set (T.Convert' ty p operand) is = is.0
 pure_shape set (T.ParallelCast' ty p operand) is = is.0
 pure_shape set (T.Pcoord ty axis) is = is.0
 pure_shape set (T.Dot ty axis) is = is.0
-pure_shape set (T.LeftIndex' ty place p indexes (V.File k) of) is = is.0
+pure_shape set (T.LeftIndex' ty place p indexes x of) is = is.0
 pure_shape set _ is = absurd is
 
 pub promoted_shape : (set : ℕ) (e : TExpr) → IsPromoted set e → (type_of e).shape ≡ Some set
@@ -94,7 +94,7 @@ pure_kept set (T.Convert' ty p operand) is = pure_kept set operand is.2
 pure_kept set (T.ParallelCast' ty p operand) is = shaped ty.shape set is.0
 pure_kept set (T.Pcoord ty axis) is = shaped ty.shape set is.0
 pure_kept set (T.Dot ty axis) is = shaped ty.shape set is.0
-pure_kept set (T.LeftIndex' ty place p indexes (V.File k) of) is = shaped ty.shape set is.0
+pure_kept set (T.LeftIndex' ty place p indexes x of) is = shaped ty.shape set is.0
 pure_kept set _ is = absurd is
 
 pub promoted_kept : (set : ℕ) (e : TExpr) → IsPromoted set e → is_kept e ≡ true
@@ -119,7 +119,7 @@ pure_constant set (T.Convert' ty p operand) is = ap (λ (b : Bool). b && is_cons
 pure_constant set (T.ParallelCast' ty p operand) is = refl
 pure_constant set (T.Pcoord ty axis) is = refl
 pure_constant set (T.Dot ty axis) is = refl
-pure_constant set (T.LeftIndex' ty place p indexes (V.File k) of) is = refl
+pure_constant set (T.LeftIndex' ty place p indexes x of) is = refl
 pure_constant set _ is = absurd is
 
 promoted_constant : (set : ℕ) (e : TExpr) → IsPromoted set e → is_constant e ≡ false
@@ -153,21 +153,15 @@ pure_word set (T.Convert' ty p operand) is = refl
 pure_word set (T.ParallelCast' ty p operand) is = refl
 pure_word set (T.Pcoord ty axis) is = refl
 pure_word set (T.Dot ty axis) is = refl
-pure_word set (T.LeftIndex' ty place p indexes (V.File k) of) is = refl
+pure_word set (T.LeftIndex' ty place p indexes x of) is = refl
 pure_word set _ is = absurd is
-
--- a variable that expressions read: one of the file or of a block
-unfoldable pub IsRead : Variable → Type 0
-IsRead (V.File k) = Unit {0}
-IsRead (V.Local k) = Unit {0}
-IsRead _ = ⊥
 
 -- the variable in whose field so many bits of the value stand, which never fails
 pub record StandsInVariable (t : Typed) (i : Instance) (alive : Variable → Type 0) (bits set : ℕ) (e : TExpr) : Type 0 where
   pub x : Variable
   pub info : VarInfo
   pub own : own_of bits e ≡ Some (record { shape = Some set; variable = x })
-  pub read : IsRead x
+  pub read : IsOfFileOrBlock x
   pub living : alive x
   pub known : variable_named t i x ≡ Some info
   pub parallel : info.shape ≡ Some set
@@ -214,7 +208,7 @@ flag_converted elem (Some kind) no_truth one = by (has_all elem kind) refl
     by false less = let wrong = flag_elem elem (sym (ap (λ (b : Bool). bits_of (if b then Some kind else narrow elem)) less) ∙ one) in absurd (grind (arith, nat_tests, wrong, no_truth))
 
 -- a variable of enough bits
-variable_own : (t : Typed) (i : Instance) (alive : Variable → Type 0) (n bits set : ℕ) (ty : ValueType) (x : Variable) → IsRead x → alive x → ty.shape ≡ Some set → HasVariable t i n x (plain ty) → StandsInVariable t i alive bits set (T.Variable ty x) ⊎ (own_of bits (T.Variable ty x) ≡ None)
+variable_own : (t : Typed) (i : Instance) (alive : Variable → Type 0) (n bits set : ℕ) (ty : ValueType) (x : Variable) → IsOfFileOrBlock x → alive x → ty.shape ≡ Some set → HasVariable t i n x (plain ty) → StandsInVariable t i alive bits set (T.Variable ty x) ⊎ (own_of bits (T.Variable ty x) ≡ None)
 unfolding own_of value_in evaluated kind_of
 variable_own t i alive n bits set ty x read living is v = by (nat_le bits ty.elem.bits) refl
   where
@@ -239,7 +233,7 @@ variable_own t i alive n bits set ty x read living is v = by (nat_le bits ty.ele
     by false less = inr (ap (λ (b : Bool). if b || nat_le bits ty.elem.bits then Some own else None) (shaped ty.shape set is) ∙ ap (λ (b : Bool). if b then Some own else None) less)
 
 pub pure_own : (t : Typed) (i : Instance) (alive : Variable → Type 0) (n bits set : ℕ) (e : TExpr) → IsPure set e → NamesVariables t i n e → NamesAmong alive e → StandsInVariable t i alive bits set e ⊎ (own_of bits e ≡ None)
-unfolding IsPure own_of NamesVariables NamesAmong value_in is_unchanged evaluated then_do convert_to each at kind_of IsRead
+unfolding IsPure own_of NamesVariables NamesAmong value_in is_unchanged evaluated then_do convert_to each at kind_of IsOfFileOrBlock
 pure_own t i alive n bits set (T.Variable ty (V.File k)) is v among = variable_own t i alive n bits set ty (V.File k) tt among is v
 pure_own t i alive n bits set (T.Variable ty (V.Local k)) is v among = variable_own t i alive n bits set ty (V.Local k) tt among is v
 pure_own t i alive n bits set (T.Brackets' ty p inner) is v among = by (pure_own t i alive n bits set inner is.1 v among)
@@ -283,7 +277,7 @@ pure_own t i alive n bits set (T.Convert' ty p operand) is v among = by (is_unch
 pure_own t i alive n bits set (T.ParallelCast' ty p operand) is v among = inr refl
 pure_own t i alive n bits set (T.Pcoord ty axis) is v among = inr refl
 pure_own t i alive n bits set (T.Dot ty axis) is v among = inr refl
-pure_own t i alive n bits set (T.LeftIndex' ty place p indexes (V.File k) of) is v among = inr refl
+pure_own t i alive n bits set (T.LeftIndex' ty place p indexes x of) is v among = inr refl
 pure_own t i alive n bits set _ is v among = absurd is
 
 -- a promoted scalar that is a constant, whose word is known

@@ -3,6 +3,7 @@ use Rattle.std.proofs.Common.{◌≡◌, ◌∙◌, ℕ, suc, ◌+◌, ◌%◌, 
 use Rattle.std.proofs.lemmas.Bool.Decides.{nat_tests}
 use Rattle.cstar_base.specs.declared.elem.Elem.{Elem}
 use Rattle.cstar_base.specs.Numbers.{number_of}
+use Rattle.cstar_tree.specs.declared.typed.VarInfo.{VarInfo}
 use Rattle.cstar_tree.specs.declared.typed.Variable.{Variable}
 use Rattle.lower_base.specs.Drafts.{Draft, Plain, step as step_of, with_instr}
 use Rattle.lower_comm.specs.declared.gets.Hop.{Hop}
@@ -26,17 +27,19 @@ use Rattle.phase_meaning.proofs.Alike.{shifted_below}
 use Rattle.phase_meaning.proofs.Widths.{cut_cut}
 use Rattle.source_meaning.specs.State.{State}
 use Rattle.vp_sets.specs.Positions.{are_positive, shifted}
-use Rattle.code_follows.proofs.Following.{Sim}
+use Rattle.code_follows.proofs.Following.{Sim, held}
 use Rattle.code_follows.proofs.Growing.{Extended, extended}
-use Rattle.code_follows.proofs.Settings.{OpenAmong, Setting, Within, and_one, at_next, begins_here, code_more, earlier, one_writes, placed_instr}
+use Rattle.code_follows.proofs.Settings.{OpenAmong, Setting, Within, and_one, at_next, begins_here, code_more, earlier, one_writes, placed_instr, start}
 use Rattle.fields_follow.proofs.Bits.{active_apart, bits_written, field_apart, field_written}
 use Rattle.fields_follow.proofs.Fields.{HoldsFields}
 use Rattle.fields_follow.proofs.FileFields.{apart_back}
 use Rattle.fields_follow.proofs.Instructions.{HasNumbers, Puts, extents, number_in, place, puts_extended, puts_move, shapes, wrote}
-use Rattle.fields_follow.proofs.Passing.{Passes, names_second, passes_all, passes_on}
+use Rattle.fields_follow.proofs.Passing.{Passes, in_variable_numbers, names_second, passes_all, passes_on}
 use Rattle.fields_follow.proofs.Places.{HoldsTheFields, IsOwnField, PlacesFields, names_first, of_file, stands_here}
 use Rattle.fields_follow.proofs.Writing.{with_memory}
 use Rattle.fields_follow.proofs.Starts.{Starts, starts_next}
+use Rattle.fields_follow.proofs.Totals.{held_below}
+use Rattle.fields_follow.proofs.Variables.{Carries}
 use Rattle.fields_follow.proofs.Locals.{IsNoHome}
 use Rattle.fields_follow.proofs.LocalWrites.{behind_own_at}
 
@@ -50,7 +53,7 @@ module _ (g : Setting) where
     pub small : (p : ℕ) → p < processors (shapes g) set → v p < 2 ^ 32
 
   -- so it has them where it is active
-  somewhere : (bits set : ℕ) (f : Field) (s : CodeState) (v : ℕ → ℕ) → HasEverywhere bits set f s v → HasNumbers g bits set f s v
+  pub somewhere : (bits set : ℕ) (f : Field) (s : CodeState) (v : ℕ → ℕ) → HasEverywhere bits set f s v → HasNumbers g bits set f s v
   somewhere bits set f s v h = record { of_set = h.of_set; exists = h.exists; len = h.len; are = λ p below on. h.are p below; small = λ p below on. h.small p below }
 
   -- the position that is so many steps away
@@ -114,7 +117,46 @@ module _ (g : Setting) where
   pub puts_same : (set : ℕ) (i : Instr) (d : Field) (s : CodeState) (v w : ℕ → ℕ) → ((p : ℕ) → p < processors (shapes g) set → v p ≡ w p) → Puts g set i d s v → Puts g set i d s w
   puts_same set i d s v w same h = puts_where set i d s v w (λ p below on. same p below) h
 
+  -- the steps go on from the draft
+  pub steps_extend : (elem : Elem) (dest : Field) (steps : List GridStep) (hop : Hop) (d : Draft) → (n : ℕ) × Extended d n (stepwise elem dest steps hop d)
+  unfolding stepwise with_hop
+  steps_extend elem dest [] hop d = (1, and_one g _ d)
+  steps_extend elem dest (step ∷ steps) hop d = by (length steps == 0 && not (is_extended elem dest)) (steps_extend elem dest steps (hopped hop) (with_hop step hop d))
+    where
+      by : (b : Bool) → (n : ℕ) × Extended (with_hop step hop d) n (stepwise elem dest steps (hopped hop) (with_hop step hop d)) → (n : ℕ) × Extended d n (if b then with_instr (I.GetFromNews dest hop.source step.axis step.step) d else stepwise elem dest steps (hopped hop) (with_hop step hop d))
+      by true rest = (1, and_one g _ d)
+      by false rest = (1 + rest.0, extended d (with_hop step hop d) _ 1 rest.0 (and_one g _ d) rest.1)
+
+  -- the first instruction names the source
+  pub names_source : (elem : Elem) (dest : Field) (steps : List GridStep) (hop : Hop) (d : Draft) → Within g (stepwise elem dest steps hop d) → IsNamedAt g.unit hop.source.offset (length d.code)
+  unfolding stepwise with_hop step_of
+  names_source elem dest [] hop d within = names_second g _ dest hop.source [] (length d.code) (stands_here g (I.Move elem.signed dest hop.source) d within refl) refl
+  names_source elem dest (step ∷ steps) hop d within = by (length steps == 0 && not (is_extended elem dest)) within
+    where
+      by : (b : Bool) → Within g (if b then with_instr (I.GetFromNews dest hop.source step.axis step.step) d else stepwise elem dest steps (hopped hop) (with_hop step hop d)) → IsNamedAt g.unit hop.source.offset (length d.code)
+      by true w = names_second g _ dest hop.source [] (length d.code) (stands_here g (I.GetFromNews dest hop.source step.axis step.step) d w refl) refl
+      by false w =
+          let rest = steps_extend elem dest steps (hopped hop) (with_hop step hop d) in
+          names_second g _ hop.next hop.source [] (length d.code) (stands_here g (I.GetFromNewsAlways hop.next hop.source step.axis step.step) d (earlier g _ _ rest.0 rest.1 w) refl) refl
+
   module _ (places : PlacesFields g) (fields : HoldsTheFields g) (alive : Variable → Type 0) where
+    -- The first bits of a variable's field have the lowest bits of its words at every position, where an instruction names
+    -- the field at this place or behind it.
+    pub variable_everywhere : (bits set : ℕ) (x : Variable) (info : VarInfo) (f : Field) (s : CodeState) (st : State) → Carries g alive x info set f → bits ≤ info.elem.bits → (later : ℕ) → IsNamedAt g.unit f.offset later → s.at ≤ start g + later → Sim g alive st s
+        → HasEverywhere bits set (record f { len = bits }) s (λ q. held info.elem (st.parallel x 0 q))
+    variable_everywhere bits set x info f s st carries fits later named behind sim = record { of_set = carries.of_set; exists = carries.exists; len = refl; are = λ p below. (numbers p below).0; small = λ p below. (numbers p below).1 }
+      where
+        numbers : (p : ℕ) → p < processors (shapes g) set → (number_in g (record f { len = bits }) s p ≡ held info.elem (st.parallel x 0 p) % 2 ^ bits) × (held info.elem (st.parallel x 0 p) < 2 ^ 32)
+        numbers p below =
+            in_variable_numbers g alive places fields bits set (record f { len = bits }) st (λ q. held info.elem (st.parallel x 0 q)) s (record {
+              x = x;
+              info = info;
+              carries = subst (λ (n : ℕ). Carries g alive x info set (record f { len = n })) carries.len carries;
+              len = refl;
+              fits = fits;
+              same = λ q inside. (refl, held_below info.elem (st.parallel x 0 q));
+            }) sim later named behind p below
+
     -- a step into an own entry that is named later
     abbrev hop_instr : ℕ → ℕ → Field → Field → Instr
     hop_instr axis k d a = I.GetFromNewsAlways d a axis (K.Imm k)
@@ -229,31 +271,6 @@ module _ (g : Setting) where
           by (inr h) = inl (λ hop d. one_step elem dest step hop d h.0)
       on_or_last step (next ∷ steps) = inl (λ hop d. next_step elem dest step next steps hop d)
 
-      pub steps_extend : (steps : List GridStep) (hop : Hop) (d : Draft) → (n : ℕ) × Extended d n (stepwise elem dest steps hop d)
-      unfolding stepwise with_hop
-      steps_extend [] hop d = (1, and_one g _ d)
-      steps_extend (step ∷ steps) hop d = by (on_or_last step steps) (steps_extend steps (hopped hop) (with_hop step hop d))
-        where
-          by : GoesOn step steps ⊎ ((steps ≡ []) × (is_extended elem dest ≡ false) × (dest.len ≡ bits)) → (n : ℕ) × Extended (with_hop step hop d) n (stepwise elem dest steps (hopped hop) (with_hop step hop d)) → (n : ℕ) × Extended d n (stepwise elem dest (step ∷ steps) hop d)
-          by (inl on) rest = subst (λ (e : Draft). (n : ℕ) × Extended d n e) (sym (on hop d)) (1 + rest.0, extended d (with_hop step hop d) _ 1 rest.0 (and_one g _ d) rest.1)
-          by (inr last) rest =
-              subst (λ (xs : List GridStep). (n : ℕ) × Extended d n (stepwise elem dest (step ∷ xs) hop d)) (sym last.0) (subst (λ (e : Draft). (n : ℕ) × Extended d n e) (sym (last_step elem dest step hop d last.1)) (1, and_one g _ d))
-
-      -- the first instruction names the source
-      names_source : (steps : List GridStep) (hop : Hop) (d : Draft) → Within g (stepwise elem dest steps hop d) → IsNamedAt g.unit hop.source.offset (length d.code)
-      unfolding stepwise with_hop step_of
-      names_source [] hop d within = names_second g _ dest hop.source [] (length d.code) (stands_here g (I.Move elem.signed dest hop.source) d within refl) refl
-      names_source (step ∷ steps) hop d within = by (on_or_last step steps)
-        where
-          by : GoesOn step steps ⊎ ((steps ≡ []) × (is_extended elem dest ≡ false) × (dest.len ≡ bits)) → IsNamedAt g.unit hop.source.offset (length d.code)
-          by (inl on) =
-              let rest = steps_extend steps (hopped hop) (with_hop step hop d) in
-              let first : Within g (with_hop step hop d) = earlier g _ _ rest.0 rest.1 (subst (λ (e : Draft). Within g e) (on hop d) within) in
-              names_second g _ hop.next hop.source [] (length d.code) (stands_here g (I.GetFromNewsAlways hop.next hop.source step.axis step.step) d first refl) refl
-          by (inr last) =
-              names_second g _ dest hop.source [] (length d.code)
-              (stands_here g (I.GetFromNews dest hop.source step.axis step.step) d (subst (λ (e : Draft). Within g e) (ap (λ (xs : List GridStep). stepwise elem dest (step ∷ xs) hop d) last.0 ∙ last_step elem dest step hop d last.1) within) refl) refl
-
       -- the last instruction puts the numbers in the destination
       abbrev pub MovesLast : ℕ → ℕ → List GridStep → Hop → (ℕ → ℕ) → Draft → CodeState → State → Type 0
       MovesLast bound set steps hop v d s st = (e2 : Draft) × ((i : Instr) × ((stepwise elem dest steps hop d ≡ with_instr i e2) × ((p : Passes g alive bound d e2 s st (Unit {0})) × Puts g set i dest p.t (λ q. v (origin set steps q)))))
@@ -276,9 +293,9 @@ module _ (g : Setting) where
               → ((u : ℕ → ℕ) → OfType set u → (next : Hop) (e : Draft) (t : CodeState) → IsFresh bits bound set next.next → IsFresh bits bound set next.spare → HasEverywhere bits set next.source t u → Within g (stepwise elem dest steps next e) → Starts g alive t (length e.code) e.regs (length e.fields) → Sim g alive st t → MovesLast bound set steps next u e t st)
               → MovesLast bound set (step ∷ steps) hop v d s st
           by (inl on) go =
-              let rest = steps_extend steps (hopped hop) (with_hop step hop d) in
+              let rest = steps_extend elem dest steps (hopped hop) (with_hop step hop d) in
               let later : Within g (stepwise elem dest steps (hopped hop) (with_hop step hop d)) = subst (λ (e : Draft). Within g e) (on hop d) within in
-              let (first, moved) = hop_by bits bound set step.axis are.0.0 step.step hop.next hop.source d s st v are.0.1 fresh are.1 h (earlier g _ _ rest.0 rest.1 later) (names_source steps (hopped hop) (with_hop step hop d) later) here sim in
+              let (first, moved) = hop_by bits bound set step.axis are.0.0 step.step hop.next hop.source d s st v are.0.1 fresh are.1 h (earlier g _ _ rest.0 rest.1 later) (names_source elem dest steps (hopped hop) (with_hop step hop d) later) here sim in
               let still_of_type : OfType set (λ q. v (neighbour set step.axis (konst_number step.step []) q)) = λ q below. of_type (neighbour set step.axis (konst_number step.step []) q) (shifted_below (extents g set).own q step.axis (number_of 32 true (konst_number step.step [])) are.1.0 below are.1.1) in
               let (e2, (i, (same, (passes, puts)))) = go (λ q. v (neighbour set step.axis (konst_number step.step []) q)) still_of_type (hopped hop) (with_hop step hop d) first.t spare fresh moved later first.at first.sim in
               (e2, (i, (◌∙◌ {b = stepwise elem dest steps (hopped hop) (with_hop step hop d)} {c = with_instr i e2} (on hop d) same, (passes_on g alive bound bound d (with_hop step hop d) e2 s st (Unit {0}) (Unit {0}) (Unit {0}) (omega arith) first passes (λ used. tt) (λ used. tt), puts))))

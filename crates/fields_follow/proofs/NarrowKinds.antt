@@ -92,8 +92,8 @@ module _ (g : Setting) (alive : Variable → Type 0) (n : ℕ) (places : PlacesF
   unfolding IsPure IsNarrowed kind_of value_in binary_kind
   kind_has set (T.Variable ty (V.File k)) st s sim is so c q kind is_kind = narrow_has ty.elem kind _ (value_small g alive n places fields set (T.Variable ty (V.File k)) st s sim is c q) is_kind
   kind_has set (T.Variable ty (V.Local k)) st s sim is so c q kind is_kind = narrow_has ty.elem kind _ (value_small g alive n places fields set (T.Variable ty (V.Local k)) st s sim is c q) is_kind
-  kind_has set (T.LeftIndex' ty place p indexes (V.File k) of) st s sim is so c q kind is_kind =
-      narrow_has ty.elem kind _ (value_small g alive n places fields set (T.LeftIndex' ty place p indexes (V.File k) of) st s sim is c q) is_kind
+  kind_has set (T.LeftIndex' ty place p indexes x of) st s sim is so c q kind is_kind =
+      narrow_has ty.elem kind _ (value_small g alive n places fields set (T.LeftIndex' ty place p indexes x of) st s sim is c q) is_kind
   kind_has set (T.Brackets' ty p inner) st s sim is so c q kind is_kind =
       subst (λ (y : ValueType). HasWord kind (held y.elem (value_in (extents g set) st inner q))) (sym is.0) (kind_has set inner st s sim is.1 so (brackets_part g alive n places fields ty p inner c) q kind is_kind)
   kind_has set (T.Convert' ty p operand) st s sim is so c q kind is_kind =
@@ -143,7 +143,6 @@ module _ (g : Setting) (alive : Variable → Type 0) (n : ℕ) (places : PlacesF
       chosen true v w both = both.0
       chosen false v w both = both.1
   kind_has set (T.Variable ty x) st s sim is so c q kind is_kind = absurd is
-  kind_has set (T.LeftIndex' ty place p indexes x of) st s sim is so c q kind is_kind = absurd is
   kind_has set _ st s sim is so c q kind is_kind = absurd so
 
   -- it is 0 where its lowest bits of that type are

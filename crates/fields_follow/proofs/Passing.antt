@@ -2,7 +2,6 @@
 use Rattle.std.proofs.Common.{◌≡◌, ◌∙◌, ℕ, ◌+◌, ◌<◌, ◌≤◌, ◌%◌, true, List, ◌∷◌, ◌++◌, Any, length, refl, sym, ap, subst, arith, ◌^◌, ◌⊎◌, inl, inr, length-append, slice_index}
 use Rattle.cstar_tree.specs.declared.typed.VarInfo.{VarInfo}
 use Rattle.cstar_tree.specs.declared.typed.Variable.{Variable}
-use Rattle.cstar_tree.specs.declared.typed.Variable.TheVariants as V
 use Rattle.lower_base.specs.Drafts.{Draft, Fails, Made, Makes, then_make, with_instr}
 use Rattle.paris_code.specs.declared.instr.Instr.{Instr}
 use Rattle.paris_code.specs.declared.operands.Field.{Field}
@@ -16,7 +15,6 @@ use Rattle.code_follows.proofs.Following.{Extends, Keeps, Sim, held, keeps_all, 
 use Rattle.code_follows.proofs.Growing.{Extended, as_it_was, extended}
 use Rattle.code_follows.proofs.Jumping.{moved_to, sim_moved}
 use Rattle.code_follows.proofs.Settings.{OpenAmong, At, Reaches, Setting, Within, and_one, code_more, earlier, onto, start, stay}
-use Rattle.fields_follow.specs.Fields.{IsElement}
 use Rattle.fields_follow.proofs.Bits.{first_number}
 use Rattle.fields_follow.proofs.Instructions.{AreAlike, HasNumbers, Puts, has_alike, number_in, place, shapes}
 use Rattle.fields_follow.proofs.Leaving.{EndsBelow}
@@ -57,6 +55,11 @@ module _ (g : Setting) where
   pub made_after : {A : Type 0} (R : A → Draft → Type 0) (x : A) (e : Draft) → (Within g e → R x e) → After R (Makes x e)
   unfolding After
   made_after R x e h = h
+
+  -- where none is made, nothing is said
+  pub nothing_after : {A : Type 0} (R : A → Draft → Type 0) → After R Fails
+  unfolding After
+  nothing_after R = tt
 
   pub after_weaker : {A : Type 0} (R Q : A → Draft → Type 0) (made : Made A) → ((x : A) (e : Draft) → R x e → Q x e) → After R made → After Q made
   unfolding After
@@ -206,10 +209,6 @@ module _ (g : Setting) where
       -- which positions are active
       pub flags_of : (st : State) (t : CodeState) (set p : ℕ) → Sim g alive st t → set < length (shapes g) → p < processors (shapes g) set → is_active (shapes g) t.memory set p ≡ fields.active set p
       flags_of st t set p sim exists below = (fields.opens (OpenAmong g alive) t.at st t.memory sim.memory).flags set p exists below
-
-      -- the number of a variable is one of its type
-      pub small_there : (set k : ℕ) (info : VarInfo) (st : State) (t : CodeState) → IsElement g.typed k info set 0 → Sim g alive st t → (p : ℕ) → st.parallel (V.File k) 0 p < 2 ^ info.elem.bits
-      small_there set k info st t is sim p = (fields.opens (OpenAmong g alive) t.at st t.memory sim.memory).small k 0 set p info is
 
       -- first bits of a field have the lowest bits of its number
       pub first_there : (set : ℕ) (f : Field) (long : ℕ) (st : State) (t : CodeState) → Sim g alive st t → f.set ≡ set → set < length (shapes g) → f.len ≤ long → (place g f).offset + long ≤ bits_at (shapes g) f.set → (p : ℕ) → p < processors (shapes g) set

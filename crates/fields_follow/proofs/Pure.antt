@@ -235,5 +235,5 @@ module _ (scope : Scope) (set : ℕ) (extents : Extents) (same : extents.own ≡
   pure_means active (T.ParallelCast' ty p operand) st is free = converts active ty operand st is.0 (pure_means active operand st is.2 free)
   pure_means active (T.Pcoord ty axis) st is free = ap (λ (o : Option ℕ). Gives (own_coordinate scope o axis) st) is.0 ∙ ap (λ (xs : List ℕ). Gives (Parallel (λ q. coordinate xs q axis)) st) (sym same)
   pure_means active (T.Dot ty axis) st is free = ap (λ (o : Option ℕ). Gives (own_coordinate scope o axis) st) is.0 ∙ ap (λ (xs : List ℕ). Gives (Parallel (λ q. coordinate xs q axis)) st) (sym same)
-  pure_means active (T.LeftIndex' ty place p indexes (V.File k) of) st is free = cc
+  pure_means active (T.LeftIndex' ty place p indexes x of) st is free = cc
   pure_means active _ st is free = absurd is

@@ -146,7 +146,7 @@ module _ (g : Setting) (alive : Variable → Type 0) (places : PlacesFields g) (
   pure_number (T.ParallelCast' ty p operand) st q is = refl
   pure_number (T.Pcoord ty axis) st q is = refl
   pure_number (T.Dot ty axis) st q is = refl
-  pure_number (T.LeftIndex' ty place p indexes (V.File k) of) st q is = refl
+  pure_number (T.LeftIndex' ty place p indexes x of) st q is = refl
   pure_number _ st q is = absurd is
 
   pub operand_number : (e : TExpr) (st : State) (q : ℕ) → IsOperand set e → scanned_in g alive places fields set st e q ≡ value_in (extents g set) st e q

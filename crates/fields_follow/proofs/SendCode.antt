@@ -155,7 +155,7 @@ module _ (g : Setting) where
       ∙ ap (λ (o : Option ℕ). then_make (spot_of g.typed (layout g) target d) (λ there after. behind_spot (λ x. spread_by (code took) value (unwrap_or o 0) took x) e there after)) shaped
       ∙ ap (λ (m : ℕ). then_make (spot_of g.typed (layout g) target d) (λ there after. behind_spot (λ x. spread_by (code m) value set m x) e there after)) taken
       ∙ ap (λ (m : Made Spot). then_make m next) (like.spot d)
-      ∙ ap (λ (o : Option ℕ). then_make (elim o as (λ _. Made Spot) [ Some position ↦ then_make (word_in (layout g) position d) (λ r after. Makes (S.Indexed (O.Scalar r)) after) | None ↦ then_make (fresh_for ty.shape 32 d) (λ at begun. then_make (codes [] begun) (λ parts between. then_make (located left parts at between) (λ out after. Makes (S.Indexed out) after))) ]) next) (unknown g.typed ty place_of r indexes k set of shaped)
+      ∙ ap (λ (o : Option ℕ). then_make (elim o as (λ _. Made Spot) [ Some position ↦ then_make (word_in (layout g) position d) (λ r after. Makes (S.Indexed (O.Scalar r)) after) | None ↦ then_make (fresh_for ty.shape 32 d) (λ at begun. then_make (codes [] begun) (λ parts between. then_make (located left parts at between) (λ out after. Makes (S.Indexed out) after))) ]) next) (unknown g.typed ty place_of r indexes (V.File k) set of shaped)
       ∙ ap (λ (o : Option ℕ). then_make (then_make (fresh_for o 32 d) (λ at begun. then_make (codes [] begun) (λ parts between. then_make (located left parts at between) (λ out after. Makes (S.Indexed out) after)))) next) shaped
       ∙ then_three (codes [] (with_entry set 32 W.Own d)) (λ parts between. then_make (located left parts (O.Field at) between) (λ out after. Makes (S.Indexed out) after)) next
       ∙ ap (λ (f : List Out → Draft → Made Spot). then_make (codes [] (with_entry set 32 W.Own d)) (λ parts between. then_make (f parts between) next)) (λ j parts between. spot_is ty place_of r indexes k of at parts between j)

@@ -15,7 +15,7 @@ use Rattle.cstar_tree.specs.Conversions.{parallel}
 use Rattle.cstar_tree.specs.StatementTypes.{variable_info}
 use Rattle.cstar_tree.specs.Typed.{type_of}
 use Rattle.code_lengths.specs.Lowerable.{IsLowerable}
-use Rattle.code_lengths.specs.Naming.{NamesVariables, plain}
+use Rattle.code_lengths.specs.Naming.{HasVariable, NamesVariables, plain}
 use Rattle.code_lengths.specs.Shaped.{IsShaped}
 use Rattle.constant_trees.proofs.Words.{converted_below, from_bool_below, unary_below}
 use Rattle.cstar_base.specs.Operators.{outcome}
@@ -28,13 +28,12 @@ use Rattle.code_follows.specs.Fragment.{NamesAmong}
 use Rattle.code_follows.proofs.Following.{Sim}
 use Rattle.code_follows.proofs.Settings.{Setting}
 use Rattle.code_follows.proofs.Words.{below_bits, below_word, held_wide}
-use Rattle.fields_follow.specs.Fragment.{HasKnownKind, IsCalm, IsConstant, IsOperation, IsPromoted, IsPure, IsRelation, IsWide}
-use Rattle.fields_follow.proofs.Forms.{HasItsCode, element_is, pure_shape}
+use Rattle.fields_follow.specs.Fragment.{HasKnownKind, IsCalm, IsConstant, IsOfFileOrBlock, IsOperation, IsPromoted, IsPure, IsRelation, IsWide}
+use Rattle.fields_follow.proofs.Forms.{HasItsCode, pure_shape}
 use Rattle.fields_follow.proofs.Instructions.{extents, operation_below}
 use Rattle.fields_follow.proofs.Meaning.{computed_in, nobody, nowhere, scalar_in, value_in, word_at, given_in}
-use Rattle.fields_follow.proofs.Passing.{small_there}
 use Rattle.fields_follow.proofs.Places.{HoldsTheFields, PlacesFields}
-use Rattle.fields_follow.proofs.Variables.{local_held}
+use Rattle.fields_follow.proofs.Variables.{variable_fits}
 use Rattle.std.proofs.lemmas.Nat.{pow_pos}
 use Rattle.fields_follow.proofs.Calm.{IsCalmly, calm_gives}
 use Rattle.source_meaning.specs.Constants.{constant_of}
@@ -93,12 +92,14 @@ module _ (g : Setting) (alive : Variable → Type 0) (n : ℕ) (places : PlacesF
   promoted_small set (T.Brackets' ty p inner) st s sim is c q = subst (λ (y : ValueType). value_in (extents g set) st inner q < 2 ^ y.elem.bits) (sym is.0) (promoted_small set inner st s sim is.1 (brackets_part ty p inner c) q)
   promoted_small set _ st s sim is c q = absurd is
 
+  -- so is that of a variable
+  named_small : (set : ℕ) (x : Variable) (ty : ValueType) → IsOfFileOrBlock x → alive x → (v : HasVariable g.typed g.instance n x (plain ty)) → ty.shape ≡ Some set → (st : State) (s : CodeState) → Sim g alive st s → (q : ℕ) → st.parallel x 0 q < 2 ^ ty.elem.bits
+  named_small set x ty read living v shaped st s sim q = (variable_fits g alive places fields set x (variable_info v.word (plain ty) v.start) read living v.named shaped refl st s sim).1 q
+
   pub value_small : (set : ℕ) (e : TExpr) (st : State) (s : CodeState) → Sim g alive st s → IsPure set e → HasItsCode g.typed g.instance alive n e → (q : ℕ) → value_in (extents g set) st e q < 2 ^ (type_of e).elem.bits
-  unfolding IsPure value_in unary_of negates NamesVariables NamesAmong
-  value_small set (T.Variable ty (V.Local k)) st s sim is c q =
-      (local_held g alive fields k (variable_info c.code.names.word (plain ty) c.code.names.start) set c.among c.code.names.named is st s sim).holds.small q
-  value_small set (T.Variable ty (V.File k)) st s sim is c q =
-      small_there g alive places fields set k (variable_info c.code.names.word (plain ty) c.code.names.start) st s (element_is g.typed g.instance n k set ty is c.code.names) sim q
+  unfolding IsPure IsOfFileOrBlock value_in unary_of negates NamesVariables NamesAmong
+  value_small set (T.Variable ty (V.File k)) st s sim is c q = named_small set (V.File k) ty tt c.among c.code.names is st s sim q
+  value_small set (T.Variable ty (V.Local k)) st s sim is c q = named_small set (V.Local k) ty tt c.among c.code.names is st s sim q
   value_small set (T.Brackets' ty p inner) st s sim is c q = subst (λ (y : ValueType). value_in (extents g set) st inner q < 2 ^ y.elem.bits) (sym is.0) (value_small set inner st s sim is.1 (brackets_part ty p inner c) q)
   value_small set (T.Unary' ty op p operand) st s sim is c q = below_bits ty.elem.bits _ is.0.1 (by is.1 (value_small set operand st s sim is.2 (unary_part ty op p operand c) q))
     where
@@ -153,9 +154,7 @@ module _ (g : Setting) (alive : Variable → Type 0) (n : ℕ) (places : PlacesF
   value_small set (T.ParallelCast' ty p operand) st s sim is c q = converted_below ty.elem (type_of operand).elem (value_in (extents g set) st operand q)
   value_small set (T.Pcoord ty axis) st s sim is c q = below_bits ty.elem.bits _ is.1 (places.few set axis q)
   value_small set (T.Dot ty axis) st s sim is c q = below_bits ty.elem.bits _ is.1 (places.few set axis q)
-  value_small set (T.LeftIndex' ty place p indexes (V.File k) of) st s sim is c q =
-      let info = variable_info c.code.names.0.word (plain (parallel ty.elem of)) c.code.names.0.start in
-      small_there g alive places fields of k info st s (element_is g.typed g.instance n k of (parallel ty.elem of) refl c.code.names.0) sim _
+  value_small set (T.LeftIndex' ty place p indexes x of) st s sim is c q = named_small of x (parallel ty.elem of) is.1 c.among.0 c.code.names.0 refl st s sim _
   value_small set _ st s sim is c q = absurd is
 
   -- so one of a type of 32 bits is its word

@@ -40,12 +40,12 @@ use Rattle.code_follows.proofs.Following.{Extends, Follows, HasRegisters, Sim, e
 use Rattle.code_follows.proofs.Values.{extends_grown}
 use Rattle.code_follows.proofs.Settings.{Setting, and_one, layout, start}
 use Rattle.code_follows.specs.Fragment.{NamesAmong}
-use Rattle.fields_follow.specs.Fragment.{HasItsKind, HasKnownKind, IsPure}
+use Rattle.fields_follow.specs.Fragment.{HasItsKind, HasKnownKind, IsOfFileOrBlock, IsPure}
 use Rattle.fields_follow.proofs.Starts.{Starts}
 use Rattle.fields_follow.proofs.ConditionCode.{Bit, Told, Truth, bit_taken, flag_after, flag_extends, nonzero_after, operand_at, zero_after}
 use Rattle.fields_follow.proofs.Conditions.{HaveTheirCode}
 use Rattle.fields_follow.proofs.Expressions.{unary_ended}
-use Rattle.fields_follow.proofs.Forms.{HasItsCode, IsRead, not_held, pure_constant, pure_kept}
+use Rattle.fields_follow.proofs.Forms.{HasItsCode, not_held, pure_constant, pure_kept}
 use Rattle.fields_follow.proofs.Instructions.{extents, place, shapes}
 use Rattle.fields_follow.proofs.Lengths.{held_first}
 use Rattle.fields_follow.proofs.Meaning.{read_is, unary_means, value_in, word_at}
@@ -102,7 +102,7 @@ module _ (g : Setting) (has : HasRegisters g) (alive : Variable → Type 0) (n :
       (operand_after g has alive n ready places fields bits set e true kinded.0 c whole d s st here sim)
 
   -- a variable, where it stands
-  pub variable_tested : (set : ℕ) (x : Variable) (ty : ValueType) → IsRead x → ty.shape ≡ Some set → HasItsCode g.typed g.instance alive n (T.Variable ty x) → (d : Draft) (s : CodeState) (st : State) → Starts g alive s (length d.code) d.regs (length d.fields) → Sim g alive st s
+  pub variable_tested : (set : ℕ) (x : Variable) (ty : ValueType) → IsOfFileOrBlock x → ty.shape ≡ Some set → HasItsCode g.typed g.instance alive n (T.Variable ty x) → (d : Draft) (s : CodeState) (st : State) → Starts g alive s (length d.code) d.regs (length d.fields) → Sim g alive st s
       → Follows g (Given g (λ q. st.parallel x 0 q) st (λ _ f. LeavesTests g alive fields d s set st (λ q. st.parallel x 0 q) f)) s (meant g fields (T.Variable ty x) st) (truth_of g.typed (layout g) (T.Variable ty x) d)
   unfolding truth_of then_make step_of passes_from evaluated NamesVariables NamesAmong After
   variable_tested set x ty read shaped c d s st here sim =

@@ -41,8 +41,7 @@ use Rattle.code_follows.proofs.Following.{held}
 use Rattle.code_follows.proofs.Operators.{wide_signed}
 use Rattle.code_follows.proofs.Words.{held_converted}
 use Rattle.fields_follow.proofs.Lengths.{cut_converted}
-use Rattle.fields_follow.specs.Fragment.{IsTarget}
-use Rattle.fields_follow.proofs.Forms.{IsRead}
+use Rattle.fields_follow.specs.Fragment.{IsOfFileOrBlock, IsTarget}
 use Rattle.fields_follow.proofs.Meaning.{as_shaped, none_fails}
 
 working_so : (o : Op) (to at_type : Elem) (signed : Bool) (old w : ℕ) → (to.bits == 1) ≡ false → at_type.bits ≡ 32 → signed ≡ at_type.signed → outcome o 32 (not signed) (held to old) w < 2 ^ 32
@@ -140,7 +139,7 @@ pub record Targets (t : Typed) (i : Instance) (alive : Variable → Type 0) (set
   pub x : Variable
   pub info : VarInfo
   pub own : own_of 1 target ≡ Some (record { shape = Some set; variable = x })
-  pub read : IsRead x
+  pub read : IsOfFileOrBlock x
   pub living : alive x
   pub known : variable_named t i x ≡ Some info
   pub parallel : info.shape ≡ Some set
@@ -149,7 +148,7 @@ pub record Targets (t : Typed) (i : Instance) (alive : Variable → Type 0) (set
   pub elem : (type_of target).elem ≡ info.elem
   pub means : (scope : Scope) (active : Active) (st : State) → located scope target active st ≡ Gives (OfElement x 0 set) st
 
-variable_targets : (t : Typed) (i : Instance) (alive : Variable → Type 0) (n set : ℕ) (ty : ValueType) (x : Variable) → IsRead x → alive x → ty.shape ≡ Some set → HasVariable t i n x (plain ty) → Targets t i alive set (T.Variable ty x)
+variable_targets : (t : Typed) (i : Instance) (alive : Variable → Type 0) (n set : ℕ) (ty : ValueType) (x : Variable) → IsOfFileOrBlock x → alive x → ty.shape ≡ Some set → HasVariable t i n x (plain ty) → Targets t i alive set (T.Variable ty x)
 unfolding own_of located variable_target
 variable_targets t i alive n set ty x read living is v = record {
   x = x;
@@ -174,7 +173,7 @@ variable_targets t i alive n set ty x read living is v = record {
     by false false e = cc
 
 pub targets : (t : Typed) (i : Instance) (alive : Variable → Type 0) (n set : ℕ) (target : TExpr) → IsTarget set target → NamesVariables t i n target → NamesAmong alive target → Targets t i alive set target
-unfolding IsTarget own_of NamesVariables NamesAmong located IsRead
+unfolding IsTarget own_of NamesVariables NamesAmong located IsOfFileOrBlock
 targets t i alive n set (T.Variable ty (V.File k)) is v living = variable_targets t i alive n set ty (V.File k) tt living is v
 targets t i alive n set (T.Variable ty (V.Local k)) is v living = variable_targets t i alive n set ty (V.Local k) tt living is v
 targets t i alive n set (T.Brackets' ty p inner) is v living =

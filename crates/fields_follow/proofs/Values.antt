@@ -37,15 +37,16 @@ use Rattle.code_follows.specs.Fragment.{NamesAmong}
 use Rattle.code_follows.proofs.Following.{Follows, HasRegisters, Sim, follows_same, held}
 use Rattle.code_follows.proofs.Growing.{Extended, and_instr, as_it_was}
 use Rattle.code_follows.proofs.Settings.{Setting, Within, and_one, layout, start}
-use Rattle.fields_follow.specs.Fragment.{IsPure}
+use Rattle.fields_follow.specs.Fragment.{IsOfFileOrBlock, IsPure}
 use Rattle.fields_follow.specs.Fields.{IsElement, file_number}
-use Rattle.fields_follow.proofs.Forms.{HasItsCode, IsRead, StandsInVariable, field_is, pure_not_held, pure_own, whole_element}
+use Rattle.fields_follow.proofs.Forms.{HasItsCode, StandsInVariable, field_is, pure_not_held, pure_own, whole_element}
+use Rattle.fields_follow.proofs.Hops.{HasEverywhere, somewhere, variable_everywhere}
 use Rattle.fields_follow.proofs.Instructions.{HasNumbers, extents, puts_extended, shapes}
 use Rattle.fields_follow.proofs.Lengths.{held_has}
 use Rattle.fields_follow.proofs.Locals.{IsLocalField, local_is}
 use Rattle.fields_follow.proofs.Meaning.{as_shaped, read_is, value_in, word_at}
 use Rattle.fields_follow.proofs.Outcomes.{Given, given_follows, meant}
-use Rattle.fields_follow.proofs.Passing.{After, Behind, GivesField, HasOneBit, after_same, fields_longer, gives_first, gives_from, in_variable_has, made_after, names_second, next_own, passes_all, passes_from, puts_own}
+use Rattle.fields_follow.proofs.Passing.{After, Behind, GivesField, HasOneBit, after_same, fields_longer, gives_first, gives_from, made_after, names_second, next_own, passes_all, passes_from, puts_own}
 use Rattle.fields_follow.proofs.Places.{HoldsTheFields, IsFileField, IsOwnField, PlacesFields, entry_is, stands_here}
 use Rattle.fields_follow.proofs.Totals.{held_below}
 use Rattle.fields_follow.proofs.Starts.{no_home, starts_entry, starts_wider, Starts}
@@ -151,8 +152,8 @@ module _ (g : Setting) where
         })
 
     -- so those are that expressions read
-    pub finds_read : (set : ℕ) (x : Variable) (info : VarInfo) (d : Draft) → IsRead x → alive x → variable_named g.typed g.instance x ≡ Some info → info.shape ≡ Some set → info.array ≡ None → (s : CodeState) (st : State) → Sim g alive st s → FindsOrFails set x info d
-    unfolding IsRead
+    pub finds_read : (set : ℕ) (x : Variable) (info : VarInfo) (d : Draft) → IsOfFileOrBlock x → alive x → variable_named g.typed g.instance x ≡ Some info → info.shape ≡ Some set → info.array ≡ None → (s : CodeState) (st : State) → Sim g alive st s → FindsOrFails set x info d
+    unfolding IsOfFileOrBlock
     finds_read set (V.File k) info d read living known shaped one s st sim = inr (file_finds set k info d (whole_element g.typed g.instance k set info known shaped one))
     finds_read set (V.Local k) info d read living known shaped one s st sim =
         let there = local_held g alive fields k info set living known shaped st s sim in
@@ -226,14 +227,8 @@ module _ (g : Setting) where
     pub variable_has : (set : ℕ) (x : Variable) (info : VarInfo) (f : Field) (s : CodeState) (st : State) → Carries g alive x info set f → (later : ℕ) → IsNamedAt g.unit f.offset later → s.at ≤ start g + later → Sim g alive st s
         → HasNumbers g info.elem.bits set f s (λ q. held info.elem (st.parallel x 0 q)) × ((q : ℕ) → q < processors (shapes g) set → has_number info.elem (held info.elem (st.parallel x 0 q)) ≡ true)
     variable_has set x info f s st carries later named behind sim = (
-      in_variable_has g alive places fields info.elem.bits set f st (λ q. held info.elem (st.parallel x 0 q)) s (record {
-        x = x;
-        info = info;
-        carries = subst (λ (n : ℕ). Carries g alive x info set (record f { len = n })) carries.len carries;
-        len = carries.len;
-        fits = subst (λ (n : ℕ). n ≤ info.elem.bits) (sym carries.len) (omega arith);
-        same = λ q below. (refl, held_below info.elem (st.parallel x 0 q));
-      }) sim later named behind,
+      somewhere g info.elem.bits set f s (λ q. held info.elem (st.parallel x 0 q))
+          (subst (λ (n : ℕ). HasEverywhere g info.elem.bits set (record f { len = n }) s (λ q. held info.elem (st.parallel x 0 q))) (sym carries.len) (variable_everywhere g places fields alive info.elem.bits set x info f s st carries (omega arith) later named behind sim)),
       λ q below. held_has info.elem (st.parallel x 0 q) (carries.small st s sim q),
     )
 
@@ -271,7 +266,7 @@ module _ (g : Setting) where
           ),
         )))
 
-    pub variable_after : (bits set : ℕ) (x : Variable) (ty : ValueType) → bits ≤ 32 → IsRead x → ty.shape ≡ Some set → HasItsCode g.typed g.instance alive n (T.Variable ty x) → Valued bits set (T.Variable ty x) (λ d. code_of bits (T.Variable ty x) d)
+    pub variable_after : (bits set : ℕ) (x : Variable) (ty : ValueType) → bits ≤ 32 → IsOfFileOrBlock x → ty.shape ≡ Some set → HasItsCode g.typed g.instance alive n (T.Variable ty x) → Valued bits set (T.Variable ty x) (λ d. code_of bits (T.Variable ty x) d)
     unfolding value_of read_by read_to fresh_for an_entry then_make variable_spot loaded in_field value_in evaluated NamesVariables NamesAmong
     variable_after bits set x ty most read shaped c d s st here sim =
         let v : HasVariable g.typed g.instance n x (plain ty) = c.code.names in

@@ -1,5 +1,5 @@
 -- The field in which a parallel variable stands, as code that names it relies on it.
-use Rattle.std.proofs.Common.{refl, ◌≡◌, ◌∙◌, ℕ, ◌+◌, ◌<◌, ◌≤◌, ◌^◌, length, Some, sym, ap, subst}
+use Rattle.std.proofs.Common.{refl, ◌≡◌, ◌∙◌, ℕ, ◌+◌, ◌<◌, ◌≤◌, ◌^◌, length, None, Some, sym, ap, subst}
 use Rattle.cstar_tree.specs.declared.typed.VarInfo.{VarInfo}
 use Rattle.cstar_tree.specs.declared.typed.Variable.{Variable}
 use Rattle.cstar_tree.specs.declared.typed.Variable.TheVariants as V
@@ -14,6 +14,8 @@ use Rattle.code_follows.proofs.Following.{Sim}
 use Rattle.code_follows.proofs.Settings.{OpenAmong, Setting, start}
 use Rattle.code_follows.proofs.Standing.{some_same}
 use Rattle.fields_follow.specs.Fields.{IsElement}
+use Rattle.fields_follow.specs.Fragment.{IsOfFileOrBlock}
+use Rattle.fields_follow.proofs.Forms.{whole_element}
 use Rattle.fields_follow.proofs.Instructions.{number_in, place, shapes}
 use Rattle.fields_follow.proofs.Locals.{HoldsLocal, IsLocalField, same_local, used_up_to}
 use Rattle.fields_follow.proofs.Places.{HoldsTheFields, IsFileField, PlacesFields, of_file}
@@ -85,7 +87,16 @@ module _ (g : Setting) (alive : Variable → Type 0) where
         holds = subst (λ (i : VarInfo). HoldsLocal g k i f t.at st t.memory) same holds;
       }
 
-  -- so that entry carries it
+  -- A parallel variable of the file, or of a block that is alive, is of a set of the image, and has numbers of its type.
+  pub variable_fits : PlacesFields g → HoldsTheFields g → (set : ℕ) (x : Variable) (info : VarInfo) → IsOfFileOrBlock x → alive x → variable_named g.typed g.instance x ≡ Some info → info.shape ≡ Some set → info.array ≡ None → (st : State) (t : CodeState) → Sim g alive st t → (set < length (shapes g)) × ((p : ℕ) → st.parallel x 0 p < 2 ^ info.elem.bits)
+  unfolding IsOfFileOrBlock
+  variable_fits places fields set (V.File k) info read living known shaped one st t sim =
+      let is = whole_element g.typed g.instance k set info known shaped one in (places.exists k 0 set info is, λ p. (fields.opens (OpenAmong g alive) t.at st t.memory sim.memory).small k 0 set p info is)
+  variable_fits places fields set (V.Local k) info read living known shaped one st t sim =
+      let there = local_held fields k info set living known shaped st t sim in (subst (λ (n : ℕ). n < length (shapes g)) there.of_set there.holds.exists, there.holds.small)
+  variable_fits places fields set _ info read living known shaped one st t sim = absurd read
+
+  -- the entry of one of a block carries it
   pub local_carries : HoldsTheFields g → (k : ℕ) (info : VarInfo) (f : Field) → alive (V.Local k) → IsLocalField g k info f → (st : State) (s : CodeState) → Sim g alive st s → Carries (V.Local k) info f.set f
   unfolding IsEntryFor
   local_carries fields k info f living is st s sim = record {

@@ -1,18 +1,18 @@
 -- The programs with parallel variables of which it is said so far that their code means them. Their parallel
--- expressions are pure ones, of variables of the file and of blocks of all types, gets of the file's ones from
--- neighbours, round the ends of the grid or not, and, of any shape, by indexes that are such expressions, also with
--- `.`, or promoted scalars, own coordinates, truth values of such expressions, and promoted scalars, which are computed
--- by operators, conversions, casts and `?:`, and change nothing; they fail where a divisor is 0 at an active position,
--- or that of a scalar is, or where an index does not lie within its extent at one, and nowhere else. The condition of
--- `?:` may be parallel too: each of the other operands then fails only where it is chosen, as the right one of `&&` and
--- `||` does where the left one does not decide, which may be a scalar. They are assigned to variables of the file and
--- of blocks, and folded into numbers and onto scalar variables, as scans of them and of ones with operators on these
--- are, and they are the conditions of `where`. Folds and scans are of the active positions. They are sent, as those
--- scans are, to variables of the file, of any shape, by such indexes, also with an operator that folds. Scalars that
--- change variables, by assignments, steps and `getchar`, are assigned as parallel expressions are, also with operators.
--- Scalar expressions read single positions of variables of the file, by any scalar indexes, and scalars are stored
--- there. Parallel variables of blocks have no initialisers. Under `where` and `everywhere` stand the statements of
--- scalar programs with these, also calls, `return` and jumps that lead out of them.
+-- expressions are pure ones, of variables of the file and of blocks of all types, gets of these from neighbours, round the
+-- ends of the grid or not, and, of any shape, by indexes that are such expressions, also with `.`, or promoted scalars,
+-- own coordinates, truth values of such expressions, and promoted scalars, which are computed by operators, conversions,
+-- casts and `?:`, and change nothing; they fail where a divisor is 0 at an active position, or that of a scalar is, or
+-- where an index does not lie within its extent at one, and nowhere else. The condition of `?:` may be parallel too: each
+-- of the other operands then fails only where it is chosen, as the right one of `&&` and `||` does where the left one does
+-- not decide, which may be a scalar. They are assigned to variables of the file and of blocks, and folded into numbers and
+-- onto scalar variables, as scans of them and of ones with operators on these are, and they are the conditions of
+-- `where`. Folds and scans are of the active positions. They are sent, as those scans are, to variables of the file, of
+-- any shape, by such indexes, also with an operator that folds. Scalars that change variables, by assignments, steps and
+-- `getchar`, are assigned as parallel expressions are, also with operators. Scalar expressions read single positions of
+-- variables of the file, by any scalar indexes, and scalars are stored there. Parallel variables of blocks have no
+-- initialisers. Under `where` and `everywhere` stand the statements of scalar programs with these, also calls, `return`
+-- and jumps that lead out of them.
 use Rattle.std.specs.Prelude.{ℕ, ◌≡◌, ◌<◌, ◌≤◌, ◌+◌, ◌^◌, ◌⊎◌, ◌==◌, true, false, Option, Some, None}
 use Rattle.cstar_base.specs.declared.elem.Elem.{Elem}
 use Rattle.cstar_base.specs.declared.operators.Combiner.TheVariants as C
@@ -49,6 +49,12 @@ IsWide set ty = (ty.shape ≡ Some set) × (ty.elem.bits ≡ 32)
 -- a constant
 abbrev pub IsConstant : TExpr → Type 0
 IsConstant e = (word : ℕ) × (constant_of e ≡ Some word) × (word < 2 ^ (type_of e).elem.bits)
+
+-- a variable of the file or of a block
+unfoldable pub IsOfFileOrBlock : Variable → Type 0
+IsOfFileOrBlock (V.File k) = Unit {0}
+IsOfFileOrBlock (V.Local k) = Unit {0}
+IsOfFileOrBlock _ = ⊥
 
 -- anything but a promoted constant 0
 unfoldable pub IsDivisor : TExpr → Type 0
@@ -185,7 +191,7 @@ unfoldable mutual
   IsPure set (T.ParallelCast' ty p operand) = (ty.shape ≡ Some set) × (((ty.elem.bits == 1) ≡ false) ⊎ ((ty.elem.bits ≡ 1) × HasKnownKind operand)) × IsPure set operand
   IsPure set (T.Pcoord ty axis) = IsWide set ty
   IsPure set (T.Dot ty axis) = IsWide set ty
-  IsPure set (T.LeftIndex' ty place p indexes (V.File k) of) = (ty.shape ≡ Some set) × (((of ≡ set) × AreSteps set 0 indexes) ⊎ ((all_go_by_news of 0 (items-the_row-TExpr _ indexes) ≡ false) × AreIndexes set indexes × HasPure set indexes))
+  IsPure set (T.LeftIndex' ty place p indexes x of) = (ty.shape ≡ Some set) × IsOfFileOrBlock x × (((of ≡ set) × AreSteps set 0 indexes) ⊎ ((all_go_by_news of 0 (items-the_row-TExpr _ indexes) ≡ false) × AreIndexes set indexes × HasPure set indexes))
   IsPure set _ = ⊥
 
   -- indexes of the current shape, some of which may be promoted scalars, but not all
