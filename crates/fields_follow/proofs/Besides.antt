@@ -27,7 +27,7 @@ use Rattle.code_follows.proofs.Growing.{extended}
 use Rattle.code_follows.proofs.Parts.{BesideFollows}
 use Rattle.code_follows.proofs.Settings.{At, Begun, Setting, Within, layout, onto}
 use Rattle.code_follows.proofs.Values.{Dest, Does}
-use Rattle.fields_follow.specs.Fragment.{IsFold, IsOfFile, IsParallelEffect}
+use Rattle.fields_follow.specs.Fragment.{IsFold, IsParallelEffect}
 use Rattle.fields_follow.proofs.Updating.{updates_leave}
 use Rattle.fields_follow.proofs.Contexts.{where_follows}
 use Rattle.fields_follow.proofs.Widening.{widening_follows}
@@ -122,14 +122,13 @@ module _ (g : Setting) (scope : Scope) (active : Active) (known : KnowsFields g 
             subst (λ (v : Value). R v u out f) (sym number) (subst (λ (t : State). R (Scalar w) t out f) (sym same) (subst (λ (o : Out). R (Scalar w) st o f) (sym place)
             (number_to g alive has (type_of e).elem d s st R r w f (fold_type e is) dest (number_again r w f within given) within)))
 
--- a read of one position of a variable of the file
-read_follows : (g : Setting) (scope : Scope) (active : Active) → KnowsFields g scope active → (has : HasRegisters g) (alive : Variable → Type 0) (n : ℕ) (ty : ValueType) (place : Place) (p : _) (indexes : Row_of-TExpr _) (x : Variable) (of : ℕ)
+-- a read of one position of a parallel variable
+read_follows : (g : Setting) (scope : Scope) (active : Active) → KnowsFields g scope active → (has : HasRegisters g) (alive : Variable → Type 0) (n : ℕ) → ((d : Draft) → IsReadyButForFields g.typed g.instance (layout g) n d) → (ty : ValueType) (place : Place) (p : _) (indexes : Row_of-TExpr _) (x : Variable) (of : ℕ)
     → IsIn (naming g.may alive) (T.LeftIndex' ty place p indexes x of) → HasCode g.typed g.instance n (T.LeftIndex' ty place p indexes x of) → AreDone g has alive scope active false (are_quiet indexes) indexes
     → (d : Draft) (s : CodeState) (st : State) (R : Value → State → Out → Draft → Type 0) (r : ℕ) → Begun g alive d → At g s (length d.code) → Sim g alive st s → Dest g has alive ty.elem d s R r
     → Follows g R s (evaluated scope (T.LeftIndex' ty place p indexes x of) active st) (computed_to g.typed (layout g) (O.Scalar r) (T.LeftIndex' ty place p indexes x of) d)
-unfolding IsIn IsOfFile
-read_follows g scope active known has alive n ty place p indexes (V.File k) of is c done d s st R r free here sim dest = reads_follow g has alive scope active known n ty place p indexes k of is.0 is.3 c done d s st R r free here sim dest
-read_follows g scope active known has alive n ty place p indexes x of is c done d s st R r free here sim dest = absurd (known.positions x is.1)
+unfolding IsIn
+read_follows g scope active known has alive n ready ty place p indexes x of is c done d s st R r free here_at sim dest = reads_follow g has alive scope active known n ready ty place p indexes x of is.0 (known.positions x is.1) is.2 is.3 c done d s st R r free here_at sim dest
 
 -- a store at one
 store_follows : (g : Setting) (scope : Scope) (active : Active) → KnowsFields g scope active → (has : HasRegisters g) (alive : Variable → Type 0) → ((k : ℕ) → alive (V.File k)) → (n : ℕ) → ((d : Draft) → IsReadyButForFields g.typed g.instance (layout g) n d)
@@ -137,10 +136,9 @@ store_follows : (g : Setting) (scope : Scope) (active : Active) → KnowsFields 
     → AreDone g has alive scope active false (are_quiet indexes) indexes → (type_of value).shape ≡ None → Takes ty.elem (type_of value).elem → HasCode g.typed g.instance n value → ((bits : ℕ) → Does g has alive (type_of value).elem false (λ st. evaluated scope value active st) (λ d. value_of g.typed (layout g) bits value d))
     → (d : Draft) (s : CodeState) (st : State) → Begun g alive d → At g s (length d.code) → Sim g alive st s
     → Follows g (λ v u out f. Ran g alive d s u f) s (evaluated scope (T.Assign' ty sending A.Set p (T.LeftIndex' ty place r indexes x of) q value) active st) (effect_of g.typed (layout g) (T.Assign' ty sending A.Set p (T.LeftIndex' ty place r indexes x of) q value) d)
-unfolding IsIn IsOfFile
-store_follows g scope active known has alive files n ready ty place sending p q r indexes (V.File k) of value is c done scalar takes own does d s st free here sim =
-    stores_follow g has alive scope active known files n ready ty place sending p q r indexes k of value is.0 is.3 c done scalar takes own does d s st free here sim
-store_follows g scope active known has alive files n ready ty place sending p q r indexes x of value is c done scalar takes own does d s st free here sim = absurd (known.positions x is.1)
+unfolding IsIn
+store_follows g scope active known has alive files n ready ty place sending p q r indexes x of value is c done scalar takes own does d s st free here_at sim =
+    stores_follow g has alive scope active known files n ready ty place sending p q r indexes x of value is.0 (known.positions x is.1) is.2 is.3 c done scalar takes own does d s st free here_at sim
 
 -- every effect, every fold and every context of it follows
 pub besides : (g : Setting) (scope : Scope) (active : Active) → KnowsFields g scope active → (has : HasRegisters g) → BesideFollows KnowsFields g has scope active
@@ -148,7 +146,7 @@ besides g scope active known has = record {
   expressions = record {
     effects = λ alive files n ready e h among c d s st free here sim. effect_follows g scope active known has alive n ready e (record { code = c; among = among }) d s st free here files sim (known.effects e h);
     folds = λ alive files n ready e h among c d s st R r free here sim dest. fold_follows g scope active known has alive n ready e (record { code = c; among = among }) d s st free here files sim (known.folds e h) R r dest;
-    reads = λ alive files n ready ty place p indexes x of is c done d s st R r free here sim dest. read_follows g scope active known has alive n ty place p indexes x of is c done d s st R r free here sim dest;
+    reads = λ alive files n ready ty place p indexes x of is c done d s st R r free here sim dest. read_follows g scope active known has alive n ready ty place p indexes x of is c done d s st R r free here sim dest;
     stores = λ alive files n ready ty place sending p q r indexes x of value is c done scalar takes own does d s st free here sim. store_follows g scope active known has alive files n ready ty place sending p q r indexes x of value is c done scalar takes own does d s st free here sim;
   };
   locals = locals_clear g scope active known;

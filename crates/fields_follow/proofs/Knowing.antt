@@ -16,7 +16,7 @@ use Rattle.source_meaning.specs.Values.{Active, Scope}
 use Rattle.code_follows.proofs.Besides.{sim_saying, under_held}
 use Rattle.code_follows.proofs.Following.{Finishes, IsKept, Sim}
 use Rattle.code_follows.proofs.Settings.{OpenAmong, Held, SameBelow, Setting, Within}
-use Rattle.fields_follow.specs.Fragment.{IsCondition, IsParallelVariable, IsFold, IsOfFile, IsParallelEffect}
+use Rattle.fields_follow.specs.Fragment.{IsCondition, IsParallelVariable, IsFold, IsOfFileOrBlock, IsParallelEffect}
 use Rattle.fields_follow.proofs.Fields.{HoldsNumbers, fields_held}
 use Rattle.fields_follow.proofs.Instructions.{SameExtents, place, shapes}
 use Rattle.fields_follow.proofs.Leaving.{EndsBelow, under}
@@ -108,7 +108,7 @@ pub record KnowsFields (g : Setting) (scope : Scope) (a : Active) : Type 1 where
   pub same_extents : SameExtents g scope
   pub effects : (e : TExpr) → g.may.beside.effects e → IsParallelEffect e
   pub folds : (e : TExpr) → g.may.beside.folds e → IsFold e
-  pub positions : (x : Variable) → g.may.beside.positions x → IsOfFile x
+  pub positions : (x : Variable) → g.may.beside.positions x → IsOfFileOrBlock x
   pub conditions : (set : ℕ) (e : TExpr) → g.may.beside.conditions set e → IsCondition set e
   pub locals : (info : VarInfo) → g.may.beside.locals info → IsParallelVariable info
   pub kept : Keeping

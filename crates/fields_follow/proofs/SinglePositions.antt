@@ -1,14 +1,14 @@
--- A single position of a variable of the file, which scalar indexes name: the code finds it, or both end as an index does
+-- A single position of a parallel variable, which scalar indexes name: the code finds it, or both end as an index does
 -- not lie within its extent; it stands in a register, and what the variable has there is read.
 use denote.Hole.Carrier
-use Rattle.std.proofs.Common.{◌≡◌, ◌∙◌, ℕ, suc, ◌+◌, ◌*◌, ◌<◌, ◌^◌, ◌&&◌, Bool, true, false, not, List, [], ◌∷◌, length, map, slice_get, slice_index, Option, Some, None, refl, sym, ap, subst, arith, if◌then◌else◌, Vec, Global}
+use Rattle.std.proofs.Common.{◌≡◌, ◌∙◌, ℕ, suc, ◌+◌, ◌*◌, ◌<◌, ◌^◌, ◌&&◌, Bool, true, false, not, List, [], ◌∷◌, length, map, slice_get, slice_index, Option, Some, None, ◌⊎◌, inl, inr, refl, sym, ap, subst, arith, if◌then◌else◌, Vec, Global}
 use Rattle.std.specs.Prelude.{IfSome, is_none, is_some, nat_lt}
 use Rattle.cstar_base.specs.declared.elem.Elem.{Elem}
 use Rattle.cstar_base.specs.declared.faults.RunFault.TheVariants.{Index}
 use Rattle.cstar_base.specs.declared.operators.Place.{Place}
 use Rattle.cstar_base.specs.Numbers.{converted}
 use Rattle.code_lengths.specs.Naming.{HasAxes, HasVariable, NamesVariables, plain}
-use Rattle.code_lengths.specs.Ready.{HasCode}
+use Rattle.code_lengths.specs.Ready.{HasCode, IsReadyButForFields}
 use Rattle.communication_laws.specs.KnownPositions.{HaveTheirWords}
 use Rattle.communication_laws.specs.OnePosition.{RegistersHaveIndexes, failing_nowhere, registers_with_signs}
 use Rattle.communication_laws.proofs.Indexes.{indexes_within_name_positions}
@@ -20,7 +20,6 @@ use Rattle.cstar_tree.specs.declared.typed.TExpr as T
 use Rattle.cstar_tree.specs.declared.typed.ValueType.{ValueType}
 use Rattle.cstar_tree.specs.declared.typed.VarInfo.{VarInfo}
 use Rattle.cstar_tree.specs.declared.typed.Variable.{Variable}
-use Rattle.cstar_tree.specs.declared.typed.Variable.TheVariants as V
 use Rattle.cstar_tree.specs.Conversions.{parallel}
 use Rattle.cstar_tree.specs.StatementTypes.{variable_info}
 use Rattle.cstar_tree.specs.Typed.{type_of}
@@ -28,6 +27,7 @@ use Rattle.lower_base.specs.declared.emit.Out.{Out}
 use Rattle.lower_base.specs.declared.emit.Out.TheVariants as O
 use Rattle.lower_base.specs.Constants.{constant_register, word_in}
 use Rattle.lower_base.specs.Drafts.{Draft, Fails, FrontChecksTarget, FrontMakesAddress, Made, Makes, Step, a_register, an_entry, fresh_for, in_register, step as step_of, then_make, with_instr, with_step}
+use Rattle.lower_base.specs.Layouts.{field_of}
 use Rattle.lower_base.specs.Operators.{is_signed}
 use Rattle.lower_comm.specs.Messages.{all_in_registers, communicated, front_located, index_register, located as located_code, located_at, read_at, signed_registers}
 use Rattle.lower_comm.specs.News.{all_go_by_news, goes_by_news}
@@ -71,20 +71,18 @@ use Rattle.code_follows.proofs.Settings.{OpenAmong, At, Begun, Reaches, Setting,
 use Rattle.code_follows.proofs.Standing.{some_same}
 use Rattle.code_follows.proofs.Values.{Dest, and_register, constant_follows, put_by, value_stands, with_reg}
 use Rattle.code_follows.proofs.Words.{constant_below, held_wide}
-use Rattle.fields_follow.specs.Fields.{IsElement}
+use Rattle.fields_follow.specs.Fragment.{IsOfFileOrBlock}
 use Rattle.fields_follow.proofs.Extents.{extents_in, own_extents}
-use Rattle.fields_follow.proofs.Fields.{HoldsFields}
-use Rattle.fields_follow.proofs.Forms.{element_is, field_is}
 use Rattle.fields_follow.proofs.Instructions.{extents, place as place_of, shapes}
-use Rattle.fields_follow.proofs.Knowing.{KnowsFields}
-use Rattle.fields_follow.proofs.Leaving.{places_under, under, within_under}
+use Rattle.fields_follow.proofs.Knowing.{KnowsFields, sim_open}
+use Rattle.fields_follow.proofs.Leaving.{fields_under, places_under, registers_under, under, within_under}
 use Rattle.fields_follow.proofs.Listed.{begins_there, front_check_stands, front_make_stands}
 use Rattle.fields_follow.proofs.Locating.{and_step}
 use Rattle.fields_follow.proofs.Meaning.{then_ordered}
-use Rattle.fields_follow.proofs.News.{for_variable, owner_of}
 use Rattle.fields_follow.proofs.Outcomes.{ended_follows}
-use Rattle.fields_follow.proofs.Places.{IsFileField}
-use Rattle.fields_follow.proofs.Values.{and_entry, next_field, taken}
+use Rattle.fields_follow.proofs.Places.{names_first, stands_here as stands_in}
+use Rattle.fields_follow.proofs.Values.{Finds, finds_read}
+use Rattle.fields_follow.proofs.Variables.{Carries, variable_fits}
 
 -- ---- indexes in registers
 
@@ -171,9 +169,9 @@ module _ (g : Setting) (has : HasRegisters g) (alive : Variable → Type 0) (sco
   -- ---- the position
 
   -- It is named, and stands in a register behind the code.
-  pub record Found (of k : ℕ) (d : Draft) (s : CodeState) (there : Target) (u : State) (q : ℕ) (f : Draft) : Type 0 where
+  pub record Found (of : ℕ) (x : Variable) (d : Draft) (s : CodeState) (there : Target) (u : State) (q : ℕ) (f : Draft) : Type 0 where
     pub position : ℕ
-    pub is : there ≡ OfPosition (V.File k) position
+    pub is : there ≡ OfPosition x position
     pub below : position < processors (shapes g) of
     pub arrives : Arrives g alive int_type false d s (Scalar position) u (O.Scalar q) f
 
@@ -189,14 +187,14 @@ module _ (g : Setting) (has : HasRegisters g) (alive : Variable → Type 0) (sco
 
   module _ (known : KnowsFields g scope active) where
     -- what the indexes name
-    abbrev named : Place → ℕ → ℕ → List Operand → State → Outcome Target
-    named place of k given u = indexed_target scope active None place (V.File k) of given u
+    abbrev named : Place → ℕ → Variable → List Operand → State → Outcome Target
+    named place of x given u = indexed_target scope active None place x of given u
 
-    named_so : (place : Place) (of k : ℕ) (given : List Operand) (u : State) (o : Option (Option ℕ)) → failing scope active None (λ p. not (are_within (scope.extents of) given p)) ≡ o → named place of k given u ≡ unless o Index place u (Gives (OfPosition (V.File k) (named_by (scope.extents of) given 0)) u)
+    named_so : (place : Place) (of : ℕ) (x : Variable) (given : List Operand) (u : State) (o : Option (Option ℕ)) → failing scope active None (λ p. not (are_within (scope.extents of) given p)) ≡ o → named place of x given u ≡ unless o Index place u (Gives (OfPosition x (named_by (scope.extents of) given 0)) u)
     unfolding indexed_target position_target
-    named_so place of k given u o is = ap (λ (x : Option (Option ℕ)). unless x Index place u (Gives (OfPosition (V.File k) (named_by (scope.extents of) given 0)) u)) is
+    named_so place of x given u o is = ap (λ (y : Option (Option ℕ)). unless y Index place u (Gives (OfPosition x (named_by (scope.extents of) given 0)) u)) is
 
-    module _ (place : Place) (of k : ℕ) (items : List TExpr) (quiet : Bool) (d between : Draft) (n : ℕ) (s t : CodeState) (u : State) (given : List Operand) (outs : List Out) (exists : of < length (shapes g)) (many : length items ≡ length (extents g of).own) (elems : map (λ (o : Operand). o.elem) given ≡ map (λ (e : TExpr). (type_of e).elem) items)
+    module _ (place : Place) (of : ℕ) (x : Variable) (items : List TExpr) (quiet : Bool) (d between : Draft) (n : ℕ) (s t : CodeState) (u : State) (given : List Operand) (outs : List Out) (exists : of < length (shapes g)) (many : length items ≡ length (extents g of).own) (elems : map (λ (o : Operand). o.elem) given ≡ map (λ (e : TExpr). (type_of e).elem) items)
         (free : Begun g alive d) (grown : Extended (with_reg d) n between) (go : Reaches g s t) (here : At g t (length between.code)) (sim : Sim g alive u t) (keeps : Keeps g (with_reg d) s t) (are_held : AreHeld g has alive scope active quiet given outs between u t) where
       held_so : (all_in_registers outs ≡ true) × RegistersHaveIndexes t.registers (map index_register outs) given
       held_so = held_indexes quiet given outs between u t sim are_held
@@ -217,7 +215,7 @@ module _ (g : Setting) (has : HasRegisters g) (alive : Variable → Type 0) (sco
       made = with_step making (with_step checking between)
 
       abbrev o : Outcome Target
-      o = named place of k given u
+      o = named place of x given u
 
       abbrev position : ℕ
       position = named_by (scope.extents of) given 0
@@ -234,7 +232,7 @@ module _ (g : Setting) (has : HasRegisters g) (alive : Variable → Type 0) (sco
       fails : failing scope active None (λ p. not (are_within (scope.extents of) given p)) ≡ failing_nowhere outside
       fails = scalar_checks scope active of t.registers registers given as_many held_so.1
 
-      located_within : Within g made → Follows g (Found of k d s) s o (Makes d.regs made)
+      located_within : Within g made → Follows g (Found of x d s) s o (Makes d.regs made)
       unfolding begun with_instr step_of with_step Follows unless
       located_within within = by outside refl
         where
@@ -251,7 +249,7 @@ module _ (g : Setting) (has : HasRegisters g) (alive : Variable → Type 0) (sco
           same_checked = ap (λ (cs : List RegisterCoordinate). with_step (FrontChecksTarget of place cs) between) check_there.1.0
 
           make_there : (list : Vec ℕ Global) × ((list.items ≡ registers) × (slice_get g.image.code.items (start g + length checked_draft.code) ≡ Some (I.FrontMakeAddress d.regs of list)))
-          make_there = front_make_stands g (length checked_draft.code) d.regs of registers (next_stands g making checked_draft (subst (λ (x : Draft). Within g (with_step making x)) (sym same_checked) within))
+          make_there = front_make_stands g (length checked_draft.code) d.regs of registers (next_stands g making checked_draft (subst (λ (y : Draft). Within g (with_step making y)) (sym same_checked) within))
 
           make : Instr
           make = I.FrontMakeAddress d.regs of make_there.0
@@ -268,12 +266,12 @@ module _ (g : Setting) (has : HasRegisters g) (alive : Variable → Type 0) (sco
               ∙ ap (λ (cs : List RegisterCoordinate). checked (any_register_outside (extents g of).own cs t.registers) Index place t) (check_there.1.0 ∙ item_signs items registers ∙ ap (λ (es : List Elem). signs_of es registers) (sym elems) ∙ sym (given_signs given registers))
               ∙ ap (λ (xs : List ℕ). checked (any_register_outside xs (registers_with_signs given registers) t.registers) Index place t) (sym same_extents)
 
-          by : (b : Bool) → outside ≡ b → Follows g (Found of k d s) s o (Makes d.regs made)
+          by : (b : Bool) → outside ≡ b → Follows g (Found of x d s) s o (Makes d.regs made)
           by true is =
-              ended_follows g (Found of k d s) s o (Makes d.regs made) (record {
+              ended_follows g (Found of x d s) s o (Makes d.regs made) (record {
                 early = Source.Fault Index place None;
                 state = u;
-                is = named_so place of k given u (Some None) (fails ∙ ap failing_nowhere is);
+                is = named_so place of x given u (Some None) (fails ∙ ap failing_nowhere is);
                 finishes = finishes_later g (Source.Fault Index place None) u s t go (record {
                   t = Machine.onward t;
                   ends = ends_now g t (Machine.onward t) (Machine.Fault Index place None) (stepped ∙ ap (λ (b : Bool). checked b Index place t) is);
@@ -284,7 +282,7 @@ module _ (g : Setting) (has : HasRegisters g) (alive : Variable → Type 0) (sco
                 });
               })
           by false is =
-              subst (λ (x : Outcome Target). Follows g (Found of k d s) s x (Makes d.regs made)) (sym (named_so place of k given u None never)) (λ whole. subst (λ (f : Draft). Found of k d s (OfPosition (V.File k) position) u d.regs f) same_made found)
+              subst (λ (y : Outcome Target). Follows g (Found of x d s) s y (Makes d.regs made)) (sym (named_so place of x given u None never)) (λ whole. subst (λ (f : Draft). Found of x d s (OfPosition x position) u d.regs f) same_made found)
             where
               never : failing scope active None (λ p. not (are_within (scope.extents of) given p)) ≡ None
               never = fails ∙ ap failing_nowhere is
@@ -326,9 +324,9 @@ module _ (g : Setting) (has : HasRegisters g) (alive : Variable → Type 0) (sco
               last_regs = refl
 
               inside_unit : Within g last
-              inside_unit = subst (λ (x : Draft). Within g x) (sym same_made) within
+              inside_unit = subst (λ (y : Draft). Within g y) (sym same_made) within
 
-              found : Found of k d s (OfPosition (V.File k) position) u d.regs last
+              found : Found of x d s (OfPosition x position) u d.regs last
               found = let taken = grown.regs in record {
                 position = position;
                 is = refl;
@@ -340,9 +338,9 @@ module _ (g : Setting) (has : HasRegisters g) (alive : Variable → Type 0) (sco
                     free.regs (omega (arith, taken)) few (register_is g t d.regs position (omega (arith, taken, inside_unit.regs, sim.registers)) ∙ sym (held_wide int_type position refl few));
               }
 
-      located_follows : Follows g (Found of k d s) s o (located_in place of items outs d.regs between)
+      located_follows : Follows g (Found of x d s) s o (located_in place of items outs d.regs between)
       unfolding front_located
-      located_follows = follows_same g (Found of k d s) s refl (ap (λ (b : Bool). if b then Makes d.regs made else Fails) held_so.0) (at_once g (Found of k d s) s o d.regs made (λ within. located_within within))
+      located_follows = follows_same g (Found of x d s) s refl (ap (λ (b : Bool). if b then Makes d.regs made else Fails) held_so.0) (at_once g (Found of x d s) s o d.regs made (λ within. located_within within))
 
     -- ---- indexes that are constants
 
@@ -389,31 +387,36 @@ module _ (g : Setting) (has : HasRegisters g) (alive : Variable → Type 0) (sco
 
     -- ---- all of it
 
-    module _ (n : ℕ) (ty : ValueType) (place : Place) (p : _) (indexes : Row_of-TExpr _) (k of : ℕ) (scalar : ty.shape ≡ None) (isin : AreIn (naming g.may alive) indexes) (c : HasCode g.typed g.instance n (T.LeftIndex' ty place p indexes (V.File k) of)) (done : AreDone g has alive scope active false (are_quiet indexes) indexes) where
+    module _ (n : ℕ) (ready : (d : Draft) → IsReadyButForFields g.typed g.instance (layout g) n d) (ty : ValueType) (place : Place) (p : _) (indexes : Row_of-TExpr _) (x : Variable) (of : ℕ) (scalar : ty.shape ≡ None) (read_so : IsOfFileOrBlock x) (living : alive x) (isin : AreIn (naming g.may alive) indexes) (c : HasCode g.typed g.instance n (T.LeftIndex' ty place p indexes x of)) (done : AreDone g has alive scope active false (are_quiet indexes) indexes) where
       abbrev items : List TExpr
       items = items-the_row-TExpr _ indexes
 
-      pub names : HasVariable g.typed g.instance n (V.File k) (plain (parallel ty.elem of)) × HasAxes g.typed of (length items)
+      pub names : HasVariable g.typed g.instance n x (plain (parallel ty.elem of)) × HasAxes g.typed of (length items)
       unfolding NamesVariables
       names = (c.names.0, c.names.2)
 
       abbrev pub info : VarInfo
       info = variable_info names.0.word (plain (parallel ty.elem of)) names.0.start
 
-      pub is : IsElement g.typed k info of 0
-      is = element_is g.typed g.instance n k of (parallel ty.elem of) refl names.0
+      -- what is known of the variable
+      fits : (s : CodeState) (st : State) → Sim g alive st s → (of < length (shapes g)) × ((q : ℕ) → st.parallel x 0 q < 2 ^ info.elem.bits)
+      fits s st sim = variable_fits (under g active) alive (places_under g active known.places) (fields_under g active scope known.same_extents) of x info read_so living names.0.named refl refl st s (sim_open g scope active known alive st s sim)
 
-      exists : of < length (shapes g)
-      exists = known.places.exists k 0 of info is
+      -- its code finds the field
+      abbrev pub Finds_it : Draft → Type 0
+      Finds_it d = Finds (under g active) (registers_under g active has) alive n ready (places_under g active known.places) (fields_under g active scope known.same_extents) of x info d
 
-      extents_are : extents_in g.typed of ≡ (extents g of).own
-      extents_are = (known.places.grids of exists).0
+      pub finds : (s : CodeState) (st : State) → Sim g alive st s → (d : Draft) → (field_of g.typed (layout g) x 0 d ≡ Fails) ⊎ Finds_it d
+      finds s st sim d = finds_read (under g active) (registers_under g active has) alive n ready (places_under g active known.places) (fields_under g active scope known.same_extents) of x info d read_so living names.0.named refl refl s st (sim_open g scope active known alive st s sim)
 
-      many : length items ≡ length (extents g of).own
-      many = names.1.2 ∙ ap length (sym (own_extents g.typed of names.1.0 names.1.1) ∙ extents_are)
+      extents_are : of < length (shapes g) → extents_in g.typed of ≡ (extents g of).own
+      extents_are exists = (known.places.grids of exists).0
+
+      many : of < length (shapes g) → length items ≡ length (extents g of).own
+      many exists = names.1.2 ∙ ap length (sym (own_extents g.typed of names.1.0 names.1.1) ∙ extents_are exists)
 
       abbrev pub single : TExpr
-      single = T.LeftIndex' ty place p indexes (V.File k) of
+      single = T.LeftIndex' ty place p indexes x of
 
       abbrev codes : List Out → Draft → Made (List Out)
       codes outs d = values_of g.typed (layout g) false (are_quiet indexes) indexes outs d
@@ -425,10 +428,10 @@ module _ (g : Setting) (has : HasRegisters g) (alive : Variable → Type 0) (sco
       unfolding located_code out-TExpr Carrier.out located_at then_make
       spot_behind parts r d = ap (λ (xs : List TExpr). then_make (located_at place of xs parts (O.Scalar r) d) (λ out after. Makes (S.Indexed out) after)) (items_shown-the_row-TExpr-0 p indexes) ∙ by (all_in_registers parts)
         where
-          x : Draft
-          x = front_located place of items (map index_register parts) r d
+          y : Draft
+          y = front_located place of items (map index_register parts) r d
 
-          by : (b : Bool) → then_make (if b then Makes (O.Scalar r) x else Fails) (λ out after. Makes (S.Indexed out) after) ≡ then_make (if b then Makes r x else Fails) indexed_at
+          by : (b : Bool) → then_make (if b then Makes (O.Scalar r) y else Fails) (λ out after. Makes (S.Indexed out) after) ≡ then_make (if b then Makes r y else Fails) indexed_at
           by true = refl
           by false = refl
 
@@ -449,8 +452,11 @@ module _ (g : Setting) (has : HasRegisters g) (alive : Variable → Type 0) (sco
           by None = each (codes [] (with_reg d))
 
       -- and behind it what reads there
+      abbrev reading_in : ℕ → ℕ → Field → Draft → Draft
+      reading_in q r source d = with_instr (I.ReadFromProcessor ty.elem.signed r q source) d
+
       abbrev read_in : ℕ → ℕ → Draft → Made Out
-      read_in q r d = Makes (O.Scalar r) (with_instr (I.ReadFromProcessor ty.elem.signed r q (next_field of info.elem.bits d)) (for_variable g of k info d))
+      read_in q r d = then_make (field_of g.typed (layout g) x 0 d) (λ source after. Makes (O.Scalar r) (reading_in q r source after))
 
       read_code : (r : ℕ) (d : Draft) → computed_to g.typed (layout g) (O.Scalar r) single d ≡ then_make (found_in place of indexes d) (λ q after. read_in q r after)
       unfolding computed_to index_read_to gone_to read_to goes_by_news out-TExpr Carrier.out then_make loaded bare communicated read_at in_register an_entry
@@ -465,17 +471,24 @@ module _ (g : Setting) (has : HasRegisters g) (alive : Variable → Type 0) (sco
           by_router : goes_by_news single ≡ false
           by_router = ap (λ (xs : List TExpr). is_some ty.shape && all_go_by_news of 0 xs) (items_shown-the_row-TExpr-0 p indexes) ∙ ap (λ (o : Option ℕ). is_some o && all_go_by_news of 0 items) scalar
 
+          behind : (q : ℕ) (m : Made Field) → then_make (then_make (then_make m (λ source last. Makes (O.Scalar r) (reading_in q r source last))) (λ _ last. Makes (O.Scalar r) last)) (λ _ last. Makes (O.Scalar r) last) ≡ then_make m (λ source after. Makes (O.Scalar r) (reading_in q r source after))
+          behind q (Makes source after) = refl
+          behind q Fails = refl
+
           each : (m : Made ℕ) → gone_to (O.Scalar r) (then_make (then_make m indexed_at) loads) ≡ then_make m (λ q after. read_in q r after)
-          each (Makes q after) = ap (λ (m : Made Field). then_make (then_make (then_make m (λ source last. Makes (O.Scalar r) (with_instr (I.ReadFromProcessor ty.elem.signed r q source) last))) (λ _ last. Makes (O.Scalar r) last)) (λ _ last. Makes (O.Scalar r) last)) (field_is g k 0 of info after is)
+          each (Makes q after) = behind q (field_of g.typed (layout g) x 0 after)
           each Fails = refl
 
       -- the code finds the position
-      pub found_follows : (d : Draft) (s : CodeState) (st : State) → Begun g alive d → At g s (length d.code) → Sim g alive st s → Follows g (Found of k d s) s (located scope single active st) (found_in place of indexes d)
+      pub found_follows : (d : Draft) (s : CodeState) (st : State) → Begun g alive d → At g s (length d.code) → Sim g alive st s → Follows g (Found of x d s) s (located scope single active st) (found_in place of indexes d)
       unfolding located position_in extents_of then_do Extends front_located unless
       found_follows d s st free here sim =
-          subst (λ (o : Option ℕ). Follows g (Found of k d s) s (then_do (operands scope indexes active st) (λ given after. indexed_target scope active o place (V.File k) of given after)) (found_in place of indexes d)) (sym scalar)
+          subst (λ (o : Option ℕ). Follows g (Found of x d s) s (then_do (operands scope indexes active st) (λ given after. indexed_target scope active o place x of given after)) (found_in place of indexes d)) (sym scalar)
           (by (position_in g.typed of items) refl)
         where
+          exists : of < length (shapes g)
+          exists = (fits s st sim).0
+
           grows : (outs : List Out) (between : Draft) (b : Bool) → Extends g between (if b then Makes d.regs (front_located place of items (map index_register outs) d.regs between) else Fails)
           grows outs between true = (1 + 1, extended between _ _ 1 1 (and_step _ between) (and_step _ _))
           grows outs between false = tt
@@ -484,76 +497,88 @@ module _ (g : Setting) (has : HasRegisters g) (alive : Variable → Type 0) (sco
           position_so position None h = cc
           position_so position (Some of) h = h
 
-          by : (o : Option ℕ) → position_in g.typed of items ≡ o → Follows g (Found of k d s) s (then_do (operands scope indexes active st) (λ given after. named place of k given after))
+          by : (o : Option ℕ) → position_in g.typed of items ≡ o → Follows g (Found of x d s) s (then_do (operands scope indexes active st) (λ given after. named place of x given after))
               (elim o as (λ _. Made ℕ) [ Some position ↦ word_in (layout g) position d | None ↦ then_make (codes [] (with_reg d)) (λ outs between. located_in place of items outs d.regs between) ])
           by None none =
-              then_follows g (Given g has alive scope active (are_quiet indexes) (elems_of indexes) (with_reg d) s st []) (Found of k d s) s s (operands scope indexes active st) (λ given after. named place of k given after) (codes [] (with_reg d))
+              then_follows g (Given g has alive scope active (are_quiet indexes) (elems_of indexes) (with_reg d) s st []) (Found of x d s) s s (operands scope indexes active st) (λ given after. named place of x given after) (codes [] (with_reg d))
               (λ outs between. located_in place of items outs d.regs between) (stay g s)
               (arguments_follow g has alive scope active false (are_quiet indexes) indexes (λ quiet. quiet) done [] (with_reg d) s st (begun_later g alive d (with_reg d) 0 (and_register d) free) here sim) (λ outs between. grows outs between (all_in_registers outs))
-              (λ given u outs between r. subst (λ (xs : List Out). Follows g (Found of k d s) s (named place of k given u) (located_in place of items xs d.regs between)) (sym r.is)
-              (located_follows place of k items (are_quiet indexes) d between r.grown.0 s r.t u given r.more exists many r.are_of free r.grown.1 r.go r.at r.sim r.keeps r.held))
+              (λ given u outs between r. subst (λ (xs : List Out). Follows g (Found of x d s) s (named place of x given u) (located_in place of items xs d.regs between)) (sym r.is)
+              (located_follows place of x items (are_quiet indexes) d between r.grown.0 s r.t u given r.more exists (many exists) r.are_of free r.grown.1 r.go r.at r.sim r.keeps r.held))
           by (Some position) some =
-              let from : position_from 0 (extents g of).own items ≡ Some position = subst (λ (xs : List ℕ). position_from 0 xs items ≡ Some position) extents_are (position_so position (slice_get g.typed.shapes.items of) some) in
+              let from : position_from 0 (extents g of).own items ≡ Some position = subst (λ (xs : List ℕ). position_from 0 xs items ≡ Some position) (extents_are exists) (position_so position (slice_get g.typed.shapes.items of) some) in
               let constants = constants_given (extents g of).own 0 position indexes isin from st in
               let law = known_positions (extents g of).own items constants.0 position (known.places.geometry of exists) constants.1.1 from in
               let same = known.same_extents of exists in
               let below : position < processors (shapes g) of = subst (λ (q : ℕ). q < position_count (extents g of).own) law.1 (indexes_within_name_positions (extents g of).own constants.0 0 law.0) in
               let room = (geometry_parts (extents g of).own (known.places.geometry of exists)).3 in
-              follows_same g (Found of k d s) s
-              (ap (λ (o : Outcome (List Operand)). then_do o (λ given after. named place of k given after)) constants.1.0
-              ∙ named_so place of k constants.0 st None (never_fails scope active (scope.extents of) constants.0 (ap (λ (xs : List ℕ). are_within xs constants.0 0) same ∙ law.0))
-              ∙ ap (λ (q : ℕ). Gives (OfPosition (V.File k) q) st) (ap (λ (xs : List ℕ). named_by xs constants.0 0) same ∙ law.1)) refl
-              (then_gives g (λ (x : Unit {0}) u q f. (u ≡ st) × Arrives g alive int_type false d s (Scalar position) st (O.Scalar q) f) (Found of k d s) s (Gives tt st) (λ x. OfPosition (V.File k) position) (word_in (layout g) position d) (word_found position d s st (omega (arith, below, room)) free here sim)
+              follows_same g (Found of x d s) s
+              (ap (λ (o : Outcome (List Operand)). then_do o (λ given after. named place of x given after)) constants.1.0
+              ∙ named_so place of x constants.0 st None (never_fails scope active (scope.extents of) constants.0 (ap (λ (xs : List ℕ). are_within xs constants.0 0) same ∙ law.0))
+              ∙ ap (λ (q : ℕ). Gives (OfPosition x q) st) (ap (λ (xs : List ℕ). named_by xs constants.0 0) same ∙ law.1)) refl
+              (then_gives g (λ (x : Unit {0}) u q f. (u ≡ st) × Arrives g alive int_type false d s (Scalar position) st (O.Scalar q) f) (Found of x d s) s (Gives tt st) (λ y. OfPosition x position) (word_in (layout g) position d) (word_found position d s st (omega (arith, below, room)) free here sim)
               (λ x u q f said. record { position = position; is = refl; below = below; arrives = subst (λ (w : State). Arrives g alive int_type false d s (Scalar position) w (O.Scalar q) f) (sym said.0) said.1 }))
 
       -- what is read there
-      reads_there : (d : Draft) (s : CodeState) (R : Value → State → Out → Draft → Type 0) (r : ℕ) → Dest g has alive ty.elem d s R r → (there : Target) (u : State) (q : ℕ) (f : Draft) → Found of k d s there u q f → Follows g R s (Gives (read u there) u) (read_in q r f)
-      unfolding Follows begun applied after step_of read number
-      reads_there d s R r dest there u q f h = subst (λ (x : Target). Follows g R s (Gives (read u x) u) (read_in q r f)) (sym h.is) (λ within.
-          put_by g has alive dest e (h.arrives.extended.0 + 0) i t u w h.arrives.go h.arrives.at h.arrives.sim (extended d f e h.arrives.extended.0 0 h.arrives.extended.1 (and_entry of info.elem.bits (owner_of g k) f)) h.arrives.keeps within refl (reads within) (was.small k 0 of h.position info is))
+      reads_there : (d : Draft) (s : CodeState) (R : Value → State → Out → Draft → Type 0) (r : ℕ) → Dest g has alive ty.elem d s R r → (there : Target) (u : State) (q : ℕ) (f : Draft) → Found of x d s there u q f → Follows g R s (Gives (read u there) u) (read_in q r f)
+      unfolding Follows begun applied after step_of read number then_make
+      reads_there d s R r dest there u q f h = subst (λ (y : Target). Follows g R s (Gives (read u y) u) (read_in q r f)) (sym h.is) (by (finds t u h.arrives.sim f))
         where
-          e : Draft
-          e = for_variable g of k info f
-
           t : CodeState
           t = h.arrives.t
 
           w : ℕ
-          w = u.parallel (V.File k) 0 h.position
-
-          a : Field
-          a = next_field of info.elem.bits f
-
-          i : Instr
-          i = I.ReadFromProcessor ty.elem.signed r q a
-
-          was : HoldsFields g.typed g.image active u t.memory
-          was = (known.opens (OpenAmong g alive) t.at u t.memory h.arrives.sim.memory).0.0
+          w = u.parallel x 0 h.position
 
           stands : slice_index t.registers q ≡ h.position
           stands =
               let word = value_stands g has alive int_type false f u t h.position q h.arrives.holds in
               word.0 u t h.arrives.sim (keeps_all g f t) (λ same. refl) ∙ held_wide int_type h.position refl word.1
 
-          reads : Within g (with_instr i e) → begun g.image (placed_instr g i) t ≡ Goes (with_register r (held ty.elem w) t)
-          reads within =
-              ap (λ (reply : Reply). replied (placed_instr g i) (record t { at = t.at + 1 }) reply)
-              (ap (λ (n : ℕ). reply_of (shapes g) (placed_instr g i) (n ∷ []) t.memory) stands ∙ reads_of_positions (shapes g) t.memory [] r q (place_of g a) u (V.File k) ty.elem h.position refl has_variable h.below)
-            where
-              file : IsFileField (under g active) k 0 a
-              file = taken (under g active) of info.elem.bits (owner_of g k) f (with_instr i e) 1 (within_under g active within) (and_one g i e)
+          code : Made Field → Made Out
+          code m = then_make m (λ source after. Makes (O.Scalar r) (reading_in q r source after))
 
-              has_variable : (x : ℕ) → x < processors (shapes g) of → true ≡ true → field_number t.memory (place_of g a) x ≡ u.parallel (V.File k) 0 x
-              has_variable x below all =
-                  ap (λ (y : Field). field_number t.memory y x) ((places_under g active known.places).file k 0 info a is refl file) ∙ was.numbers k 0 of x info is below
+          by : (field_of g.typed (layout g) x 0 f ≡ Fails) ⊎ Finds_it f → Follows g R s (Gives (Scalar w) u) (read_in q r f)
+          by (inl none) = subst (λ (m : Made Out). Follows g R s (Gives (Scalar w) u) m) (sym (ap code none)) tt
+          by (inr found) =
+              subst (λ (m : Made Out). Follows g R s (Gives (Scalar w) u) m) (sym (ap code found.is))
+              (λ within. put_by g has alive dest e (h.arrives.extended.0 + 0) i t u w h.arrives.go at_entry h.arrives.sim (extended d f e h.arrives.extended.0 0 h.arrives.extended.1 found.grown) h.arrives.keeps within refl (reads within) ((fits t u h.arrives.sim).1 h.position))
+            where
+              e : Draft
+              e = found.e
+
+              a : Field
+              a = found.f
+
+              i : Instr
+              i = I.ReadFromProcessor ty.elem.signed r q a
+
+              at_entry : At g t (length e.code)
+              at_entry = subst (λ (c : List Step). At g t (length c)) (sym found.code) h.arrives.at
+
+              reads : Within g (with_instr i e) → begun g.image (placed_instr g i) t ≡ Goes (with_register r (held ty.elem w) t)
+              reads within =
+                  ap (λ (reply : Reply). replied (placed_instr g i) (record t { at = t.at + 1 }) reply)
+                  (ap (λ (n : ℕ). reply_of (shapes g) (placed_instr g i) (n ∷ []) t.memory) stands
+                  ∙ reads_of_positions (shapes g) t.memory [] r q (place_of g a) u x ty.elem h.position carries.len has_variable (subst (λ (n : ℕ). h.position < processors (shapes g) n) (sym carries.of_set) h.below))
+                where
+                  carries : Carries (under g active) alive x info of a
+                  carries = found.carries (with_instr i e) 1 (and_one g i e) (within_under g active within)
+
+                  has_variable : (y : ℕ) → y < processors (shapes g) a.set → true ≡ true → field_number t.memory (place_of g a) y ≡ u.parallel x 0 y
+                  has_variable y below all =
+                      carries.numbers u t (sim_open g scope active known alive u t h.arrives.sim) (length e.code) (names_first g i a [] (length e.code) (stands_in g i e within refl) refl) (omega (arith, at_entry)) y (subst (λ (n : ℕ). y < processors (shapes g) n) carries.of_set below)
 
       pub reads_follow : (d : Draft) (s : CodeState) (st : State) (R : Value → State → Out → Draft → Type 0) (r : ℕ) → Begun g alive d → At g s (length d.code) → Sim g alive st s → Dest g has alive ty.elem d s R r
           → Follows g R s (evaluated scope single active st) (computed_to g.typed (layout g) (O.Scalar r) single d)
-      unfolding evaluated located Extends
+      unfolding evaluated located Extends then_make
       reads_follow d s st R r free here sim dest =
-          follows_same g R s (sym (then_ordered (operands scope indexes active st) (λ given between. indexed_target scope active ty.shape place (V.File k) of given between) (λ there after. Gives (read after there) after))) (read_code r d)
-          (then_follows g (Found of k d s) R s s (located scope single active st) (λ there after. Gives (read after there) after) (found_in place of indexes d) (λ q after. read_in q r after) (stay g s) (found_follows d s st free here sim)
-          (λ q after. reading_grows q after) (λ there u q f h. reads_there d s R r dest there u q f h))
+          follows_same g R s (sym (then_ordered (operands scope indexes active st) (λ given between. indexed_target scope active ty.shape place x of given between) (λ there after. Gives (read after there) after))) (read_code r d)
+          (then_follows g (Found of x d s) R s s (located scope single active st) (λ there after. Gives (read after there) after) (found_in place of indexes d) (λ q after. read_in q r after) (stay g s) (found_follows d s st free here sim)
+          (λ q after. reading_grows q after (finds s st sim after)) (λ there u q f h. reads_there d s R r dest there u q f h))
         where
-          reading_grows : (q : ℕ) (after : Draft) → Extends g after (read_in q r after)
-          reading_grows q after = (0 + 1, extended after (for_variable g of k info after) _ 0 1 (and_entry of info.elem.bits (owner_of g k) after) (and_one g _ (for_variable g of k info after)))
+          reading_grows : (q : ℕ) (after : Draft) → (field_of g.typed (layout g) x 0 after ≡ Fails) ⊎ Finds_it after → Extends g after (read_in q r after)
+          reading_grows q after (inl fails) = subst (λ (m : Made Field). Extends g after (then_make m (λ source last. Makes (O.Scalar r) (reading_in q r source last)))) (sym fails) tt
+          reading_grows q after (inr found) =
+              subst (λ (m : Made Field). Extends g after (then_make m (λ source last. Makes (O.Scalar r) (reading_in q r source last)))) (sym found.is)
+              (0 + 1, extended after found.e (reading_in q r found.f found.e) 0 1 found.grown (and_one g (I.ReadFromProcessor ty.elem.signed r q found.f) found.e))

@@ -10,7 +10,7 @@
 -- `where`. Folds and scans are of the active positions. They are sent, as those scans are, to variables of the file, of
 -- any shape, by such indexes, also with an operator that folds. Scalars that change variables, by assignments, steps and
 -- `getchar`, are assigned as parallel expressions are, also with operators. Scalar expressions read single positions of
--- variables of the file, by any scalar indexes, and scalars are stored there. Parallel variables of blocks have no
+-- parallel variables, by any scalar indexes, and scalars are stored there. Parallel variables of blocks have no
 -- initialisers. Under `where` and `everywhere` stand the statements of scalar programs with these, also calls, `return`
 -- and jumps that lead out of them.
 use Rattle.std.specs.Prelude.{ℕ, ◌≡◌, ◌<◌, ◌≤◌, ◌+◌, ◌^◌, ◌⊎◌, ◌==◌, true, false, Option, Some, None}
@@ -332,11 +332,6 @@ IsParallelEffect e = IsUpdate e ⊎ (IsFoldOnto e ⊎ (IsScanAssigned e ⊎ (IsC
 abbrev pub IsParallelVariable : VarInfo → Type 0
 IsParallelVariable info = (set : ℕ) × ((info.shape ≡ Some set) × (info.array ≡ None))
 
--- a variable of the file
-unfoldable pub IsOfFile : Variable → Type 0
-IsOfFile (V.File k) = Unit {0}
-IsOfFile _ = ⊥
-
 -- A program of functions on scalars, without recursion, and of parallel variables of the file and of blocks: such
 -- updates are statements, also within `with` and under contexts, as such folds onto variables are, other such folds
 -- and reads of single positions stand within scalar expressions, and such conditions narrow which positions are active.
@@ -344,7 +339,7 @@ abbrev pub fields_beside : Beside
 fields_beside = record {
   effects = IsParallelEffect;
   folds = IsFold;
-  positions = IsOfFile;
+  positions = IsOfFileOrBlock;
   conditions = IsCondition;
   widens = λ set. Unit {0};
   variables = IsParallelVariable;
