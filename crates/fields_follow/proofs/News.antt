@@ -34,7 +34,6 @@ use Rattle.paris_code.specs.declared.instr.Instr.{Instr}
 use Rattle.paris_code.specs.declared.instr.Instr.TheVariants as I
 use Rattle.paris_code.specs.declared.operands.Field.{Field}
 use Rattle.paris_code.specs.declared.operands.GridStep.{GridStep}
-use Rattle.paris_code.specs.declared.program.Owner.{Owner}
 use Rattle.paris_code.specs.declared.program.Owner.TheVariants as W
 use Rattle.paris_code.specs.Checking.{least_failing}
 use Rattle.paris_code.specs.Code as Machine
@@ -54,7 +53,6 @@ use Rattle.code_follows.proofs.Settings.{Setting, Within, earlier, layout, next_
 use Rattle.fields_follow.specs.Fragment.{AreSteps, IsOfFileOrBlock}
 use Rattle.fields_follow.proofs.Checks.{check_ends, check_passes, check_replies}
 use Rattle.fields_follow.proofs.Extents.{NameExtents, extents_in}
-use Rattle.fields_follow.specs.Fields.{file_number}
 use Rattle.fields_follow.proofs.Gets.{all_go, names_long, steps_lead, steps_move}
 use Rattle.fields_follow.proofs.Hops.{HasEverywhere, MovesLast, Reads, moves_last, names_source, origin, puts_where, steps_extend, variable_everywhere}
 use Rattle.fields_follow.proofs.Instructions.{Puts, extents, shapes}
@@ -121,13 +119,6 @@ abbrev walk : Elem → Field → List GridStep → Field → Draft → Draft
 walk elem dest steps source d = stepwise elem dest steps (hop_of (bits_read elem dest source) dest.set d) (for_hops (hop_bits elem dest source) dest.set d)
 
 module _ (g : Setting) where
-  -- the entry that it takes for a variable of the file
-  abbrev pub owner_of : ℕ → Owner
-  owner_of k = W.File (file_number g.typed k 0)
-
-  abbrev pub for_variable : ℕ → ℕ → VarInfo → Draft → Draft
-  for_variable set k info d = with_entry set info.elem.bits (owner_of k) d
-
   code_is : (ty : ValueType) (place : Place) (p : _) (indexes : Row_of-TExpr _) (x : Variable) (of set : ℕ) (f : Field) (spot : Draft → Made Spot) (d : Draft) → ty.shape ≡ Some set → of ≡ set → AreSteps set 0 indexes
       → index_read_to g.typed (layout g) (T.LeftIndex' ty place p indexes x of) spot (O.Field f) d
       ≡ then_make (field_of g.typed (layout g) x 0 (with_grid_check set place (grid_steps set 0 (items-the_row-TExpr _ indexes)) d)) (λ source after. Makes (O.Field f) (walk ty.elem f (moving_steps set 0 (items-the_row-TExpr _ indexes)) source after))

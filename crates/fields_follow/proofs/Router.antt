@@ -20,6 +20,7 @@ use Rattle.code_lengths.specs.Ready.{IsReadyButForFields}
 use Rattle.lower_base.specs.declared.emit.Out.{Out}
 use Rattle.lower_base.specs.declared.emit.Out.TheVariants as O
 use Rattle.lower_base.specs.Drafts.{ChecksTarget, Draft, Fails, Made, Makes, MakesAddress, first_bits, step as step_of, then_make, with_instr, with_step}
+use Rattle.lower_base.specs.Layouts.{field_of}
 use Rattle.lower_comm.specs.Messages.{all_somewhere, each_located, index_coordinate, signed_coordinates}
 use Rattle.lower_comm.specs.News.{all_go_by_news}
 use Rattle.lower_expr.specs.declared.spots.Spot.{Spot}
@@ -41,7 +42,7 @@ use Rattle.source_meaning.specs.State as Source
 use Rattle.source_meaning.specs.State.{State, then_do}
 use Rattle.source_meaning.specs.Targets.{indexed_target, read as read_there}
 use Rattle.source_meaning.specs.Values.{Parallel}
-use Rattle.code_follows.proofs.Following.{Extends, HasRegisters, Sim, held}
+use Rattle.code_follows.proofs.Following.{Extends, HasRegisters, Sim, extends_made, extends_then, held}
 use Rattle.code_follows.proofs.Growing.{Extended, extended}
 use Rattle.code_follows.proofs.Settings.{Setting, Within, and_one, earlier, layout}
 use Rattle.code_follows.specs.Fragment.{NamesAmong}
@@ -61,7 +62,7 @@ use Rattle.fields_follow.proofs.Places.{HoldsTheFields, PlacesFields, stands_her
 use Rattle.fields_follow.proofs.RouterCode.{behind_indexes, for_got, got, got_field, got_from, plain_get, router_code, wide_get}
 use Rattle.fields_follow.proofs.Routing.{indexes_at, outside_at, routed_faults, routed_gives, routed_value, target_of}
 use Rattle.fields_follow.proofs.Starts.{no_home, starts_entry, Starts}
-use Rattle.fields_follow.proofs.Values.{Finds, FindsOrFails, and_entry, finds_read, next_field, one_more, starts_found, taken, with_entry}
+use Rattle.fields_follow.proofs.Values.{Finds, FindsOrFails, and_entry, finds_extends, finds_read, next_field, one_more, starts_found, taken, with_entry}
 use Rattle.fields_follow.proofs.Variables.{Carries, variable_fits}
 
 module _ (g : Setting) where
@@ -104,7 +105,7 @@ module _ (g : Setting) where
   module _ (has : HasRegisters g) (alive : Variable → Type 0) (n : ℕ) (ready : (d : Draft) → IsReadyButForFields g.typed g.instance (layout g) n d) (places : PlacesFields g) (fields : HoldsTheFields g) where
     -- so it does where its code finds the field of the variable
     behind_extends : (x : Variable) (of : ℕ) (info : VarInfo) (ty : ValueType) (place_of : Place) (items : List TExpr) (dest at : Field) (parts : List Out) (d : Draft) → ((e : Draft) → FindsOrFails g has alive n ready places fields of x info e) → Extends g d (behind_indexes g x of ty place_of items dest at parts d)
-    unfolding Extends each_located then_make
+    unfolding Extends each_located
     behind_extends x of info ty place_of items dest at parts d finds = by (all_somewhere parts)
       where
         checked : Draft
@@ -113,15 +114,10 @@ module _ (g : Setting) where
         made : Draft
         made = with_step (MakesAddress at of (map index_coordinate parts)) checked
 
-        each : FindsOrFails g has alive n ready places fields of x info made → Extends g d (got_from g x ty.elem dest at made)
-        each (inl fails) = subst (λ (m : Made Field). Extends g d (then_make m (λ source after. Makes (O.Field dest) (got ty.elem dest at source after)))) (sym fails) tt
-        each (inr found) =
-            let more = got_extends ty.elem dest at found.f found.e in
-            subst (λ (m : Made Field). Extends g d (then_make m (λ source after. Makes (O.Field dest) (got ty.elem dest at source after)))) (sym found.is)
-            (1 + 1 + (0 + more.0), extended d made _ (1 + 1) (0 + more.0) (extended d checked made 1 1 (and_step _ d) (and_step _ checked)) (extended made found.e _ 0 more.0 found.grown more.1))
-
         by : (b : Bool) → Extends g d (if b then got_from g x ty.elem dest at (each_located place_of of items (map index_coordinate parts) at d) else Fails)
-        by true = each (finds made)
+        by true =
+            extends_made g d made (1 + 1) (got_from g x ty.elem dest at made) (extended d checked made 1 1 (and_step _ d) (and_step _ checked))
+            (extends_then g made (field_of g.typed (layout g) x 0 made) (λ source after. Makes (O.Field dest) (got ty.elem dest at source after)) (finds_extends g has alive n ready places fields of x info made (finds made)) (λ source after. got_extends ty.elem dest at source after))
         by false = tt
 
     -- the get itself, from a field that has the numbers of positions

@@ -9,10 +9,9 @@ use Rattle.lower_base.specs.Drafts.{with_instr, Draft, Fails, Made, Makes, an_en
 use Rattle.lower_base.specs.Operators.{fold_of, assign_op_of, is_signed}
 use Rattle.lower_comm.specs.Messages.{sent_value, all_somewhere, assigned, communicated, each_located, index_coordinate, indexed, indexed_field, located, located_at, part_field, sent, sent_to}
 use Rattle.paris_code.specs.declared.instr.Instr.TheVariants as I
-use Rattle.code_follows.proofs.Following.{Extends, extends_made, extends_then}
+use Rattle.code_follows.proofs.Following.{Extends, extends_then}
 use Rattle.code_follows.proofs.Growing.{as_it_was, extended}
 use Rattle.code_follows.proofs.Settings.{and_one, Setting, layout}
-use Rattle.fields_follow.proofs.News.{owner_of, for_variable}
 use Rattle.fields_follow.proofs.Values.{and_entry, next_field, with_entry}
 use Rattle.cstar_base.specs.declared.operators.Place.{Place}
 use Rattle.cstar_tree.specs.declared.syntax.AssignOp.{AssignOp}
@@ -20,9 +19,7 @@ use Rattle.cstar_tree.specs.declared.typed.TExpr.{TExpr, Row_of-TExpr, items-the
 use Rattle.cstar_tree.specs.declared.typed.TExpr as T
 use Rattle.cstar_tree.specs.declared.typed.Typed.{Typed}
 use Rattle.cstar_tree.specs.declared.typed.ValueType.{ValueType}
-use Rattle.cstar_tree.specs.declared.typed.VarInfo.{VarInfo}
 use Rattle.cstar_tree.specs.declared.typed.Variable.{Variable}
-use Rattle.cstar_tree.specs.declared.typed.Variable.TheVariants as V
 use Rattle.cstar_tree.specs.Typed.{type_of}
 use Rattle.lower_base.specs.declared.emit.Out.{Out}
 use Rattle.lower_base.specs.declared.emit.Out.TheVariants as O
@@ -42,8 +39,6 @@ use Rattle.source_meaning.specs.Expressions.{located as located_in}
 use Rattle.source_meaning.specs.State.{State}
 use Rattle.source_meaning.specs.Values.{Active, Scope}
 use Rattle.source_meaning.proofs.ConstantLaws.{Boxed}
-use Rattle.fields_follow.specs.Fields.{IsElement}
-use Rattle.fields_follow.proofs.Forms.{field_is}
 use Rattle.fields_follow.proofs.RouterCode.{then_three, unknown}
 
 -- a target, maybe in brackets, is that of another expression
@@ -64,14 +59,14 @@ unfolding spot_of located_in indexed is_send own_of bare
 like_inner t l target ty p inner same h = record { type = h.type ∙ same; spot = h.spot; means = h.means; indexed = h.indexed; sends = h.sends; own = h.own }
 
 module _ (g : Setting) where
-  -- the send itself, to this address, behind the value
-  abbrev pub send_at : ℕ → ℕ → VarInfo → ValueType → AssignOp → TExpr → Field → Field → Draft → Made Out
-  send_at set k info ty op value at f d = then_make (sent_to (assign_op_of op) (is_signed (type_of value).elem) ty.elem (next_field set info.elem.bits d) at f (for_variable g set k info d)) (λ _ last. Makes O.Nothing last)
+  -- the send itself, to this address, behind the value and the field of the variable
+  abbrev pub send_at : ValueType → AssignOp → TExpr → Field → Field → Field → Draft → Made Out
+  send_at ty op value at f dest d = then_make (sent_to (assign_op_of op) (is_signed (type_of value).elem) ty.elem dest at f d) (λ _ last. Makes O.Nothing last)
 
   -- what is sent of a value in a field
-  unfoldable pub sends_out : ℕ → ℕ → VarInfo → ValueType → AssignOp → TExpr → Field → Out → Draft → Made Out
-  sends_out set k info ty op value at (O.Field f) d = send_at set k info ty op value at f d
-  sends_out set k info ty op value at out d = Fails
+  unfoldable pub sends_out : Variable → ValueType → AssignOp → TExpr → Field → Out → Draft → Made Out
+  sends_out x ty op value at (O.Field f) d = then_make (field_of g.typed (layout g) x 0 d) (λ dest after. send_at ty op value at f dest after)
+  sends_out x ty op value at out d = Fails
 
   sent_value_extends : (o : Op) (f : Field) (d : Draft) → Extends g d (sent_value o f d)
   unfolding Extends sent_value an_entry then_make
@@ -85,14 +80,13 @@ module _ (g : Setting) where
       extends_then g d (sent_value o f d) (λ source after. Makes O.Nothing (with_instr (I.SendWithCombiner (fold_of o signed) dest kind there source) after)) (sent_value_extends o f d) (λ source after. (1, and_one g (I.SendWithCombiner (fold_of o signed) dest kind there source) after))
 
   -- it goes on from where it stands
-  pub sends_extend : (set k : ℕ) (info : VarInfo) (ty : ValueType) (op : AssignOp) (value : TExpr) (at : Field) (out : Out) (d : Draft) → Extends g d (sends_out set k info ty op value at out d)
+  pub sends_extend : (x : Variable) (ty : ValueType) (op : AssignOp) (value : TExpr) (at : Field) (out : Out) (d : Draft) → Extends g d (field_of g.typed (layout g) x 0 d) → Extends g d (sends_out x ty op value at out d)
   unfolding Extends sends_out
-  sends_extend set k info ty op value there (O.Field f) d =
-      extends_made g d (for_variable g set k info d) 0 (send_at set k info ty op value there f d) (and_entry set info.elem.bits (owner_of g k) d)
-      (extends_then g (for_variable g set k info d) (sent_to (assign_op_of op) (is_signed (type_of value).elem) ty.elem (next_field set info.elem.bits d) there f (for_variable g set k info d)) (λ _ last. Makes O.Nothing last)
-      (sent_to_extends (assign_op_of op) (is_signed (type_of value).elem) ty.elem (next_field set info.elem.bits d) there f (for_variable g set k info d)) (λ _ last. (0, as_it_was last)))
-  sends_extend set k info ty op value there (O.Scalar r) d = tt
-  sends_extend set k info ty op value there O.Nothing d = tt
+  sends_extend x ty op value there (O.Field f) d found =
+      extends_then g d (field_of g.typed (layout g) x 0 d) (λ dest after. send_at ty op value there f dest after) found
+      (λ dest after. extends_then g after (sent_to (assign_op_of op) (is_signed (type_of value).elem) ty.elem dest there f after) (λ _ last. Makes O.Nothing last) (sent_to_extends (assign_op_of op) (is_signed (type_of value).elem) ty.elem dest there f after) (λ _ last. (0, as_it_was last)))
+  sends_extend x ty op value there (O.Scalar r) d found = tt
+  sends_extend x ty op value there O.Nothing d found = tt
 
   -- what follows the address
   abbrev behind_spot : (Draft → Made Out) → TExpr → Spot → Draft → Made Out
@@ -102,34 +96,39 @@ module _ (g : Setting) where
   spot_at set place items at parts d = if all_somewhere parts then Makes (S.Indexed (O.Field at)) (each_located place set items (map index_coordinate parts) at d) else Fails
 
   -- it is what is stored there
-  stored_is : (ty : ValueType) (place : Place) (op : AssignOp) (p q : Boxed) (target value : TExpr) (k set : ℕ) (info : VarInfo) (at : Field) (out : Out) (d : Draft) → indexed target ≡ Some (V.File k) → ty ≡ type_of target → IsElement g.typed k info set 0
-      → then_make (stored g.typed (layout g) (T.Assign' ty place op p target q value) (S.Indexed (O.Field at)) out d) (λ _ last. Makes O.Nothing last) ≡ sends_out set k info ty op value at out d
-  unfolding stored communicated out-TExpr Carrier.out assigned sent then_make in_field from an_entry indexed_field part_field sends_out
-  stored_is ty place op p q target value k set info at out d of same is =
-      ap (λ (o : Option Variable). then_make (then_make (then_make (from o (λ x. field_of g.typed (layout g) x 0 d)) sending) (λ _ after. Makes out after)) finally) of
-      ∙ ap (λ (m : Made Field). then_make (then_make (then_make m sending) (λ _ after. Makes out after)) finally) (field_is g k 0 set info d is)
-      ∙ by out
+  stored_is : (ty : ValueType) (place : Place) (op : AssignOp) (p q : Boxed) (target value : TExpr) (x : Variable) (at : Field) (out : Out) (d : Draft) → indexed target ≡ Some x → ty ≡ type_of target
+      → then_make (stored g.typed (layout g) (T.Assign' ty place op p target q value) (S.Indexed (O.Field at)) out d) (λ _ last. Makes O.Nothing last) ≡ sends_out x ty op value at out d
+  unfolding stored communicated out-TExpr Carrier.out assigned sent then_make in_field from indexed_field part_field sends_out
+  stored_is ty place op p q target value x at out d of same =
+      ap (λ (o : Option Variable). then_make (then_make (then_make (from o (λ y. field_of g.typed (layout g) y 0 d)) (sending out (type_of target))) (λ _ after. Makes out after)) finally) of
+      ∙ ap (λ (y : ValueType). then_make (then_make (then_make (field_of g.typed (layout g) x 0 d) (sending out y)) (λ _ after. Makes out after)) finally) (sym same) ∙ by out
     where
-      signed : Bool
-      signed = is_signed (type_of value).elem
-
-      sending : Field → Draft → Made Out
-      sending dest after = in_field out (λ f. sent_to (assign_op_of op) signed (type_of target).elem dest at f after)
+      sending : Out → ValueType → Field → Draft → Made Out
+      sending out y dest after = in_field out (λ f. sent_to (assign_op_of op) (is_signed (type_of value).elem) y.elem dest at f after)
 
       finally : Out → Draft → Made Out
       finally _ last = Makes O.Nothing last
 
-      by : (out : Out) → then_make (then_make (in_field out (λ f. sent_to (assign_op_of op) signed (type_of target).elem (next_field set info.elem.bits d) at f (for_variable g set k info d))) (λ _ after. Makes out after)) finally ≡ sends_out set k info ty op value at out d
-      by (O.Field f) =
-          ap (λ (y : ValueType). then_make (then_make (sent_to (assign_op_of op) signed y.elem (next_field set info.elem.bits d) at f (for_variable g set k info d)) (λ _ after. Makes (O.Field f) after)) finally) (sym same)
-          ∙ then_three (sent_to (assign_op_of op) signed ty.elem (next_field set info.elem.bits d) at f (for_variable g set k info d)) (λ _ after. Makes (O.Field f) after) finally
-      by (O.Scalar r) = refl
-      by O.Nothing = refl
+      to_field : (f : Field) (made : Made Field) → then_make (then_make (then_make made (sending (O.Field f) ty)) (λ _ after. Makes (O.Field f) after)) finally ≡ then_make made (λ dest after. send_at ty op value at f dest after)
+      to_field f (Makes dest after) = then_three (sent_to (assign_op_of op) (is_signed (type_of value).elem) ty.elem dest at f after) (λ _ last. Makes (O.Field f) last) finally
+      to_field f Fails = refl
 
-  spot_is : (ty : ValueType) (place : Place) (r : _) (indexes : Row_of-TExpr _) (k of : ℕ) (at : Field) (parts : List Out) (d : Draft)
-      → then_make (located (T.LeftIndex' ty place r indexes (V.File k) of) parts (O.Field at) d) (λ out after. Makes (S.Indexed out) after) ≡ spot_at of place (items-the_row-TExpr _ indexes) at parts d
+      none : Field → Draft → Made Out
+      none dest after = Fails
+
+      nowhere : (out : Out) (made : Made Field) → then_make (then_make (then_make made none) (λ _ after. Makes out after)) finally ≡ Fails
+      nowhere out (Makes dest after) = refl
+      nowhere out Fails = refl
+
+      by : (out : Out) → then_make (then_make (then_make (field_of g.typed (layout g) x 0 d) (sending out ty)) (λ _ after. Makes out after)) finally ≡ sends_out x ty op value at out d
+      by (O.Field f) = to_field f (field_of g.typed (layout g) x 0 d)
+      by (O.Scalar r) = nowhere (O.Scalar r) (field_of g.typed (layout g) x 0 d)
+      by O.Nothing = nowhere O.Nothing (field_of g.typed (layout g) x 0 d)
+
+  spot_is : (ty : ValueType) (place : Place) (r : _) (indexes : Row_of-TExpr _) (x : Variable) (of : ℕ) (at : Field) (parts : List Out) (d : Draft)
+      → then_make (located (T.LeftIndex' ty place r indexes x of) parts (O.Field at) d) (λ out after. Makes (S.Indexed out) after) ≡ spot_at of place (items-the_row-TExpr _ indexes) at parts d
   unfolding located out-TExpr Carrier.out located_at then_make
-  spot_is ty place r indexes k of at parts d =
+  spot_is ty place r indexes x of at parts d =
       ap (λ (xs : List TExpr). then_make (located_at place of xs parts (O.Field at) d) (λ out after. Makes (S.Indexed out) after)) (items_shown-the_row-TExpr-0 r indexes)
       ∙ by (all_somewhere parts)
     where
@@ -138,34 +137,34 @@ module _ (g : Setting) where
       by false = refl
 
   -- the code of its value, and then the send
-  abbrev pub value_sent : ℕ → ℕ → ℕ → ℕ → VarInfo → ValueType → AssignOp → TExpr → Field → Draft → Made Out
-  value_sent bits set of k info ty op value at d = then_make (spread_by (λ y. value_of g.typed (layout g) bits value y) value set bits d) (λ out after. sends_out of k info ty op value at out after)
+  abbrev pub value_sent : ℕ → ℕ → Variable → ValueType → AssignOp → TExpr → Field → Draft → Made Out
+  value_sent bits set x ty op value at d = then_make (spread_by (λ y. value_of g.typed (layout g) bits value y) value set bits d) (λ out after. sends_out x ty op value at out after)
 
   -- all of it
-  pub send_code : (aty ty : ValueType) (place_of place : Place) (op : AssignOp) (p q : Boxed) (r : _) (indexes : Row_of-TExpr _) (target value : TExpr) (k set of bits : ℕ) (info : VarInfo) (d : Draft) → IsLike g.typed (layout g) target (T.LeftIndex' ty place_of r indexes (V.File k) of) → ty.shape ≡ Some set → aty ≡ type_of target
-      → IsElement g.typed k info of 0 → taken_bits aty.elem.bits op target value ≡ bits
+  pub send_code : (aty ty : ValueType) (place_of place : Place) (op : AssignOp) (p q : Boxed) (r : _) (indexes : Row_of-TExpr _) (target value : TExpr) (x : Variable) (set of bits : ℕ) (d : Draft) → IsLike g.typed (layout g) target (T.LeftIndex' ty place_of r indexes x of) → ty.shape ≡ Some set → aty ≡ type_of target
+      → taken_bits aty.elem.bits op target value ≡ bits
       → effect_of g.typed (layout g) (T.Assign' aty place op p target q value) d
       ≡ then_make (values_of g.typed (layout g) false (are_quiet indexes) indexes [] (with_entry set 32 W.Own d)) (λ parts between. then_make (spot_at of place_of (items-the_row-TExpr _ indexes) (next_field set 32 d) parts between)
-      (λ _ after. value_sent bits set of k info aty op value (next_field set 32 d) after))
+      (λ _ after. value_sent bits set x aty op value (next_field set 32 d) after))
   unfolding effect_of assignment_effect value_of assign_by sent_by spot_of indexed_spot fresh_for an_entry then_make own_of is_send is_sent bare indexed
-  send_code aty ty place_of place op p q r indexes target value k set of bits info d like shaped same is taken =
+  send_code aty ty place_of place op p q r indexes target value x set of bits d like shaped same taken =
       ap (λ (o : Option Own). elim (elim o as (λ _. Option Own) [ Some own ↦ if writes_itself own op (type_of target).elem value then Some own else None | None ↦ None ]) as (λ _. Made Out) [ Some own ↦ then_make (whole_of g.typed (layout g) target own d) (λ dest after. variable_assigned g.typed (layout g) op place target value dest after) | None ↦ value_of g.typed (layout g) aty.elem.bits e d ]) like.own
-      ∙ ap (λ (b : Bool). if b then sent_by g.typed (layout g) e (λ y. spot_of g.typed (layout g) target y) (λ x. spread_by (code took) value (unwrap_or (type_of target).shape 0) took x) d else lowest aty.elem.bits (assigned_by g.typed (layout g) e took (assign_op_of op) place target value (type_of target).shape (λ y. spot_of g.typed (layout g) target y) (code took) d)) (like.sends ∙ ap is_some shaped)
-      ∙ ap (λ (y : ValueType). then_make (spot_of g.typed (layout g) target d) (λ there after. behind_spot (λ x. spread_by (code took) value (unwrap_or y.shape 0) took x) e there after)) like.type
-      ∙ ap (λ (o : Option ℕ). then_make (spot_of g.typed (layout g) target d) (λ there after. behind_spot (λ x. spread_by (code took) value (unwrap_or o 0) took x) e there after)) shaped
-      ∙ ap (λ (m : ℕ). then_make (spot_of g.typed (layout g) target d) (λ there after. behind_spot (λ x. spread_by (code m) value set m x) e there after)) taken
+      ∙ ap (λ (b : Bool). if b then sent_by g.typed (layout g) e (λ y. spot_of g.typed (layout g) target y) (λ z. spread_by (code took) value (unwrap_or (type_of target).shape 0) took z) d else lowest aty.elem.bits (assigned_by g.typed (layout g) e took (assign_op_of op) place target value (type_of target).shape (λ y. spot_of g.typed (layout g) target y) (code took) d)) (like.sends ∙ ap is_some shaped)
+      ∙ ap (λ (y : ValueType). then_make (spot_of g.typed (layout g) target d) (λ there after. behind_spot (λ z. spread_by (code took) value (unwrap_or y.shape 0) took z) e there after)) like.type
+      ∙ ap (λ (o : Option ℕ). then_make (spot_of g.typed (layout g) target d) (λ there after. behind_spot (λ z. spread_by (code took) value (unwrap_or o 0) took z) e there after)) shaped
+      ∙ ap (λ (m : ℕ). then_make (spot_of g.typed (layout g) target d) (λ there after. behind_spot (λ z. spread_by (code m) value set m z) e there after)) taken
       ∙ ap (λ (m : Made Spot). then_make m next) (like.spot d)
-      ∙ ap (λ (o : Option ℕ). then_make (elim o as (λ _. Made Spot) [ Some position ↦ then_make (word_in (layout g) position d) (λ r after. Makes (S.Indexed (O.Scalar r)) after) | None ↦ then_make (fresh_for ty.shape 32 d) (λ at begun. then_make (codes [] begun) (λ parts between. then_make (located left parts at between) (λ out after. Makes (S.Indexed out) after))) ]) next) (unknown g.typed ty place_of r indexes (V.File k) set of shaped)
+      ∙ ap (λ (o : Option ℕ). then_make (elim o as (λ _. Made Spot) [ Some position ↦ then_make (word_in (layout g) position d) (λ r after. Makes (S.Indexed (O.Scalar r)) after) | None ↦ then_make (fresh_for ty.shape 32 d) (λ at begun. then_make (codes [] begun) (λ parts between. then_make (located left parts at between) (λ out after. Makes (S.Indexed out) after))) ]) next) (unknown g.typed ty place_of r indexes x set of shaped)
       ∙ ap (λ (o : Option ℕ). then_make (then_make (fresh_for o 32 d) (λ at begun. then_make (codes [] begun) (λ parts between. then_make (located left parts at between) (λ out after. Makes (S.Indexed out) after)))) next) shaped
       ∙ then_three (codes [] (with_entry set 32 W.Own d)) (λ parts between. then_make (located left parts (O.Field at) between) (λ out after. Makes (S.Indexed out) after)) next
-      ∙ ap (λ (f : List Out → Draft → Made Spot). then_make (codes [] (with_entry set 32 W.Own d)) (λ parts between. then_make (f parts between) next)) (λ j parts between. spot_is ty place_of r indexes k of at parts between j)
+      ∙ ap (λ (f : List Out → Draft → Made Spot). then_make (codes [] (with_entry set 32 W.Own d)) (λ parts between. then_make (f parts between) next)) (λ j parts between. spot_is ty place_of r indexes x of at parts between j)
       ∙ ap (λ (f : List Out → Draft → Made Out). then_make (codes [] (with_entry set 32 W.Own d)) f) (λ j parts between. by (all_somewhere parts) (each_located place_of of items (map index_coordinate parts) at between) j)
     where
       e : TExpr
       e = T.Assign' aty place op p target q value
 
       left : TExpr
-      left = T.LeftIndex' ty place_of r indexes (V.File k) of
+      left = T.LeftIndex' ty place_of r indexes x of
 
       items : List TExpr
       items = items-the_row-TExpr _ indexes
@@ -183,8 +182,8 @@ module _ (g : Setting) where
       codes outs y = values_of g.typed (layout g) false (are_quiet indexes) indexes outs y
 
       next : Spot → Draft → Made Out
-      next there after = behind_spot (λ x. spread_by (code bits) value set bits x) e there after
+      next there after = behind_spot (λ z. spread_by (code bits) value set bits z) e there after
 
-      by : (b : Bool) (x : Draft) → then_make (if b then Makes (S.Indexed (O.Field at)) x else Fails) next ≡ then_make (if b then Makes (S.Indexed (O.Field at)) x else Fails) (λ _ after. value_sent bits set of k info aty op value at after)
-      by true x = ap (λ (f : Out → Draft → Made Out). then_make (spread_by (code bits) value set bits x) f) (λ j v after. stored_is aty place op p q target value k of info at v after like.indexed same is j)
-      by false x = refl
+      by : (b : Bool) (y : Draft) → then_make (if b then Makes (S.Indexed (O.Field at)) y else Fails) next ≡ then_make (if b then Makes (S.Indexed (O.Field at)) y else Fails) (λ _ after. value_sent bits set x aty op value at after)
+      by true y = ap (λ (f : Out → Draft → Made Out). then_make (spread_by (code bits) value set bits y) f) (λ j v after. stored_is aty place op p q target value x at v after like.indexed same j)
+      by false y = refl

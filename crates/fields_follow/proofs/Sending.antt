@@ -1,5 +1,5 @@
 -- Behind the address and the value a send leaves what is sent: its instruction writes at the targets what they take.
-use Rattle.std.proofs.Common.{◌≡◌, ◌∙◌, ℕ, ◌+◌, ◌<◌, ◌%◌, ◌^◌, ◌⊎◌, inl, inr, true, false, List, [], ◌∷◌, length, Some, refl, sym, ap, subst, arith}
+use Rattle.std.proofs.Common.{◌≡◌, ◌∙◌, ℕ, ◌<◌, ◌≤◌, ◌%◌, ◌^◌, ◌⊎◌, inl, inr, true, false, List, [], ◌∷◌, length, Some, refl, sym, ap, subst, arith}
 use Rattle.std.proofs.Math.Nat.{mod-eq_of_lt}
 use Rattle.cstar_base.specs.declared.elem.Elem.{Elem}
 use Rattle.communication_laws.specs.Sends.{HasTargets, sent_word}
@@ -15,7 +15,6 @@ use Rattle.source_meaning.specs.Values.{unary_of, positions}
 use Rattle.lower_base.specs.Operators.{fold_of, is_signed, assign_op_of}
 use Rattle.lower_base.specs.Drafts.{Plain, Draft, Makes, step as step_of, with_instr}
 use Rattle.lower_comm.specs.Messages.{sent_value}
-use Rattle.paris_code.specs.declared.program.Owner.{Owner}
 use Rattle.paris_code.specs.Code.{Goes, CodeState, applied, begun}
 use Rattle.paris_code.specs.Sending.{combining, overwriting}
 use Rattle.paris_code.specs.Spans.{IsNamedAt, fields_of}
@@ -28,7 +27,6 @@ use Rattle.cstar_tree.specs.declared.syntax.AssignOp.{AssignOp}
 use Rattle.cstar_tree.specs.declared.syntax.AssignOp.TheVariants as A
 use Rattle.cstar_tree.specs.declared.typed.VarInfo.{VarInfo}
 use Rattle.cstar_tree.specs.declared.typed.Variable.{Variable}
-use Rattle.cstar_tree.specs.declared.typed.Variable.TheVariants as V
 use Rattle.paris_code.specs.declared.instr.Instr.{Instr}
 use Rattle.paris_code.specs.declared.instr.Instr.TheVariants as I
 use Rattle.paris_code.specs.declared.operands.Field.{Field}
@@ -39,18 +37,16 @@ use Rattle.source_meaning.specs.Reductions.{divides_by_zero}
 use Rattle.source_meaning.specs.Sends.{Send, is_sent_to, received, sent}
 use Rattle.vp_sets.specs.Positions.{position_count}
 use Rattle.code_follows.proofs.Following.{}
-use Rattle.code_follows.proofs.Growing.{Extended, extended}
-use Rattle.fields_follow.specs.Fields.{IsElement}
+use Rattle.code_follows.proofs.Growing.{Extended}
 use Rattle.fields_follow.proofs.Fields.{HoldsFields}
 use Rattle.fields_follow.proofs.Leaving.{Leaves}
-use Rattle.fields_follow.proofs.News.{for_variable, owner_of}
 use Rattle.fields_follow.proofs.PassingTests.{tests_passed}
-use Rattle.fields_follow.proofs.Places.{HoldsTheFields, IsFileField, PlacesFields, names_first, stands_here}
+use Rattle.fields_follow.proofs.Places.{HoldsTheFields, PlacesFields, names_first, stands_here}
 use Rattle.fields_follow.proofs.SendMeans.{sent_from, set_few}
-use Rattle.fields_follow.proofs.Starts.{no_home, starts_entry}
+use Rattle.fields_follow.proofs.Starts.{Starts, no_home, starts_entry}
 use Rattle.fields_follow.proofs.Values.{and_entry, next_field, one_more, taken, with_entry}
 use Rattle.fields_follow.proofs.VariableWrites.{entry_and_below, writes_leave}
-use Rattle.fields_follow.proofs.Variables.{Carries, file_carries}
+use Rattle.fields_follow.proofs.Variables.{Carries}
 use Rattle.fields_follow.proofs.Writing.{instr_writes}
 
 -- what an operator that folds is in an assignment
@@ -82,7 +78,7 @@ sent_as _ = inr (λ w. refl, λ f d. refl)
 pub negative_sent : (w : ℕ) → w < 2 ^ 32 → unary_of U.Minus w ≡ sent_word P.Sub w
 negative_sent w few = sym (negative 32 w w (omega arith) few (sym (mod-eq_of_lt few)) ∙ mod-eq_of_lt (unary_below U.Minus w few))
 
-module _ (g : Setting) (alive : Variable → Type 0) (places : PlacesFields g) (fields : HoldsTheFields g) (set of k : ℕ) (info : VarInfo) (is : IsElement g.typed k info of 0) (d : Draft) (st : State) (to v : ℕ → ℕ) where
+module _ (g : Setting) (alive : Variable → Type 0) (places : PlacesFields g) (fields : HoldsTheFields g) (set : ℕ) (d : Draft) (st : State) (to v : ℕ → ℕ) where
   abbrev at : Field
   at = next_field set 32 d
 
@@ -116,116 +112,120 @@ module _ (g : Setting) (alive : Variable → Type 0) (places : PlacesFields g) (
     )
 
   -- entries that are taken change nothing of it
-  pub both_further : (bits : ℕ) (w : ℕ → ℕ) (s : CodeState) (a : Field) (e : Draft) (other len : ℕ) (owner : Owner) → BothStand bits w s a e → BothStand bits w s a (with_entry other len owner e)
+  pub both_further : (bits : ℕ) (w : ℕ → ℕ) (s : CodeState) (a : Field) (e e2 : Draft) → Extended e 0 e2 → (b : BothStand bits w s a e) → Starts g alive b.value.passes.t (length e2.code) e2.regs (length e2.fields) → BothStand bits w s a e2
   unfolding passes_from passes_on
-  both_further bits w s a e other len owner b = record {
+  both_further bits w s a e e2 grown b begins = record {
     x = b.x;
     address = b.address;
     value = record {
       passes = passes_on g alive (length b.x.fields) (length b.x.fields) b.x e e2 b.address.passes.t st (Behind g a e) (Unit {0}) (Behind g a e2) (omega arith) b.value.passes
-          (passes_from g alive (length b.x.fields) e e2 e2 b.value.passes.t st (Unit {0}) (and_entry other len owner e) (passes_all g alive (length b.x.fields) e2 b.value.passes.t st (Unit {0}) (starts_entry g alive _ _ b.value.passes.at) b.value.passes.sim)) (λ later. later) (λ later. tt);
+          (passes_from g alive (length b.x.fields) e e2 e2 b.value.passes.t st (Unit {0}) grown (passes_all g alive (length b.x.fields) e2 b.value.passes.t st (Unit {0}) begins b.value.passes.sim)) (λ later. (later.0, (later.1.0, let behind = later.1.1 in omega (arith, behind, longer)))) (λ later. tt);
       stands = by b.value.stands;
     };
   }
     where
-      e2 : Draft
-      e2 = with_entry other len owner e
+      longer : length e.code ≤ length e2.code
+      longer = code_longer e e2 0 grown
 
       by : Stands g alive bits (length b.x.fields) e set a b.value.passes.t st w → Stands g alive bits (length b.x.fields) e2 set a b.value.passes.t st w
-      by (inl own) = inl (record { long = own.long; own = own.own; fits = own.fits; ends = own.ends; newer = own.newer; older = (let one = one_more other len owner e in let less = own.older in omega (arith, one, less)); somewhere = own.somewhere; named = own.named; before = own.before; has = own.has })
+      by (inl own) = inl (record {
+        long = own.long;
+        own = own.own;
+        fits = own.fits;
+        ends = own.ends;
+        newer = own.newer;
+        older = (let more = fields_longer e e2 0 grown in let less = own.older in omega (arith, more, less));
+        somewhere = own.somewhere;
+        named = own.named;
+        before = (let early = own.before in omega (arith, early, longer));
+        has = own.has;
+      })
       by (inr variable) = inr variable
 
-  -- The send is the instruction that is next, to the entry for the variable, which was taken before.
-  module _ (bits m : ℕ) (w : ℕ → ℕ) (s : CodeState) (a : Field) (y e : Draft) (grown : Extended (for_variable g of k info y) m e) (b : BothStand bits w s a e) (i : Instr) (plain : step_of i ≡ Plain i) (names : fields_of i ≡ next_field of info.elem.bits y ∷ at ∷ a ∷ []) (within : Within g (with_instr i e)) where
-    abbrev variable : Field
-    variable = next_field of info.elem.bits y
+  -- The send is the instruction that is next, to the field of the variable.
+  module _ (of : ℕ) (variable : Variable) (info : VarInfo) (living : alive variable) (dest : Field) (carries : Carries g alive variable info of dest) where
+    module _ (bits : ℕ) (w : ℕ → ℕ) (s : CodeState) (a : Field) (e : Draft) (b : BothStand bits w s a e) (i : Instr) (plain : step_of i ≡ Plain i) (names : fields_of i ≡ dest ∷ at ∷ a ∷ []) (within : Within g (with_instr i e)) where
+      at_behind : Behind g at e
+      at_behind = (length e.code, (names_second g i dest at (a ∷ []) (length e.code) (stands_here g i e within plain) names, omega arith))
 
-    at_behind : Behind g at e
-    at_behind = (length e.code, (names_second g i variable at (a ∷ []) (length e.code) (stands_here g i e within plain) names, omega arith))
+      a_behind : Behind g a e
+      a_behind = (length e.code, (names_third g i dest at a [] (length e.code) (stands_here g i e within plain) names, omega arith))
 
-    a_behind : Behind g a e
-    a_behind = (length e.code, (names_third g i variable at a [] (length e.code) (stands_here g i e within plain) names, omega arith))
+      abbrev passes : Passes g alive (length d.fields) d e s st (Unit {0})
+      passes = both_pass bits w s a e b at_behind a_behind
 
-    abbrev passes : Passes g alive (length d.fields) d e s st (Unit {0})
-    passes = both_pass bits w s a e b at_behind a_behind
+      abbrev t : CodeState
+      t = passes.t
 
-    abbrev t : CodeState
-    t = passes.t
+      numbers : HasNumbers g 32 set at t to × HasNumbers g bits set a t w
+      numbers = (both_there bits w s a e b at_behind a_behind).1
 
-    numbers : HasNumbers g 32 set at t to × HasNumbers g bits set a t w
-    numbers = (both_there bits w s a e b at_behind a_behind).1
+      named : IsNamedAt g.unit dest.offset (length e.code)
+      named = names_first g i dest (at ∷ a ∷ []) (length e.code) (stands_here g i e within plain) names
 
-    file : IsFileField g k 0 variable
-    file = taken g of info.elem.bits (owner_of g k) y (with_instr i e) (m + 1) within (extended (for_variable g of k info y) e (with_instr i e) m 1 grown (and_one g i e))
+      was : HoldsFields g.typed g.image fields.active st t.memory
+      was = fields.opens (OpenAmong g alive) t.at st t.memory passes.sim.memory
 
-    carries : Carries g alive (V.File k) info of variable
-    carries = file_carries g alive places fields of k info variable is file refl refl
+      small : (q : ℕ) → st.parallel variable 0 q < 2 ^ info.elem.bits
+      small q = carries.small st t passes.sim q
 
-    named : IsNamedAt g.unit variable.offset (length e.code)
-    named = names_first g i variable (at ∷ a ∷ []) (length e.code) (stands_here g i e within plain) names
+      -- the machine has the targets of the source, what is sent, and the variable
+      targets_there : HasTargets (shapes g) t.memory (place g at) send
+      unfolding positions
+      targets_there = record {
+        count = ap (λ (xs : List ℕ). position_count xs) (sym (fields.same_extents set numbers.0.exists));
+        active = λ p below. flags_of g alive places fields st t set p passes.sim numbers.0.exists below;
+        targets = λ p below on. has_words g set at t to numbers.0 p below (flags_of g alive places fields st t set p passes.sim numbers.0.exists below ∙ on);
+      }
 
-    was : HoldsFields g.typed g.image fields.active st t.memory
-    was = fields.opens (OpenAmong g alive) t.at st t.memory passes.sim.memory
+      value_there : (x : ℕ → ℕ) → ((q : ℕ) → w q % 2 ^ bits ≡ x q) → (p : ℕ) → p < processors (shapes g) a.set → fields.active set p ≡ true → field_number t.memory (place g a) p ≡ x p
+      value_there x same p below on =
+          let inside = subst (λ (q : ℕ). p < processors (shapes g) q) numbers.1.of_set below in
+          numbers.1.are p inside (flags_of g alive places fields st t set p passes.sim numbers.1.exists inside ∙ on) ∙ same p
 
-    small : (q : ℕ) → st.parallel (V.File k) 0 q < 2 ^ info.elem.bits
-    small q = carries.small st t passes.sim q
+      variable_there : (p : ℕ) → p < processors (shapes g) dest.set → true ≡ true → field_number t.memory (place g dest) p ≡ st.parallel variable 0 p
+      variable_there p below all = carries.numbers st t passes.sim (length e.code) named (let there = passes.at.stands in omega (arith, there)) p (subst (λ (q : ℕ). p < processors (shapes g) q) carries.of_set below)
 
-    -- the machine has the targets of the source, what is sent, and the variable
-    targets_there : HasTargets (shapes g) t.memory (place g at) send
-    unfolding positions
-    targets_there = record {
-      count = ap (λ (xs : List ℕ). position_count xs) (sym (fields.same_extents set numbers.0.exists));
-      active = λ p below. flags_of g alive places fields st t set p passes.sim numbers.0.exists below;
-      targets = λ p below on. has_words g set at t to numbers.0 p below (flags_of g alive places fields st t set p passes.sim numbers.0.exists below ∙ on);
-    }
+      sends_leaves : (write : Write) → write.run ≡ place g dest → begun g.image (placed_instr g i) t ≡ Goes (wrote g write t) → (value : ℕ → ℕ) → ((q : ℕ) → value q < 2 ^ info.elem.bits)
+          → ((q : ℕ) → q < processors (shapes g) dest.set → field_number (written write t.memory) (place g dest) q ≡ (with_positions variable 0 (λ x. is_sent_to send x) value st).parallel variable 0 q) → Leaves g alive d (with_instr i e) s (with_positions variable 0 (λ x. is_sent_to send x) value st)
+      unfolding tests_passed
+      sends_leaves write run goes value few has =
+          writes_leave g places fields alive variable info of dest carries living d e (with_instr i e) s st (Unit {0}) (tests_passed g alive (length d.fields) d e s st (Unit {0}) (omega arith) passes) tt write
+          (instr_writes g i dest (at ∷ a ∷ []) e t write (entry_and_below g places fields alive variable info of dest carries) within passes.at.stands plain names run goes) (λ x. is_sent_to send x) value
+          (λ q below. has q (subst (λ (x : ℕ). q < processors (shapes g) x) (sym carries.of_set) below)) few
 
-    value_there : (x : ℕ → ℕ) → ((q : ℕ) → w q % 2 ^ bits ≡ x q) → (p : ℕ) → p < processors (shapes g) a.set → fields.active set p ≡ true → field_number t.memory (place g a) p ≡ x p
-    value_there x same p below on =
-        let inside = subst (λ (q : ℕ). p < processors (shapes g) q) numbers.1.of_set below in
-        numbers.1.are p inside (flags_of g alive places fields st t set p passes.sim numbers.1.exists inside ∙ on) ∙ same p
+    -- without an operator
+    pub set_leaves : (w : ℕ → ℕ) (s : CodeState) (a : Field) (e : Draft) → BothStand info.elem.bits w s a e → (to_elem from : Elem) → ((q : ℕ) → (w q % 2 ^ info.elem.bits ≡ v q) × (v q < 2 ^ info.elem.bits)) → Within g (with_instr (I.SendWithOverwrite dest to_elem at a) e)
+        → Leaves g alive d (with_instr (I.SendWithOverwrite dest to_elem at a) e) s (sent A.Set to_elem from variable send st)
+    unfolding sent begun applied after step_of
+    set_leaves w s a e b to_elem from same within =
+        sends_leaves info.elem.bits w s a e b i refl refl within (overwriting (shapes g) t_here.memory (place g dest) (place g at) (place g a)) refl refl (λ q. received st.winner A.Set to_elem from send (st.parallel variable 0 q) q)
+        (λ q. set_few st.winner to_elem from send info.elem.bits (st.parallel variable 0 q) q (λ r. (same r).1) (small info.elem.bits w s a e b i refl refl within q))
+        (λ q below. overwriting_sends_store (shapes g) t_here.memory [] (place g dest) (place g at) (place g a) to_elem send st variable (targets_there info.elem.bits w s a e b i refl refl within) (numbers info.elem.bits w s a e b i refl refl within).1.of_set
+        (value_there info.elem.bits w s a e b i refl refl within v (λ r. (same r).0)) (λ r below on. subst (λ (x : ℕ). v r < 2 ^ x) (sym carries.len) (same r).1) (was info.elem.bits w s a e b i refl refl within).winner (variable_there info.elem.bits w s a e b i refl refl within) to_elem from q below refl)
+      where
+        i : Instr
+        i = I.SendWithOverwrite dest to_elem at a
 
-    variable_there : (p : ℕ) → p < processors (shapes g) of → true ≡ true → field_number t.memory (place g variable) p ≡ st.parallel (V.File k) 0 p
-    variable_there p below all = carries.numbers st t passes.sim (length e.code) named (let there = passes.at.stands in omega (arith, there)) p below
+        t_here : CodeState
+        t_here = t info.elem.bits w s a e b i refl refl within
 
-    sends_leaves : (write : Write) → write.run ≡ place g variable → begun g.image (placed_instr g i) t ≡ Goes (wrote g write t) → (value : ℕ → ℕ) → ((q : ℕ) → value q < 2 ^ info.elem.bits)
-        → ((q : ℕ) → q < processors (shapes g) of → field_number (written write t.memory) (place g variable) q ≡ (with_positions (V.File k) 0 (λ x. is_sent_to send x) value st).parallel (V.File k) 0 q) → Leaves g alive d (with_instr i e) s (with_positions (V.File k) 0 (λ x. is_sent_to send x) value st)
-    unfolding tests_passed
-    sends_leaves write run goes value few has =
-        writes_leave g places fields alive (V.File k) info of variable carries (passes.at.files k) d e (with_instr i e) s st (Unit {0}) (tests_passed g alive (length d.fields) d e s st (Unit {0}) (omega arith) passes) tt write
-        (instr_writes g i variable (at ∷ a ∷ []) e t write (entry_and_below g places fields alive (V.File k) info of variable carries) within passes.at.stands plain names run goes) (λ x. is_sent_to send x) value has few
+    -- with an operator that folds
+    pub combined_leaves : (op : AssignOp) (o : Op) → assign_op_of op ≡ Some o → folds op ≡ true → (w : ℕ → ℕ) (s : CodeState) (a : Field) (e : Draft) → BothStand 32 w s a e → (to_elem from : Elem) → from.bits ≡ 32 → info.elem.bits ≡ to_elem.bits
+        → ((q : ℕ) → (w q % 2 ^ 32 ≡ sent_word o (v q)) × (v q < 2 ^ 32)) → Within g (with_instr (I.SendWithCombiner (fold_of o (is_signed from)) dest to_elem at a) e)
+        → Leaves g alive d (with_instr (I.SendWithCombiner (fold_of o (is_signed from)) dest to_elem at a) e) s (sent op to_elem from variable send st)
+    unfolding sent begun applied after step_of
+    combined_leaves op o is_op folding w s a e b to_elem from wide long same within =
+        sends_leaves 32 w s a e b i refl refl within (combining (shapes g) t_here.memory (fold_of o (is_signed from)) (place g dest) to_elem (place g at) (place g a)) refl refl (λ q. received st.winner op to_elem from send (st.parallel variable 0 q) q)
+        (λ q. subst (λ (x : ℕ). received st.winner op to_elem from send (st.parallel variable 0 q) q < 2 ^ x) (sym long) (folded_few st.winner op to_elem from send (st.parallel variable 0 q) q folding))
+        (λ q below. combining_sends_store (shapes g) t_here.memory [] (place g dest) (place g at) (place g a) send st variable (targets_there 32 w s a e b i refl refl within) op o is_op folding (numbers 32 w s a e b i refl refl within).1.of_set
+        (value_there 32 w s a e b i refl refl within (λ r. sent_word o (v r)) (λ r. (same r).0)) (λ r below on. (same r).1) (was 32 w s a e b i refl refl within).winner (variable_there 32 w s a e b i refl refl within) to_elem from wide (carries.len ∙ long) q below refl)
+      where
+        i : Instr
+        i = I.SendWithCombiner (fold_of o (is_signed from)) dest to_elem at a
 
-  -- without an operator
-  pub set_leaves : (m : ℕ) (w : ℕ → ℕ) (s : CodeState) (a : Field) (y e : Draft) → Extended (for_variable g of k info y) m e → BothStand info.elem.bits w s a e → (to_elem from : Elem) → ((q : ℕ) → (w q % 2 ^ info.elem.bits ≡ v q) × (v q < 2 ^ info.elem.bits))
-      → Within g (with_instr (I.SendWithOverwrite (next_field of info.elem.bits y) to_elem at a) e) → Leaves g alive d (with_instr (I.SendWithOverwrite (next_field of info.elem.bits y) to_elem at a) e) s (sent A.Set to_elem from (V.File k) send st)
-  unfolding sent begun applied after step_of
-  set_leaves m w s a y e grown b to_elem from same within =
-      sends_leaves info.elem.bits m w s a y e grown b i refl refl within (overwriting (shapes g) t_here.memory (place g (next_field of info.elem.bits y)) (place g at) (place g a)) refl refl (λ q. received st.winner A.Set to_elem from send (st.parallel (V.File k) 0 q) q)
-      (λ q. set_few st.winner to_elem from send info.elem.bits (st.parallel (V.File k) 0 q) q (λ r. (same r).1) (small info.elem.bits m w s a y e grown b i refl refl within q))
-      (λ q below. overwriting_sends_store (shapes g) t_here.memory [] (place g (next_field of info.elem.bits y)) (place g at) (place g a) to_elem send st (V.File k) (targets_there info.elem.bits m w s a y e grown b i refl refl within) (numbers info.elem.bits m w s a y e grown b i refl refl within).1.of_set
-      (value_there info.elem.bits m w s a y e grown b i refl refl within v (λ r. (same r).0)) (λ r below on. (same r).1) (was info.elem.bits m w s a y e grown b i refl refl within).winner (variable_there info.elem.bits m w s a y e grown b i refl refl within) to_elem from q below refl)
-    where
-      i : Instr
-      i = I.SendWithOverwrite (next_field of info.elem.bits y) to_elem at a
-
-      t_here : CodeState
-      t_here = t info.elem.bits m w s a y e grown b i refl refl within
-
-  -- with an operator that folds
-  pub combined_leaves : (op : AssignOp) (o : Op) → assign_op_of op ≡ Some o → folds op ≡ true → (m : ℕ) (w : ℕ → ℕ) (s : CodeState) (a : Field) (y e : Draft) → Extended (for_variable g of k info y) m e → BothStand 32 w s a e → (to_elem from : Elem) → from.bits ≡ 32 → info.elem.bits ≡ to_elem.bits
-      → ((q : ℕ) → (w q % 2 ^ 32 ≡ sent_word o (v q)) × (v q < 2 ^ 32)) → Within g (with_instr (I.SendWithCombiner (fold_of o (is_signed from)) (next_field of info.elem.bits y) to_elem at a) e)
-      → Leaves g alive d (with_instr (I.SendWithCombiner (fold_of o (is_signed from)) (next_field of info.elem.bits y) to_elem at a) e) s (sent op to_elem from (V.File k) send st)
-  unfolding sent begun applied after step_of
-  combined_leaves op o is_op folding m w s a y e grown b to_elem from wide long same within =
-      sends_leaves 32 m w s a y e grown b i refl refl within (combining (shapes g) t_here.memory (fold_of o (is_signed from)) (place g (next_field of info.elem.bits y)) to_elem (place g at) (place g a)) refl refl (λ q. received st.winner op to_elem from send (st.parallel (V.File k) 0 q) q)
-      (λ q. subst (λ (x : ℕ). received st.winner op to_elem from send (st.parallel (V.File k) 0 q) q < 2 ^ x) (sym long) (folded_few st.winner op to_elem from send (st.parallel (V.File k) 0 q) q folding))
-      (λ q below. combining_sends_store (shapes g) t_here.memory [] (place g (next_field of info.elem.bits y)) (place g at) (place g a) send st (V.File k) (targets_there 32 m w s a y e grown b i refl refl within) op o is_op folding (numbers 32 m w s a y e grown b i refl refl within).1.of_set
-      (value_there 32 m w s a y e grown b i refl refl within (λ r. sent_word o (v r)) (λ r. (same r).0)) (λ r below on. (same r).1) (was 32 m w s a y e grown b i refl refl within).winner (variable_there 32 m w s a y e grown b i refl refl within) to_elem from wide long q below refl)
-    where
-      i : Instr
-      i = I.SendWithCombiner (fold_of o (is_signed from)) (next_field of info.elem.bits y) to_elem at a
-
-      t_here : CodeState
-      t_here = t 32 m w s a y e grown b i refl refl within
+        t_here : CodeState
+        t_here = t 32 w s a e b i refl refl within
 
   -- the negative of a value stands in a field of its own
   pub both_negated : (w : ℕ → ℕ) (s : CodeState) (a : Field) (e : Draft) → BothStand 32 w s a e → Within g (with_instr (I.Negate (next_field set 32 e) a) (with_entry set 32 W.Own e)) → BothStand 32 (λ q. unary_of U.Minus (w q)) s (next_field set 32 e) (with_instr (I.Negate (next_field set 32 e) a) (with_entry set 32 W.Own e))

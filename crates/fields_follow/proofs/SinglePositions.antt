@@ -65,7 +65,7 @@ use Rattle.vp_sets.specs.Positions.{position_count}
 use Rattle.vp_sets.proofs.PositionLaws.{geometry_parts}
 use Rattle.code_follows.specs.Fragment.{AreIn, IsIn, elems_of, naming}
 use Rattle.code_follows.proofs.Arguments.{AreDone, AreHeld, Given, arguments_follow}
-use Rattle.code_follows.proofs.Following.{Arrives, Extends, Follows, HasRegisters, Keeps, Sim, arrives_fresh, at_once, finishes_later, follows_same, held, keeps_all, keeps_less, keeps_on, register_at, register_is, register_kept, then_follows, then_gives}
+use Rattle.code_follows.proofs.Following.{Arrives, Extends, Follows, HasRegisters, Keeps, Sim, arrives_fresh, at_once, finishes_later, follows_same, held, keeps_all, keeps_less, keeps_on, register_at, register_is, register_kept, then_follows, then_gives, extends_then}
 use Rattle.code_follows.proofs.Growing.{Extended, as_it_was, extended}
 use Rattle.code_follows.proofs.Settings.{OpenAmong, At, Begun, Reaches, Setting, Within, and_one, at_next, begun_later, earlier, ends_now, layout, next_stands, one, onto, placed_instr, start, stay}
 use Rattle.code_follows.proofs.Standing.{some_same}
@@ -81,7 +81,7 @@ use Rattle.fields_follow.proofs.Locating.{and_step}
 use Rattle.fields_follow.proofs.Meaning.{then_ordered}
 use Rattle.fields_follow.proofs.Outcomes.{ended_follows}
 use Rattle.fields_follow.proofs.Places.{names_first, stands_here as stands_in}
-use Rattle.fields_follow.proofs.Values.{Finds, finds_read}
+use Rattle.fields_follow.proofs.Values.{Finds, finds_extends, finds_read}
 use Rattle.fields_follow.proofs.Variables.{Carries, variable_fits}
 
 -- ---- indexes in registers
@@ -409,6 +409,10 @@ module _ (g : Setting) (has : HasRegisters g) (alive : Variable → Type 0) (sco
       pub finds : (s : CodeState) (st : State) → Sim g alive st s → (d : Draft) → (field_of g.typed (layout g) x 0 d ≡ Fails) ⊎ Finds_it d
       finds s st sim d = finds_read (under g active) (registers_under g active has) alive n ready (places_under g active known.places) (fields_under g active scope known.same_extents) of x info d read_so living names.0.named refl refl s st (sim_open g scope active known alive st s sim)
 
+      pub found_extends : (s : CodeState) (st : State) → Sim g alive st s → (d : Draft) → Extends g d (field_of g.typed (layout g) x 0 d)
+      unfolding Extends
+      found_extends s st sim d = finds_extends (under g active) (registers_under g active has) alive n ready (places_under g active known.places) (fields_under g active scope known.same_extents) of x info d (finds s st sim d)
+
       extents_are : of < length (shapes g) → extents_in g.typed of ≡ (extents g of).own
       extents_are exists = (known.places.grids of exists).0
 
@@ -575,10 +579,7 @@ module _ (g : Setting) (has : HasRegisters g) (alive : Variable → Type 0) (sco
       reads_follow d s st R r free here sim dest =
           follows_same g R s (sym (then_ordered (operands scope indexes active st) (λ given between. indexed_target scope active ty.shape place x of given between) (λ there after. Gives (read after there) after))) (read_code r d)
           (then_follows g (Found of x d s) R s s (located scope single active st) (λ there after. Gives (read after there) after) (found_in place of indexes d) (λ q after. read_in q r after) (stay g s) (found_follows d s st free here sim)
-          (λ q after. reading_grows q after (finds s st sim after)) (λ there u q f h. reads_there d s R r dest there u q f h))
+          (λ q after. reading_grows q after) (λ there u q f h. reads_there d s R r dest there u q f h))
         where
-          reading_grows : (q : ℕ) (after : Draft) → (field_of g.typed (layout g) x 0 after ≡ Fails) ⊎ Finds_it after → Extends g after (read_in q r after)
-          reading_grows q after (inl fails) = subst (λ (m : Made Field). Extends g after (then_make m (λ source last. Makes (O.Scalar r) (reading_in q r source last)))) (sym fails) tt
-          reading_grows q after (inr found) =
-              subst (λ (m : Made Field). Extends g after (then_make m (λ source last. Makes (O.Scalar r) (reading_in q r source last)))) (sym found.is)
-              (0 + 1, extended after found.e (reading_in q r found.f found.e) 0 1 found.grown (and_one g (I.ReadFromProcessor ty.elem.signed r q found.f) found.e))
+          reading_grows : (q : ℕ) (after : Draft) → Extends g after (read_in q r after)
+          reading_grows q after = extends_then g after (field_of g.typed (layout g) x 0 after) (λ source last. Makes (O.Scalar r) (reading_in q r source last)) (found_extends s st sim after) (λ source last. (1, and_one g (I.ReadFromProcessor ty.elem.signed r q source) last))

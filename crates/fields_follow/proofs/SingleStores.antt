@@ -63,7 +63,7 @@ use Rattle.fields_follow.proofs.Passing.{Passes, passes_all, passes_from}
 use Rattle.fields_follow.proofs.PassingTests.{tests_passed}
 use Rattle.fields_follow.proofs.Places.{names_first, stands_here as stands_in}
 use Rattle.fields_follow.proofs.Running.{leaves_ran, starts_there}
-use Rattle.fields_follow.proofs.SinglePositions.{Finds_it as Finds_there, Found, finds as finds_there, found_follows, found_in, info as info_of, spot_is}
+use Rattle.fields_follow.proofs.SinglePositions.{Finds_it as Finds_there, Found, finds as finds_there, found_extends, found_follows, found_in, info as info_of, spot_is}
 use Rattle.fields_follow.proofs.Starts.{Starts}
 use Rattle.fields_follow.proofs.Values.{starts_found}
 use Rattle.fields_follow.proofs.VariableWrites.{entry_and_below, writes_leave}
@@ -117,12 +117,11 @@ module _ (g : Setting) (has : HasRegisters g) (alive : Variable → Type 0) (sco
   abbrev writes : ℕ → Out → Draft → Made Out
   writes to v d = then_make (field_of g.typed (layout g) x 0 d) (λ dest after. written_in to v dest after)
 
-  writes_grow : (to : ℕ) (v : Out) (d : Draft) → FindsIt d → Extends g d (writes to v d)
-  unfolding Extends then_make
-  writes_grow to v d (inl fails) = subst (λ (m : Made Field). Extends g d (then_make m (λ dest after. written_in to v dest after))) (sym fails) tt
-  writes_grow to v d (inr found) =
-      subst (λ (m : Made Field). Extends g d (then_make m (λ dest after. written_in to v dest after))) (sym found.is)
-      (extends_in_register g has alive d v _ (λ w. (0 + 1, extended d found.e (writes_in to w found.f found.e) 0 1 found.grown (and_one g (I.WriteToProcessor found.f to (K.Reg w)) found.e))))
+  writes_grow : (to : ℕ) (v : Out) (s : CodeState) (st : State) → Sim g alive st s → (d : Draft) → Extends g d (writes to v d)
+  unfolding Extends
+  writes_grow to v s st sim d =
+      extends_then g d (field_of g.typed (layout g) x 0 d) (λ dest after. written_in to v dest after) (found_extends g has alive scope active known n ready ty place r indexes x of scalar read_so living isin c done s st sim d)
+      (λ dest after. extends_in_register g has alive after v _ (λ w. (1, and_one g (I.WriteToProcessor dest to (K.Reg w)) after)))
 
   store_is : (to : ℕ) (v : Out) (d : Draft) → stored_code g.typed (layout g) whole (S.Indexed (O.Scalar to)) v d ≡ writes to v d
   unfolding stored_code communicated out-TExpr Carrier.out assigned_code stored_at then_make in_register from indexed_field indexed part_register
@@ -237,7 +236,7 @@ module _ (g : Setting) (has : HasRegisters g) (alive : Variable → Type 0) (sco
       from = (type_of value).elem
 
       behind_grows : (to : ℕ) (between : Draft) → Extends g between (behind to between)
-      behind_grows to between = extends_then g between (computes between) (λ v after. writes to v after) (extends_grown g has alive _ between _ _ ((lengths_if_made g.typed g.instance (layout g)).value took n value between own (ready between))) (λ v after. writes_grow to v after (finds_it s st sim after))
+      behind_grows to between = extends_then g between (computes between) (λ v after. writes to v after) (extends_grown g has alive _ between _ _ ((lengths_if_made g.typed g.instance (layout g)).value took n value between own (ready between))) (λ v after. writes_grow to v s st sim after)
 
       at_value : (u : State) (to : ℕ) (f : Draft) (there : Target) (h : Found g has alive scope active of x d s there u to f) (v : Value) (u2 : State) (out : Out) (f2 : Draft) → Arrives g alive from false f h.arrives.t v u2 out f2
           → Follows g Q s (assigned scope active sending A.Set ty (type_of value) (OfPosition x h.position) v u2) (writes to out f2)
@@ -275,4 +274,4 @@ module _ (g : Setting) (has : HasRegisters g) (alive : Variable → Type 0) (sco
       at_found there u to f h =
           subst (λ (y : Target). Follows g Q s (Source.then_do (evaluated scope value active u) (λ v after. assigned scope active sending A.Set ty (type_of value) y v after)) (behind to f)) (sym h.is)
           (then_follows g (Value_of g has alive from false f h.arrives.t) Q s h.arrives.t (evaluated scope value active u) (λ v after. assigned scope active sending A.Set ty (type_of value) (OfPosition x h.position) v after) (computes f) (λ v after. writes to v after) h.arrives.go
-          (does took f h.arrives.t u (begun_later g alive d f h.arrives.extended.0 h.arrives.extended.1 free) h.arrives.at h.arrives.sim) (λ v after. writes_grow to v after (finds_it s st sim after)) (λ v u2 out f2 a. at_value u to f there h v u2 out f2 a))
+          (does took f h.arrives.t u (begun_later g alive d f h.arrives.extended.0 h.arrives.extended.1 free) h.arrives.at h.arrives.sim) (λ v after. writes_grow to v s st sim after) (λ v u2 out f2 a. at_value u to f there h v u2 out f2 a))

@@ -34,7 +34,7 @@ use Rattle.source_meaning.specs.State as Source
 use Rattle.source_meaning.specs.State.{State}
 use Rattle.source_meaning.specs.Values.{Value}
 use Rattle.code_follows.specs.Fragment.{NamesAmong}
-use Rattle.code_follows.proofs.Following.{Follows, HasRegisters, Sim, follows_same, held}
+use Rattle.code_follows.proofs.Following.{Extends, Follows, HasRegisters, Sim, follows_same, held}
 use Rattle.code_follows.proofs.Growing.{Extended, and_instr, as_it_was}
 use Rattle.code_follows.proofs.Settings.{Setting, Within, and_one, layout, start}
 use Rattle.fields_follow.specs.Fragment.{IsOfFileOrBlock, IsPure}
@@ -150,6 +150,12 @@ module _ (g : Setting) where
           carries = λ after m more within. subst (λ (x : Field). Carries g alive (V.Local k) info f.set x) (sym (same after m more within)) (local_carries g alive fields k info f living is st s sim);
           whole = λ within. let found_it = same d 0 (as_it_was d) within in found_it ∙ ap (λ (n : ℕ). record { set = f.set; offset = f.offset; len = n }) is.len ∙ ap (λ (n : ℕ). record { set = f.set; offset = n; len = info.elem.bits }) (ap (λ (x : Field). x.offset) (sym found_it));
         })
+
+    -- in both cases it goes on from the draft
+    pub finds_extends : (set : ℕ) (x : Variable) (info : VarInfo) (d : Draft) → FindsOrFails set x info d → Extends g d (field_of g.typed (layout g) x 0 d)
+    unfolding Extends
+    finds_extends set x info d (inl fails) = subst (λ (m : Made Field). Extends g d m) (sym fails) tt
+    finds_extends set x info d (inr found) = subst (λ (m : Made Field). Extends g d m) (sym found.is) (0, found.grown)
 
     -- so those are that expressions read
     pub finds_read : (set : ℕ) (x : Variable) (info : VarInfo) (d : Draft) → IsOfFileOrBlock x → alive x → variable_named g.typed g.instance x ≡ Some info → info.shape ≡ Some set → info.array ≡ None → (s : CodeState) (st : State) → Sim g alive st s → FindsOrFails set x info d

@@ -7,8 +7,8 @@
 -- of the other operands then fails only where it is chosen, as the right one of `&&` and `||` does where the left one does
 -- not decide, which may be a scalar. They are assigned to variables of the file and of blocks, and folded into numbers and
 -- onto scalar variables, as scans of them and of ones with operators on these are, and they are the conditions of
--- `where`. Folds and scans are of the active positions. They are sent, as those scans are, to variables of the file, of
--- any shape, by such indexes, also with an operator that folds. Scalars that change variables, by assignments, steps and
+-- `where`. Folds and scans are of the active positions. They are sent, as those scans are, to parallel variables of any
+-- shape, by such indexes, also with an operator that folds. Scalars that change variables, by assignments, steps and
 -- `getchar`, are assigned as parallel expressions are, also with operators. Scalar expressions read single positions of
 -- parallel variables, by any scalar indexes, and scalars are stored there. Parallel variables of blocks have no
 -- initialisers. Under `where` and `everywhere` stand the statements of scalar programs with these, also calls, `return`
@@ -309,9 +309,9 @@ unfoldable pub IsFoldOnto : TExpr → Type 0
 IsFoldOnto (T.Assign' ty place op p target q value) = (ty ≡ type_of target) × IsScalarTarget target × ((reduction : ReduceOp) × ((op ≡ assignment_of reduction) × ((set : ℕ) × IsFolded set value)))
 IsFoldOnto _ = ⊥
 
--- what is sent to: a variable of the file, of any shape, under a left index of the current one
+-- what is sent to: a variable of the file or of a block, of any shape, under a left index of the current one
 unfoldable pub IsSendTarget : ℕ → TExpr → Type 0
-IsSendTarget set (T.LeftIndex' ty place p indexes (V.File k) of) = (ty.shape ≡ Some set) × AreIndexes set indexes × HasPure set indexes
+IsSendTarget set (T.LeftIndex' ty place p indexes x of) = (ty.shape ≡ Some set) × IsOfFileOrBlock x × AreIndexes set indexes × HasPure set indexes
 IsSendTarget set (T.Brackets' ty p inner) = (ty ≡ type_of inner) × IsSendTarget set inner
 IsSendTarget set _ = ⊥
 
