@@ -1,5 +1,5 @@
 -- The exchange of bits between two planes, lane by lane.
-use Rattle.std.proofs.Common.{◌≡◌, ℕ, suc, zero, ◌+◌, ◌-◌, ◌*◌, ◌/◌, ◌%◌, ◌<◌, ◌≤◌, ◌⊎◌, min, cond, nat_lt, nat_eq, Bool, true, false, List, length, refl, sym, ◌∙◌, ap, subst, inl, inr, arith}
+use Rattle.std.proofs.Common.{◌≡◌, ℕ, suc, zero, ◌+◌, ◌-◌, ◌*◌, ◌/◌, ◌%◌, ◌<◌, ◌≤◌, ◌⊎◌, min, max, cond, nat_lt, nat_eq, Bool, true, false, List, length, refl, sym, ◌∙◌, ap, subst, inl, inr, arith}
 use Rattle.std.specs.Int.{bit_at}
 use Rattle.std.proofs.lemmas.Bool.{cases_lt, lt-ltb, le-ltb, eqb-true}
 use Rattle.std.proofs.Math.Bool.{◌&&◌}
@@ -51,48 +51,34 @@ at_odd = by_step (λ s. (i : ℕ) → i < 512 → i / s % 2 ≡ 1
 parity : (n : ℕ) → (n % 2 ≡ 0) ⊎ (n % 2 ≡ 1)
 parity n = elim (cases_lt (n % 2) 1) [ inl l ↦ inl (omega arith) | inr g ↦ inr (omega arith) ]
 
--- the bits of the change, and of the two planes after it
-module _ (first second even down diff change up : List ℕ) (s : ℕ) (step : IsStep s)
+-- a bit of the first plane where the lane is even, and else one of the second: by a mask that is 1 at even lanes
+picked : (s i x y even odd from_even from_odd : ℕ) → x < 2 → y < 2 → even ≡ 1 - i / s % 2 → odd ≡ 1 - even
+    → (i / s % 2 ≡ 0 → from_even ≡ x) → (i / s % 2 ≡ 1 → from_odd ≡ y)
+    → max (min from_even even) (min from_odd odd) ≡ cond (nat_eq (i / s % 2) 0) x y
+picked s i x y even odd from_even from_odd xb yb even_is odd_is at_x at_y = elim (parity (i / s)) [
+  | inl e ↦
+      let k : max (min from_even even) (min from_odd odd) ≡ x = omega (arith, at_x e, even_is, odd_is, e, xb) in
+      k ∙ sym (ap (λ n. cond (nat_eq n 0) x y) e)
+  | inr e ↦
+      let k : max (min from_even even) (min from_odd odd) ≡ y = omega (arith, at_y e, even_is, odd_is, e, yb) in
+      k ∙ sym (ap (λ n. cond (nat_eq n 0) x y) e)
+]
+
+-- the bits of the two planes after the exchange
+module _ (first second even odd down up : List ℕ) (s : ℕ) (step : IsStep s)
     (even_is : (i : ℕ) → i < 512 → bit even i ≡ 1 - i / s % 2)
+    (odd_is : (i : ℕ) → i < 512 → bit odd i ≡ 1 - bit even i)
     (down_is : (i : ℕ) → i < 512 → bit down i ≡ cond (nat_lt (i % 64 + s) 64) (bit first (i + s)) 0)
-    (diff_is : (i : ℕ) → i < 512 → bit diff i ≡ (bit down i + bit second i) % 2)
-    (change_is : (i : ℕ) → i < 512 → bit change i ≡ min (bit diff i) (bit even i))
-    (up_is : (i : ℕ) → i < 512 → bit up i ≡ cond (nat_lt (i % 64) s) 0 (bit change (i - s))) where
-  change-even : (i : ℕ) → i < 512 → i / s % 2 ≡ 0 → bit change i ≡ (bit first (i + s) + bit second i) % 2
-  change-even i b e =
-      let d : bit down i ≡ bit first (i + s) = down_is i b ∙ ap (λ t. cond t (bit first (i + s)) 0) (lt-ltb (i % 64 + s) 64 (at_even s step i b e).0) in
-      omega (arith, change_is i b, even_is i b, diff_is i b, d, bit-lt first (i + s), bit-lt second i)
+    (up_is : (i : ℕ) → i < 512 → bit up i ≡ cond (nat_lt (i % 64) s) 0 (bit second (i - s))) where
+  pub swapped_first : (i : ℕ) → i < 512 → max (min (bit first i) (bit even i)) (min (bit up i) (bit odd i)) ≡ cond (nat_eq (i / s % 2) 0) (bit first i) (bit second (i - s))
+  swapped_first i b = picked s i (bit first i) (bit second (i - s)) (bit even i) (bit odd i) (bit first i) (bit up i) (bit-lt first i) (bit-lt second (i - s)) (even_is i b) (odd_is i b)
+      (λ e. refl)
+      (λ e. up_is i b ∙ ap (λ t. cond t 0 (bit second (i - s))) (le-ltb (i % 64) s (at_odd s step i b e).0))
 
-  change-odd : (i : ℕ) → i < 512 → i / s % 2 ≡ 1 → bit change i ≡ 0
-  change-odd i b e = omega (arith, change_is i b, even_is i b)
-
-  pub swapped_first : (i : ℕ) → i < 512 → (bit first i + bit up i) % 2 ≡ cond (nat_eq (i / s % 2) 0) (bit first i) (bit second (i - s))
-  swapped_first i b = elim (parity (i / s)) [
-    | inl e ↦
-        let u : bit up i ≡ 0 = elim (at_even s step i b e).2 [
-          | inl low ↦ up_is i b ∙ ap (λ t. cond t 0 (bit change (i - s))) (lt-ltb (i % 64) s low)
-          | inr high ↦ up_is i b ∙ ap (λ t. cond t 0 (bit change (i - s))) (le-ltb (i % 64) s high.0) ∙ change-odd (i - s) (omega arith) high.1
-        ] in
-        let k : (bit first i + bit up i) % 2 ≡ bit first i = omega (arith, u, bit-lt first i) in
-        k ∙ sym (ap (λ n. cond (nat_eq n 0) (bit first i) (bit second (i - s))) e)
-    | inr e ↦
-        let o : (s ≤ i % 64) × ((i - s) / s % 2 ≡ 0) × ((i - s) % 64 + s < 64) × (i - s + s ≡ i) = at_odd s step i b e in
-        let u : bit up i ≡ (bit first (i - s + s) + bit second (i - s)) % 2 =
-        up_is i b ∙ ap (λ t. cond t 0 (bit change (i - s))) (le-ltb (i % 64) s o.0) ∙ change-even (i - s) (omega arith) o.1 in
-        let v : bit first (i - s + s) ≡ bit first i = ap (λ n. bit first n) o.3 in
-        let k : (bit first i + bit up i) % 2 ≡ bit second (i - s) = omega (arith, u, v, bit-lt first i, bit-lt second (i - s)) in
-        k ∙ sym (ap (λ n. cond (nat_eq n 0) (bit first i) (bit second (i - s))) e)
-  ]
-
-  pub swapped_second : (i : ℕ) → i < 512 → (bit second i + bit change i) % 2 ≡ cond (nat_eq (i / s % 2) 0) (bit first (i + s)) (bit second i)
-  swapped_second i b = elim (parity (i / s)) [
-    | inl e ↦
-        let k : (bit second i + bit change i) % 2 ≡ bit first (i + s) = omega (arith, change-even i b e, bit-lt first (i + s), bit-lt second i) in
-        k ∙ sym (ap (λ n. cond (nat_eq n 0) (bit first (i + s)) (bit second i)) e)
-    | inr e ↦
-        let k : (bit second i + bit change i) % 2 ≡ bit second i = omega (arith, change-odd i b e, bit-lt second i) in
-        k ∙ sym (ap (λ n. cond (nat_eq n 0) (bit first (i + s)) (bit second i)) e)
-  ]
+  pub swapped_second : (i : ℕ) → i < 512 → max (min (bit down i) (bit even i)) (min (bit second i) (bit odd i)) ≡ cond (nat_eq (i / s % 2) 0) (bit first (i + s)) (bit second i)
+  swapped_second i b = picked s i (bit first (i + s)) (bit second i) (bit even i) (bit odd i) (bit down i) (bit second i) (bit-lt first (i + s)) (bit-lt second i) (even_is i b) (odd_is i b)
+      (λ e. down_is i b ∙ ap (λ t. cond t (bit first (i + s)) 0) (lt-ltb (i % 64 + s) 64 (at_even s step i b e).0))
+      (λ e. refl)
 
 -- the pair of planes to which a plane belongs
 abbrev pub pair_of : ℕ → ℕ → ℕ

@@ -2,6 +2,7 @@
 use Rattle.std.proofs.Common.{◌≡◌, ◌≢◌, ℕ, ◌+◌, ◌-◌, ◌*◌, ◌/◌, ◌%◌, ◌^◌, ◌<◌, ◌≤◌, cond, nat_lt, List, map, length, get_or, Fits, w64, sym, ◌∙◌, ap, inl, inr, arith}
 use Rattle.std.specs.Simd.Lanes.{zip2, Each1}
 use Rattle.std.specs.Int.{bit_at, bit_not}
+use Rattle.std.specs.Prelude.{slice_index}
 use Rattle.std.proofs.Math.ListN.{replicate, set}
 use Rattle.std.proofs.lemmas.List.{get_or-map, get_or-set_same, get_or-set_other}
 use Rattle.std.proofs.lemmas.Simd.{get_or-zip2, Each1-get_or, get_or-replicate}
@@ -97,4 +98,12 @@ bit-set_other a la i h w same k kb n = elim (cases_eq (k / 64) (i / 64)) [
       ap (λ p. bit_at (get_or (set a (i / 64) w) p 0) (k % 64)) e ∙ ap (λ p. bit_at p (k % 64)) (get_or-set_same a (i / 64) w 0 (omega arith))
       ∙ same (k % 64) (omega arith) (λ q. absurd (omega arith)) ∙ ap (λ p. bit_at (get_or a p 0) (k % 64)) (sym e)
   | inr m ↦ ap (λ p. bit_at p (k % 64)) (get_or-set_other a (i / 64) (k / 64) w 0 m)
+]
+
+-- the lanes of a word that is 0
+pub word_none : (plane : List ℕ) (j : ℕ) → slice_index plane j ≡ 0 → ((i : ℕ) → i < 64 * j → bit plane i ≡ 0) → (i : ℕ) → i < 64 * (j + 1) → bit plane i ≡ 0
+unfolding bit
+word_none plane j none before i h = elim (cases_lt i (64 * j)) [
+  | inl l ↦ before i l
+  | inr g ↦ ap (λ w. bit_at (slice_index plane w) (i % 64)) (let q : i / 64 ≡ j = omega (arith, g, h) in q) ∙ ap (λ w. bit_at w (i % 64)) none ∙ bit_at-zero (i % 64)
 ]

@@ -1,4 +1,4 @@
-ghost use Rattle.std.specs.Prelude.{◌≡◌, ◌≢◌, ℕ, ◌<◌, ◌+◌, ◌*◌, ◌-◌, ◌/◌, ◌%◌, ◌^◌, min, max, if◌then◌else◌, nat_lt};
+ghost use Rattle.std.specs.Prelude.{◌≡◌, ◌≢◌, ℕ, ◌<◌, ◌+◌, ◌*◌, ◌-◌, ◌/◌, ◌%◌, ◌^◌, min, max, if◌then◌else◌, nat_lt, IsTrue};
 ghost use Rattle.std.specs.Int.{bit_at};
 ghost use Rattle.bit_planes.specs.Bits.{bit};
 
@@ -150,6 +150,27 @@ pub fn opposite(a: u64x8) -> u64x8
     ensures { (i : ℕ) → i < 512 → bit result i ≡ 1 - bit a i }
 {
     !a
+}
+
+/// Whether no lane has a 1. No word is skipped, so that all eight are looked at together.
+#[inline(always)]
+pub fn is_empty(a: u64x8) -> bool
+    ensures { IsTrue result → (i : ℕ) → i < 512 → bit a i ≡ 0 }
+{
+    let words = a.to_array();
+    let mut seen = 0;
+    'words: for j in 0..8usize {
+        seen |= words[j];
+    }
+    seen == 0
+}
+
+/// Whether each lane has a 1.
+#[inline(always)]
+pub fn is_full(a: u64x8) -> bool
+    ensures { IsTrue result → (i : ℕ) → i < 512 → bit a i ≡ 1 }
+{
+    is_empty(opposite(a))
 }
 
 /// Each bit moved to the lane `by` further, within its word of 64 lanes; 0 moves in.

@@ -4,7 +4,7 @@ ghost use Rattle.bit_planes.specs.Bits.{bit};
 ghost use Rattle.bit_planes.specs.Planes.{plane_at};
 ghost use Rattle.bit_planes.specs.Steps.{IsStep, PairExchanged, Exchanged, Transposed};
 
-use crate::plane::{Plane, both, differ, each_word, moved_down, moved_up};
+use crate::plane::{Plane, both, each_word, either, moved_down, moved_up, opposite};
 use std::simd::prelude::*;
 
 /// Two planes that stand `step` apart, after the bits of the first at odd multiples of `step` lanes
@@ -16,10 +16,10 @@ fn swapped(first: u64x8, second: u64x8, step: u64, even: u64x8) -> (u64x8, u64x8
     ensures first { (i : ℕ) → i < 512 → bit result.0 i ≡ (if nat_eq (i / step % 2) 0 then bit first i else bit second (i - step)) }
     ensures second { (i : ℕ) → i < 512 → bit result.1 i ≡ (if nat_eq (i / step % 2) 0 then bit first (i + step) else bit second i) }
 {
-    let change = both(differ(moved_down(first, step), second), even);
+    let odd = opposite(even);
     (
-        differ(first, moved_up(change, step)),
-        differ(second, change),
+        either(both(first, even), both(moved_up(second, step), odd)),
+        either(both(moved_down(first, step), even), both(second, odd)),
     )
 }
 

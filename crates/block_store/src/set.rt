@@ -34,6 +34,7 @@ pub struct BlockSet {
 }
 
 /// The lanes of block `k` that hold a position of the set; behind the last one there is padding.
+#[inline(always)]
 pub fn used_lanes(geometry: &Geometry, k: u32) -> u64x8
     requires { k < block_count geometry.now }
     ensures { (i : ℕ) → i < 512 → bit result i ≡ (if nat_lt (512 * k + i) (position_count geometry.now) then 1 else 0) }
@@ -44,6 +45,7 @@ pub fn used_lanes(geometry: &Geometry, k: u32) -> u64x8
 
 /// The lanes of block `k` that an instruction writes: those that are active, or all that hold a
 /// position.
+#[inline(always)]
 pub fn taking_lanes(plan: &SetPlan, block: &Block, k: u32, always: bool) -> u64x8
     requires block { k < block_count plan.now.geometry }
     requires context { plan.now.bits < length block.now.planes.items }

@@ -3,9 +3,7 @@ use Rattle.std.proofs.Common.{◌≡◌, ℕ, ◌+◌, ◌*◌, ◌/◌, ◌%◌
 use Rattle.std.specs.Prelude.{slice_index}
 use Rattle.std.specs.Int.{trailing_zeros}
 use Rattle.std.proofs.lemmas.Bool.{cases_lt, lt-ltb, le-ltb}
-use Rattle.std.proofs.lemmas.Nat.{pow_pos}
 use Rattle.std.proofs.lemmas.Nat.Bits.{bit_at-trailing_zeros}
-use Rattle.std.proofs.Math.Nat.{div-eq_of_lt}
 use Rattle.vp_sets.specs.Blocks.{block_count}
 use Rattle.cstar_base.specs.declared.operators.Winner.{Winner}
 use Rattle.bit_planes.specs.declared.block.Block.{Block}
@@ -110,17 +108,6 @@ first_is shapes instr args k first used active failing bad planes bits e is_used
     }
 
 -- ---- the first lane in which a plane is 1
-
--- the lanes of a word that is 0
-pub word_none : (plane : List ℕ) (j : ℕ) → slice_index plane j ≡ 0 → ((i : ℕ) → i < 64 * j → bit plane i ≡ 0) → (i : ℕ) → i < 64 * (j + 1) → bit plane i ≡ 0
-unfolding bit
-word_none plane j none before i h = elim (cases_lt i (64 * j)) [
-  | inl l ↦ before i l
-  | inr g ↦ ap (λ w. slice_index plane w / 2 ^ (i % 64) % 2) (let q : i / 64 ≡ j = omega (arith, g, h) in q) ∙ ap (λ w. w / 2 ^ (i % 64) % 2) none ∙ zero_digit (2 ^ (i % 64)) (pow_pos (i % 64))
-]
-  where
-    zero_digit : (s : ℕ) → 0 < s → 0 / s % 2 ≡ 0
-    zero_digit s h = ap (λ n. n % 2) (div-eq_of_lt h)
 
 -- the lowest 1 of a word that is not 0
 pub word_first : (plane : List ℕ) (j word t : ℕ) → word ≡ slice_index plane j → 0 < word → word < 2 ^ 64 → t ≡ trailing_zeros w64 word → ((i : ℕ) → i < 64 * j → bit plane i ≡ 0)

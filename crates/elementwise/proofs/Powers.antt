@@ -6,11 +6,11 @@ use Rattle.std.proofs.lemmas.Int.{ints}
 use Rattle.std.proofs.lemmas.Nat.{pow_pos, pow-add, mod_below, and_mask}
 use Rattle.std.proofs.lemmas.Nat.Bits.{bit_at_above}
 use Rattle.std.proofs.lemmas.Bool.{cases_lt, cases_eq, eq-eqb, ne_eqb}
-use Rattle.std.proofs.Math.Nat.{mod-eq_of_lt, div-eq_of_lt, div-add-mod, add-mul-div_left, add-mul-mod_self_right, mul_comm, mul-add, mul-add-div}
+use Rattle.std.proofs.Math.Nat.{mod-eq_of_lt, div-eq_of_lt, div-add-mod, add-mul-mod_self_right, mul_comm, mul-add, mul-add-div}
 use Rattle.std.proofs.Math.Pow.{pow-lt}
 use Rattle.cstar_base.specs.Numbers.{residue, number_of}
 use Rattle.cstar_base.specs.Operators.{operand, product_of, quotient_of, remainder_of, modulus_of, floor_rem}
-use Rattle.cstar_base.proofs.NumberLaws.{residue_is, residue_of_pos, number_unsigned, number_in_lower, two_halves}
+use Rattle.cstar_base.proofs.NumberLaws.{residue_is, residue_of_pos, number_unsigned, number_in_lower}
 use Rattle.lane_kernels.specs.Numbers as N
 use Rattle.lane_kernels.proofs.Arithmetic.{mod-next}
 use Rattle.elementwise.proofs.Moves.{less_one, extended_low, extended_high, shifted_high}

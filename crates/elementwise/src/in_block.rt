@@ -16,7 +16,6 @@ ghost use Rattle.elementwise.specs.Moved.{moved_number, IsMovable};
 ghost use Rattle.elementwise.specs.Planar.{gives, kernel_number};
 ghost use Rattle.elementwise.specs.Ways.{IsWayOf};
 
-use crate::checks::first_lane;
 use crate::columns::all_lanes;
 use crate::lanes::words_given;
 use crate::moved::Moved;
@@ -24,6 +23,7 @@ use crate::planar::{Kernel, Planar, Work, can_work_in_place, on_bits, operate_in
 use crate::ways::Way;
 use crate::writes::{Written, plan_of};
 use bit_planes::Block;
+use bit_planes::plane::is_empty;
 use block_store::{SetPlan, put_words, taking_lanes, words_of};
 use lane_kernels::{Operand, Target, write};
 use paris_code::{Instr, Operation};
@@ -184,7 +184,7 @@ pub(crate) fn do_in_block(
     ensures { DoneInBlock (map shape_of_plan plans.now) instr.now args.now k block.old.planes.items block.new.planes.items }
 {
     let lanes = taking_lanes(plan_of(plans, to.run.set), block, k, to.always);
-    if first_lane(lanes) == 512 {
+    if is_empty(lanes) {
         return;
     }
     match way {

@@ -14,4 +14,4 @@ pub use columns::{
     subtract, xor,
 };
 pub use counting::count;
-pub use target::{Operand, Target, are_all, write};
+pub use target::{Operand, Target, write};

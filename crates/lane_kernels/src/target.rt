@@ -1,11 +1,11 @@
 //! Where kernels read and write.
-ghost use Rattle.std.specs.Prelude.{◌≡◌, ◌↔◌, ℕ, ◌<◌, ◌≤◌, ◌+◌, ◌==◌, if◌then◌else◌, length, slice_index, EachIndex, IsTrue};
+ghost use Rattle.std.specs.Prelude.{◌≡◌, ℕ, ◌<◌, ◌≤◌, ◌+◌, ◌==◌, length, IsTrue};
 ghost use Rattle.bit_planes.specs.Bits.{bit};
 ghost use Rattle.lane_kernels.specs.Changes.{HasAllLanes, Writes};
 
 use crate::gates::choose;
 use bit_planes::Plane;
-use bit_planes::plane::repeated;
+use bit_planes::plane::{is_full, repeated};
 use std::simd::prelude::*;
 
 /// Where a kernel puts its results: a field of the planes, and the lanes in which it is written. Where
@@ -20,24 +20,9 @@ pub struct Target {
     ghost all_lanes: { IsTrue all → HasAllLanes lanes },
 }
 
-/// Whether each of the words is this one.
-#[inline(always)]
-fn are_each(words: &[u64], word: u64) -> bool
-    ensures { IsTrue result ↔ EachIndex words.now (λ k. slice_index words.now k ≡ word) }
-{
-    words.iter().all(|w| *w == word)
-}
-
-/// Whether each lane has this bit.
-pub fn are_all(lanes: u64x8, one: bool) -> bool
-    ensures { IsTrue result → (i : ℕ) → i < 512 → bit lanes i ≡ (if one then 1 else 0) }
-{
-    let word = if one { u64::MAX } else { 0 };
-    are_each(&lanes.to_array(), word)
-}
-
 impl Target {
     /// The field of `len` bits at the offset, in these lanes.
+    #[inline(always)]
     pub fn at(offset: u32, len: u8, lanes: u64x8) -> Target
         requires { (1 ≤ len) × (len ≤ 32) }
         ensures offset { result.offset ≡ offset }
@@ -45,7 +30,7 @@ impl Target {
         ensures lanes { result.lanes ≡ lanes }
     {
         // A single plane is written sooner than its lanes are looked at.
-        let all = len > 1 && are_all(lanes, true);
+        let all = len > 1 && is_full(lanes);
         Target {
             offset,
             len,

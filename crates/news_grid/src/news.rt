@@ -19,11 +19,11 @@ ghost use Rattle.news_grid.specs.Takings.{TakingFits, Stepped};
 
 use crate::step::Step;
 use crate::window::{Turn, Window};
-use bit_planes::plane::{both, opposite};
+use bit_planes::plane::{both, is_empty, is_full, opposite};
 use bit_planes::{Block, Plane};
 use block_store::{BlockSet, Room, SetPlan, Store, taking_lanes};
 use cstar_io::Gate;
-use lane_kernels::{Target, are_all};
+use lane_kernels::Target;
 use paris_code::Field;
 use phase_meaning::arith::signed;
 use std::simd::prelude::*;
@@ -225,9 +225,9 @@ fn put_turn(planes: &mut [Plane], to: &Target, held: &[Plane], turn: &Turn)
     requires round { HasHeld turn.now.round to.now.len held.now }
     ensures { Becomes to.now (λ i. number_taken held.now turn.now to.now.len i) planes.old planes.new }
 {
-    if are_all(turn.crossing, false) {
+    if is_empty(turn.crossing) {
         put_window(planes, to, held, &turn.staying);
-    } else if are_all(turn.crossing, true) {
+    } else if is_full(turn.crossing) {
         put_window(planes, to, held, &turn.round);
     } else if turn.staying.word() == turn.round.word() {
         put_both(planes, to, held, turn);

@@ -1,6 +1,7 @@
 use Rattle.std.proofs.Common.{refl, arith}
 use Rattle.std.specs.Prelude.{slice_index}
-use Rattle.elementwise.proofs.Failing.{word_none, word_first}
+use Rattle.bit_planes.proofs.Words.{word_none}
+use Rattle.elementwise.proofs.Failing.{word_first}
 use Rattle.elementwise.proofs.checks.first_lane.Goals as goal
 
 pub words-init : goal.words-init

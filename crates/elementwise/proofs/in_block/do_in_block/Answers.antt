@@ -15,11 +15,11 @@ use Rattle.elementwise.specs.Ways.{IsWayOf}
 use Rattle.elementwise.proofs.Kernels.{kernel_done, lanes_done, none_done, relation_done}
 use Rattle.elementwise.proofs.in_block.do_in_block.Goals as goal
 
-pub returns-then-first_lane-eq512 : goal.returns-then-first_lane-eq512
-returns-then-first_lane-eq512 c =
+pub returns-then-is_empty : goal.returns-then-is_empty
+returns-then-is_empty c =
     none_done (map shape_of_plan c.args.plans.now) c.args.instr.now c.args.args.now c.args.k c.args.to.run c.args.to.always c.plan_of.result.now.geometry c.plan_of.result.now.bits
     c.taking_lanes-lanes.result c.args.block.now.planes.items c.requires.run c.requires.always c.plan_of.ensures.extents c.plan_of.ensures.bits
-    (λ i b. c.first_lane.ensures.before i b (omega (arith, b, c.if-first_lane-eq512.true))) c.taking_lanes-lanes.ensures
+    (c.is_empty.ensures c.if-is_empty.true) c.taking_lanes-lanes.ensures
 
 pub on_bits-value-requires-clause-a : goal.on_bits-value-requires-clause-a
 on_bits-value-requires-clause-a c =
