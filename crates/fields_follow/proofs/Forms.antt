@@ -180,10 +180,6 @@ whole_element t i k set info known shaped one = record {
   within = subst (λ (o : Option ℕ). 0 < (elim o [ None ↦ 0 | Some s ↦ elim info.array [ None ↦ 1 | Some n ↦ n ] ])) (sym shaped) (subst (λ (o : Option ℕ). 0 < (elim o [ None ↦ 1 | Some n ↦ n ])) (sym one) (omega arith));
 }
 
--- so it is of one by its name
-pub element_is : (t : Typed) (i : Instance) (n k set : ℕ) (ty : ValueType) → ty.shape ≡ Some set → (v : HasVariable t i n (V.File k) (plain ty)) → IsElement t k (variable_info v.word (plain ty) v.start) set 0
-element_is t i n k set ty shaped v = whole_element t i k set (variable_info v.word (plain ty) v.start) v.named shaped refl
-
 either_some : (a b : Bool) (own : Own) → b ≡ true → (if a || b then Some own else None) ≡ Some own
 either_some true b own e = refl
 either_some false true own e = refl

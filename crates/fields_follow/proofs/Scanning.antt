@@ -1,6 +1,6 @@
 -- What the instruction of a scan does, and what a scan means: at each position the fold of the active positions that stand
 -- before it on its line and in its segment.
-use Rattle.std.proofs.Common.{◌≡◌, ◌∙◌, ℕ, ◌<◌, ◌%◌, ◌^◌, ◌==◌, Bool, true, not, List, [], length, Option, Some, refl, sym, ap, subst}
+use Rattle.std.proofs.Common.{◌≡◌, ◌∙◌, ℕ, ◌+◌, ◌<◌, ◌≤◌, ◌%◌, ◌^◌, ◌==◌, Bool, true, not, List, [], length, Option, Some, refl, sym, ap, subst}
 use Rattle.std.specs.List.{slice_index_or}
 use Rattle.vp_sets.specs.Lines.{steps_before}
 use Rattle.vp_sets.specs.Positions.{are_positive, coordinate}
@@ -19,7 +19,6 @@ use Rattle.cstar_tree.specs.declared.typed.TExpr as T
 use Rattle.cstar_tree.specs.declared.typed.ValueType.{ValueType}
 use Rattle.cstar_tree.specs.declared.typed.VarInfo.{VarInfo}
 use Rattle.cstar_tree.specs.declared.typed.Variable.{Variable}
-use Rattle.cstar_tree.specs.declared.typed.Variable.TheVariants as V
 use Rattle.cstar_tree.specs.Typed.{type_of}
 use Rattle.lower_base.specs.Drafts.{step as step_of}
 use Rattle.lower_base.specs.Operators.{scan_fold_of}
@@ -34,6 +33,7 @@ use Rattle.paris_code.specs.Moving.{moved_bit}
 use Rattle.paris_code.specs.RuleOperands.{BitIsWith}
 use Rattle.paris_code.specs.Scanning.{ScanOf}
 use Rattle.paris_code.specs.Scanning as Machine
+use Rattle.paris_code.specs.Spans.{IsNamedAt}
 use Rattle.source_meaning.specs.Expressions.{evaluated, scan_of, scan_over}
 use Rattle.source_meaning.specs.Scans.{Scan, bit_at}
 use Rattle.source_meaning.specs.Scans as Language
@@ -45,13 +45,13 @@ use Rattle.communication_laws.specs.Scans.{HasBits, bit_counts}
 use Rattle.communication_laws.proofs.Orders.{fold_few}
 use Rattle.communication_laws.proofs.Scans.{scans}
 use Rattle.code_follows.proofs.Following.{Sim}
-use Rattle.code_follows.proofs.Settings.{OpenAmong, Setting}
-use Rattle.fields_follow.specs.Fields.{IsElement}
+use Rattle.code_follows.proofs.Settings.{Setting, start}
 use Rattle.fields_follow.proofs.Folds.{identity_below}
 use Rattle.fields_follow.proofs.Instructions.{HasNumbers, Puts, extents, has_words, place, shapes}
 use Rattle.fields_follow.proofs.Meaning.{as_shaped, value_in}
 use Rattle.fields_follow.proofs.Outcomes.{Ended, ended_on, meant}
-use Rattle.fields_follow.proofs.Places.{HoldsTheFields, IsFileField, PlacesFields}
+use Rattle.fields_follow.proofs.Places.{HoldsTheFields, PlacesFields}
+use Rattle.fields_follow.proofs.Variables.{Carries}
 
 module _ (g : Setting) (fields : HoldsTheFields g) (set axis : ℕ) (combiner : Combiner) (unsigned : Bool) (direction : Direction) (mode : SegmentMode) (bit : Option Variable) (inclusion : Inclusion) where
   -- the scan in the source, and its numbers
@@ -114,24 +114,22 @@ module _ (g : Setting) (fields : HoldsTheFields g) (set axis : ℕ) (combiner : 
           (λ q low active. has_words g set a s v numbers q (on_set q low) (alike q (on_set q low) ∙ active)) (λ q low counts. segments q (on_set q low) counts) p (subst (λ (k : ℕ). p < processors (shapes g) k) (sym numbers.of_set) below) (sym (alike p below) ∙ on)
 
 module _ (g : Setting) (alive : Variable → Type 0) (places : PlacesFields g) (fields : HoldsTheFields g) (set : ℕ) where
-  -- the bits of a variable of the file are there at all positions
-  pub file_segments : (k s_of : ℕ) (info : VarInfo) (f d : Field) (mode : SegmentMode) (st : State) (s : CodeState) (active : ℕ → Bool) → IsElement g.typed k info s_of 0 → IsFileField g k 0 f → f.set ≡ s_of → f.len ≡ info.elem.bits → d.set ≡ set → set < length (shapes g) → BitIsWith (shapes g) (place g d) mode (Some (place g f)) → Sim g alive st s
-      → (p : ℕ) → p < processors (shapes g) set → bit_counts mode (active p) ≡ true → Machine.bit_is_one s.memory (Some (place g f)) p ≡ bit_at st (Some (V.File k)) p
+  -- the bits of a variable are there at all positions, where an instruction names its field at this place or behind it
+  pub variable_segments : (x : Variable) (s_of : ℕ) (info : VarInfo) (f d : Field) (mode : SegmentMode) (st : State) (s : CodeState) (active : ℕ → Bool) → Carries g alive x info s_of f → (later : ℕ) → IsNamedAt g.unit f.offset later → s.at ≤ start g + later
+      → d.set ≡ set → set < length (shapes g) → BitIsWith (shapes g) (place g d) mode (Some (place g f)) → Sim g alive st s → (p : ℕ) → p < processors (shapes g) set → bit_counts mode (active p) ≡ true → Machine.bit_is_one s.memory (Some (place g f)) p ≡ bit_at st (Some x) p
   unfolding bit_at
-  file_segments k s_of info f d mode st s active is file of_set long on_d exists with_it sim p below counts = by mode with_it counts
+  variable_segments x s_of info f d mode st s active carries later named behind on_d exists with_it sim p below counts = by mode with_it counts
     where
       there : f.set < length (shapes g)
-      there = subst (λ (n : ℕ). n < length (shapes g)) (sym of_set) (places.exists k 0 s_of info is)
+      there = subst (λ (n : ℕ). n < length (shapes g)) (sym carries.of_set) carries.exists
 
-      number : d.set ≡ f.set → (field_number s.memory (place g f) p == 1) ≡ (st.parallel (V.File k) 0 p == 1)
-      number same =
-          ap (λ (h : Field). field_number s.memory h p == 1) (places.file k 0 info f (subst (λ (n : ℕ). IsElement g.typed k info n 0) (sym of_set) is) (sym long) file)
-          ∙ ap (λ (n : ℕ). n == 1) ((fields.opens (OpenAmong g alive) s.at st s.memory sim.memory).numbers k 0 s_of p info is (subst (λ (n : ℕ). p < processors (shapes g) n) (sym on_d ∙ same ∙ of_set) below))
+      number : d.set ≡ f.set → (field_number s.memory (place g f) p == 1) ≡ (st.parallel x 0 p == 1)
+      number same = ap (λ (n : ℕ). n == 1) (carries.numbers st s sim later named behind p (subst (λ (n : ℕ). p < processors (shapes g) n) (sym on_d ∙ same ∙ carries.of_set) below))
 
       d_exists : d.set < length (shapes g)
       d_exists = subst (λ (n : ℕ). n < length (shapes g)) (sym on_d) exists
 
-      by : (way : SegmentMode) → BitIsWith (shapes g) (place g d) way (Some (place g f)) → bit_counts way (active p) ≡ true → (field_number s.memory (place g f) p == 1) ≡ (st.parallel (V.File k) 0 p == 1)
+      by : (way : SegmentMode) → BitIsWith (shapes g) (place g d) way (Some (place g f)) → bit_counts way (active p) ≡ true → (field_number s.memory (place g f) p == 1) ≡ (st.parallel x 0 p == 1)
       by M.NoSegments with_bit counted = cc
       by M.StartBit with_bit counted = number (with_bit d_exists there)
       by M.SegmentBit with_bit counted = number (with_bit d_exists there)

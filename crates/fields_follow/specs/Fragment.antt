@@ -13,7 +13,7 @@
 -- parallel variables, by any scalar indexes, and scalars are stored there. Parallel variables of blocks have no
 -- initialisers. Under `where` and `everywhere` stand the statements of scalar programs with these, also calls, `return`
 -- and jumps that lead out of them.
-use Rattle.std.specs.Prelude.{ℕ, ◌≡◌, ◌<◌, ◌≤◌, ◌+◌, ◌^◌, ◌⊎◌, ◌==◌, true, false, Option, Some, None}
+use Rattle.std.specs.Prelude.{ℕ, ◌≡◌, ◌<◌, ◌≤◌, ◌+◌, ◌^◌, ◌⊎◌, ◌==◌, true, false, IfSome, Option, Some, None}
 use Rattle.cstar_base.specs.declared.elem.Elem.{Elem}
 use Rattle.cstar_base.specs.declared.operators.Combiner.TheVariants as C
 use Rattle.cstar_base.specs.declared.operators.Op.{Op}
@@ -236,11 +236,9 @@ IsUpdate (T.Assign' ty place op p target q value) = (set : ℕ) × ((ty ≡ type
 IsUpdate (T.Step' ty op order p target) = (set : ℕ) × ((ty ≡ type_of target) × IsTarget set target × ((ty.elem.bits == 1) ≡ false))
 IsUpdate _ = ⊥
 
--- the bits that begin the segments of a scan, if it has any, are a variable of the file
-unfoldable pub IsSegments : Option Variable → Type 0
-IsSegments None = Unit {0}
-IsSegments (Some (V.File k)) = Unit {0}
-IsSegments (Some x) = ⊥
+-- the bits that begin the segments of a scan, if it has any, are a variable of the file or of a block
+abbrev pub IsSegments : Option Variable → Type 0
+IsSegments bit = IfSome bit IsOfFileOrBlock
 
 -- A value of 32 bits with scans in it: a scan of such a value or of a pure one, by a combiner other than the last one, or
 -- of ones, maybe converted, and operators on such values and operands.
