@@ -403,10 +403,13 @@ module _ (g : Setting) (has : HasRegisters g) (alive : Variable → Type 0) (sco
       fits s st sim = variable_fits (under g active) alive (places_under g active known.places) (fields_under g active scope known.same_extents) of x info read_so living names.0.named refl refl st s (sim_open g scope active known alive st s sim)
 
       -- its code finds the field
-      abbrev pub Finds_it : Draft → Type 0
-      Finds_it d = Finds (under g active) (registers_under g active has) alive n ready (places_under g active known.places) (fields_under g active scope known.same_extents) of x info d
+      abbrev pub FindsIt : Draft → Type 0
+      FindsIt d = Finds (under g active) (registers_under g active has) alive n ready (places_under g active known.places) (fields_under g active scope known.same_extents) of x info d
 
-      pub finds : (s : CodeState) (st : State) → Sim g alive st s → (d : Draft) → (field_of g.typed (layout g) x 0 d ≡ Fails) ⊎ Finds_it d
+      abbrev pub FindsItOrFails : Draft → Type 0
+      FindsItOrFails d = (field_of g.typed (layout g) x 0 d ≡ Fails) ⊎ FindsIt d
+
+      pub finds : (s : CodeState) (st : State) → Sim g alive st s → (d : Draft) → FindsItOrFails d
       finds s st sim d = finds_read (under g active) (registers_under g active has) alive n ready (places_under g active known.places) (fields_under g active scope known.same_extents) of x info d read_so living names.0.named refl refl s st (sim_open g scope active known alive st s sim)
 
       pub found_extends : (s : CodeState) (st : State) → Sim g alive st s → (d : Draft) → Extends g d (field_of g.typed (layout g) x 0 d)
@@ -542,7 +545,7 @@ module _ (g : Setting) (has : HasRegisters g) (alive : Variable → Type 0) (sco
           code : Made Field → Made Out
           code m = then_make m (λ source after. Makes (O.Scalar r) (reading_in q r source after))
 
-          by : (field_of g.typed (layout g) x 0 f ≡ Fails) ⊎ Finds_it f → Follows g R s (Gives (Scalar w) u) (read_in q r f)
+          by : FindsItOrFails f → Follows g R s (Gives (Scalar w) u) (read_in q r f)
           by (inl none) = subst (λ (m : Made Out). Follows g R s (Gives (Scalar w) u) m) (sym (ap code none)) tt
           by (inr found) =
               subst (λ (m : Made Out). Follows g R s (Gives (Scalar w) u) m) (sym (ap code found.is))

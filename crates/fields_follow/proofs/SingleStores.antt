@@ -1,7 +1,7 @@
 -- A number is stored at a single position of a parallel variable, which scalar indexes name: the position is found, the
 -- number is evaluated, and then it is written there, whether the position is active or not.
 use denote.Hole.Carrier
-use Rattle.std.proofs.Common.{◌≡◌, ◌∙◌, ℕ, ◌+◌, ◌<◌, ◌^◌, ◌==◌, Bool, true, false, [], length, slice_index, Option, None, ◌⊎◌, inl, inr, refl, sym, ap, subst, arith, if◌then◌else◌}
+use Rattle.std.proofs.Common.{◌≡◌, ◌∙◌, ℕ, ◌+◌, ◌<◌, ◌^◌, ◌==◌, Bool, true, false, [], length, slice_index, Option, None, inl, inr, refl, sym, ap, subst, arith, if◌then◌else◌}
 use Rattle.std.specs.Prelude.{is_some, unwrap_or}
 use Rattle.cstar_base.specs.declared.elem.Elem.{Elem}
 use Rattle.cstar_base.specs.declared.operators.Place.{Place}
@@ -63,7 +63,7 @@ use Rattle.fields_follow.proofs.Passing.{Passes, passes_all, passes_from}
 use Rattle.fields_follow.proofs.PassingTests.{tests_passed}
 use Rattle.fields_follow.proofs.Places.{names_first, stands_here as stands_in}
 use Rattle.fields_follow.proofs.Running.{leaves_ran, starts_there}
-use Rattle.fields_follow.proofs.SinglePositions.{Finds_it as Finds_there, Found, finds as finds_there, found_extends, found_follows, found_in, info as info_of, spot_is}
+use Rattle.fields_follow.proofs.SinglePositions.{FindsIt, FindsItOrFails, Found, finds as finds_there, found_extends, found_follows, found_in, info as info_of, spot_is}
 use Rattle.fields_follow.proofs.Starts.{Starts}
 use Rattle.fields_follow.proofs.Values.{starts_found}
 use Rattle.fields_follow.proofs.VariableWrites.{entry_and_below, writes_leave}
@@ -100,13 +100,10 @@ module _ (g : Setting) (has : HasRegisters g) (alive : Variable → Type 0) (sco
 
   -- its code finds the field
   abbrev Finds_it : Draft → Type 0
-  Finds_it d = Finds_there g has alive scope active known n ready ty place r indexes x of scalar read_so living isin c done d
+  Finds_it d = FindsIt g has alive scope active known n ready ty place r indexes x of scalar read_so living isin c done d
 
-  abbrev FindsIt : Draft → Type 0
-  FindsIt d = (field_of g.typed (layout g) x 0 d ≡ Fails) ⊎ Finds_it d
-
-  finds_it : (s : CodeState) (st : State) → Sim g alive st s → (d : Draft) → FindsIt d
-  finds_it s st sim d = finds_there g has alive scope active known n ready ty place r indexes x of scalar read_so living isin c done s st sim d
+  abbrev Finds_or_fails : Draft → Type 0
+  Finds_or_fails d = FindsItOrFails g has alive scope active known n ready ty place r indexes x of scalar read_so living isin c done d
 
   abbrev writes_in : ℕ → ℕ → Field → Draft → Draft
   writes_in to w dest d = with_instr (I.WriteToProcessor dest to (K.Reg w)) d
@@ -242,7 +239,7 @@ module _ (g : Setting) (has : HasRegisters g) (alive : Variable → Type 0) (sco
           → Follows g Q s (assigned scope active sending A.Set ty (type_of value) (OfPosition x h.position) v u2) (writes to out f2)
       at_value u to f there h v u2 out f2 a =
           subst (λ (y : Out). Follows g Q s (assigned scope active sending A.Set ty (type_of value) (OfPosition x h.position) v u2) (writes to y f2)) (sym a.holds.is)
-          (subst (λ (o : Outcome Value). Follows g Q s o (writes to (O.Scalar a.holds.register) f2)) (sym (ap (λ (y : Value). assigned scope active sending A.Set ty (type_of value) (OfPosition x h.position) y u2) a.holds.value ∙ store_means scope active sending ty (type_of value) x h.position a.holds.word u2 scalar plain_value)) (by (finds_it a.t u2 a.sim f2)))
+          (subst (λ (o : Outcome Value). Follows g Q s o (writes to (O.Scalar a.holds.register) f2)) (sym (ap (λ (y : Value). assigned scope active sending A.Set ty (type_of value) (OfPosition x h.position) y u2) a.holds.value ∙ store_means scope active sending ty (type_of value) x h.position a.holds.word u2 scalar plain_value)) (by (finds_there g has alive scope active known n ready ty place r indexes x of scalar read_so living isin c done a.t u2 a.sim f2)))
         where
           same : converted ty.elem from a.holds.word ≡ a.holds.word
           same = takes_same ty.elem from a.holds.word takes a.holds.small
@@ -262,7 +259,7 @@ module _ (g : Setting) (has : HasRegisters g) (alive : Variable → Type 0) (sco
           code : Made Field → Made Out
           code made = then_make made (λ dest after. written_in to (O.Scalar a.holds.register) dest after)
 
-          by : FindsIt f2 → Follows g Q s (Gives (Scalar a.holds.word) (with_positions x 0 (λ y. y == h.position) (λ y. a.holds.word) u2)) (writes to (O.Scalar a.holds.register) f2)
+          by : Finds_or_fails f2 → Follows g Q s (Gives (Scalar a.holds.word) (with_positions x 0 (λ y. y == h.position) (λ y. a.holds.word) u2)) (writes to (O.Scalar a.holds.register) f2)
           by (inl fails) = subst (λ (m : Made Out). Follows g Q s (Gives (Scalar a.holds.word) (with_positions x 0 (λ y. y == h.position) (λ y. a.holds.word) u2)) m) (sym (ap code fails)) tt
           by (inr found) =
               subst (λ (m : Made Out). Follows g Q s (Gives (Scalar a.holds.word) (with_positions x 0 (λ y. y == h.position) (λ y. a.holds.word) u2)) m) (sym (ap code found.is))
