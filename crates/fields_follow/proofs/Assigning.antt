@@ -42,7 +42,7 @@ use Rattle.source_meaning.specs.Values.{Parallel, Value}
 use Rattle.source_meaning.proofs.ConstantLaws.{Boxed}
 use Rattle.code_follows.proofs.Following.{HasRegisters, Sim, delayed, follows_same, held, nothing_said}
 use Rattle.code_follows.proofs.Growing.{extended}
-use Rattle.code_follows.proofs.Settings.{Setting, Within, and_one, layout}
+use Rattle.code_follows.proofs.Settings.{Setting, Within, and_one, earlier, layout}
 use Rattle.code_follows.proofs.Values.{extends_grown}
 use Rattle.fields_follow.specs.Fragment.{HasOperation, IsOperation, IsTarget}
 use Rattle.fields_follow.proofs.Clearing.{field_at}
@@ -60,7 +60,7 @@ use Rattle.fields_follow.proofs.Totals.{held_below}
 use Rattle.fields_follow.proofs.Values.{Finds, FindsOrFails, finds_read, starts_found}
 use Rattle.fields_follow.proofs.VariableWrites.{entry_and_below, leaves_from, takes_has, writes_leave}
 use Rattle.fields_follow.proofs.Variables.{Carries}
-use Rattle.fields_follow.proofs.Writing.{TakesBehind, instr_takes}
+use Rattle.fields_follow.proofs.Writing.{Lands, TakesBehind, instr_takes, lands_here, takes_landed}
 use Rattle.fields_follow.proofs.Effects.{CarriesFrom, GivesOperand, in_place_last}
 use Rattle.code_follows.specs.Fragment.{NamesAmong}
 use Rattle.fields_follow.proofs.Starts.{Starts}
@@ -96,12 +96,13 @@ module _ (g : Setting) (has : HasRegisters g) (alive : Variable → Type 0) (n :
         (writes_leave g places fields alive y info set variable c living found.e e2 f s st used p wanted last.takes.write last.behind (fields.active set) w
         (takes_has g places fields alive y info set variable c living p.t st p.sim v w last.takes (length e2.code) last.behind.place p.at.stands last.behind.later last.behind.named same.0) same.1)
 
-    -- by an instruction behind code of values alone
-    pub leaves_value : (s : CodeState) (st : State) (v w : ℕ → ℕ) → AreStored v w → (e2 : Draft) (i : Instr) → Within g (with_instr i e2) → (p : Passes g alive (length found.e.fields) found.e e2 s st (Unit {0})) → Puts g set i variable p.t v → Leaves g alive d (with_instr i e2) s (with_positions y 0 (fields.active set) w st)
+    -- by an instruction behind code of values alone, where it lands behind that
+    pub leaves_value : (s : CodeState) (st : State) (v w : ℕ → ℕ) → AreStored v w → (e2 : Draft) (i : Instr) (end : Draft) → Within g end → (p : Passes g alive (length found.e.fields) found.e e2 s st (Unit {0})) → Puts g set i variable p.t v → Lands g (with_instr i e2) end → Leaves g alive d end s (with_positions y 0 (fields.active set) w st)
     unfolding tests_passed
-    leaves_value s st v w same e2 i within p puts =
-        leaves s st v w same e2 (with_instr i e2) (Unit {0}) within (tests_passed g alive (length found.e.fields) found.e e2 s st (Unit {0}) (omega arith) p) tt
-        (instr_takes g set i variable e2 p.t v (entry_and_below g places fields alive y info set variable (carried (with_instr i e2) (p.grown.0 + 1) (extended found.e e2 (with_instr i e2) p.grown.0 1 p.grown.1 (and_one g i e2)) within)) within p.at.stands puts)
+    leaves_value s st v w same e2 i end within p puts lands =
+        let there : Within g (with_instr i e2) = earlier g (with_instr i e2) end lands.more.0 lands.more.1 within in
+        leaves s st v w same e2 end (Unit {0}) within (tests_passed g alive (length found.e.fields) found.e e2 s st (Unit {0}) (omega arith) p) tt
+        (takes_landed g set variable e2 (with_instr i e2) end p.t v lands (instr_takes g set i variable e2 p.t v (entry_and_below g places fields alive y info set variable (carried (with_instr i e2) (p.grown.0 + 1) (extended found.e e2 (with_instr i e2) p.grown.0 1 p.grown.1 (and_one g i e2)) there)) there p.at.stands puts))
 
   -- what an assignment without an operator stores
   pub plainly : (op : AssignOp) (to from : Elem) (old w : ℕ) → assign_op_of op ≡ None → updated op to from old w ≡ w
@@ -249,12 +250,12 @@ module _ (g : Setting) (has : HasRegisters g) (alive : Variable → Type 0) (n :
 
         -- without an operator, where the last instruction puts words with these lowest bits
         pub plain_after : assign_op_of op ≡ None → (v : ℕ → ℕ) → ((y : ℕ) → number y < 2 ^ bits) → ((y : ℕ) → number y ≡ v y % 2 ^ bits)
-            → ((IsGiven → (e2 : Draft) (i : Instr) → Within g (with_instr i e2) → (passes : Passes g alive (length b.found.e.fields) b.found.e e2 s st (Unit {0})) → Puts g set i f passes.t v → Q (O.Field f) (with_instr i e2)) → (Ended g s (meant g fields value st) → (x : Out) (e : Draft) → Q x e) → After g Q (put_to g.typed (layout g) (O.Field f) value b.found.e))
+            → ((IsGiven → (e2 : Draft) (i : Instr) (end : Draft) → Within g end → (passes : Passes g alive (length b.found.e.fields) b.found.e e2 s st (Unit {0})) → Puts g set i f passes.t v → Lands g (with_instr i e2) end → Q (O.Field f) end) → (Ended g s (meant g fields value st) → (x : Out) (e : Draft) → Q x e) → After g Q (put_to g.typed (layout g) (O.Field f) value b.found.e))
             → After g Q (code (assign_op_of op))
         plain_after none v few lowest last =
             let plain : (y : ℕ) → stored y ≡ number y = λ y. plainly op ty.elem (type_of value).elem (old y) (number y) none in
             after_same g Q (ap code none)
-            (last (λ given e2 i within passes puts. inl (plain_given none given, leaves_value set b.to.x b.to.info b.to.living d b.inside b.found s st v stored ((λ y below small. plain y ∙ lowest y), λ y. subst (λ (m : ℕ). m < 2 ^ bits) (sym (plain y)) (few y)) e2 i within passes puts)) (λ early x e. inr (value_ended early)))
+            (last (λ given e2 i end within passes puts lands. inl (plain_given none given, leaves_value set b.to.x b.to.info b.to.living d b.inside b.found s st v stored ((λ y below small. plain y ∙ lowest y), λ y. subst (λ (m : ℕ). m < 2 ^ bits) (sym (plain y)) (few y)) e2 i end within passes puts lands)) (λ early x e. inr (value_ended early)))
 
         -- with one: its code writes the variable in place
         abbrev by_zero : Option ℕ → Outcome Value
@@ -288,6 +289,6 @@ module _ (g : Setting) (has : HasRegisters g) (alive : Variable → Type 0) (n :
             (in_place_last g has alive n ready places fields set b.found.f.offset b.to.x b.to.info x signed place value number number b.found.e s st (carried set b.to.x b.to.info b.to.living d b.inside b.found) known.0.0 (subst (λ (e : Elem). operation_bits e.bits x value ≡ e.bits) is_elem known.3) (λ y. keeps signed y) right c b.here b.sim Q
             (λ given there never e2 i within passes puts. inl (
               operator_given x is given there never,
-              leaves_value set b.to.x b.to.info b.to.living d b.inside b.found s st given_by stored ((λ y below small. operated y), λ y. subst (λ (m : ℕ). m < 2 ^ bits) (sym (operated y)) (mod_below (given_by y) (2 ^ bits) (pow_pos bits))) e2 i within passes puts,
+              leaves_value set b.to.x b.to.info b.to.living d b.inside b.found s st given_by stored ((λ y below small. operated y), λ y. subst (λ (m : ℕ). m < 2 ^ bits) (sym (operated y)) (mod_below (given_by y) (2 ^ bits) (pow_pos bits))) e2 i (with_instr i e2) within passes puts (lands_here g (with_instr i e2)),
             )) (λ early z e. inr (value_ended early))
             (λ given there divided y none finishes z e. inr (record { early = Source.Fault DivZero place (Some y); state = st; is = divided_so x is given there divided ∙ ap by_zero none; finishes = finishes })))

@@ -1,6 +1,7 @@
 -- The code of `?:` of parallel values leaves the lowest bits of its words in a field: it saves the context, puts the first
--- operand in the field where the condition holds, and the second one elsewhere.
-use Rattle.std.proofs.Common.{◌≡◌, ◌∙◌, ℕ, ◌+◌, ◌<◌, ◌≤◌, ◌==◌, ◌||◌, ◌⊎◌, inl, inr, Bool, true, false, [], length, Option, refl, sym, ap, subst, arith, if◌then◌else◌}
+-- operand in the field where the condition holds, and the second one elsewhere. With a scalar condition it jumps to the
+-- operand that is chosen, and behind the first one over the second.
+use Rattle.std.proofs.Common.{◌≡◌, ◌∙◌, ℕ, ◌+◌, ◌<◌, ◌≤◌, ◌^◌, ◌==◌, ◌||◌, ◌⊎◌, inl, inr, Bool, true, false, [], length, slice_index, Option, refl, sym, ap, subst, arith, if◌then◌else◌}
 use Rattle.std.specs.Int.{from_bool}
 use Rattle.cstar_tree.specs.declared.typed.TExpr.{TExpr}
 use Rattle.cstar_tree.specs.declared.typed.TExpr as T
@@ -10,13 +11,15 @@ use Rattle.cstar_tree.specs.Typed.{type_of}
 use Rattle.code_lengths.specs.Ready.{IsReadyButForFields}
 use Rattle.lower_base.specs.declared.emit.Out.{Out}
 use Rattle.lower_base.specs.declared.emit.Out.TheVariants as O
-use Rattle.lower_base.specs.Drafts.{Draft, Made, Makes, an_entry, fresh_for, in_field, step as step_of, then_make, with_instr}
+use Rattle.lower_base.specs.Drafts.{Draft, Fails, Made, Makes, an_entry, fresh_for, here as draft_here, in_field, in_register, step as step_of, then_make, with_instr}
 use Rattle.lower_base.specs.Kinds.{bits_of, kind_of}
 use Rattle.lower_expr.specs.Lengths.{arm_length_of}
 use Rattle.lower_expr.specs.Operands.{is_quiet, operand_by}
-use Rattle.lower_expr.specs.Values.{arm_by, choice_by, limited, narrowed_by, parallel_choice_by, turned_over, value_of}
+use Rattle.lower_expr.specs.Values.{arm_by, arm_of, choice_by, decided, jump_if_decided, limited, narrowed_by, next_of, parallel_choice_by, scalar_choice_by, turned_over, value_of}
+use Rattle.paris_code.specs.declared.instr.Instr.{Instr}
 use Rattle.paris_code.specs.declared.instr.Instr.TheVariants as I
 use Rattle.paris_code.specs.declared.operands.Field.{Field}
+use Rattle.paris_code.specs.declared.operands.Konst.TheVariants as K
 use Rattle.paris_code.specs.declared.program.Owner.TheVariants as W
 use Rattle.paris_code.specs.Code.{CodeState}
 use Rattle.paris_code.specs.Spans.{IsNamedAt}
@@ -24,33 +27,43 @@ use Rattle.source_meaning.specs.Expressions.{evaluated}
 use Rattle.source_meaning.specs.Narrowing.{choose}
 use Rattle.source_meaning.specs.State as Source
 use Rattle.source_meaning.specs.State.{Outcome, State, then_do}
-use Rattle.source_meaning.specs.Values.{Active, Parallel, Value, at, nonzero}
+use Rattle.source_meaning.specs.Values.{Active, Parallel, Scalar, Value, at, nonzero, number as number_of}
 use Rattle.source_meaning.proofs.ConstantLaws.{Boxed}
-use Rattle.code_follows.proofs.Following.{Extends, Follows, HasRegisters, Sim, extends_made, extends_then}
-use Rattle.code_follows.proofs.Growing.{as_it_was, extended}
-use Rattle.code_follows.proofs.Settings.{Setting, Within, and_one, code_more, earlier, layout, onto, start}
-use Rattle.fields_follow.specs.Fragment.{HasItsKind, IsPromoted, IsPure, IsWide}
-use Rattle.fields_follow.proofs.Arms.{arm, arm_grows, arm_last, words_of}
-use Rattle.fields_follow.proofs.Expressions.{Answers, IsMeant, IsValued, operand_at}
+use Rattle.code_follows.proofs.Branching.{decided_goes, decides, jump_long, jump_more}
+use Rattle.code_follows.proofs.Following.{Extends, Follows, HasRegisters, Sim, extends_made, extends_then, held}
+use Rattle.code_follows.proofs.Growing.{Extended, as_it_was, extended, places as ends_at}
+use Rattle.code_follows.proofs.Jumping.{jumps, moved_to}
+use Rattle.code_follows.proofs.Numbers.{held_nonzero}
+use Rattle.code_follows.proofs.Words.{kept}
+use Rattle.code_follows.proofs.Settings.{Reaches, Setting, Within, and_one, code_more, earlier, layout, onto, start}
+use Rattle.fields_follow.specs.Fragment.{HasItsKind, IsCalm, IsOperand, IsPromoted, IsPure, IsWide, alone}
+use Rattle.fields_follow.proofs.Arms.{ArmMade, PutsAndLands, arm, arm_grows, arm_last, arm_made, field_at, words_of}
+use Rattle.fields_follow.proofs.Calm.{IsCalmly, calm_alone, calm_gives}
+use Rattle.fields_follow.proofs.Expressions.{Answers, IsMeant, IsValued, operand_at, own_result}
 use Rattle.fields_follow.proofs.Flags.{Stored}
 use Rattle.fields_follow.proofs.Forms.{HasItsCode, pure_kept}
 use Rattle.fields_follow.proofs.Halves.{Halved, IsMeantUnder, Keeping, Ready, after_delayed, both_halved, half, half_after, keeping_on, narrowed_more}
 use Rattle.fields_follow.proofs.Halving.{beside_context, context_field, context_here, context_keeping, context_sim, context_stored, halves_answer, two_more, with_both}
-use Rattle.fields_follow.proofs.Instructions.{extents, shapes}
+use Rattle.fields_follow.proofs.Hops.{puts_same}
+use Rattle.fields_follow.proofs.Instructions.{Puts, extents, shapes, word_in}
 use Rattle.fields_follow.proofs.Leaving.{fields_under, places_under, registers_under, under}
 use Rattle.fields_follow.proofs.Meaning.{value_in, word_at}
 use Rattle.fields_follow.proofs.NarrowKinds.{zero_told}
 use Rattle.fields_follow.proofs.Narrowing.{among, others}
-use Rattle.fields_follow.proofs.Outcomes.{Ended, Given, Known, ended_back, ended_on, known_follows, meant, then_known}
-use Rattle.fields_follow.proofs.Passing.{After, Behind, GivesField, after_same, code_longer, fields_longer, flags_of, gives_numbers, gives_set, made_after}
+use Rattle.fields_follow.proofs.Outcomes.{Ended, Given, Known, ended_back, ended_on, known_follows, meant, then_known, then_outcome}
+use Rattle.fields_follow.proofs.Passing.{After, Behind, GivesField, Passes, after_same, code_longer, fields_longer, flags_of, gives_landed, gives_numbers, gives_set, made_after, passes_less, passes_moved, passes_on}
 use Rattle.fields_follow.proofs.Places.{HoldsTheFields, PlacesFields, names_first, stands_here}
-use Rattle.fields_follow.proofs.Pure.{choice_means, choice_so}
+use Rattle.fields_follow.proofs.Pure.{choice_meant, choice_number, choice_so, scalar_choice_meant, scalar_choice_number, scalar_choice_so}
 use Rattle.fields_follow.proofs.Relations.{kind_some, relation_most}
 use Rattle.fields_follow.proofs.Sizes.{choice_parts, pure_at}
-use Rattle.fields_follow.proofs.Starts.{starts_entry, Starts}
+use Rattle.fields_follow.proofs.Scalars.{GivesScalar, scalar_follows}
+use Rattle.fields_follow.proofs.Spreading.{GivesWord}
+use Rattle.fields_follow.proofs.Starts.{no_home, starts_entry, Starts}
 use Rattle.fields_follow.proofs.TestFlags.{Tells, numbers_tell}
 use Rattle.fields_follow.proofs.Truths.{Stays, field_lasts}
-use Rattle.fields_follow.proofs.Values.{Gives, IsFlag, next_field, operand_after, operand_of, with_entry}
+use Rattle.fields_follow.proofs.TruthValues.{by_case}
+use Rattle.fields_follow.proofs.Values.{Gives, IsFlag, next_field, one_more, operand_after, operand_of, with_entry}
+use Rattle.fields_follow.proofs.Writing.{Lands, lands_here}
 
 module _ (g : Setting) (has : HasRegisters g) (alive : Variable → Type 0) (n : ℕ) (ready : (d : Draft) → IsReadyButForFields g.typed g.instance (layout g) n d) (places : PlacesFields g) (fields : HoldsTheFields g) where
   abbrev number : ℕ → TExpr → State → ℕ → ℕ
@@ -59,6 +72,11 @@ module _ (g : Setting) (has : HasRegisters g) (alive : Variable → Type 0) (n :
   -- the code of so many bits of a value where these positions are active
   abbrev pub IsValuedUnder : ℕ → ℕ → Active → TExpr → Type 0
   IsValuedUnder bits set b e = IsValued (under g b) (registers_under g b has) alive n ready (places_under g b places) (fields_under g b fields.scope fields.same_extents) bits set e
+
+  -- it ends where its condition does
+  choice_ended : (ty : ValueType) (p q r : Boxed) (test first second : TExpr) (s : CodeState) (st : State) → Ended g s (meant g fields test st) → Ended g s (meant g fields (T.Choice' ty p test q first r second) st)
+  unfolding evaluated
+  choice_ended ty p q r test first second s st early = ended_on g s (meant g fields test st) (λ v after. choose (type_of test).shape v (λ a u. evaluated fields.scope first a u) (λ a u. evaluated fields.scope second a u) fields.active after) early
 
   nothing_more : (x : Out) (e : Draft) → Extends g e (Makes x e)
   unfolding Extends
@@ -81,22 +99,16 @@ module _ (g : Setting) (has : HasRegisters g) (alive : Variable → Type 0) (n :
 
     -- the words are those of the operand that is chosen
     choice_at : (st : State) (s : CodeState) → Sim g alive st s → (x : ℕ) → word_at (extents g set) st whole x ≡ (if nonzero (value_in (extents g set) st test x) then word_at (extents g set) st first x else word_at (extents g set) st second x)
-    unfolding value_in
     choice_at st s sim x =
-        pure_at g alive n places fields set whole st s sim is wide c x
+        pure_at g alive n places fields set whole st s sim is wide c x ∙ choice_number (extents g set) st set ty p q r test first second x kinded.0
         ∙ ap (λ (m : ℕ). if nonzero (value_in (extents g set) st test x) then m else value_in (extents g set) st second x) (sym (operand_at g has alive n ready places fields set first st s sim is_first wide_first parts.1 x))
         ∙ ap (λ (m : ℕ). if nonzero (value_in (extents g set) st test x) then word_at (extents g set) st first x else m) (sym (operand_at g has alive n ready places fields set second st s sim is_second wide_second parts.2 x))
 
     choice_given : (st : State) → IsMeant g has alive n ready places fields set test st → IsMeantUnder g has alive n ready places fields (among set (number set test st) fields.active) set first st → IsMeantUnder g has alive n ready places fields (others set (number set test st) fields.active) set second st
         → IsMeant g has alive n ready places fields set whole st
-    unfolding value_in
-    choice_given st tests one other = choice_means fields.scope fields.active set ty p q r test first second (number set test st) (number set first st) (number set second st) st kinded.0 tests one other
+    choice_given st tests one other = choice_meant fields.scope fields.active set ty p q r test first second (extents g set) st kinded.0 tests one other
 
-    -- it ends where its condition does, or an operand where it is chosen
-    test_ended : (s : CodeState) (st : State) → Ended g s (meant g fields test st) → Ended g s (meant g fields whole st)
-    unfolding evaluated
-    test_ended s st early = ended_on g s (meant g fields test st) (λ v after. choose (type_of test).shape v (λ a u. evaluated fields.scope first a u) (λ a u. evaluated fields.scope second a u) fields.active after) early
-
+    -- it ends where an operand does that is chosen
     first_ended : (s : CodeState) (st : State) → IsMeant g has alive n ready places fields set test st → Ended g s (evaluated fields.scope first (among set (number set test st) fields.active) st) → Ended g s (meant g fields whole st)
     first_ended s st tests early =
         subst (λ (o : Outcome Value). Ended g s o) (sym (choice_so fields.scope fields.active set ty p q r test first second (number set test st) st kinded.0 tests))
@@ -316,10 +328,187 @@ module _ (g : Setting) (has : HasRegisters g) (alive : Variable → Type 0) (n :
           (λ is_meant x e (a, (is_a, (gives, apart))).
           after_same g Q (ap (λ (o : Out). behind f saved o e) is_a ∙ behind_is f saved a e ∙ ap (λ (m : ℕ). halves f saved m a (with_instr (I.StoreContext saved) e)) (gives_set g alive places fields known (length begun.fields) begun s set st (words test) a e gives).0)
           (chosen is_meant first_valued second_valued a e gives))
-          (λ early x e. inr (test_ended s st early))))
+          (λ early x e. inr (choice_ended ty p q r test first second s st early))))
 
-  pub choice_valued : (bits set : ℕ) (ty : ValueType) (p q r : Boxed) (test first second : TExpr) → bits ≤ 32 → IsPure set (T.Choice' ty p test q first r second) → HasItsCode g.typed g.instance alive n (T.Choice' ty p test q first r second)
+  pub choice_valued : (bits set : ℕ) (ty : ValueType) (p q r : Boxed) (test first second : TExpr) → IsPure set (T.Choice' ty p test q first r second) → HasItsKind set test → HasItsCode g.typed g.instance alive n (T.Choice' ty p test q first r second)
       → ((k : ℕ) → 0 < k → k ≤ 32 → IsValued g has alive n ready places fields k set test) → ((b : Active) → IsPure set first → IsValuedUnder bits set b first) → ((b : Active) → IsPure set second → IsValuedUnder bits set b second) → IsValued g has alive n ready places fields bits set (T.Choice' ty p test q first r second)
   unfolding IsPure
-  choice_valued bits set ty p q r test first second most is c tests first_valued second_valued d s st here sim =
-      choice_known bits set ty p q r test first second is c is.0 is.1 is.2 is.3 is.4 is.5 d s st here sim (tests (bits_of (kind_of test)) (kind_some (kind_of test)) (relation_most (kind_of test))) first_valued second_valued
+  choice_valued bits set ty p q r test first second is kinded c tests first_valued second_valued d s st here sim =
+      choice_known bits set ty p q r test first second is c is.0 kinded is.2 is.3 is.4 is.5 d s st here sim (tests (bits_of (kind_of test)) (kind_some (kind_of test)) (relation_most (kind_of test))) first_valued second_valued
+
+  -- ---- with a scalar condition
+
+  module _ (set offset bits : ℕ) (ty : ValueType) (p q r : Boxed) (test first second : TExpr) (is : IsPure set (T.Choice' ty p test q first r second)) (c : HasItsCode g.typed g.instance alive n (T.Choice' ty p test q first r second)) (wide : IsWide set ty) (calm : IsCalm test)
+      (is_first : IsOperand set first) (is_second : IsOperand set second) (wide_first : IsWide set (type_of first)) (wide_second : IsWide set (type_of second)) (first_valued : IsPure set first → IsValued g has alive n ready places fields bits set first) (second_valued : IsPure set second → IsValued g has alive n ready places fields bits set second) where
+    abbrev choice : TExpr
+    choice = T.Choice' ty p test q first r second
+
+    abbrev dest : Field
+    dest = field_at set offset bits
+
+    codes : HasItsCode g.typed g.instance alive n test × HasItsCode g.typed g.instance alive n first × HasItsCode g.typed g.instance alive n second
+    codes = choice_parts g alive n places fields ty p q r test first second c
+
+    abbrev puts : TExpr → Draft → Made Out
+    puts e after = arm g has alive n ready places fields dest bits e after
+
+    abbrev long : TExpr → ℕ
+    long e = arm_length_of g.typed (layout g) ty bits e
+
+    abbrev target : Draft → ℕ
+    target e = (length e.code + long first) + 2
+
+    abbrev leap : ℕ → Draft → Draft
+    leap x e = jump_if_decided false x (target e) e
+
+    abbrev skip : Draft → Draft → Draft
+    skip e between = with_instr (I.FrontJump (target e + long second)) between
+
+    abbrev both_ways : ℕ → Draft → Made Out
+    both_ways x e = then_make (puts first (leap x e)) (λ _ between. puts second (skip e between))
+
+    abbrev behind_scalar : Out → Draft → Made Out
+    behind_scalar v e = then_make (decided false v (long first) 2 e) (λ other next. then_make (puts first next) (λ _ between. puts second (with_instr (I.FrontJump (other + long second)) between)))
+
+    ways_grow : (x : ℕ) (e : Draft) → Extends g (leap x e) (both_ways x e)
+    ways_grow x e =
+        extends_then g (leap x e) (puts first (leap x e)) (λ _ between. puts second (skip e between)) (arm_grows g has alive n ready places fields dest bits first codes.1 (leap x e))
+        (λ _ between. extends_made g between (skip e between) 1 (puts second (skip e between)) (and_one g (I.FrontJump (target e + long second)) between) (arm_grows g has alive n ready places fields dest bits second codes.2 (skip e between)))
+
+    scalar_grows : (v : Out) (e : Draft) → Extends g e (behind_scalar v e)
+    unfolding decided in_register then_make draft_here Extends
+    scalar_grows (O.Scalar x) e = extends_made g e (leap x e) 1 (both_ways x e) (jump_more g alive false x (target e) e) (ways_grow x e)
+    scalar_grows (O.Field h) e = tt
+    scalar_grows O.Nothing e = tt
+
+    module _ (d : Draft) (s : CodeState) (st : State) (here : Starts g alive s (length d.code) d.regs (length d.fields)) (sim : Sim g alive st s) (Q : Out → Draft → Type 0)
+        (last : IsMeant g has alive n ready places fields set choice st → (e2 : Draft) (i : Instr) (end : Draft) → Within g end → (p : Passes g alive (length d.fields) d e2 s st (Unit {0})) → Puts g set i dest p.t (words_of g has alive n ready places fields set choice st) → Lands g (with_instr i e2) end → Q (O.Field dest) end)
+        (ended : Ended g s (meant g fields choice st) → (x : Out) (after : Draft) → Q x after) where
+      -- behind the condition, whose word stands in a register
+      module _ (e : Draft) (x w : ℕ) (given : meant g fields test st ≡ Source.Gives (Scalar w) st) (word : GivesWord g alive (length d.fields) d s st (λ y. held (type_of test).elem w) (K.Reg x) e) (within : Within g (leap x e)) where
+        abbrev holds : Bool
+        holds = nonzero (slice_index word.passes.t.registers x)
+
+        -- the operand that is chosen
+        abbrev chosen_one : Bool → TExpr
+        chosen_one b = if b then first else second
+
+        is_chosen : (b : Bool) → holds ≡ b → chosen_one (nonzero w) ≡ chosen_one b
+        unfolding word_in IsCalmly at
+        is_chosen b so =
+            let few : w < 2 ^ (type_of test).elem.bits = (subst (λ (y : Outcome Value). IsCalmly (type_of test).elem.bits st y) given (calm_gives g alive n fields.scope fields.active st sim.small test calm codes.0.code.names codes.0.among)).1 in
+            ap chosen_one (sym (held_nonzero (type_of test).elem w few) ∙ ap nonzero (word.same 0) ∙ so)
+
+        goes : (b : Bool) → holds ≡ b → Reaches g word.passes.t (moved_to g alive (if decides false b then target e + start g else word.passes.t.at + 1) word.passes.t)
+        goes b so = decided_goes g alive false b x (target e) e word.passes.t so within word.passes.at.stands
+
+        -- it is put from where its code begins
+        way : (e1 : TExpr) → chosen_one (nonzero w) ≡ e1 → IsOperand set e1 → IsWide set (type_of e1) → HasItsCode g.typed g.instance alive n e1 → (IsPure set e1 → IsValued g has alive n ready places fields bits set e1) → (from : Draft) → Passes g alive (length d.fields) d from s st (Unit {0}) → (R : Out → Draft → Type 0)
+            → (IsMeant g has alive n ready places fields set choice st → (e2 : Draft) (i : Instr) → Within g (with_instr i e2) → (p : Passes g alive (length d.fields) d e2 s st (Unit {0})) → Puts g set i dest p.t (words_of g has alive n ready places fields set choice st) → R (O.Field dest) (with_instr i e2))
+            → (Ended g s (meant g fields choice st) → (y : Out) (after : Draft) → R y after) → After g R (puts e1 from)
+        unfolding passes_on number_of
+        way e1 same operand wide_one code valued from before R done early =
+            arm_last g has alive n ready places fields set offset bits e1 operand code valued from before.t st before.at before.sim R
+            (λ one e2 i inner passes put. done (scalar_choice_meant fields.scope fields.active ty p q r test first second calm (Scalar w) st given (extents g set) (subst (λ (a : TExpr). IsMeant g has alive n ready places fields set a st) (sym same) one)) e2 i inner
+            (passes_on g alive (length d.fields) (length from.fields) d from e2 s st (Unit {0}) (Unit {0}) (Unit {0}) (fields_longer d from before.grown.0 before.grown.1) before passes (λ u. tt) (λ u. tt))
+            (puts_same g set i dest passes.t (words_of g has alive n ready places fields set e1 st) (words_of g has alive n ready places fields set choice st) (λ y below. operand_at g has alive n ready places fields set e1 st s sim operand wide_one code y ∙ ap (λ (a : TExpr). value_in (extents g set) st a y) (sym same)
+            ∙ sym (pure_at g alive n places fields set choice st s sim is wide c y ∙ scalar_choice_number fields.scope fields.active ty p q r test first second calm (Scalar w) st given (extents g set) y)) put))
+            (λ ends. early (subst (λ (o : Outcome Value). Ended g s o) (sym (scalar_choice_so fields.scope fields.active ty p q r test first second calm (Scalar w) st given ∙ ap (λ (a : TExpr). meant g fields a st) same)) (ended_back g s before.t (meant g fields e1 st) before.go ends)))
+
+        module _ (m1 : ArmMade g has alive n ready places fields dest (long first) (leap x e) (puts first (leap x e))) where
+          abbrev between : Draft
+          between = m1.behind
+
+          ways_are : both_ways x e ≡ puts second (skip e between)
+          unfolding then_make
+          ways_are = ap (λ (m : Made Out). then_make m (λ _ between. puts second (skip e between))) m1.is
+
+          to_skip : Extended e (1 + (long first + 1)) (skip e between)
+          to_skip = extended e (leap x e) (skip e between) 1 (long first + 1) (jump_more g alive false x (target e) e) (extended (leap x e) between (skip e between) (long first) 1 m1.extended (and_one g (I.FrontJump (target e + long second)) between))
+
+          skip_at : length (skip e between).code ≡ target e
+          unfolding draft_here
+          skip_at = let ends = ends_at e (skip e between) (1 + (long first + 1)) to_skip in omega (arith, ends)
+
+          -- the first one, behind which the code jumps over the other one
+          first_way : holds ≡ true → ArmMade g has alive n ready places fields dest (long second) (skip e between) (puts second (skip e between)) ⊎ (puts second (skip e between) ≡ Fails) → After g Q (both_ways x e)
+          unfolding After draft_here
+          first_way so (inr fails) = after_same g Q (ways_are ∙ fails) tt
+          first_way so (inl m2) = after_same g Q (ways_are ∙ m2.is) (λ inner. put inner (earlier g between m2.behind (1 + long second) past inner) refl)
+            where
+              before : Passes g alive (length d.fields) d (leap x e) s st (Unit {0})
+              before = passes_moved g alive (length d.fields) d e (leap x e) s st (Unit {0}) word.passes 1 (jump_more g alive false x (target e) e) (word.passes.t.at + 1) (omega arith) (goes true so) (let there = word.passes.at.stands in let more = jump_long g alive false x (target e) e in omega (arith, there, more))
+
+              past : Extended between (1 + long second) m2.behind
+              past = extended between (skip e between) m2.behind 1 (long second) (and_one g (I.FrontJump (target e + long second)) between) m2.extended
+
+              end_at : target e + long second + start g ≡ start g + length m2.behind.code
+              end_at = let ends = ends_at (skip e between) m2.behind (long second) m2.extended in let at = skip_at in omega (arith, ends, at)
+
+              lands : Within g m2.behind → Lands g between m2.behind
+              lands inner = record { more = (1 + long second, past); go = λ t there. subst (λ (place : ℕ). Reaches g t (record t { at = place })) end_at (jumps g alive (target e + long second) between t (earlier g (skip e between) m2.behind (long second) m2.extended inner) there) }
+
+              R : Out → Draft → Type 0
+              R y end = end ≡ between → Q (O.Field dest) m2.behind
+
+              put : Within g m2.behind → Within g between → between ≡ between → Q (O.Field dest) m2.behind
+              put inner =
+                  subst (λ (m : Made Out). After g R m) m1.is
+                  (way first (is_chosen true so) is_first wide_first codes.1 first_valued (leap x e) before R (λ one e2 i inner_put p words same. last one e2 i m2.behind inner p words (subst (λ (a : Draft). Lands g a m2.behind) (sym same) (lands inner))) (λ early y after same. ended early (O.Field dest) m2.behind))
+
+          -- the code jumps to the second one
+          second_way : holds ≡ false → After g Q (both_ways x e)
+          second_way so =
+              after_same g Q ways_are
+              (way second (is_chosen false so) is_second wide_second codes.2 second_valued (skip e between)
+              (passes_moved g alive (length d.fields) d e (skip e between) s st (Unit {0}) word.passes (1 + (long first + 1)) to_skip (target e + start g) (let there = word.passes.at.stands in omega (arith, there)) (goes false so) (let at = skip_at in omega (arith, at)))
+              Q (λ one e2 i inner p words. last one e2 i (with_instr i e2) inner p words (lands_here g (with_instr i e2))) ended)
+
+        either_way : ArmMade g has alive n ready places fields dest (long first) (leap x e) (puts first (leap x e)) ⊎ (puts first (leap x e) ≡ Fails) → After g Q (both_ways x e)
+        unfolding then_make After
+        either_way (inl m1) = by_case holds (λ so. first_way m1 so (arm_made g has alive n ready places fields set ty dest bits second wide.0 codes.2 (skip e m1.behind))) (λ so. second_way m1 so)
+        either_way (inr fails) = after_same g Q (ap (λ (m : Made Out). then_make m (λ _ between. puts second (skip e between))) fails) tt
+
+    -- its code into the field
+    pub choice_lands : PutsAndLands g has alive n ready places fields set dest choice (λ d. scalar_choice_by (O.Field dest) (next_of g.typed (layout g) (bits_of (kind_of test)) true test) (arm_of g.typed (layout g) bits first) (arm_of g.typed (layout g) bits second) (long first) (long second) d)
+    unfolding scalar_choice_by arm_of decided in_register then_make draft_here
+    choice_lands d s st here sim Q last ended =
+        then_outcome g s (meant g fields test st) (GivesScalar g has alive n ready fields (length d.fields) d s st test) Q (next_of g.typed (layout g) (bits_of (kind_of test)) true test d) (λ v e. behind_scalar v e)
+        (scalar_follows g has alive n ready fields true (bits_of (kind_of test)) (length d.fields) test calm codes.0.among codes.0.code d s st here sim) (λ v e. scalar_grows v e)
+        (λ v u gives out e (w, (is_w, (same, (x, (is_x, word))))). after_same g Q (ap (λ (o : Out). behind_scalar o e) is_x) (after_delayed g Q (leap x e) (both_ways x e) (ways_grow x e) (λ within.
+        either_way d s st here sim Q last ended e x w (gives ∙ ap (λ (y : Value). Source.Gives y u) is_w ∙ ap (λ (t : State). Source.Gives (Scalar w) t) same) word within (arm_made g has alive n ready places fields set ty dest bits first wide.0 codes.1 (leap x e)))))
+        (λ early. ended (choice_ended ty p q r test first second s st early))
+
+  -- its value stands in a fresh field
+  pub scalar_choice_valued : (bits set : ℕ) (ty : ValueType) (p q r : Boxed) (test first second : TExpr) → IsPure set (T.Choice' ty p test q first r second) → HasItsCode g.typed g.instance alive n (T.Choice' ty p test q first r second) → IsCalm test
+      → (IsPure set first → IsValued g has alive n ready places fields bits set first) → (IsPure set second → IsValued g has alive n ready places fields bits set second) → IsValued g has alive n ready places fields bits set (T.Choice' ty p test q first r second)
+  unfolding IsPure passes_less value_of choice_by fresh_for an_entry then_make arm_of
+  scalar_choice_valued bits set ty p q r test first second is c calm first_valued second_valued d s st here sim =
+      known_follows g s (meant g fields whole st) (number set whole st) st R (value_of g.typed (layout g) bits whole d)
+      (after_same g Q
+      (ap (λ (b : Bool). choice_by ty bits b (next_of g.typed (layout g) (bits_of (kind_of test)) (b || is_quiet first) test) (arm_of g.typed (layout g) bits first) (arm_of g.typed (layout g) bits second) (arm_length_of g.typed (layout g) ty bits first) (arm_length_of g.typed (layout g) ty bits second) d) (kept alone test (calm_alone test calm))
+      ∙ ap (λ (o : Option ℕ). then_make (fresh_for o bits d) (λ dest after. scalar_choice_by dest (next_of g.typed (layout g) (bits_of (kind_of test)) true test) (arm_of g.typed (layout g) bits first) (arm_of g.typed (layout g) bits second) (arm_length_of g.typed (layout g) ty bits first) (arm_length_of g.typed (layout g) ty bits second) after)) is.0.0)
+      (choice_lands set (length d.fields) bits ty p q r test first second is c is.0 calm is.2 is.3 is.4 is.5 first_valued second_valued d1 s st (starts_entry g alive _ _ here) sim Q
+      (λ given e2 i end within passes puts lands. inl (
+        given,
+        landed (with_instr i e2) end lands (own_result g has alive n ready places fields bits set d e2 s st (words_of g has alive n ready places fields set whole st) i (earlier g (with_instr i e2) end lands.more.0 lands.more.1 within)
+            (no_home g alive (length d.fields) (length d.fields) (omega arith) here) (passes_less g alive (length d.fields) (length d1.fields) d1 e2 s st (Unit {0}) (let one = one_more set bits W.Own d in omega (arith, one)) passes) puts),
+      ))
+      (λ early x after. inr early)))
+    where
+      whole : TExpr
+      whole = T.Choice' ty p test q first r second
+
+      d1 : Draft
+      d1 = with_entry set bits W.Own d
+
+      R : Out → Draft → Type 0
+      R out e = Answers g has alive n ready places fields (IsFlag whole) bits (length d.fields) d s set st (words_of g has alive n ready places fields set whole st) out e
+
+      Q : Out → Draft → Type 0
+      Q = Known g s (meant g fields whole st) (number set whole st) st R
+
+      landed : (e2 end : Draft) → Lands g e2 end → R (O.Field (next_field set bits d)) e2 → R (O.Field (next_field set bits d)) end
+      landed e2 end lands (h, (is_h, (gives, apart))) =
+          let (there, narrow) = gives_landed g alive bits (length d.fields) d e2 end s set st (words_of g has alive n ready places fields set whole st) h lands gives in
+          (h, (is_h, (there, λ flag. narrow (apart flag))))

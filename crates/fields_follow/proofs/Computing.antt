@@ -38,7 +38,7 @@ use Rattle.code_follows.proofs.Following.{Extends, Follows, HasRegisters, Sim, f
 use Rattle.code_follows.proofs.Settings.{Setting, and_one, layout}
 use Rattle.fields_follow.specs.Fragment.{HasItsKind, HasKnownKind, IsNarrowed, IsOfFileOrBlock, IsOperation, IsPromoted, IsPure, IsRegistered, IsRelation, IsWide}
 use Rattle.fields_follow.proofs.Starts.{no_home, starts_entry, Starts}
-use Rattle.fields_follow.proofs.Choosing.{choice_valued}
+use Rattle.fields_follow.proofs.Choosing.{choice_valued, scalar_choice_valued}
 use Rattle.fields_follow.proofs.Clearing.{joined_more}
 use Rattle.fields_follow.proofs.ConditionCode.{Bit, Truth, bit_not_value, joined_value, operand_at, put_in, relation_value, word_not_value}
 use Rattle.fields_follow.proofs.Conditions.{HaveTheirCode, and_codes, beside_scalar, conditions_join, joined_free, or_codes}
@@ -308,9 +308,11 @@ mutual
       binary_done g has alive n ready places fields set ty place op p q left right is c (λ pure. done g has alive n ready places fields set left pure parts.0) (λ pure. done g has alive n ready places fields set right pure parts.1)
   done g has alive n ready places fields set (T.Choice' ty p test q first r second) is c =
       let parts = choice_parts g alive n places fields ty p q r test first second c in
-      by_value g has alive n ready places fields set (T.Choice' ty p test q first r second) is refl c (λ bits some most. choice_valued g has alive n ready places fields bits set ty p q r test first second most is c (done g has alive n ready places fields set test is.1.0 parts.0).value
+      by_value g has alive n ready places fields set (T.Choice' ty p test q first r second) is refl c (λ bits some most. either
+      (λ kinded. choice_valued g has alive n ready places fields bits set ty p q r test first second is kinded c (done g has alive n ready places fields set test kinded.0 parts.0).value
       (λ b pure. (done (under g b) (registers_under g b has) alive n ready (places_under g b places) (fields_under g b fields.scope fields.same_extents) set first pure parts.1).value bits some most)
       (λ b pure. (done (under g b) (registers_under g b has) alive n ready (places_under g b places) (fields_under g b fields.scope fields.same_extents) set second pure parts.2).value bits some most))
+      (λ calm. scalar_choice_valued g has alive n ready places fields bits set ty p q r test first second is c calm (λ pure. (done g has alive n ready places fields set first pure parts.1).value bits some most) (λ pure. (done g has alive n ready places fields set second pure parts.2).value bits some most)) is.1)
   done g has alive n ready places fields set (T.Convert' ty p operand) is c = convert_done g has alive n ready places fields set ty p operand is is.0 is.2 is.1 c (done g has alive n ready places fields set operand is.2 (convert_part g alive n places fields ty p operand c))
   done g has alive n ready places fields set (T.ParallelCast' ty p operand) is c =
       let code = cast_code g alive n places fields set ty p operand is.0 is.2 c in

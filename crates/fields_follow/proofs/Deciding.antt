@@ -43,7 +43,7 @@ use Rattle.source_meaning.specs.Values.{Parallel, nonzero, unary_of}
 use Rattle.source_meaning.proofs.ConstantLaws.{Boxed}
 use Rattle.code_follows.proofs.Following.{Extends, HasRegisters, Sim}
 use Rattle.code_follows.proofs.Growing.{Extended, extended}
-use Rattle.code_follows.proofs.Settings.{Setting, Within, and_one, layout}
+use Rattle.code_follows.proofs.Settings.{Setting, Within, and_one, earlier, layout}
 use Rattle.cstar_tree.specs.Typed.{type_of}
 use Rattle.fields_follow.specs.Fragment.{IsCondition, IsNarrowed, IsPure}
 use Rattle.fields_follow.proofs.Starts.{Starts}
@@ -71,7 +71,7 @@ use Rattle.fields_follow.proofs.Passing.{After, Behind, after_same, code_longer,
 use Rattle.fields_follow.proofs.PassingTests.{tests_on, tests_passed}
 use Rattle.fields_follow.proofs.Variables.{Carries}
 use Rattle.fields_follow.proofs.VariableWrites.{entry_and_below}
-use Rattle.fields_follow.proofs.Writing.{TakesBehind, instr_takes}
+use Rattle.fields_follow.proofs.Writing.{TakesBehind, instr_takes, takes_landed}
 use Rattle.fields_follow.proofs.TestFlags.{LeavesTests, truth_is}
 use Rattle.fields_follow.proofs.TruthPuts.{at_once, bit_moved, flag_stored, puts_bit, puts_flags, puts_joined, puts_turned, through_bit}
 
@@ -339,8 +339,8 @@ module _ (g : Setting) where
           by_bit bool_of plain stays one flag =
               after_same g Q (ap goes stays)
               (computed_last g has alive n ready places fields set offset bits inner some (omega (arith, one)) bool_of.1.0 plain part_code d s st here sim Q
-              (λ given e2 i within passes puts. last (convert_means g has alive n ready places fields set ty p inner st is.0 given) e2 (with_instr i e2) (Unit {0}) within (tests_passed g alive (length d.fields) d e2 s st (Unit {0}) (omega arith) passes) tt
-              (takes_behind bits refl i e2 (words_of whole) (Unit {0}) (tests_passed g alive (length d.fields) d e2 s st (Unit {0}) (omega arith) passes) within (puts_alike g set i f passes.t (λ q. word_at (extents g set) st inner q) (words_of whole) alike puts)))
+              (λ given e2 i end within passes puts lands. last (convert_means g has alive n ready places fields set ty p inner st is.0 given) e2 end (Unit {0}) within (tests_passed g alive (length d.fields) d e2 s st (Unit {0}) (omega arith) passes) tt
+              (takes_landed g set f e2 (with_instr i e2) end passes.t (words_of whole) lands (takes_behind bits refl i e2 (words_of whole) (Unit {0}) (tests_passed g alive (length d.fields) d e2 s st (Unit {0}) (omega arith) passes) (earlier g (with_instr i e2) end lands.more.0 lands.more.1 within) (puts_alike g set i f passes.t (λ q. word_at (extents g set) st inner q) (words_of whole) alike puts))))
               (λ early. ended (convert_ended g has alive n ready places fields ty p inner s st early)))
             where
               alike : AreAlike g bits set (λ q. word_at (extents g set) st inner q) (words_of whole)

@@ -41,25 +41,28 @@ use Rattle.source_meaning.proofs.ConstantLaws.{Boxed}
 use Rattle.vp_sets.specs.Positions.{coordinate}
 use Rattle.code_follows.proofs.Following.{Finishes, Follows, HasRegisters, Sim, extends_then, held}
 use Rattle.code_follows.proofs.Growing.{Extended}
-use Rattle.code_follows.proofs.Words.{held_wide}
+use Rattle.code_follows.proofs.Words.{held_wide, kept}
 use Rattle.code_follows.proofs.Settings.{Setting, Within, and_one, layout, start}
 use Rattle.code_follows.specs.Fragment.{NamesAmong}
-use Rattle.fields_follow.specs.Fragment.{HasKnownKind, IsOfFileOrBlock, IsOperation, IsPromoted, IsPure, IsRelation, IsWide}
-use Rattle.fields_follow.proofs.Arms.{PutsLast as Puts_last, field_at, promoted_last, value_last}
+use Rattle.fields_follow.specs.Fragment.{HasKnownKind, IsOfFileOrBlock, IsOperation, IsPromoted, IsPure, IsRelation, IsWide, alone}
+use Rattle.fields_follow.proofs.Arms.{PutsAndLands as Puts_and_lands, PutsLast as Puts_last, field_at, last_lands, promoted_last, value_last}
 use Rattle.fields_follow.proofs.Forms.{HasItsCode, HasItsWord, pure_kept, pure_word}
 use Rattle.fields_follow.proofs.Dividing.{zero_at}
 use Rattle.fields_follow.proofs.Outcomes.{Ended, Given, ended_back, meant, then_known}
 use Rattle.fields_follow.proofs.Hops.{puts_same}
 use Rattle.fields_follow.proofs.Instructions.{AreAlike, Puts, alike_same, extents, shapes, puts_alike, puts_coordinate, puts_extended}
 use Rattle.fields_follow.proofs.Lengths.{Keeps, divides_wide}
-use Rattle.fields_follow.proofs.Meaning.{as_shaped, read_is, right_of, unary_means, value_in, word_at}
+use Rattle.fields_follow.proofs.Meaning.{as_shaped, either, read_is, right_of, unary_means, value_in, word_at}
 use Rattle.fields_follow.proofs.Indexing.{all_coded}
 use Rattle.fields_follow.proofs.Router.{indexed_last}
 use Rattle.fields_follow.proofs.Operands.{GivesRight, Takes, fields_after, operated_after, operated_extends, right_extends}
 use Rattle.fields_follow.proofs.Passing.{After, Behind, GivesField, Passes, after_same, fields_longer, made_after, passes_all, passes_from, then_after, names_second}
 use Rattle.fields_follow.proofs.Places.{HoldsTheFields, PlacesFields, stands_here}
 use Rattle.fields_follow.proofs.Promoted.{IsComputed, promoted_stands}
-use Rattle.fields_follow.proofs.Sizes.{binary_parts, brackets_part, convert_part, unary_part}
+use Rattle.fields_follow.proofs.Choosing.{choice_lands}
+use Rattle.fields_follow.proofs.Calm.{calm_alone}
+use Rattle.fields_follow.proofs.Writing.{lands_here}
+use Rattle.fields_follow.proofs.Sizes.{binary_parts, brackets_part, choice_parts, convert_part, unary_part}
 use Rattle.fields_follow.proofs.Totals.{held_below}
 use Rattle.fields_follow.proofs.Values.{FindsOrFails, and_entry, finds_read, next_field, one_more, operand_of, starts_found, variable_has, with_entry}
 use Rattle.fields_follow.proofs.Expressions.{IsMeant, binary_at, convert_alike, convert_ended, convert_means, coordinate_means, operand_at, unary_ended, extended_after, negated_after, operand_grows, operands_keep, plus_alike, signed_as, unary_at, wide_operands}
@@ -91,6 +94,16 @@ module _ (g : Setting) (has : HasRegisters g) (alive : Variable → Type 0) (n :
   -- the code of an expression that becomes the value of the field
   abbrev PutsWords : ℕ → ℕ → ℕ → TExpr → Type 1
   PutsWords set offset bits e = PutsLast set (field_at set offset bits) e (λ d. computed_to g.typed (layout g) (O.Field (field_at set offset bits)) e d)
+
+  -- or that lands there behind it
+  abbrev PutsAndLands : ℕ → ℕ → ℕ → TExpr → (Draft → Made Out) → Type 1
+  PutsAndLands set offset bits e made = Puts_and_lands g has alive n ready places fields set (field_at set offset bits) e made
+
+  abbrev LandsWords : ℕ → ℕ → ℕ → TExpr → Type 1
+  LandsWords set offset bits e = PutsAndLands set offset bits e (λ d. computed_to g.typed (layout g) (O.Field (field_at set offset bits)) e d)
+
+  words_land : (set offset bits : ℕ) (e : TExpr) → PutsWords set offset bits e → LandsWords set offset bits e
+  words_land set offset bits e puts = last_lands g has alive n ready places fields set (field_at set offset bits) e (λ d. computed_to g.typed (layout g) (O.Field (field_at set offset bits)) e d) puts
 
   -- a copy of a variable, cut or extended
   copied_last : (set offset bits : ℕ) (x : Variable) (ty : ValueType) → bits ≤ 32 → IsOfFileOrBlock x → ty.shape ≡ Some set → HasItsCode g.typed g.instance alive n (T.Variable ty x) → PutsWords set offset bits (T.Variable ty x)
@@ -129,22 +142,22 @@ module _ (g : Setting) (has : HasRegisters g) (alive : Variable → Type 0) (n :
 
   -- what is put for one expression is put for another with the same words
   puts_like : (set offset bits : ℕ) (made : Draft → Made Out) (e other : TExpr) → ((st : State) → IsGiven set e st → IsGiven set other st) → ((s : CodeState) (st : State) → Ended g s (meant g fields e st) → Ended g s (meant g fields other st))
-      → ((st : State) (s : CodeState) → Sim g alive st s → AreAlike g bits set (words_of set e st) (words_of set other st)) → PutsLast set (field_at set offset bits) e made → PutsLast set (field_at set offset bits) other made
+      → ((st : State) (s : CodeState) → Sim g alive st s → AreAlike g bits set (words_of set e st) (words_of set other st)) → PutsAndLands set offset bits e made → PutsAndLands set offset bits other made
   puts_like set offset bits made e other gives ends alike whole d s st here sim Q last ended =
-      whole d s st here sim Q (λ is e2 i within passes puts. last (gives st is) e2 i within passes (puts_alike g set i (field_at set offset bits) passes.t (words_of set e st) (words_of set other st) (alike st passes.t passes.sim) puts)) (λ early. ended (ends s st early))
+      whole d s st here sim Q (λ is e2 i end within passes puts lands. last (gives st is) e2 i end within passes (puts_alike g set i (field_at set offset bits) passes.t (words_of set e st) (words_of set other st) (alike st passes.t passes.sim) puts) lands) (λ early. ended (ends s st early))
 
   -- a unary operator
-  negated_last : (set offset bits : ℕ) (ty : ValueType) (op : UnaryOp) (p : Boxed) (inner : TExpr) → 0 < bits → bits ≤ 32 → negates op ≡ false → IsWide set (type_of inner) → IsPure set (T.Unary' ty op p inner) → HasItsCode g.typed g.instance alive n (T.Unary' ty op p inner) → (is_plus op ≡ true → PutsWords set offset bits inner) → PutsWords set offset bits (T.Unary' ty op p inner)
+  negated_last : (set offset bits : ℕ) (ty : ValueType) (op : UnaryOp) (p : Boxed) (inner : TExpr) → 0 < bits → bits ≤ 32 → negates op ≡ false → IsWide set (type_of inner) → IsPure set (T.Unary' ty op p inner) → HasItsCode g.typed g.instance alive n (T.Unary' ty op p inner) → (is_plus op ≡ true → LandsWords set offset bits inner) → LandsWords set offset bits (T.Unary' ty op p inner)
   unfolding computed_to is_plus negates unary_bits bits_for done_as IsPure value_in
   negated_last set offset bits ty U.Plus p inner some most plain wide is c whole d s st here sim Q last ended =
       puts_like set offset bits (λ d. computed_to g.typed (layout g) (O.Field (field_at set offset bits)) inner d) inner (T.Unary' ty U.Plus p inner)
       (λ st given. unary_means fields.scope fields.active set ty U.Plus p inner (λ q. value_in (extents g set) st inner q) st is.0.0 given) (λ s st early. unary_ended g has alive n ready places fields ty U.Plus p inner s st early) (λ st s sim. plus_alike g has alive n ready places fields bits set ty p inner st s sim wide is c) (whole refl) d s st here sim Q last ended
   negated_last set offset bits ty U.Minus p inner some most plain wide is c whole d s st here sim Q last ended =
       negated_after g has alive n ready places fields bits set ty U.Minus p (field_at set offset bits) inner (length d.fields) d s st is.0.0 most (refl, refl) refl is.2 wide (unary_part g alive n places fields ty U.Minus p inner c) (pure_after g has alive n ready places fields bits set inner some most is.2 (unary_part g alive n places fields ty U.Minus p inner c)) (omega arith) here sim Q
-      (λ given e1 i within passes puts. last given e1 i within passes (puts_same g set i (field_at set offset bits) passes.t _ (words_of set (T.Unary' ty U.Minus p inner) st) (λ q below. unary_at g has alive n ready places fields set ty U.Minus p inner st passes.t passes.sim is c q) puts)) ended
+      (λ given e1 i within passes puts. last given e1 i (with_instr i e1) within passes (puts_same g set i (field_at set offset bits) passes.t _ (words_of set (T.Unary' ty U.Minus p inner) st) (λ q below. unary_at g has alive n ready places fields set ty U.Minus p inner st passes.t passes.sim is c q) puts) (lands_here g (with_instr i e1))) ended
   negated_last set offset bits ty U.Complement p inner some most plain wide is c whole d s st here sim Q last ended =
       negated_after g has alive n ready places fields bits set ty U.Complement p (field_at set offset bits) inner (length d.fields) d s st is.0.0 most (refl, refl) refl is.2 wide (unary_part g alive n places fields ty U.Complement p inner c) (pure_after g has alive n ready places fields bits set inner some most is.2 (unary_part g alive n places fields ty U.Complement p inner c)) (omega arith) here sim Q
-      (λ given e1 i within passes puts. last given e1 i within passes (puts_same g set i (field_at set offset bits) passes.t _ (words_of set (T.Unary' ty U.Complement p inner) st) (λ q below. unary_at g has alive n ready places fields set ty U.Complement p inner st passes.t passes.sim is c q) puts)) ended
+      (λ given e1 i within passes puts. last given e1 i (with_instr i e1) within passes (puts_same g set i (field_at set offset bits) passes.t _ (words_of set (T.Unary' ty U.Complement p inner) st) (λ q below. unary_at g has alive n ready places fields set ty U.Complement p inner st passes.t passes.sim is c q) puts) (lands_here g (with_instr i e1))) ended
   negated_last set offset bits ty U.Not p inner some most plain wide is c whole d s st here sim Q last ended = cc
 
   -- a value of as many bits that is moved
@@ -197,17 +210,22 @@ module _ (g : Setting) (has : HasRegisters g) (alive : Variable → Type 0) (n :
       f = field_at set offset bits
 
   -- `?:`
-  choice_last : (set offset bits : ℕ) (ty : ValueType) (p q r : Boxed) (test first second : TExpr) → 0 < bits → bits ≤ 32 → IsPure set (T.Choice' ty p test q first r second) → IsPure set test → HasItsCode g.typed g.instance alive n (T.Choice' ty p test q first r second) → PutsWords set offset bits (T.Choice' ty p test q first r second)
-  unfolding computed_to
-  choice_last set offset bits ty p q r test first second some most is tests c d s st here sim Q last ended =
-      after_same g Q (ap (λ (b : Bool). if b then scalar_choice_of g.typed (layout g) ty (bits_for (O.Field f)) test first second (O.Field f) d else moved g.typed (layout g) (O.Field f) whole d) (pure_kept set test tests))
-      (moved_last set offset bits whole some most is c d s st here sim Q last ended)
+  choice_words : (set offset bits : ℕ) (ty : ValueType) (p q r : Boxed) (test first second : TExpr) → 0 < bits → bits ≤ 32 → IsPure set (T.Choice' ty p test q first r second) → HasItsCode g.typed g.instance alive n (T.Choice' ty p test q first r second) → LandsWords set offset bits (T.Choice' ty p test q first r second)
+  unfolding computed_to IsPure scalar_choice_of bits_for
+  choice_words set offset bits ty p q r test first second some most is c d s st here sim Q last ended =
+      either (λ kinded. after_same g Q (ap code (pure_kept set test kinded.0)) (last_lands g has alive n ready places fields set f whole (λ e. moved g.typed (layout g) (O.Field f) whole e) (moved_last set offset bits whole some most is c) d s st here sim Q last ended))
+      (λ calm. let parts = choice_parts g alive n places fields ty p q r test first second c in
+      after_same g Q (ap code (kept alone test (calm_alone test calm)))
+      (choice_lands g has alive n ready places fields set offset bits ty p q r test first second is c is.0 calm is.2 is.3 is.4 is.5 (λ pure. pure_after g has alive n ready places fields bits set first some most pure parts.1) (λ pure. pure_after g has alive n ready places fields bits set second some most pure parts.2) d s st here sim Q last ended)) is.1
     where
       f : Field
       f = field_at set offset bits
 
       whole : TExpr
       whole = T.Choice' ty p test q first r second
+
+      code : Bool → Made Out
+      code b = if b then scalar_choice_of g.typed (layout g) ty bits test first second (O.Field f) d else moved g.typed (layout g) (O.Field f) whole d
 
   -- the own coordinates
   coordinate_last : (set offset bits axis : ℕ) (ty : ValueType) → IsWide set ty → PutsWords set offset bits (T.Pcoord ty axis)
@@ -223,7 +241,7 @@ module _ (g : Setting) (has : HasRegisters g) (alive : Variable → Type 0) (n :
       f = field_at set offset bits
 
   -- a conversion
-  converted_last : (set offset bits : ℕ) (ty : ValueType) (p : Boxed) (inner : TExpr) → bits ≤ 32 → (ty.elem.bits == 1) ≡ false → IsPure set (T.Convert' ty p inner) → HasItsCode g.typed g.instance alive n (T.Convert' ty p inner) → (nat_le bits ty.elem.bits ≡ true → PutsWords set offset bits inner) → PutsWords set offset bits (T.Convert' ty p inner)
+  converted_last : (set offset bits : ℕ) (ty : ValueType) (p : Boxed) (inner : TExpr) → bits ≤ 32 → (ty.elem.bits == 1) ≡ false → IsPure set (T.Convert' ty p inner) → HasItsCode g.typed g.instance alive n (T.Convert' ty p inner) → (nat_le bits ty.elem.bits ≡ true → LandsWords set offset bits inner) → LandsWords set offset bits (T.Convert' ty p inner)
   unfolding computed_to goes_unchanged keeps_bits converted_to cast_to IsPure
   converted_last set offset bits ty p inner most no_truth is c whole d s st here sim Q last ended = by (nat_le bits ty.elem.bits) refl
     where
@@ -255,7 +273,8 @@ module _ (g : Setting) (has : HasRegisters g) (alive : Variable → Type 0) (n :
           (ap (λ (b : Bool). if b then computed_to g.typed (layout g) (O.Field f) inner d else converted_to g.typed (layout g) (O.Field f) e ty.elem inner d) (kept false less)
           ∙ ap (λ (b : Bool). if b then moved g.typed (layout g) (O.Field f) e d else if ty.elem.bits == 1 then truth_put f (tested g.typed (layout g) inner) d else extended ty.elem.signed f (next_of g.typed (layout g) ty.elem.bits true inner) d) fresh
           ∙ ap (λ (b : Bool). if b then truth_put f (tested g.typed (layout g) inner) d else extended ty.elem.signed f (next_of g.typed (layout g) ty.elem.bits true inner) d) no_truth)
-          (extended_after g has alive n ready places fields set ty p inner f (length d.fields) d s st is.0 no_truth most is.2 part (pure_after g has alive n ready places fields ty.elem.bits set inner (kind_bits ty.elem.bits ty.elem.signed ty.elem.kind).0 (kind_bits ty.elem.bits ty.elem.signed ty.elem.kind).1 is.2 part) (omega arith) here sim Q last ended)
+          (extended_after g has alive n ready places fields set ty p inner f (length d.fields) d s st is.0 no_truth most is.2 part (pure_after g has alive n ready places fields ty.elem.bits set inner (kind_bits ty.elem.bits ty.elem.signed ty.elem.kind).0 (kind_bits ty.elem.bits ty.elem.signed ty.elem.kind).1 is.2 part) (omega arith) here sim Q
+          (λ given e2 i within passes puts. last given e2 i (with_instr i e2) within passes puts (lands_here g (with_instr i e2))) ended)
 
   -- a get from neighbours
   pub gone_same : (dest : Out) (Q : Out → Draft → Type 0) (made : Made Out) → After g (λ out e. Q dest e) made → After g Q (gone_to dest made)
@@ -273,41 +292,42 @@ module _ (g : Setting) (has : HasRegisters g) (alive : Variable → Type 0) (n :
       (each_after g has alive n ready places fields set indexes (all_coded g has alive n ready places fields ty place p indexes x of c)) refl (omega arith) here sim (λ out e. Q (O.Field (field_at set offset bits)) e) last (λ early y after. ended early (O.Field (field_at set offset bits)) after))
 
   -- a value that is no truth value
-  pub computed_last : (set offset bits : ℕ) (e : TExpr) → 0 < bits → bits ≤ 32 → IsPure set e → IsPlain bits e → HasItsCode g.typed g.instance alive n e → PutsWords set offset bits e
+  pub computed_last : (set offset bits : ℕ) (e : TExpr) → 0 < bits → bits ≤ 32 → IsPure set e → IsPlain bits e → HasItsCode g.typed g.instance alive n e → LandsWords set offset bits e
   unfolding IsPure IsPlain IsOfFileOrBlock computed_to value_in NamesVariables evaluated
-  computed_last set offset bits (T.Variable ty (V.File k)) some most is plain c = copied_last set offset bits (V.File k) ty most tt is c
-  computed_last set offset bits (T.Variable ty (V.Local k)) some most is plain c = copied_last set offset bits (V.Local k) ty most tt is c
+  computed_last set offset bits (T.Variable ty (V.File k)) some most is plain c = words_land set offset bits (T.Variable ty (V.File k)) (copied_last set offset bits (V.File k) ty most tt is c)
+  computed_last set offset bits (T.Variable ty (V.Local k)) some most is plain c = words_land set offset bits (T.Variable ty (V.Local k)) (copied_last set offset bits (V.Local k) ty most tt is c)
   computed_last set offset bits (T.Brackets' ty p inner) some most is plain c =
       puts_like set offset bits (λ d. computed_to g.typed (layout g) (O.Field (field_at set offset bits)) inner d) inner (T.Brackets' ty p inner) (λ st given. given) (λ s st early. early) (λ st s sim. alike_same g bits set _ _ (λ q below few. ap (λ (y : ValueType). held y.elem (value_in (extents g set) st inner q)) is.0))
       (computed_last set offset bits inner some most is.1 plain (brackets_part g alive n places fields ty p inner c))
   computed_last set offset bits (T.Unary' ty op p inner) some most is plain c = by is.1 (λ plus. computed_last set offset bits inner some most is.2 (plain.1 plus) (unary_part g alive n places fields ty op p inner c))
     where
-      by : ((negates op ≡ false) × IsWide set (type_of inner)) ⊎ ((negates op ≡ true) × HasKnownKind inner) → (is_plus op ≡ true → PutsWords set offset bits inner) → PutsWords set offset bits (T.Unary' ty op p inner)
+      by : ((negates op ≡ false) × IsWide set (type_of inner)) ⊎ ((negates op ≡ true) × HasKnownKind inner) → (is_plus op ≡ true → LandsWords set offset bits inner) → LandsWords set offset bits (T.Unary' ty op p inner)
       by (inl h) whole = negated_last set offset bits ty op p inner some most plain.0 h.1 is c whole
       by (inr h) whole = let wrong = sym plain.0 ∙ h.0 in cc
   computed_last set offset bits (T.Binary' ty place op p left q right) some most is plain c = by is.1
     where
-      by : IsOperation op right ⊎ IsRelation set op left right → PutsWords set offset bits (T.Binary' ty place op p left q right)
-      by (inl known) = operated_last set offset bits ty place op p q left right some most known is c
+      by : IsOperation op right ⊎ IsRelation set op left right → LandsWords set offset bits (T.Binary' ty place op p left q right)
+      by (inl known) = words_land set offset bits (T.Binary' ty place op p left q right) (operated_last set offset bits ty place op p q left right some most known is c)
       by (inr related) = let wrong = sym plain ∙ related.0 in cc
-  computed_last set offset bits (T.Choice' ty p test q first r second) some most is plain c = choice_last set offset bits ty p q r test first second some most is is.1.0 c
+  computed_last set offset bits (T.Choice' ty p test q first r second) some most is plain c = choice_words set offset bits ty p q r test first second some most is c
   computed_last set offset bits (T.Convert' ty p inner) some most is plain c = converted_last set offset bits ty p inner most plain.0 is c (λ enough. computed_last set offset bits inner some most is.2 (plain.1 enough) (convert_part g alive n places fields ty p inner c))
-  computed_last set offset bits (T.ParallelCast' ty p inner) some most is plain c = moved_last set offset bits (T.ParallelCast' ty p inner) some most is c
-  computed_last set offset bits (T.Pcoord ty axis) some most is plain c = coordinate_last set offset bits axis ty is
-  computed_last set offset bits (T.Dot ty axis) some most is plain c = moved_last set offset bits (T.Dot ty axis) some most is c
-  computed_last set offset bits (T.LeftIndex' ty place p indexes x of) some most is plain c = left_index_computed set offset bits ty place p indexes x of most is c
-  computed_last set offset bits (T.LogicalOr' ty p left q right) some most is plain c = logical_last set offset bits true (T.LogicalOr' ty p left q right) left right some most is plain c
-  computed_last set offset bits (T.LogicalAnd' ty p left q right) some most is plain c = logical_last set offset bits false (T.LogicalAnd' ty p left q right) left right some most is plain c
+  computed_last set offset bits (T.ParallelCast' ty p inner) some most is plain c = words_land set offset bits (T.ParallelCast' ty p inner) (moved_last set offset bits (T.ParallelCast' ty p inner) some most is c)
+  computed_last set offset bits (T.Pcoord ty axis) some most is plain c = words_land set offset bits (T.Pcoord ty axis) (coordinate_last set offset bits axis ty is)
+  computed_last set offset bits (T.Dot ty axis) some most is plain c = words_land set offset bits (T.Dot ty axis) (moved_last set offset bits (T.Dot ty axis) some most is c)
+  computed_last set offset bits (T.LeftIndex' ty place p indexes x of) some most is plain c = words_land set offset bits (T.LeftIndex' ty place p indexes x of) (left_index_computed set offset bits ty place p indexes x of most is c)
+  computed_last set offset bits (T.LogicalOr' ty p left q right) some most is plain c = words_land set offset bits (T.LogicalOr' ty p left q right) (logical_last set offset bits true (T.LogicalOr' ty p left q right) left right some most is plain c)
+  computed_last set offset bits (T.LogicalAnd' ty p left q right) some most is plain c = words_land set offset bits (T.LogicalAnd' ty p left q right) (logical_last set offset bits false (T.LogicalAnd' ty p left q right) left right some most is plain c)
   computed_last set offset bits _ some most is plain c = absurd is
 
   -- any operand that is no truth value
-  pub put_last : (set offset bits : ℕ) (e : TExpr) → 0 < bits → bits ≤ 32 → (IsPure set e × IsPlain bits e) ⊎ IsPromoted set e → HasItsCode g.typed g.instance alive n e → PutsLast set (field_at set offset bits) e (λ d. put_to g.typed (layout g) (O.Field (field_at set offset bits)) e d)
+  pub put_last : (set offset bits : ℕ) (e : TExpr) → 0 < bits → bits ≤ 32 → (IsPure set e × IsPlain bits e) ⊎ IsPromoted set e → HasItsCode g.typed g.instance alive n e → PutsAndLands set offset bits e (λ d. put_to g.typed (layout g) (O.Field (field_at set offset bits)) e d)
   unfolding put_to word_for arm_by
   put_last set offset bits e some most (inl (pure, plain)) c d s st here sim Q last ended =
       let f : Field = field_at set offset bits in
       after_same g Q (ap (λ (o : Option ℕ). elim o as (λ _. Made Out) [ Some word ↦ word_put (O.Field f) word d | None ↦ computed_to g.typed (layout g) (O.Field f) e d ]) (pure_word set e pure))
       (computed_last set offset bits e some most pure plain c d s st here sim Q last ended)
-  put_last set offset bits e some most (inr promoted) c d s st here sim Q last ended = after_same g Q (same (promoted_stands g alive n set e promoted c)) (promoted_last g has alive n ready places fields set offset bits e promoted c d s st here sim Q last ended)
+  put_last set offset bits e some most (inr promoted) c d s st here sim Q last ended = after_same g Q (same (promoted_stands g alive n set e promoted c))
+      (last_lands g has alive n ready places fields set f e (λ d. arm_by (operand bits true e) e (O.Field f) d) (promoted_last g has alive n ready places fields set offset bits e promoted c) d s st here sim Q last ended)
     where
       f : Field
       f = field_at set offset bits

@@ -67,7 +67,7 @@ unfoldable mutual
   value_in extents st (T.Binary' ty place op p left r right) q = outcome op 32 (not (type_of left).elem.signed) (value_in extents st left q) (value_in extents st right q)
   value_in extents st (T.LogicalOr' ty p left r right) q = from_bool (nonzero (first_in (type_of left).shape (decided_in st left) (value_in extents st left q)) || nonzero (value_in extents st right q))
   value_in extents st (T.LogicalAnd' ty p left r right) q = from_bool (nonzero (first_in (type_of left).shape (decided_in st left) (value_in extents st left q)) && nonzero (value_in extents st right q))
-  value_in extents st (T.Choice' ty p test r first s second) q = if nonzero (value_in extents st test q) then value_in extents st first q else value_in extents st second q
+  value_in extents st (T.Choice' ty p test r first s second) q = if nonzero (first_in (type_of test).shape (decided_in st test) (value_in extents st test q)) then value_in extents st first q else value_in extents st second q
   value_in extents st (T.Convert' ty p operand) q = converted ty.elem (type_of operand).elem (value_in extents st operand q)
   value_in extents st (T.ParallelCast' ty p operand) q = converted ty.elem (type_of operand).elem (value_in extents st operand q)
   value_in extents st (T.Pcoord ty axis) q = coordinate extents.own q axis

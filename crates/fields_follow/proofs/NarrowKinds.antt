@@ -33,7 +33,7 @@ use Rattle.fields_follow.proofs.CalmKinds.{promoted_has}
 use Rattle.fields_follow.proofs.Forms.{HasItsCode, promoted_kept, pure_kept, pure_word}
 use Rattle.fields_follow.proofs.Instructions.{extents, shapes}
 use Rattle.fields_follow.proofs.JoinedBits.{bitwise_has}
-use Rattle.fields_follow.proofs.Meaning.{AreOperands, value_in, word_at, left_of, right_of}
+use Rattle.fields_follow.proofs.Meaning.{AreOperands, decided_in, first_in, value_in, word_at, left_of, right_of}
 use Rattle.fields_follow.proofs.KnownKinds.{HasWord, bitwise_plain, common_has, convert_has, joined_kind, narrow_has, not_bit, truth_has}
 use Rattle.fields_follow.proofs.Places.{HoldsTheFields, PlacesFields}
 use Rattle.fields_follow.proofs.Sizes.{choice_parts, binary_parts, brackets_part, cast_code, convert_part, pure_at, value_small, promoted_small}
@@ -137,7 +137,7 @@ module _ (g : Setting) (alive : Variable → Type 0) (n : ℕ) (places : PlacesF
       let both : HasWord kind v × HasWord kind w =
       common_has (kind_of first) (kind_of second) kind v w is_kind (part_has set first st s sim is.2 so.0 is.4 parts.1 q (λ pure narrowed k is_k. kind_has set first st s sim pure narrowed parts.1 q k is_k))
       (part_has set second st s sim is.3 so.1 is.5 parts.2 q (λ pure narrowed k is_k. kind_has set second st s sim pure narrowed parts.2 q k is_k)) in
-      subst (λ (x : ℕ). HasWord kind x) (sym (pure_at g alive n places fields set (T.Choice' ty p test b first r second) st s sim is is.0 c q)) (chosen (nonzero (value_in (extents g set) st test q)) v w both)
+      subst (λ (x : ℕ). HasWord kind x) (sym (pure_at g alive n places fields set (T.Choice' ty p test b first r second) st s sim is is.0 c q)) (chosen (nonzero (first_in (type_of test).shape (decided_in st test) (value_in (extents g set) st test q))) v w both)
     where
       chosen : (b : Bool) (v w : ℕ) → HasWord kind v × HasWord kind w → HasWord kind (if b then v else w)
       chosen true v w both = both.0

@@ -21,7 +21,7 @@ use Rattle.fields_follow.proofs.Leaving.{EndsBelow}
 use Rattle.fields_follow.proofs.Lengths.{held_first}
 use Rattle.fields_follow.proofs.Places.{HoldsTheFields, IsOwnField, PlacesFields, names_first}
 use Rattle.fields_follow.proofs.Variables.{Carries}
-use Rattle.fields_follow.proofs.Writing.{PutsNext, next_written, puts_next}
+use Rattle.fields_follow.proofs.Writing.{Lands, PutsNext, lands_behind, next_written, puts_next}
 use Rattle.fields_follow.proofs.Starts.{Starts, starts_later, starts_next}
 use Rattle.fields_follow.proofs.Locals.{IsNoHome}
 
@@ -192,6 +192,26 @@ module _ (g : Setting) where
     unfoldable pub gives_from : (bits bound : ℕ) (d e f : Draft) (s : CodeState) (set : ℕ) (st : State) (v : ℕ → ℕ) (h : Field) → Extended d 0 e → GivesField bits bound e s set st v h f → GivesField bits bound d s set st v h f
     unfolding passes_from
     gives_from bits bound d e f s set st v h taken gives = record { passes = passes_from bound d e f s st (Behind h f) taken gives.passes; stands = gives.stands }
+
+    -- where the code lands it is given too
+    pub gives_landed : (bits bound : ℕ) (d e f : Draft) (s : CodeState) (set : ℕ) (st : State) (v : ℕ → ℕ) (h : Field) → Lands g e f → (before : GivesField bits bound d s set st v h e) → (gives : GivesField bits bound d s set st v h f) × (HasOneBit before.stands → HasOneBit gives.stands)
+    unfolding passes_on
+    gives_landed bits bound d e f s set st v h lands gives = let (stands, narrow) = by gives.stands in (record { passes = passes; stands = stands }, narrow)
+      where
+        p : Passes bound d e s st (Behind h e)
+        p = gives.passes
+
+        code : length e.code ≤ length f.code
+        code = code_longer e f lands.more.0 lands.more.1
+
+        passes : Passes bound d f s st (Behind h f)
+        passes =
+            passes_on bound bound d e f s st (Behind h e) (Unit {0}) (Behind h f) (omega arith) p
+            (passes_moved bound e e f p.t st (Unit {0}) (passes_all bound e p.t st (Unit {0}) p.at p.sim) lands.more.0 lands.more.1 (start g + length f.code) (lands_behind g e f p.t lands p.at.stands) (lands.go p.t p.at.stands) refl) (λ behind. (behind.0, (behind.1.0, (let late = behind.1.1 in omega (arith, late, code))))) (λ behind. tt)
+
+        by : (x : Stands bits bound e set h p.t st v) → (y : Stands bits bound f set h passes.t st v) × (HasOneBit x → HasOneBit y)
+        by (inl o) = (inl (record { long = o.long; own = o.own; fits = o.fits; ends = o.ends; newer = o.newer; older = (let l = fields_longer e f lands.more.0 lands.more.1 in let older = o.older in omega (arith, older, l)); somewhere = o.somewhere; named = o.named; before = (let before = o.before in omega (arith, before, code)); has = record { of_set = o.has.of_set; exists = o.has.exists; len = o.has.len; are = o.has.are; small = o.has.small } }), λ one. one)
+        by (inr variable) = (inr variable, λ one. one)
 
     unfoldable pub stands_less : (bits bound other : ℕ) (e : Draft) (set : ℕ) (f : Field) (t : CodeState) (st : State) (v : ℕ → ℕ) → bound ≤ other → Stands bits other e set f t st v → Stands bits bound e set f t st v
     stands_less bits bound other e set f t st v less (inl h) = inl (record { long = h.long; own = h.own; fits = h.fits; ends = h.ends; newer = omega (arith, less, h.newer); older = h.older; somewhere = h.somewhere; named = h.named; before = h.before; has = h.has })

@@ -24,6 +24,7 @@ use Rattle.fields_follow.proofs.Instructions.{extents}
 use Rattle.fields_follow.proofs.Calm.{calm_same, calm_scalar}
 use Rattle.fields_follow.proofs.Truths.{either_or_both}
 use Rattle.code_follows.proofs.Branching.{decides}
+use Rattle.code_follows.proofs.Choosing.{choose_is}
 use Rattle.fields_follow.proofs.Promoted.{promoted_free, ignoring}
 
 -- an operator that ignores the context divides nothing, and its operands ignore it
@@ -185,14 +186,46 @@ choice_so scope active set ty p q r test first second v st is tested =
     ap (λ (o : Outcome Value). then_do o (λ x after. choose (type_of test).shape x (λ c after. evaluated scope first c after) (λ c after. evaluated scope second c after) active after)) tested
     ∙ ap (λ (o : Option ℕ). choose o (Parallel v) (λ c after. evaluated scope first c after) (λ c after. evaluated scope second c after) active st) (pure_shape set test is)
 
-pub choice_means : (scope : Scope) (active : Active) (set : ℕ) (ty : ValueType) (p q r : Boxed) (test first second : TExpr) (v a b : ℕ → ℕ) (st : State) → IsPure set test → evaluated scope test active st ≡ Source.Gives (Parallel v) st
-    → evaluated scope first (where_nonzero set (Parallel v) active) st ≡ Source.Gives (Parallel a) st → evaluated scope second (where_zero set (Parallel v) active) st ≡ Source.Gives (Parallel b) st
-    → evaluated scope (T.Choice' ty p test q first r second) active st ≡ Source.Gives (Parallel (λ x. if nonzero (v x) then a x else b x)) st
+pub choice_number : (extents : Extents) (st : State) (set : ℕ) (ty : ValueType) (p q r : Boxed) (test first second : TExpr) (x : ℕ) → IsPure set test → value_in extents st (T.Choice' ty p test q first r second) x ≡ (if nonzero (value_in extents st test x) then value_in extents st first x else value_in extents st second x)
+unfolding value_in first_in
+choice_number extents st set ty p q r test first second x is = ap (λ (o : Option ℕ). if nonzero (first_in o (decided_in st test) (value_in extents st test x)) then value_in extents st first x else value_in extents st second x) (pure_shape set test is)
+
+pub choice_meant : (scope : Scope) (active : Active) (set : ℕ) (ty : ValueType) (p q r : Boxed) (test first second : TExpr) (extents : Extents) (st : State) → IsPure set test → evaluated scope test active st ≡ Source.Gives (Parallel (λ x. value_in extents st test x)) st
+    → evaluated scope first (where_nonzero set (Parallel (λ x. value_in extents st test x)) active) st ≡ Source.Gives (Parallel (λ x. value_in extents st first x)) st → evaluated scope second (where_zero set (Parallel (λ x. value_in extents st test x)) active) st ≡ Source.Gives (Parallel (λ x. value_in extents st second x)) st
+    → evaluated scope (T.Choice' ty p test q first r second) active st ≡ Source.Gives (Parallel (λ x. value_in extents st (T.Choice' ty p test q first r second) x)) st
 unfolding then_do at
-choice_means scope active set ty p q r test first second v a b st is tested one other =
+choice_meant scope active set ty p q r test first second extents st is tested one other =
     choice_so scope active set ty p q r test first second v st is tested
     ∙ ap (λ (o : Outcome Value). then_do o (λ y between. then_do (evaluated scope second (where_zero set (Parallel v) active) between) (λ z after. Source.Gives (Parallel (λ x. if nonzero (v x) then at y x else at z x)) after))) one
-    ∙ ap (λ (o : Outcome Value). then_do o (λ z after. Source.Gives (Parallel (λ x. if nonzero (v x) then a x else at z x)) after)) other
+    ∙ ap (λ (o : Outcome Value). then_do o (λ z after. Source.Gives (Parallel (λ x. if nonzero (v x) then value_in extents st first x else at z x)) after)) other
+    ∙ ap (λ (f : ℕ → ℕ). Source.Gives (Parallel f) st) (λ j x. sym (choice_number extents st set ty p q r test first second x is) j)
+  where
+    v : ℕ → ℕ
+    v x = value_in extents st test x
+
+-- one with a scalar condition is the operand that it chooses
+if_of : {A B : Type 0} (f : A → B) (b : Bool) (x y : A) → (if b then f x else f y) ≡ f (if b then x else y)
+if_of f true x y = refl
+if_of f false x y = refl
+
+module _ (scope : Scope) (active : Active) (ty : ValueType) (p q r : Boxed) (test first second : TExpr) (calm : IsCalm test) (v : Value) (st : State) (given : evaluated scope test active st ≡ Source.Gives v st) where
+  abbrev chosen : TExpr
+  chosen = if nonzero (number v) then first else second
+
+  pub scalar_choice_so : evaluated scope (T.Choice' ty p test q first r second) active st ≡ evaluated scope chosen active st
+  unfolding evaluated then_do
+  scalar_choice_so =
+      ap (λ (o : Outcome Value). then_do o (λ x after. choose (type_of test).shape x (λ c after. evaluated scope first c after) (λ c after. evaluated scope second c after) active after)) given
+      ∙ choose_is (type_of test).shape v (λ c after. evaluated scope first c after) (λ c after. evaluated scope second c after) active st (calm_scalar test calm) ∙ if_of (λ (e : TExpr). evaluated scope e active st) (nonzero (number v)) first second
+
+  pub scalar_choice_number : (extents : Extents) (x : ℕ) → value_in extents st (T.Choice' ty p test q first r second) x ≡ value_in extents st chosen x
+  unfolding value_in first_in given_in
+  scalar_choice_number extents x =
+      ap (λ (o : Option ℕ). if nonzero (first_in o (decided_in st test) (value_in extents st test x)) then value_in extents st first x else value_in extents st second x) (calm_scalar test calm)
+      ∙ ap (λ (o : Outcome Value). if nonzero (number (given_in o)) then value_in extents st first x else value_in extents st second x) (sym (calm_same scope nowhere active nobody test calm st) ∙ given) ∙ if_of (λ (e : TExpr). value_in extents st e x) (nonzero (number v)) first second
+
+  pub scalar_choice_meant : (extents : Extents) → evaluated scope chosen active st ≡ Source.Gives (Parallel (λ x. value_in extents st chosen x)) st → evaluated scope (T.Choice' ty p test q first r second) active st ≡ Source.Gives (Parallel (λ x. value_in extents st (T.Choice' ty p test q first r second) x)) st
+  scalar_choice_meant extents one = scalar_choice_so ∙ one ∙ ap (λ (f : ℕ → ℕ). Source.Gives (Parallel f) st) (λ j x. sym (scalar_choice_number extents x) j)
 
 -- one that ignores the context has its value under every context, and never fails
 module _ (scope : Scope) (set : ℕ) (extents : Extents) (same : extents.own ≡ scope.extents set) where
@@ -225,12 +258,15 @@ module _ (scope : Scope) (set : ℕ) (extents : Extents) (same : extents.own ≡
       (λ calm. scalar_meant false set ty p q left right is.0.0 calm scope active (given_in (evaluated nowhere left nobody st)) st (ignoring scope active left st calm parts.0) extents (λ free. other active)) is.1
   pure_means active (T.Choice' ty p test q first r second) st is free =
       let parts = all_ignore test first second free in
-      let v : ℕ → ℕ = λ x. value_in extents st test x in
-      let among : Active = where_nonzero set (Parallel v) active in
-      let others : Active = where_zero set (Parallel v) active in
-      choice_means scope active set ty p q r test first second v (λ x. value_in extents st first x) (λ x. value_in extents st second x) st is.1.0 (pure_means active test st is.1.0 parts.0)
-      (either (λ h. pure_means among first st h parts.1) (λ h. promoted_free scope among set extents first st h parts.1) is.2)
-      (either (λ h. pure_means others second st h parts.2) (λ h. promoted_free scope others set extents second st h parts.2) is.3)
+      let one : (a : Active) → evaluated scope first a st ≡ Gives (Parallel (λ x. value_in extents st first x)) st = λ a. either (λ h. pure_means a first st h parts.1) (λ h. promoted_free scope a set extents first st h parts.1) is.2 in
+      let other : (a : Active) → evaluated scope second a st ≡ Gives (Parallel (λ x. value_in extents st second x)) st = λ a. either (λ h. pure_means a second st h parts.2) (λ h. promoted_free scope a set extents second st h parts.2) is.3 in
+      either
+      (λ h. choice_meant scope active set ty p q r test first second extents st h.0 (pure_means active test st h.0 parts.0) (one (where_nonzero set (Parallel (λ x. value_in extents st test x)) active)) (other (where_zero set (Parallel (λ x. value_in extents st test x)) active)))
+      (λ calm. scalar_choice_meant scope active ty p q r test first second calm (given_in (evaluated nowhere test nobody st)) st (ignoring scope active test st calm parts.0) extents (by (nonzero (number (given_in (evaluated nowhere test nobody st)))) (one active) (other active))) is.1
+    where
+      by : (b : Bool) → evaluated scope first active st ≡ Gives (Parallel (λ x. value_in extents st first x)) st → evaluated scope second active st ≡ Gives (Parallel (λ x. value_in extents st second x)) st → evaluated scope (if b then first else second) active st ≡ Gives (Parallel (λ x. value_in extents st (if b then first else second) x)) st
+      by true one other = one
+      by false one other = other
   pure_means active (T.Convert' ty p operand) st is free = converts active ty operand st is.0 (pure_means active operand st is.2 free)
   pure_means active (T.ParallelCast' ty p operand) st is free = converts active ty operand st is.0 (pure_means active operand st is.2 free)
   pure_means active (T.Pcoord ty axis) st is free = ap (λ (o : Option ℕ). Gives (own_coordinate scope o axis) st) is.0 ∙ ap (λ (xs : List ℕ). Gives (Parallel (λ q. coordinate xs q axis)) st) (sym same)

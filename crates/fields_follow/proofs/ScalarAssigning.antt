@@ -63,6 +63,7 @@ use Rattle.code_follows.proofs.Words.{held_wide}
 use Rattle.fields_follow.proofs.Operands.{operated_after, operated_extends}
 use Rattle.fields_follow.proofs.Passing.{After, fields_longer, passes_all, passes_from}
 use Rattle.fields_follow.proofs.Totals.{held_below}
+use Rattle.fields_follow.proofs.Writing.{lands_here}
 
 -- what is done with what is given, and what with that
 then_both : {A B C : Type 0} (o : Outcome A) (f : A → B) (k : B → State → Outcome C) → then_do (then_do o (λ x after. Gives (f x) after)) k ≡ then_do o (λ x after. k (f x) after)
@@ -155,7 +156,7 @@ module _ (g : Setting) (has : HasRegisters g) (alive : Variable → Type 0) (n :
             follows_same g Done s (ap (λ (z : Value). assigns_it z u) is_w ∙ assigned_is fields.scope fields.active set y place op ty (type_of value) (λ z. w) u of_shape (λ z. divides_never op w none)) (ap (λ (o : Out). put_value (O.Field f) o e) is_r)
             (made_follows Done s (Parallel (stored u w)) (left u w) (O.Field f) (with_instr (I.MoveConstant f (K.Reg r)) e) (λ within.
             leaves_value g has alive n ready places fields set y b.to.info b.to.living d b.inside b.found s u (λ z. held (type_of v.operand).elem w) (stored u w) ((λ z below small. is_stored z ∙ sym (held_first (type_of v.operand).elem w elem.bits few (omega (arith, of_value)) ∙ mod-eq_of_lt less)), λ z. subst (λ (m : ℕ). m < 2 ^ elem.bits) (sym (is_stored z)) less)
-            e (I.MoveConstant f (K.Reg r)) within word.passes (subst (λ (z : ℕ → ℕ). Puts g set (I.MoveConstant f (K.Reg r)) f word.passes.t z) (λ i z. sym (word.same z) i) (puts_constant g set f (K.Reg r) word.passes.t word.small))))
+            e (I.MoveConstant f (K.Reg r)) (with_instr (I.MoveConstant f (K.Reg r)) e) within word.passes (subst (λ (z : ℕ → ℕ). Puts g set (I.MoveConstant f (K.Reg r)) f word.passes.t z) (λ i z. sym (word.same z) i) (puts_constant g set f (K.Reg r) word.passes.t word.small)) (lands_here g (with_instr (I.MoveConstant f (K.Reg r)) e))))
           where
             is_stored : (z : ℕ) → stored u w z ≡ w
             is_stored z = plainly g has alive n ready places fields op ty.elem (type_of value).elem (u.parallel y 0 z) w none
@@ -218,7 +219,7 @@ module _ (g : Setting) (has : HasRegisters g) (alive : Variable → Type 0) (n :
             (λ there never e3 i within p3 puts. inl (
               stores there never,
               leaves_value g has alive n ready places fields set y b.to.info b.to.living d b.inside b.found s u (λ a. outcome x 32 (not signed) (old a) cw) (stored u w) ((λ a below small. lowest a), λ a. subst (λ (m : ℕ). m < 2 ^ elem.bits) (sym (lowest a)) (mod_below (outcome x 32 (not signed) (old a) cw) (2 ^ elem.bits) (pow_pos elem.bits)))
-                  e3 i within (passes_from g alive (length b.found.e.fields) b.found.e d2 e3 s u (Unit {0}) (and_entry set elem.bits W.Own b.found.e) p3) puts,
+                  e3 i (with_instr i e3) within (passes_from g alive (length b.found.e.fields) b.found.e d2 e3 s u (Unit {0}) (and_entry set elem.bits W.Own b.found.e) p3) puts (lands_here g (with_instr i e3)),
             ))
             (λ there divided a none finishes z e3. inr (record { early = Source.Fault DivZero place (Some a); state = u; is = divided_so there divided ∙ ap by_zero none; finishes = finishes })))))
           where

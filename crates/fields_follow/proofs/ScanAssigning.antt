@@ -13,7 +13,7 @@ use Rattle.cstar_tree.specs.declared.typed.Variable.{Variable}
 use Rattle.cstar_tree.specs.Typed.{type_of}
 use Rattle.code_lengths.specs.Ready.{IsReadyButForFields}
 use Rattle.lower_base.specs.declared.emit.Out.{Out}
-use Rattle.lower_base.specs.Drafts.{Draft}
+use Rattle.lower_base.specs.Drafts.{Draft, with_instr}
 use Rattle.lower_base.specs.Operators.{assign_op_of}
 use Rattle.lower_expr.specs.Kinds.{operation_bits}
 use Rattle.lower_expr.specs.Values.{right_by}
@@ -22,6 +22,7 @@ use Rattle.source_meaning.specs.State.{State}
 use Rattle.source_meaning.proofs.ConstantLaws.{Boxed}
 use Rattle.code_follows.proofs.Following.{HasRegisters, Sim}
 use Rattle.code_follows.proofs.Settings.{Setting, layout}
+use Rattle.fields_follow.proofs.Writing.{lands_here}
 use Rattle.fields_follow.specs.Fragment.{HasOperation, IsOperation, IsScan, IsScanAssigned, IsScanFor, IsScanned}
 use Rattle.fields_follow.proofs.Assigning.{Begins, Q, assigned_follows, code, entry_of, is_elem, operator_after, plain_after, where_assigned}
 use Rattle.fields_follow.proofs.Forms.{HasItsCode}
@@ -64,7 +65,8 @@ module _ (g : Setting) (has : HasRegisters g) (alive : Variable → Type 0) (n :
           let scanned : IsScanned set bits value = subst (λ (m : ℕ). IsScanned set m value) long scans in
           let few : (y : ℕ) → number y < 2 ^ bits = λ y. subst (λ (m : ℕ). number y < 2 ^ m) (as_long ∙ long) (scanned_small g has alive n ready places fields set bits value st s b.sim scanned c y) in
           plain_after g has alive n ready places fields ty place op p q target value set same operates d s st b number none number few (λ y. sym (mod-eq_of_lt (few y)))
-          (λ last ended. scanned_last g has alive n ready places fields set (entry_of g has alive n ready places fields set target d s st b) bits value fits.0 fits.1 refl refl scanned c (length b.found.e.fields) b.found.e s st (omega arith) b.here b.sim Said last ended)
+          (λ last ended. scanned_last g has alive n ready places fields set (entry_of g has alive n ready places fields set target d s st b) bits value fits.0 fits.1 refl refl scanned c (length b.found.e.fields) b.found.e s st (omega arith) b.here b.sim Said
+          (λ given e2 i within passes puts. last given e2 i (with_instr i e2) within passes puts (lands_here g (with_instr i e2))) ended)
       by (Some x) is known scans =
           operator_after g has alive n ready places fields ty place op p q target value set same operates d s st b number x is known (λ y. scan_words g has alive n ready places fields set value st s b.sim scans c y)
           (λ signed y. right_keeps g has alive n ready places fields set bits x signed value st s b.sim fits.1 known.0 (inl scans) (scan_shape set value scans) c y)

@@ -31,7 +31,7 @@ use Rattle.code_follows.proofs.Words.{below_bits, below_word, held_wide}
 use Rattle.fields_follow.specs.Fragment.{HasKnownKind, IsCalm, IsConstant, IsOfFileOrBlock, IsOperation, IsPromoted, IsPure, IsRelation, IsWide}
 use Rattle.fields_follow.proofs.Forms.{HasItsCode, pure_shape}
 use Rattle.fields_follow.proofs.Instructions.{extents, operation_below}
-use Rattle.fields_follow.proofs.Meaning.{computed_in, nobody, nowhere, scalar_in, value_in, word_at, given_in}
+use Rattle.fields_follow.proofs.Meaning.{computed_in, decided_in, first_in, nobody, nowhere, scalar_in, value_in, word_at, given_in}
 use Rattle.fields_follow.proofs.Places.{HoldsTheFields, PlacesFields}
 use Rattle.fields_follow.proofs.Variables.{variable_fits}
 use Rattle.std.proofs.lemmas.Nat.{pow_pos}
@@ -141,7 +141,7 @@ module _ (g : Setting) (alive : Variable → Type 0) (n : ℕ) (places : PlacesF
       by (inr h) one other = subst (λ (w : ℕ). w < 2 ^ 32) (sym (is_truth op 32 (not (type_of left).elem.signed) (value_in (extents g set) st left q) (value_in (extents g set) st right q) h.0)) (from_bool_below _)
   value_small set (T.Choice' ty p test b first r second) st s sim is c q =
       let parts = choice_parts ty p b r test first second c in
-      below_bits ty.elem.bits _ is.0.1 (chosen (nonzero (value_in (extents g set) st test q)) _ _ (arm first is.2 is.4 parts.1 (λ pure. value_small set first st s sim pure parts.1 q)) (arm second is.3 is.5 parts.2 (λ pure. value_small set second st s sim pure parts.2 q)))
+      below_bits ty.elem.bits _ is.0.1 (chosen (nonzero (first_in (type_of test).shape (decided_in st test) (value_in (extents g set) st test q))) _ _ (arm first is.2 is.4 parts.1 (λ pure. value_small set first st s sim pure parts.1 q)) (arm second is.3 is.5 parts.2 (λ pure. value_small set second st s sim pure parts.2 q)))
     where
       chosen : (b : Bool) (v w : ℕ) → v < 2 ^ 32 → w < 2 ^ 32 → (if b then v else w) < 2 ^ 32
       chosen true v w one other = one

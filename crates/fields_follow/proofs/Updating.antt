@@ -68,6 +68,7 @@ use Rattle.fields_follow.proofs.Effects.{put_last}
 use Rattle.fields_follow.proofs.Expressions.{operand_at, operands_keep}
 use Rattle.code_follows.specs.Fragment.{NamesAmong}
 use Rattle.fields_follow.proofs.Starts.{Starts}
+use Rattle.fields_follow.proofs.Writing.{lands_here}
 use Rattle.paris_code.specs.Spans.{IsNamedAt}
 
 module _ (g : Setting) (has : HasRegisters g) (alive : Variable → Type 0) (n : ℕ) (ready : (d : Draft) → IsReadyButForFields g.typed g.instance (layout g) n d) (places : PlacesFields g) (fields : HoldsTheFields g) where
@@ -190,8 +191,8 @@ module _ (g : Setting) (has : HasRegisters g) (alive : Variable → Type 0) (n :
       inl (
         means.1,
         leaves_value g has alive n ready places fields set b.to.x b.to.info b.to.living d b.inside b.found s st given_by w ((λ x below small. moved x), λ x. subst (λ (m : ℕ). m < 2 ^ elem.bits) (sym (moved x)) (mod_below (given_by x) (2 ^ elem.bits) (pow_pos elem.bits)))
-            b.found.e i within (passes_all g alive (length b.found.e.fields) b.found.e s st (Unit {0}) b.here b.sim)
-            (puts_operate_constant g elem.bits set (stepping op) signed f f (K.Imm 1) s (λ q. held elem (old q)) (step_known op) (modular_keeps (stepping op) signed elem.bits 1 (step_modular op) (kind_bits elem.bits elem.signed elem.kind).1) refl numbers.0 (omega arith)),
+            b.found.e i (with_instr i b.found.e) within (passes_all g alive (length b.found.e.fields) b.found.e s st (Unit {0}) b.here b.sim)
+            (puts_operate_constant g elem.bits set (stepping op) signed f f (K.Imm 1) s (λ q. held elem (old q)) (step_known op) (modular_keeps (stepping op) signed elem.bits 1 (step_modular op) (kind_bits elem.bits elem.signed elem.kind).1) refl numbers.0 (omega arith)) (lands_here g (with_instr i b.found.e)),
       ))))
     where
       elem : Elem

@@ -12,8 +12,8 @@ use Rattle.paris_code.specs.Writes.{Write, written}
 use Rattle.source_meaning.specs.State.{State}
 use Rattle.code_follows.specs.Agreement.{AreBytes, mark_of}
 use Rattle.code_follows.proofs.Following.{Sim, held}
-use Rattle.code_follows.proofs.Growing.{Extended}
-use Rattle.code_follows.proofs.Settings.{OpenAmong, At, Reaches, Setting, StandsBelow, Within, and_one, at_next, begins_here, one_writes, placed_instr}
+use Rattle.code_follows.proofs.Growing.{Extended, as_it_was, extended}
+use Rattle.code_follows.proofs.Settings.{OpenAmong, At, Reaches, Setting, StandsBelow, Within, ahead, and_one, at_next, begins_here, one_writes, onto, placed_instr, start, stay}
 use Rattle.fields_follow.proofs.Bits.{active_apart, bits_written, field_apart, field_written}
 use Rattle.fields_follow.proofs.Fields.{HoldsFields}
 use Rattle.fields_follow.proofs.FileFields.{Apart, apart_back}
@@ -57,6 +57,17 @@ module _ (g : Setting) where
     at = at_next g i e s (s.at + 1) here refl;
   }
 
+  -- from the end of one draft the code goes at once to that of a later one
+  pub record Lands (e f : Draft) : Type 0 where
+    pub more : (k : ℕ) × Extended e k f
+    pub go : (t : CodeState) → At g t (length e.code) → Reaches g t (record t { at = start g + length f.code })
+
+  pub lands_here : (e : Draft) → Lands e e
+  lands_here e = record { more = (0, as_it_was e); go = λ t there. subst (λ (place : ℕ). Reaches g t (record t { at = place })) there (stay g t) }
+
+  pub lands_behind : (e f : Draft) (t : CodeState) → Lands e f → At g t (length e.code) → t.at ≤ start g + length f.code
+  lands_behind e f t lands there = ahead g e f lands.more.0 t (start g + length f.code) lands.more.1 there refl
+
   -- by the write it takes these words
   pub record TakesBehind (set : ℕ) (d : Field) (e f : Draft) (s : CodeState) (v : ℕ → ℕ) : Type 0 where
     pub takes : Takes set d s v
@@ -64,6 +75,15 @@ module _ (g : Setting) where
 
   pub instr_takes : (set : ℕ) (i : Instr) (d : Field) (e : Draft) (s : CodeState) (v : ℕ → ℕ) → ((f : Field) → StandsBelow g.image g.placed g.number f → Apart (place g d) f) → Within g (with_instr i e) → At g s (length e.code) → Puts g set i d s v → TakesBehind set d e (with_instr i e) s v
   instr_takes set i d e s v apart within here puts = record { takes = puts_take set i d s v puts; behind = instr_writes i d puts.others e s puts.write apart within here puts.plain puts.names puts.run puts.goes }
+
+  -- and where it lands behind it
+  pub takes_landed : (set : ℕ) (d : Field) (e f h : Draft) (s : CodeState) (v : ℕ → ℕ) → Lands f h → TakesBehind set d e f s v → TakesBehind set d e h s v
+  takes_landed set d e f h s v lands takes =
+      let b = takes.behind in
+      let t : CodeState = record s { at = b.place; memory = written takes.takes.write s.memory } in
+      let later : s.at + 1 ≤ start g + length h.code = (let on = lands_behind f h t lands b.at in let late = b.later in omega (arith, on, late)) in
+      let go = onto g s t (record t { at = start g + length h.code }) b.go (lands.go t b.at) in
+      record { takes = takes.takes; behind = record { run = b.run; named = b.named; more = (b.more.0 + lands.more.0, extended e f h b.more.0 lands.more.0 b.more.1 lands.more.1); place = start g + length h.code; later = later; go = go; at = refl } }
 
 module _ (g : Setting) (places : PlacesFields g) (fields : HoldsTheFields g) (alive : Variable → Type 0) where
   abbrev Opened : State → BitMemory → Type 0

@@ -3,8 +3,8 @@
 -- ends of the grid or not, and, of any shape, by indexes that are such expressions, also with `.`, or promoted scalars,
 -- own coordinates, truth values of such expressions, and promoted scalars, which are computed by operators, conversions,
 -- casts and `?:`, and change nothing; they fail where a divisor is 0 at an active position, or that of a scalar is, or
--- where an index does not lie within its extent at one, and nowhere else. The condition of `?:` may be parallel too: each
--- of the other operands then fails only where it is chosen, as the right one of `&&` and `||` does where the left one does
+-- where an index does not lie within its extent at one, and nowhere else. The condition of `?:` is parallel or a scalar:
+-- each of the other operands fails only where it is chosen, as the right one of `&&` and `||` does where the left one does
 -- not decide, which may be a scalar. They are assigned to variables of the file and of blocks, and folded into numbers and
 -- onto scalar variables, as scans of them and of ones with operators on these are, and they are the conditions of
 -- `where`. Folds and scans are of the active positions. They are sent, as those scans are, to parallel variables of any
@@ -174,8 +174,8 @@ IsRelation set op left right = (relates op ≡ true) × (HasKnownKind left ⊎ I
 -- conversions to `bool`, and two values that are joined by `&&` or `||`, of which the right one is computed where the
 -- left one does not decide, and may be a promoted scalar; the left one may be a scalar that changes nothing.
 -- A get is from neighbours, or its indexes, into any shape, are such expressions and promoted scalars, which fail where
--- they do not lie within the extents at an active position. `?:` chooses one of two values at each position, which may
--- be promoted, and each is computed where it is chosen.
+-- they do not lie within the extents at an active position. `?:` chooses one of two values at each position, or, by
+-- a scalar that changes nothing, for all of them; they may be promoted, and each is computed where it is chosen.
 unfoldable mutual
   pub IsPure : ℕ → TExpr → Type 0
   IsPure set (T.Variable ty (V.File k)) = ty.shape ≡ Some set
@@ -186,7 +186,7 @@ unfoldable mutual
   IsPure set (T.LogicalAnd' ty p left q right) = IsWide set ty × ((IsPure set left × HasKnownKind left) ⊎ IsCalm left) × ((IsPure set right × HasKnownKind right) ⊎ (IsPromoted set right × IsRegistered right))
   IsPure set (T.Binary' ty place op p left q right) =
       IsWide set ty × (IsOperation op right ⊎ IsRelation set op left right) × ((IsPure set left × (IsPure set right ⊎ IsPromoted set right)) ⊎ (IsPromoted set left × IsPure set right)) × IsWide set (type_of left) × IsWide set (type_of right)
-  IsPure set (T.Choice' ty p test q first r second) = IsWide set ty × (IsPure set test × HasKnownKind test) × (IsPure set first ⊎ IsPromoted set first) × (IsPure set second ⊎ IsPromoted set second) × IsWide set (type_of first) × IsWide set (type_of second)
+  IsPure set (T.Choice' ty p test q first r second) = IsWide set ty × ((IsPure set test × HasKnownKind test) ⊎ IsCalm test) × (IsPure set first ⊎ IsPromoted set first) × (IsPure set second ⊎ IsPromoted set second) × IsWide set (type_of first) × IsWide set (type_of second)
   IsPure set (T.Convert' ty p operand) = (ty.shape ≡ Some set) × (((ty.elem.bits == 1) ≡ false) ⊎ ((ty.elem.bits ≡ 1) × HasKnownKind operand)) × IsPure set operand
   IsPure set (T.ParallelCast' ty p operand) = (ty.shape ≡ Some set) × (((ty.elem.bits == 1) ≡ false) ⊎ ((ty.elem.bits ≡ 1) × HasKnownKind operand)) × IsPure set operand
   IsPure set (T.Pcoord ty axis) = IsWide set ty
