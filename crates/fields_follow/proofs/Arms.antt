@@ -1,6 +1,6 @@
 -- Code that becomes the value of a field: its last instruction puts the lowest bits of its words there. So does an arm of
 -- `?:`.
-use Rattle.std.proofs.Common.{◌≡◌, ℕ, ◌+◌, Option, Some, None, true, false, not, length, refl, sym, ap, subst, arith, ◌⊎◌, inl, inr, if◌then◌else◌}
+use Rattle.std.proofs.Common.{◌≡◌, ℕ, ◌+◌, Option, Some, None, true, not, length, refl, sym, ap, subst, arith, ◌⊎◌, inl, inr, if◌then◌else◌}
 use Rattle.std.specs.Prelude.{is_none}
 use Rattle.cstar_tree.specs.declared.typed.TExpr.{TExpr}
 use Rattle.cstar_tree.specs.declared.typed.ValueType.{ValueType}
