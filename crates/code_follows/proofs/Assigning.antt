@@ -35,7 +35,7 @@ use Rattle.lower_base.specs.Layouts.{register_of}
 use Rattle.lower_base.specs.Operators.{assign_op_of, is_signed, machine_of, operation_of}
 use Rattle.lower_expr.specs.declared.operands.Own.{Own}
 use Rattle.lower_expr.specs.Effects.{assignment_effect, effect_of, folds, put_to, register_operated, step_effect, variable_assigned, variable_operated, variable_stepped, with_settled, writes_itself, written_register}
-use Rattle.lower_expr.specs.Operands.{are_quiet, standing}
+use Rattle.lower_expr.specs.Operands.{own_of, are_quiet, standing}
 use Rattle.lower_expr.specs.Steps.{assigned_signed, is_kept, on_registers, operated as operated_in, with_register_check}
 use Rattle.lower_expr.specs.Values.{Code, call_to, next_of, step_operation, value_of, values_of}
 use Rattle.paris_code.specs.declared.instr.Instr.TheVariants as I
@@ -47,21 +47,21 @@ use Rattle.source_meaning.specs.State.{Outcome, State, then_do, with_scalar}
 use Rattle.source_meaning.specs.Targets.{OfScalar, assigned, stepped, step_value}
 use Rattle.source_meaning.specs.Values.{Active, Scalar, Scope, Value, number}
 use Rattle.source_meaning.proofs.ConstantLaws.{Boxed}
-use Rattle.code_follows.specs.Fragment.{AreIn, IsBeside, IsEffect, IsGiven, IsIn, IsStore, IsWord, Takes, elems_of, naming}
-use Rattle.code_follows.proofs.Changing.{no_place, only_set, operated_set_is, scalar_type, set_is, stepped_is, stepping}
+use Rattle.code_follows.specs.Fragment.{AreIn, IsBeside, IsEffect, IsGiven, IsIn, IsPosition, IsWord, Takes, elems_of, naming}
+use Rattle.code_follows.proofs.Changing.{no_place, only_set, operated_set_is, scalar_type, set_is, stepped_is, stepping, variable_holds}
 use Rattle.code_follows.proofs.CallValues.{call_code}
-use Rattle.code_follows.proofs.Expressions.{arguments_do, assign_names, brackets_code, index_code, operand, step_names, value_follows}
+use Rattle.code_follows.proofs.Expressions.{arguments_do, assign_names, brackets_code, index_code, operand, step_names, value_follows, valued}
 use Rattle.code_follows.proofs.Growing.{Extended, extended, from_growth}
 use Rattle.code_follows.proofs.Printing.{printf_code, printf_follows}
 use Rattle.code_follows.proofs.Arguments.{AreDone}
 use Rattle.code_follows.proofs.Callees.{CallsFollow, MayCall, TakesThese}
 use Rattle.code_follows.proofs.Passing.{call_follows, call_runs}
-use Rattle.code_follows.proofs.Following.{Arrives, Extends, Follows, HasRegisters, IsScalar, Ran, Sim, follows_other, follows_same, keeps_all, keeps_less, then_follows, then_gives, then_silent}
+use Rattle.code_follows.proofs.Following.{Arrives, Extends, Follows, HasRegisters, IsScalar, Ran, Sim, follows_other, follows_same, keeps_all, keeps_less, then_follows, then_silent}
 use Rattle.code_follows.proofs.Putting.{Put, put_follows}
 use Rattle.code_follows.proofs.Settings.{At, Begun, Setting, layout, stay, begun_later}
 use Rattle.code_follows.proofs.Standing.{some_same}
 use Rattle.code_follows.proofs.Targets.{TargetIs, assign_means, step_means, target_type, variable_in}
-use Rattle.code_follows.proofs.Values.{and_register, fresh_dest, with_reg, Value_of, HasWord, extends_in_register, word_follows}
+use Rattle.code_follows.proofs.Values.{Does, and_register, fresh_dest, with_reg, Value_of, HasWord, extends_in_register, word_follows}
 use Rattle.code_follows.proofs.Words.{below_word, held_wide, kept, scalar_of}
 use Rattle.code_follows.proofs.Numbers.{takes_fits, takes_same}
 use Rattle.code_follows.proofs.Settling.{extends_settled, settled, settles}
@@ -86,7 +86,7 @@ module _ (g : Setting) (has : HasRegisters g) (alive : Variable → Type 0) (n :
       then_silent g (Put g has alive n files ready scope active calls_follow x info living scalar (type_of value).elem d s) (λ v u out e. Ran g alive d s u e) s (evaluated scope value active st) _ (put_to g.typed (layout g) (O.Scalar own) value d)
       (put_follows g has alive n files ready scope active calls_follow x info living scalar value isin c (takes_fits info.elem (type_of value).elem takes) d s st free here sim) (λ v u out e p.
       subst (λ (r : Outcome Value). Follows g (λ v u out e. Ran g alive d s u e) s r (Makes out e))
-      (sym (ap (λ (w : Value). assigned scope active place A.Set ty (type_of value) (OfScalar x) w u) p.value ∙ set_is scope active place x ty (type_of value) p.word u plain (scalar_of (naming g.may alive) value isin)))
+      (sym (ap (λ (w : Value). assigned scope active place A.Set ty (type_of value) (OfScalar x) w u) p.value ∙ set_is scope active place (OfScalar x) ty (type_of value) p.word u (u.scalar x) (λ n after. with_scalar x n after) (variable_holds scope active ty.elem x u) plain (scalar_of (naming g.may alive) value isin)))
       (λ within. record { grown = p.grown; t = p.t; go = p.go; at = p.at; sim = subst (λ (w : ℕ). Sim g alive (with_scalar x w u) p.t) (takes_same info.elem (type_of value).elem p.word takes p.small) p.sim; keeps = p.keeps }))
 
   -- with one, the operation writes the variable
@@ -111,7 +111,7 @@ module _ (g : Setting) (has : HasRegisters g) (alive : Variable → Type 0) (n :
         let is_b : slice_index arr.t.registers arr.holds.register ≡ arr.holds.word = arr.holds.lasts u arr.t arr.sim (keeps_all g e arr.t) (λ h. refl) ∙ held_wide (type_of value).elem arr.holds.word long.1 small in
         subst (λ (o' : Out). Follows g (λ v u out e. Ran g alive d s u e) s (assigned scope active place op (scalar_type info.elem) (type_of value) (OfScalar x) v u) (in_register o' (λ b. behind_value b e))) (sym arr.holds.is)
         (subst (λ (r : Outcome Value). Follows g (λ v u out e. Ran g alive d s u e) s r (behind_value arr.holds.register e))
-        (sym (ap (λ (w : Value). assigned scope active place op (scalar_type info.elem) (type_of value) (OfScalar x) w u) arr.holds.value ∙ operated_set_is g has alive scope active place x op o info.elem (type_of value) arr.holds.word u long is))
+        (sym (ap (λ (w : Value). assigned scope active place op (scalar_type info.elem) (type_of value) (OfScalar x) w u) arr.holds.value ∙ operated_set_is g has alive scope active info.elem (OfScalar x) u (u.scalar x) (λ n after. with_scalar x n after) (variable_holds scope active info.elem x u) place op o (type_of value) arr.holds.word long is))
         (settles g has alive scope active x info living scalar at_type at_wide place o signed (λ v. Scalar (converted info.elem at_type (number v))) d e arr.extended.0 s arr.t u arr.holds.register arr.holds.word free arr.extended.1 arr.go arr.keeps arr.at arr.sim is_b small))
 
     pub operated_set_follows : Does_so (λ st. then_do (evaluated scope value active st) (λ v after. assigned scope active place op (scalar_type info.elem) (type_of value) (OfScalar x) v after)) (λ d. register_operated g.typed (layout g) o signed place info.elem own value d)
@@ -145,7 +145,7 @@ module _ (g : Setting) (has : HasRegisters g) (alive : Variable → Type 0) (n :
         → Follows g (λ v u out e. Ran g alive d s u e) s (stepped scope active op order (scalar_type info.elem) (OfScalar x) st) (behind_one q e)
     with_one order d s st q e free h =
         subst (λ (made : Made Out). Follows g (λ v u out e. Ran g alive d s u e) s (stepped scope active op order (scalar_type info.elem) (OfScalar x) st) made) (sym (stepped_so q e))
-        (subst (λ (r : Outcome Value). Follows g (λ v u out e. Ran g alive d s u e) s r (behind_one_so q e)) (sym (stepped_is g has alive scope active x place op order info.elem st))
+        (subst (λ (r : Outcome Value). Follows g (λ v u out e. Ran g alive d s u e) s r (behind_one_so q e)) (sym (stepped_is g has alive scope active info.elem (OfScalar x) st (st.scalar x) (λ n after. with_scalar x n after) (variable_holds scope active info.elem x st) place op order))
         (settles g has alive scope active x info living scalar (promoted info.elem) (promoted_wide info.elem) place (stepping op) sign (λ v. step_value order (Scalar (st.scalar x)) (Scalar (converted info.elem (promoted info.elem) (number v))))
         d e h.grown.0 s h.t st q 1 free h.grown.1 h.go h.keeps h.at h.sim h.is (omega arith)))
 
@@ -241,17 +241,14 @@ module _ (g : Setting) (has : HasRegisters g) (alive : Variable → Type 0) (n :
         follows_same g (λ v u out e. Ran g alive d s u e) s (step_means g alive n target v ty op order p same scope active st) (steps_it op whole d)
         (stepped_follows g has alive n files ready scope active calls_follow v.variable (variable_info w.word (plain (type_of target)) w.start) v.living (w.named, v.scalar) no_place op order d s st free here sim)
 
+  -- what has a value does the same where it is not used
+  valued_runs : (elem : Elem) (part : State → Outcome Value) (code : Draft → Made Out) → Does g has alive elem true part code → Runs part code
+  valued_runs elem part code does d s st free here sim =
+      follows_other g (Value_of g has alive elem true d s) (λ v u out e. Ran g alive d s u e) s (part st) (code d) (does d s st free here sim) (λ v u out f arr. record { grown = arr.extended; t = arr.t; go = arr.go; at = arr.at; sim = arr.sim; keeps = arr.keeps })
+
   -- an expression without effects
   pure_follows : (e : TExpr) → (IsIn (naming g.may alive)) e → HasCode g.typed g.instance n e → Runs (λ st. evaluated scope e active st) (λ d. value_of g.typed (layout g) (type_of e).elem.bits e d)
-  unfolding then_do
-  pure_follows e isin c d s st free here sim =
-      subst (λ (o : Outcome Value). Follows g (λ v u out e. Ran g alive d s u e) s o (value_of g.typed (layout g) (type_of e).elem.bits e d)) (nothing_done (evaluated scope e active st))
-      (then_gives g (Value_of g has alive (type_of e).elem true d s) (λ v u out e. Ran g alive d s u e) s (evaluated scope e active st) (λ v. v) (value_of g.typed (layout g) (type_of e).elem.bits e d)
-      (value_follows g has alive n files ready scope active calls_follow true (type_of e).elem.bits e isin c d s st free here sim) (λ v u out f arr. record { grown = arr.extended; t = arr.t; go = arr.go; at = arr.at; sim = arr.sim; keeps = arr.keeps }))
-    where
-      nothing_done : (o : Outcome Value) → then_do o (λ v after. Source.Gives v after) ≡ o
-      nothing_done (Source.Gives v u) = refl
-      nothing_done (Source.Ends early u) = refl
+  pure_follows e isin c = valued_runs (type_of e).elem _ _ (value_follows g has alive n files ready scope active calls_follow true (type_of e).elem.bits e isin c)
 
   printf_runs : (ty : ValueType) (pieces : Vec Piece Global) (p : Vec (Unit {0}) Global) (arguments : _) → (AreIn (naming g.may alive)) arguments → All (λ (elem : Elem). elem.bits ≡ 32) (elems_of arguments) → HaveCode g.typed g.instance n arguments
       → Runs (λ st. evaluated scope (T.Printf' ty pieces p arguments) active st) (λ d. effect_of g.typed (layout g) (T.Printf' ty pieces p arguments) d)
@@ -331,19 +328,30 @@ module _ (g : Setting) (has : HasRegisters g) (alive : Variable → Type 0) (n :
   beside : (e : TExpr) → IsBeside (naming g.may alive) e → HasCode g.typed g.instance n e → Runs (λ st. evaluated scope e active st) (λ d. effect_of g.typed (layout g) e d)
   beside e may c d s st free here sim = (calls_follow.beside has).effects alive files n ready e may.0 may.1 c d s st free here sim
 
-  -- a store at a single position
-  store_runs : (ty : ValueType) (place : Place) (op : AssignOp) (p q : Boxed) (target value : TExpr) → ty ≡ type_of target → IsStore (naming g.may alive) op target value → HasCode g.typed g.instance n (T.Assign' ty place op p target q value)
+  -- an assignment to a single position, and a step of one
+  store_runs : (ty : ValueType) (place : Place) (op : AssignOp) (p q : Boxed) (target value : TExpr) → ty ≡ type_of target → IsPosition (naming g.may alive) target → IsIn (naming g.may alive) value → IsGiven op (type_of target) (type_of value) → HasCode g.typed g.instance n (T.Assign' ty place op p target q value)
       → Runs (λ st. evaluated scope (T.Assign' ty place op p target q value) active st) (λ d. effect_of g.typed (layout g) (T.Assign' ty place op p target q value) d)
-  unfolding IsStore IsIn IsShaped IsTarget IsLowerable NamesVariables
-  store_runs ty place A.Set p q (T.LeftIndex' left at r indexes x of) value same h c =
-      let part = assign_names g has alive n files ready scope active calls_follow ty place A.Set p q (T.LeftIndex' left at r indexes x of) value c in
+  unfolding IsPosition IsIn IsShaped IsTarget IsLowerable NamesVariables effect_of assignment_effect own_of
+  store_runs ty place op p q (T.LeftIndex' left at r indexes x of) value same h isin given c =
+      let part = assign_names g has alive n files ready scope active calls_follow ty place op p q (T.LeftIndex' left at r indexes x of) value c in
       let target : HasCode g.typed g.instance n (T.LeftIndex' left at r indexes x of) = record { shaped = c.shaped.2; lowerable = c.lowerable.2; names = part.0 } in
-      subst (λ (t : ValueType). Runs (λ st. evaluated scope (T.Assign' t place A.Set p (T.LeftIndex' left at r indexes x of) q value) active st) (λ d. effect_of g.typed (layout g) (T.Assign' t place A.Set p (T.LeftIndex' left at r indexes x of) q value) d)) (sym same)
-      (λ d s st free here sim.
-      (calls_follow.beside has).stores alive files n ready left at place p q r indexes x of value h.0 target
-      (arguments_do g has alive n files ready scope active calls_follow false (are_quiet indexes) indexes h.0.3 (index_code g has alive n files ready scope active calls_follow left at r indexes x of target)) (scalar_of (naming g.may alive) value h.1) h.2 part.1
-      (λ bits. value_follows g has alive n files ready scope active calls_follow false bits value h.1 part.1) d s st free here sim)
-  store_runs ty place op p q target value same h c = absurd h
+      subst (λ (t : ValueType). Runs (λ st. evaluated scope (T.Assign' t place op p (T.LeftIndex' left at r indexes x of) q value) active st) (λ d. effect_of g.typed (layout g) (T.Assign' t place op p (T.LeftIndex' left at r indexes x of) q value) d)) (sym same)
+      (valued_runs left.elem _ _
+      ((calls_follow.beside has).stores alive files n ready left at place op p q r indexes x of value h target
+      (arguments_do g has alive n files ready scope active calls_follow false (are_quiet indexes) indexes h.3 (index_code g has alive n files ready scope active calls_follow left at r indexes x of target)) given
+      (valued g has alive n files ready scope active calls_follow value isin part.1) true left.elem.bits))
+  store_runs ty place op p q target value same h isin given c = absurd h
+
+  position_steps : (ty : ValueType) (op : StepOp) (order : StepOrder) (p : Boxed) (target : TExpr) → ty ≡ type_of target → IsPosition (naming g.may alive) target → HasCode g.typed g.instance n (T.Step' ty op order p target)
+      → Runs (λ st. evaluated scope (T.Step' ty op order p target) active st) (λ d. effect_of g.typed (layout g) (T.Step' ty op order p target) d)
+  unfolding IsPosition IsIn IsShaped IsTarget IsLowerable NamesVariables effect_of step_effect own_of
+  position_steps ty op order p (T.LeftIndex' left at r indexes x of) same h c =
+      let target : HasCode g.typed g.instance n (T.LeftIndex' left at r indexes x of) = record { shaped = c.shaped.1; lowerable = c.lowerable.1; names = step_names g has alive n files ready scope active calls_follow ty op order p (T.LeftIndex' left at r indexes x of) c } in
+      subst (λ (t : ValueType). Runs (λ st. evaluated scope (T.Step' t op order p (T.LeftIndex' left at r indexes x of)) active st) (λ d. effect_of g.typed (layout g) (T.Step' t op order p (T.LeftIndex' left at r indexes x of)) d)) (sym same)
+      (valued_runs left.elem _ _
+      ((calls_follow.beside has).steps alive files n ready left at op order p r indexes x of h target
+      (arguments_do g has alive n files ready scope active calls_follow false (are_quiet indexes) indexes h.3 (index_code g has alive n files ready scope active calls_follow left at r indexes x of target)) true left.elem.bits))
+  position_steps ty op order p target same h c = absurd h
 
   pub effect_follows : (e : TExpr) → (IsEffect (naming g.may alive)) e → HasCode g.typed g.instance n e → Runs (λ st. evaluated scope e active st) (λ d. effect_of g.typed (layout g) e d)
   unfolding IsEffect IsIn effect_of evaluated
@@ -365,9 +373,10 @@ module _ (g : Setting) (has : HasRegisters g) (alive : Variable → Type 0) (n :
   effect_follows (T.Choice' ty p test q first r second) h c = value_effect (T.Choice' ty p test q first r second) h c
   effect_follows (T.Assign' ty place op p target q value) (inl h) c = value_effect (T.Assign' ty place op p target q value) h c
   effect_follows (T.Assign' ty place op p target q value) (inr (inl h)) c = beside (T.Assign' ty place op p target q value) h c
-  effect_follows (T.Assign' ty place op p target q value) (inr (inr h)) c = store_runs ty place op p q target value h.0 h.1 c
+  effect_follows (T.Assign' ty place op p target q value) (inr (inr h)) c = store_runs ty place op p q target value h.0 h.1 h.2 h.3 c
   effect_follows (T.Step' ty op order p target) (inl h) c = value_effect (T.Step' ty op order p target) h c
-  effect_follows (T.Step' ty op order p target) (inr h) c = beside (T.Step' ty op order p target) h c
+  effect_follows (T.Step' ty op order p target) (inr (inl h)) c = beside (T.Step' ty op order p target) h c
+  effect_follows (T.Step' ty op order p target) (inr (inr h)) c = position_steps ty op order p target h.0 h.1 c
   effect_follows (T.Reduce' ty op p operand) h c = value_effect (T.Reduce' ty op p operand) h c
   effect_follows (T.LeftIndex' ty place p indexes x of) h c = value_effect (T.LeftIndex' ty place p indexes x of) h c
   effect_follows _ h c = absurd h

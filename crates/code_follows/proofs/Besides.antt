@@ -1,8 +1,10 @@
 -- Parallel expressions beside scalar ones: what is known of the code of those that a program may have; and the same unit
 -- where something else is held.
-use Rattle.std.proofs.Common.{ℕ, length, ◌≡◌, ◌⊎◌, Bool, false, Some, None}
+use Rattle.std.proofs.Common.{ℕ, length, ◌≡◌, ◌⊎◌, Bool, false, true, Some, None}
 use Rattle.cstar_base.specs.declared.operators.Place.{Place}
-use Rattle.cstar_tree.specs.declared.syntax.AssignOp.TheVariants as A
+use Rattle.cstar_tree.specs.declared.syntax.AssignOp.{AssignOp}
+use Rattle.cstar_tree.specs.declared.syntax.StepOp.{StepOp}
+use Rattle.cstar_tree.specs.declared.typed.StepOrder.{StepOrder}
 use Rattle.cstar_tree.specs.declared.typed.LocalVar.{LocalVar}
 use Rattle.cstar_tree.specs.declared.typed.TExpr.{TExpr, Row_of-TExpr}
 use Rattle.cstar_tree.specs.declared.typed.TExpr as T
@@ -16,7 +18,8 @@ use Rattle.lower_base.specs.declared.emit.Out.{Out}
 use Rattle.lower_base.specs.declared.emit.Out.TheVariants as O
 use Rattle.lower_base.specs.Drafts.{Draft, Makes}
 use Rattle.lower_expr.specs.Effects.{computed_to, effect_of}
-use Rattle.lower_expr.specs.Operands.{are_quiet}
+use Rattle.lower_expr.specs.Operands.{are_quiet, operand_by}
+use Rattle.lower_expr.specs.Steps.{is_kept}
 use Rattle.lower_expr.specs.Values.{value_of}
 use Rattle.lower_stmt.specs.Variables.{cleared}
 use Rattle.paris_code.specs.Code.{CodeState}
@@ -25,17 +28,28 @@ use Rattle.source_meaning.specs.Expressions.{evaluated}
 use Rattle.source_meaning.specs.State.{State, zeroed}
 use Rattle.source_meaning.specs.Values.{Active, Scope, Value}
 use Rattle.source_meaning.proofs.ConstantLaws.{Boxed}
-use Rattle.code_follows.specs.Fragment.{IsIn, May, NamesAmong, Takes, naming}
+use Rattle.code_follows.specs.Fragment.{IsGiven, IsIn, May, NamesAmong, naming}
 use Rattle.code_follows.proofs.Arguments.{AreDone}
-use Rattle.code_follows.proofs.Following.{Follows, HasRegisters, Ran, Sim}
+use Rattle.code_follows.proofs.Following.{Extends, Follows, HasRegisters, Ran, Sim}
+use Rattle.code_follows.proofs.Fresh.{IsClear}
 use Rattle.code_follows.proofs.Growing.{Extended}
 use Rattle.code_follows.proofs.Settings.{OpenAmong, At, Begun, Held, IsNewIn, Setting, Within, layout}
 use Rattle.code_follows.proofs.Values.{Dest, Does}
 
 module _ (g : Setting) (has : HasRegisters g) (scope : Scope) (active : Active) where
+  -- what is known of the code of a number that is given to a position
+  pub record IsValued (alive : Variable → Type 0) (n : ℕ) (value : TExpr) : Type 1 where
+    pub scalar : (type_of value).shape ≡ None
+    pub kept : is_kept value ≡ true
+    pub code : HasCode g.typed g.instance n value
+    pub does : (bits : ℕ) → Does g has alive (type_of value).elem false (λ st. evaluated scope value active st) (λ d. value_of g.typed (layout g) bits value d)
+    pub grows : (bits m : ℕ) (d : Draft) → Extends g d (operand_by g.typed (layout g) m (value_of g.typed (layout g) bits value) true value d)
+    pub operand : (bits m : ℕ) → Does g has alive (type_of value).elem true (λ st. evaluated scope value active st) (λ d. operand_by g.typed (layout g) m (value_of g.typed (layout g) bits value) true value d)
+    pub clear : (bits m : ℕ) (st : State) (s : CodeState) → Sim g alive st s → (d : Draft) → IsClear (layout g) d (operand_by g.typed (layout g) m (value_of g.typed (layout g) bits value) true value d)
+
   -- Wherever they stand in the function, the code of an effect does what it does in the source, and that of a fold, and of
-  -- a read of one position whose indexes are done so, leaves its number in the register that is to have it; so is a store
-  -- at one done, where its value is.
+  -- a read of one position whose indexes are done so, leaves its number in the register that is to have it; so are
+  -- assignments to one done, where their values are, and steps of one.
   pub record ExpressionsFollow : Type 1 where
     pub effects : (alive : Variable → Type 0) → ((k : ℕ) → alive (V.File k)) → (n : ℕ) → ((d : Draft) → IsReadyButForFields g.typed g.instance (layout g) n d)
         → (e : TExpr) → g.may.beside.effects e → NamesAmong alive e → HasCode g.typed g.instance n e
@@ -50,10 +64,13 @@ module _ (g : Setting) (has : HasRegisters g) (scope : Scope) (active : Active) 
         → AreDone g has alive scope active false (are_quiet indexes) indexes → (d : Draft) (s : CodeState) (st : State) (R : Value → State → Out → Draft → Type 0) (r : ℕ) → Begun g alive d → At g s (length d.code) → Sim g alive st s
         → Dest g has alive ty.elem d s R r → Follows g R s (evaluated scope (T.LeftIndex' ty place p indexes x of) active st) (computed_to g.typed (layout g) (O.Scalar r) (T.LeftIndex' ty place p indexes x of) d)
     pub stores : (alive : Variable → Type 0) → ((k : ℕ) → alive (V.File k)) → (n : ℕ) → ((d : Draft) → IsReadyButForFields g.typed g.instance (layout g) n d)
-        → (ty : ValueType) (place sending : Place) (p q : Boxed) (r : _) (indexes : Row_of-TExpr _) (x : Variable) (of : ℕ) (value : TExpr) → IsIn (naming g.may alive) (T.LeftIndex' ty place r indexes x of) → HasCode g.typed g.instance n (T.LeftIndex' ty place r indexes x of)
-        → AreDone g has alive scope active false (are_quiet indexes) indexes → (type_of value).shape ≡ None → Takes ty.elem (type_of value).elem → HasCode g.typed g.instance n value → ((bits : ℕ) → Does g has alive (type_of value).elem false (λ st. evaluated scope value active st) (λ d. value_of g.typed (layout g) bits value d))
-        → (d : Draft) (s : CodeState) (st : State) → Begun g alive d → At g s (length d.code) → Sim g alive st s
-        → Follows g (λ v u out f. Ran g alive d s u f) s (evaluated scope (T.Assign' ty sending A.Set p (T.LeftIndex' ty place r indexes x of) q value) active st) (effect_of g.typed (layout g) (T.Assign' ty sending A.Set p (T.LeftIndex' ty place r indexes x of) q value) d)
+        → (ty : ValueType) (place sending : Place) (op : AssignOp) (p q : Boxed) (r : _) (indexes : Row_of-TExpr _) (x : Variable) (of : ℕ) (value : TExpr) → IsIn (naming g.may alive) (T.LeftIndex' ty place r indexes x of) → HasCode g.typed g.instance n (T.LeftIndex' ty place r indexes x of)
+        → AreDone g has alive scope active false (are_quiet indexes) indexes → IsGiven op ty (type_of value) → IsValued alive n value
+        → (quiet : Bool) (bits : ℕ) → Does g has alive ty.elem quiet (λ st. evaluated scope (T.Assign' ty sending op p (T.LeftIndex' ty place r indexes x of) q value) active st) (λ d. value_of g.typed (layout g) bits (T.Assign' ty sending op p (T.LeftIndex' ty place r indexes x of) q value) d)
+    pub steps : (alive : Variable → Type 0) → ((k : ℕ) → alive (V.File k)) → (n : ℕ) → ((d : Draft) → IsReadyButForFields g.typed g.instance (layout g) n d)
+        → (ty : ValueType) (place : Place) (op : StepOp) (order : StepOrder) (p : Boxed) (r : _) (indexes : Row_of-TExpr _) (x : Variable) (of : ℕ) → IsIn (naming g.may alive) (T.LeftIndex' ty place r indexes x of) → HasCode g.typed g.instance n (T.LeftIndex' ty place r indexes x of)
+        → AreDone g has alive scope active false (are_quiet indexes) indexes
+        → (quiet : Bool) (bits : ℕ) → Does g has alive ty.elem quiet (λ st. evaluated scope (T.Step' ty op order p (T.LeftIndex' ty place r indexes x of)) active st) (λ d. value_of g.typed (layout g) bits (T.Step' ty op order p (T.LeftIndex' ty place r indexes x of)) d)
 
 module _ (g : Setting) where
   -- The code that clears a parallel variable of a block is made, and that variable has its entry and is 0 behind it.

@@ -61,6 +61,7 @@ use Rattle.source_meaning.specs.Values.{Active, Scalar, Scope, Value, at, conver
 use Rattle.source_meaning.proofs.ConstantLaws.{Boxed, value_means}
 use Rattle.code_follows.specs.Fragment.{AreIn, IsGiven, IsIn, IsOperand, IsWord, naming}
 use Rattle.code_follows.proofs.Arguments.{AreDone}
+use Rattle.code_follows.proofs.Besides.{IsValued}
 use Rattle.code_follows.proofs.Branching.{IsMadeWord, made_word}
 use Rattle.code_follows.proofs.Choosing.{Arm_does, IsMadeTo, Lands, arm_follows, arm_made, choice_is, choose_is, constant_arm, fresh_lands, scalar_choice_follows}
 use Rattle.code_follows.proofs.CallValues.{arguments_code, call_code, call_value, fresh_call}
@@ -673,3 +674,15 @@ module _ (g : Setting) (has : HasRegisters g) (alive : Variable → Type 0) (n :
 
   pub operand : (quiet : Bool) (bits : ℕ) (e : TExpr) → (IsIn (naming g.may alive)) e → HasCode g.typed g.instance n e → Does g has alive (type_of e).elem quiet (λ st. evaluated scope e active st) (λ d. operand_by g.typed (layout g) bits (value_of g.typed (layout g) bits e) quiet e d)
   operand quiet bits e h c = operand_value quiet bits e h c (value_follows quiet bits e h c)
+
+  -- a number that is given to a position
+  pub valued : (value : TExpr) → (IsIn (naming g.may alive)) value → HasCode g.typed g.instance n value → IsValued g has scope active alive n value
+  valued value isin c = record {
+    scalar = scalar_of (naming g.may alive) value isin;
+    kept = kept (naming g.may alive) value isin;
+    code = c;
+    does = λ bits. value_follows false bits value isin c;
+    grows = λ bits m d. other_grows m bits value c d;
+    operand = λ bits m. operand_follows true m value (value_of g.typed (layout g) bits value) isin c.names (value_follows true bits value isin c);
+    clear = λ bits m st s sim d. clear_operand m value (value_of g.typed (layout g) bits value) isin c.names (λ d. fresh_value bits value isin c d) st sim.small d;
+  }

@@ -39,6 +39,7 @@ pub mod Nested
 pub mod Numbered
 pub mod Numbers
 pub mod Openings
+pub mod Operated
 pub mod Operators
 pub mod Parts
 pub mod Passing

@@ -325,7 +325,7 @@ unfolding IsIn
 means_source t image p codable compiled memory input rest turns winner are =
     (program_follows t image p codable compiled nothing_held {Known = λ g scope a. NothingBeside g} memory input rest turns winner are (tt {0}) (record {
       follows = λ g scope a known has. record {
-        expressions = record { effects = λ alive files n ready e h. absurd (known.effects e h); folds = λ alive files n ready e h. absurd (known.folds e h); reads = λ alive files n ready ty place p indexes x of is. absurd (known.positions x is.1); stores = λ alive files n ready ty place sending p q r indexes x of value is. absurd (known.positions x is.1) };
+        expressions = record { effects = λ alive files n ready e h. absurd (known.effects e h); folds = λ alive files n ready e h. absurd (known.folds e h); reads = λ alive files n ready ty place p indexes x of is. absurd (known.positions x is.1); stores = λ alive files n ready ty place sending op p q r indexes x of value is. absurd (known.positions x is.1); steps = λ alive files n ready ty place op order p r indexes x of is. absurd (known.positions x is.1) };
         locals = λ at_start local n d h. absurd (known.locals local.info h);
         wheres = λ alive files n ready shape test q first second h. absurd (known.conditions shape test h);
         widenings = λ alive files n ready shape q body h. absurd (known.widens shape h);

@@ -150,19 +150,19 @@ unfoldable mutual
 abbrev pub IsBeside : May → TExpr → Type 0
 IsBeside may e = may.beside.effects e × NamesAmong may.names e
 
--- a number that is stored at a single position of a variable
-unfoldable pub IsStore : May → AssignOp → TExpr → TExpr → Type 0
-IsStore may A.Set (T.LeftIndex' ty place p indexes x of) value = IsIn may (T.LeftIndex' ty place p indexes x of) × IsIn may value × Takes ty.elem (type_of value).elem
-IsStore may _ _ value = ⊥
+-- a single position of a variable, to which numbers are assigned
+unfoldable pub IsPosition : May → TExpr → Type 0
+IsPosition may (T.LeftIndex' ty place p indexes x of) = IsIn may (T.LeftIndex' ty place p indexes x of)
+IsPosition may _ = ⊥
 
 -- what is evaluated without its value being used: `printf` of numbers of 32 bits too, a call of a function without a
--- result, a parallel assignment or step, and a store at a single position
+-- result, a parallel assignment or step, and one at a single position
 unfoldable pub IsEffect : May → TExpr → Type 0
 IsEffect may (T.Printf' ty pieces p arguments) = AreIn may arguments × All (λ (elem : Elem). elem.bits ≡ 32) (elems_of arguments)
 IsEffect may (T.Call' ty index p arguments) = may.calls None index (elems_of arguments) × AreIn may arguments
 IsEffect may (T.Brackets' ty p inner) = IsEffect may inner
-IsEffect may (T.Assign' ty place op p target q value) = IsIn may (T.Assign' ty place op p target q value) ⊎ (IsBeside may (T.Assign' ty place op p target q value) ⊎ ((ty ≡ type_of target) × IsStore may op target value))
-IsEffect may (T.Step' ty op order p target) = IsIn may (T.Step' ty op order p target) ⊎ IsBeside may (T.Step' ty op order p target)
+IsEffect may (T.Assign' ty place op p target q value) = IsIn may (T.Assign' ty place op p target q value) ⊎ (IsBeside may (T.Assign' ty place op p target q value) ⊎ ((ty ≡ type_of target) × IsPosition may target × IsIn may value × IsGiven op (type_of target) (type_of value)))
+IsEffect may (T.Step' ty op order p target) = IsIn may (T.Step' ty op order p target) ⊎ (IsBeside may (T.Step' ty op order p target) ⊎ ((ty ≡ type_of target) × IsPosition may target))
 IsEffect may e = IsIn may e
 
 -- a scalar variable, as it is declared

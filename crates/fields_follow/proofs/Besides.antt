@@ -1,7 +1,9 @@
 -- What is known of the code of parallel expressions and of contexts, wherever fields are known.
-use Rattle.std.proofs.Common.{ℕ, ◌+◌, ◌≡◌, ◌∙◌, inl, inr, length, arith, sym, subst, false, None}
+use Rattle.std.proofs.Common.{Bool, ℕ, ◌+◌, ◌≡◌, ◌∙◌, inl, inr, length, arith, sym, subst, false}
 use Rattle.cstar_base.specs.declared.operators.Place.{Place}
-use Rattle.cstar_tree.specs.declared.syntax.AssignOp.TheVariants as A
+use Rattle.cstar_tree.specs.declared.syntax.AssignOp.{AssignOp}
+use Rattle.cstar_tree.specs.declared.syntax.StepOp.{StepOp}
+use Rattle.cstar_tree.specs.declared.typed.StepOrder.{StepOrder}
 use Rattle.cstar_tree.specs.declared.typed.TExpr.{TExpr, Row_of-TExpr}
 use Rattle.cstar_tree.specs.declared.typed.TExpr as T
 use Rattle.cstar_tree.specs.declared.typed.ValueType.{ValueType}
@@ -20,8 +22,9 @@ use Rattle.source_meaning.specs.Expressions.{evaluated}
 use Rattle.source_meaning.specs.State.{State}
 use Rattle.source_meaning.specs.Values.{Active, Scalar, Scope, Value}
 use Rattle.source_meaning.proofs.ConstantLaws.{Boxed}
-use Rattle.code_follows.specs.Fragment.{IsIn, Takes, naming}
+use Rattle.code_follows.specs.Fragment.{IsGiven, IsIn, naming}
 use Rattle.code_follows.proofs.Arguments.{AreDone}
+use Rattle.code_follows.proofs.Besides.{IsValued}
 use Rattle.code_follows.proofs.Following.{Follows, HasRegisters, IsKept, Ran, Sim}
 use Rattle.code_follows.proofs.Growing.{extended}
 use Rattle.code_follows.proofs.Parts.{BesideFollows}
@@ -46,7 +49,7 @@ use Rattle.fields_follow.proofs.ScanAssigning.{scans_leave}
 use Rattle.fields_follow.proofs.Reductions.{GivesRegister, fold_type, folds_give}
 use Rattle.fields_follow.proofs.Sends.{sends_leave}
 use Rattle.fields_follow.proofs.SinglePositions.{reads_follow}
-use Rattle.fields_follow.proofs.SingleStores.{stores_follow}
+use Rattle.fields_follow.proofs.SingleStores.{assignment_follows, step_follows}
 use Rattle.fields_follow.proofs.Starts.{Starts}
 use Rattle.fields_follow.proofs.ScalarAssigning.{changing_leaves}
 
@@ -130,15 +133,20 @@ read_follows : (g : Setting) (scope : Scope) (active : Active) → KnowsFields g
 unfolding IsIn
 read_follows g scope active known has alive n ready ty place p indexes x of is c done d s st R r free here_at sim dest = reads_follow g has alive scope active known n ready ty place p indexes x of is.0 (known.positions x is.1) is.2 is.3 c done d s st R r free here_at sim dest
 
--- a store at one
+-- an assignment to one, and a step of one
 store_follows : (g : Setting) (scope : Scope) (active : Active) → KnowsFields g scope active → (has : HasRegisters g) (alive : Variable → Type 0) → ((k : ℕ) → alive (V.File k)) → (n : ℕ) → ((d : Draft) → IsReadyButForFields g.typed g.instance (layout g) n d)
-    → (ty : ValueType) (place sending : Place) (p q : Boxed) (r : _) (indexes : Row_of-TExpr _) (x : Variable) (of : ℕ) (value : TExpr) → IsIn (naming g.may alive) (T.LeftIndex' ty place r indexes x of) → HasCode g.typed g.instance n (T.LeftIndex' ty place r indexes x of)
-    → AreDone g has alive scope active false (are_quiet indexes) indexes → (type_of value).shape ≡ None → Takes ty.elem (type_of value).elem → HasCode g.typed g.instance n value → ((bits : ℕ) → Does g has alive (type_of value).elem false (λ st. evaluated scope value active st) (λ d. value_of g.typed (layout g) bits value d))
-    → (d : Draft) (s : CodeState) (st : State) → Begun g alive d → At g s (length d.code) → Sim g alive st s
-    → Follows g (λ v u out f. Ran g alive d s u f) s (evaluated scope (T.Assign' ty sending A.Set p (T.LeftIndex' ty place r indexes x of) q value) active st) (effect_of g.typed (layout g) (T.Assign' ty sending A.Set p (T.LeftIndex' ty place r indexes x of) q value) d)
+    → (ty : ValueType) (place sending : Place) (op : AssignOp) (p q : Boxed) (r : _) (indexes : Row_of-TExpr _) (x : Variable) (of : ℕ) (value : TExpr) → IsIn (naming g.may alive) (T.LeftIndex' ty place r indexes x of) → HasCode g.typed g.instance n (T.LeftIndex' ty place r indexes x of)
+    → AreDone g has alive scope active false (are_quiet indexes) indexes → IsGiven op ty (type_of value) → IsValued g has scope active alive n value
+    → (quiet : Bool) (bits : ℕ) → Does g has alive ty.elem quiet (λ st. evaluated scope (T.Assign' ty sending op p (T.LeftIndex' ty place r indexes x of) q value) active st) (λ d. value_of g.typed (layout g) bits (T.Assign' ty sending op p (T.LeftIndex' ty place r indexes x of) q value) d)
 unfolding IsIn
-store_follows g scope active known has alive files n ready ty place sending p q r indexes x of value is c done scalar takes own does d s st free here_at sim =
-    stores_follow g has alive scope active known files n ready ty place sending p q r indexes x of value is.0 (known.positions x is.1) is.2 is.3 c done scalar takes own does d s st free here_at sim
+store_follows g scope active known has alive files n ready ty place sending op p q r indexes x of value is c done given valued quiet bits = assignment_follows g has alive scope active known files n ready ty place r indexes x of is.0 (known.positions x is.1) is.2 is.3 c done sending op p q value given valued bits quiet
+
+single_step_follows : (g : Setting) (scope : Scope) (active : Active) → KnowsFields g scope active → (has : HasRegisters g) (alive : Variable → Type 0) → ((k : ℕ) → alive (V.File k)) → (n : ℕ) → ((d : Draft) → IsReadyButForFields g.typed g.instance (layout g) n d)
+    → (ty : ValueType) (place : Place) (op : StepOp) (order : StepOrder) (p : Boxed) (r : _) (indexes : Row_of-TExpr _) (x : Variable) (of : ℕ) → IsIn (naming g.may alive) (T.LeftIndex' ty place r indexes x of) → HasCode g.typed g.instance n (T.LeftIndex' ty place r indexes x of)
+    → AreDone g has alive scope active false (are_quiet indexes) indexes
+    → (quiet : Bool) (bits : ℕ) → Does g has alive ty.elem quiet (λ st. evaluated scope (T.Step' ty op order p (T.LeftIndex' ty place r indexes x of)) active st) (λ d. value_of g.typed (layout g) bits (T.Step' ty op order p (T.LeftIndex' ty place r indexes x of)) d)
+unfolding IsIn
+single_step_follows g scope active known has alive files n ready ty place op order p r indexes x of is c done quiet bits = step_follows g has alive scope active known files n ready ty place r indexes x of is.0 (known.positions x is.1) is.2 is.3 c done op order p bits quiet
 
 -- every effect, every fold and every context of it follows
 pub besides : (g : Setting) (scope : Scope) (active : Active) → KnowsFields g scope active → (has : HasRegisters g) → BesideFollows KnowsFields g has scope active
@@ -147,7 +155,8 @@ besides g scope active known has = record {
     effects = λ alive files n ready e h among c d s st free here sim. effect_follows g scope active known has alive n ready e (record { code = c; among = among }) d s st free here files sim (known.effects e h);
     folds = λ alive files n ready e h among c d s st R r free here sim dest. fold_follows g scope active known has alive n ready e (record { code = c; among = among }) d s st free here files sim (known.folds e h) R r dest;
     reads = λ alive files n ready ty place p indexes x of is c done d s st R r free here sim dest. read_follows g scope active known has alive n ready ty place p indexes x of is c done d s st R r free here sim dest;
-    stores = λ alive files n ready ty place sending p q r indexes x of value is c done scalar takes own does d s st free here sim. store_follows g scope active known has alive files n ready ty place sending p q r indexes x of value is c done scalar takes own does d s st free here sim;
+    stores = λ alive files n ready ty place sending op p q r indexes x of value is c done given valued quiet bits. store_follows g scope active known has alive files n ready ty place sending op p q r indexes x of value is c done given valued quiet bits;
+    steps = λ alive files n ready ty place op order p r indexes x of is c done quiet bits. single_step_follows g scope active known has alive files n ready ty place op order p r indexes x of is c done quiet bits;
   };
   locals = locals_clear g scope active known;
   wheres = λ alive files n ready shape test p first second h among c f contexts one other. where_follows g has scope active known alive files n ready shape test p first second (known.conditions shape test h) among c f contexts one other;

@@ -1,7 +1,7 @@
 -- A single position of a parallel variable, which scalar indexes name: the code finds it, or both end as an index does
 -- not lie within its extent; it stands in a register, and what the variable has there is read.
 use denote.Hole.Carrier
-use Rattle.std.proofs.Common.{◌≡◌, ◌∙◌, ℕ, suc, ◌+◌, ◌*◌, ◌<◌, ◌^◌, ◌&&◌, Bool, true, false, not, List, [], ◌∷◌, length, map, slice_get, slice_index, Option, Some, None, ◌⊎◌, inl, inr, refl, sym, ap, subst, arith, if◌then◌else◌, Vec, Global}
+use Rattle.std.proofs.Common.{◌≤◌, ◌≡◌, ◌∙◌, ℕ, suc, ◌+◌, ◌*◌, ◌<◌, ◌^◌, ◌&&◌, Bool, true, false, not, List, [], ◌∷◌, length, map, slice_get, slice_index, Option, Some, None, ◌⊎◌, inl, inr, refl, sym, ap, subst, arith, if◌then◌else◌, Vec, Global}
 use Rattle.std.specs.Prelude.{IfSome, is_none, is_some, nat_lt}
 use Rattle.cstar_base.specs.declared.elem.Elem.{Elem}
 use Rattle.cstar_base.specs.declared.faults.RunFault.TheVariants.{Index}
@@ -65,9 +65,9 @@ use Rattle.vp_sets.specs.Positions.{position_count}
 use Rattle.vp_sets.proofs.PositionLaws.{geometry_parts}
 use Rattle.code_follows.specs.Fragment.{AreIn, IsIn, elems_of, naming}
 use Rattle.code_follows.proofs.Arguments.{AreDone, AreHeld, Given, arguments_follow}
-use Rattle.code_follows.proofs.Following.{Arrives, Extends, Follows, HasRegisters, Keeps, Sim, arrives_fresh, at_once, finishes_later, follows_same, held, keeps_all, keeps_less, keeps_on, register_at, register_is, register_kept, then_follows, then_gives, extends_then}
+use Rattle.code_follows.proofs.Following.{nothing_said, Arrives, Extends, Follows, HasRegisters, Keeps, Sim, arrives_fresh, at_once, finishes_later, follows_same, held, keeps_all, keeps_less, keeps_on, register_at, register_is, register_kept, then_follows, then_gives, extends_then}
 use Rattle.code_follows.proofs.Growing.{Extended, as_it_was, extended}
-use Rattle.code_follows.proofs.Settings.{OpenAmong, At, Begun, Reaches, Setting, Within, and_one, at_next, begun_later, earlier, ends_now, layout, next_stands, one, onto, placed_instr, start, stay}
+use Rattle.code_follows.proofs.Settings.{OpenAmong, At, Begun, Reaches, Setting, Within, and_one, at_next, begun_later, earlier, ends_now, layout, next_stands, one, onto, placed_instr, regs_more, start, stay}
 use Rattle.code_follows.proofs.Standing.{some_same}
 use Rattle.code_follows.proofs.Values.{Dest, and_register, constant_follows, put_by, value_stands, with_reg}
 use Rattle.code_follows.proofs.Words.{constant_below, held_wide}
@@ -144,27 +144,43 @@ module _ (g : Setting) (has : HasRegisters g) (alive : Variable → Type 0) (sco
   held_indexes quiet [] (out ∷ outs) e u t sim h = absurd h
   held_indexes quiet (o ∷ given) [] e u t sim h = absurd h
 
+  -- a register keeps its word as long as those do that were taken between these drafts
+  abbrev pub Stays : Draft → Draft → CodeState → ℕ → ℕ → Type 0
+  Stays d f t q word = (u : State) (later : CodeState) → Sim g alive u later → ((b : ℕ) → d.regs ≤ b → b < f.regs → slice_index later.registers b ≡ slice_index t.registers b) → slice_index later.registers q ≡ word
+
+  stays_fresh : (d f : Draft) (s : CodeState) (u : State) (word q : ℕ) (arr : Arrives g alive int_type false d s (Scalar word) u (O.Scalar q) f) → d.regs ≤ q → q < f.regs → Stays d f arr.t q word
+  stays_fresh d f s u word q arr low high later t sim same =
+      let there = value_stands g has alive int_type false f u arr.t word q arr.holds in
+      same q low high ∙ there.0 u arr.t arr.sim (keeps_all g f arr.t) (λ no. refl) ∙ held_wide int_type word refl there.1
+
   -- a number stands in a register, where it does at once or in a fresh one
+  record StandsThere (d : Draft) (s : CodeState) (st : State) (word q : ℕ) (f : Draft) : Type 0 where
+    pub arrives : Arrives g alive int_type false d s (Scalar word) st (O.Scalar q) f
+    pub stays : Stays d f arrives.t q word
+
   word_found : (word : ℕ) (d : Draft) (s : CodeState) (st : State) → word < 2 ^ 32 → Begun g alive d → At g s (length d.code) → Sim g alive st s
-      → Follows g (λ (x : Unit {0}) u q f. (u ≡ st) × Arrives g alive int_type false d s (Scalar word) st (O.Scalar q) f) s (Gives tt st) (word_in (layout g) word d)
+      → Follows g (λ (x : Unit {0}) u q f. (u ≡ st) × StandsThere d s st word q f) s (Gives tt st) (word_in (layout g) word d)
   unfolding word_in Follows constant_in a_register then_make
   word_found word d s st few free here sim = by (constant_register (layout g) word) refl (constant_follows g has alive int_type false word d s st refl few free here sim)
     where
       by : (o : Option ℕ) → constant_register (layout g) word ≡ o → Follows g (λ v u out e. Arrives g alive int_type false d s v u out e) s (Gives (Scalar word) st) (constant_in word d)
-          → Follows g (λ (x : Unit {0}) u q f. (u ≡ st) × Arrives g alive int_type false d s (Scalar word) st (O.Scalar q) f) s (Gives tt st) (elim o as (λ _. Made ℕ) [ Some r ↦ Makes r d | None ↦ then_make (a_register d) (λ r after. Makes r (with_instr (I.FrontConst r word) after)) ])
+          → Follows g (λ (x : Unit {0}) u q f. (u ≡ st) × StandsThere d s st word q f) s (Gives tt st) (elim o as (λ _. Made ℕ) [ Some r ↦ Makes r d | None ↦ then_make (a_register d) (λ r after. Makes r (with_instr (I.FrontConst r word) after)) ])
       by (Some r) is fresh = λ within. (
         refl,
         record {
-          extended = (0, as_it_was d);
-          t = s;
-          go = stay g s;
-          at = here;
-          sim = sim;
-          keeps = keeps_all g d s;
-          holds = record { register = r; word = word; is = refl; value = refl; small = few; lasts = λ u t later stays same. later.constants word r is ∙ sym (held_wide int_type word refl few) };
+          arrives = record {
+            extended = (0, as_it_was d);
+            t = s;
+            go = stay g s;
+            at = here;
+            sim = sim;
+            keeps = keeps_all g d s;
+            holds = record { register = r; word = word; is = refl; value = refl; small = few; lasts = λ u t later stays same. later.constants word r is ∙ sym (held_wide int_type word refl few) };
+          };
+          stays = λ u t later same. later.constants word r is;
         },
       )
-      by None is fresh = λ within. (refl, fresh within)
+      by None is fresh = λ within. let regs = regs_more g (I.FrontConst d.regs word) (with_reg d) in (refl, record { arrives = fresh within; stays = stays_fresh d _ s st word d.regs (fresh within) (omega arith) (omega (arith, regs)) })
 
   -- ---- the position
 
@@ -174,6 +190,7 @@ module _ (g : Setting) (has : HasRegisters g) (alive : Variable → Type 0) (sco
     pub is : there ≡ OfPosition x position
     pub below : position < processors (shapes g) of
     pub arrives : Arrives g alive int_type false d s (Scalar position) u (O.Scalar q) f
+    pub stays : Stays d f arrives.t q position
 
   -- its code: that of a number, or that of indexes, their check and the address
   abbrev pub located_in : Place → ℕ → List TExpr → List Out → ℕ → Draft → Made ℕ
@@ -326,16 +343,21 @@ module _ (g : Setting) (has : HasRegisters g) (alive : Variable → Type 0) (sco
               inside_unit : Within g last
               inside_unit = subst (λ (y : Draft). Within g y) (sym same_made) within
 
+              arrived : Arrives g alive int_type false d s (Scalar position) u (O.Scalar d.regs) last
+              arrived =
+                  let taken = grown.regs in
+                  arrives_fresh g alive int_type false d last s t2 u d.regs position (0 + (n + (1 + 1)), more) (onto g s t t2 go (onto g t t1 t2 (one g t t1 goes refl) (one g t1 t2 makes refl)))
+                  (at_next g make checked_draft t1 (t1.at + 1) there refl) (register_at g alive u t d.regs position (t1.at + 1) has free.regs (omega arith) sim)
+                  (keeps_on g d d 0 s t t2 (as_it_was d) (keeps_less g d (with_reg d) s t (omega arith) keeps) (register_kept g d t d.regs position has free.regs (omega arith) (omega (arith, taken, inside_unit.own))))
+                  free.regs (omega (arith, taken)) few (register_is g t d.regs position (omega (arith, taken, inside_unit.regs, sim.registers)) ∙ sym (held_wide int_type position refl few))
+
               found : Found of x d s (OfPosition x position) u d.regs last
               found = let taken = grown.regs in record {
                 position = position;
                 is = refl;
                 below = below;
-                arrives =
-                    arrives_fresh g alive int_type false d last s t2 u d.regs position (0 + (n + (1 + 1)), more) (onto g s t t2 go (onto g t t1 t2 (one g t t1 goes refl) (one g t1 t2 makes refl)))
-                    (at_next g make checked_draft t1 (t1.at + 1) there refl) (register_at g alive u t d.regs position (t1.at + 1) has free.regs (omega arith) sim)
-                    (keeps_on g d d 0 s t t2 (as_it_was d) (keeps_less g d (with_reg d) s t (omega arith) keeps) (register_kept g d t d.regs position has free.regs (omega arith) (omega (arith, taken, inside_unit.own))))
-                    free.regs (omega (arith, taken)) few (register_is g t d.regs position (omega (arith, taken, inside_unit.regs, sim.registers)) ∙ sym (held_wide int_type position refl few));
+                arrives = arrived;
+                stays = stays_fresh d last s u position d.regs arrived (omega arith) (omega (arith, taken));
               }
 
       located_follows : Follows g (Found of x d s) s o (located_in place of items outs d.regs between)
@@ -465,6 +487,14 @@ module _ (g : Setting) (has : HasRegisters g) (alive : Variable → Type 0) (sco
       abbrev read_in : ℕ → ℕ → Draft → Made Out
       read_in q r d = then_make (field_of g.typed (layout g) x 0 d) (λ source after. Makes (O.Scalar r) (reading_in q r source after))
 
+      pub load_is : (q r : ℕ) (d : Draft) → loaded g.typed (layout g) single (S.Indexed (O.Scalar q)) (O.Scalar r) d ≡ read_in q r d
+      unfolding loaded bare communicated out-TExpr Carrier.out read_at in_register then_make
+      load_is q r d = by (field_of g.typed (layout g) x 0 d)
+        where
+          by : (m : Made Field) → then_make (then_make m (λ source last. Makes (O.Scalar r) (reading_in q r source last))) (λ _ last. Makes (O.Scalar r) last) ≡ then_make m (λ source after. Makes (O.Scalar r) (reading_in q r source after))
+          by (Makes source after) = refl
+          by Fails = refl
+
       read_code : (r : ℕ) (d : Draft) → computed_to g.typed (layout g) (O.Scalar r) single d ≡ then_make (found_in place of indexes d) (λ q after. read_in q r after)
       unfolding computed_to index_read_to gone_to read_to goes_by_news out-TExpr Carrier.out then_make loaded bare communicated read_at in_register an_entry
       read_code r d = ap goes by_router ∙ ap (λ (m : Made Spot). gone_to (O.Scalar r) (then_make m loads)) (spot_is d) ∙ each (found_in place of indexes d)
@@ -478,12 +508,12 @@ module _ (g : Setting) (has : HasRegisters g) (alive : Variable → Type 0) (sco
           by_router : goes_by_news single ≡ false
           by_router = ap (λ (xs : List TExpr). is_some ty.shape && all_go_by_news of 0 xs) (items_shown-the_row-TExpr-0 p indexes) ∙ ap (λ (o : Option ℕ). is_some o && all_go_by_news of 0 items) scalar
 
-          behind : (q : ℕ) (m : Made Field) → then_make (then_make (then_make m (λ source last. Makes (O.Scalar r) (reading_in q r source last))) (λ _ last. Makes (O.Scalar r) last)) (λ _ last. Makes (O.Scalar r) last) ≡ then_make m (λ source after. Makes (O.Scalar r) (reading_in q r source after))
-          behind q (Makes source after) = refl
-          behind q Fails = refl
-
           each : (m : Made ℕ) → gone_to (O.Scalar r) (then_make (then_make m indexed_at) loads) ≡ then_make m (λ q after. read_in q r after)
-          each (Makes q after) = behind q (field_of g.typed (layout g) x 0 after)
+          each (Makes q after) = ap (λ (m : Made Out). gone_to (O.Scalar r) m) (load_is q r after) ∙ gone (field_of g.typed (layout g) x 0 after)
+            where
+              gone : (m : Made Field) → gone_to (O.Scalar r) (then_make m (λ source last. Makes (O.Scalar r) (reading_in q r source last))) ≡ then_make m (λ source last. Makes (O.Scalar r) (reading_in q r source last))
+              gone (Makes source last) = refl
+              gone Fails = refl
           each Fails = refl
 
       -- the code finds the position
@@ -523,58 +553,59 @@ module _ (g : Setting) (has : HasRegisters g) (alive : Variable → Type 0) (sco
               (ap (λ (o : Outcome (List Operand)). then_do o (λ given after. named place of x given after)) constants.1.0
               ∙ named_so place of x constants.0 st None (never_fails scope active (scope.extents of) constants.0 (ap (λ (xs : List ℕ). are_within xs constants.0 0) same ∙ law.0))
               ∙ ap (λ (q : ℕ). Gives (OfPosition x q) st) (ap (λ (xs : List ℕ). named_by xs constants.0 0) same ∙ law.1)) refl
-              (then_gives g (λ (x : Unit {0}) u q f. (u ≡ st) × Arrives g alive int_type false d s (Scalar position) st (O.Scalar q) f) (Found of x d s) s (Gives tt st) (λ y. OfPosition x position) (word_in (layout g) position d) (word_found position d s st (omega (arith, below, room)) free here sim)
-              (λ x u q f said. record { position = position; is = refl; below = below; arrives = subst (λ (w : State). Arrives g alive int_type false d s (Scalar position) w (O.Scalar q) f) (sym said.0) said.1 }))
+              (then_gives g (λ (x : Unit {0}) u q f. (u ≡ st) × StandsThere d s st position q f) (Found of x d s) s (Gives tt st) (λ y. OfPosition x position) (word_in (layout g) position d) (word_found position d s st (omega (arith, below, room)) free here sim)
+              (λ y u q f said. subst (λ (w : State). Found of x d s (OfPosition x position) w q f) (sym said.0) (record { position = position; is = refl; below = below; arrives = said.1.arrives; stays = said.1.stays })))
+
+      -- the field is found, or there is no code
+      pub with_field : {B C : Type 0} (R : B → State → C → Draft → Type 0) (s : CodeState) (o : Outcome B) (next : Field → Draft → Made C) (t : CodeState) (u : State) → Sim g alive u t → (f : Draft) → ((found : FindsIt f) → Follows g R s o (next found.f found.e)) → Follows g R s o (then_make (field_of g.typed (layout g) x 0 f) next)
+      unfolding then_make
+      with_field R s o next t u sim f follows = by (finds t u sim f)
+        where
+          by : FindsItOrFails f → Follows g R s o (then_make (field_of g.typed (layout g) x 0 f) next)
+          by (inl none) = subst (λ (m : Made Field). Follows g R s o (then_make m next)) (sym none) (nothing_said g R s o)
+          by (inr found) = subst (λ (m : Made Field). Follows g R s o (then_make m next)) (sym found.is) (follows found)
+
+      pub found_at : (f : Draft) (found : FindsIt f) (t : CodeState) → At g t (length f.code) → At g t (length found.e.code)
+      found_at f found t here = subst (λ (c : List Step). At g t (length c)) (sym found.code) here
+
+      -- the instruction that reads there
+      pub reads_one : (f : Draft) (found : FindsIt f) (t : CodeState) (u : State) (r q chosen : ℕ) → At g t (length f.code) → Sim g alive u t → chosen < processors (shapes g) of → slice_index t.registers q ≡ chosen → Within g (reading_in q r found.f found.e)
+          → begun g.image (placed_instr g (I.ReadFromProcessor ty.elem.signed r q found.f)) t ≡ Goes (with_register r (held ty.elem (u.parallel x 0 chosen)) t)
+      unfolding begun applied after number read step_of
+      reads_one f found t u r q chosen here sim below stands within =
+          ap (λ (reply : Reply). replied (placed_instr g i) (record t { at = t.at + 1 }) reply)
+          (ap (λ (n : ℕ). reply_of (shapes g) (placed_instr g i) (n ∷ []) t.memory) stands
+          ∙ reads_of_positions (shapes g) t.memory [] r q (place_of g a) u x ty.elem chosen carries.len has_variable (subst (λ (n : ℕ). chosen < processors (shapes g) n) (sym carries.of_set) below))
+        where
+          e : Draft
+          e = found.e
+
+          a : Field
+          a = found.f
+
+          i : Instr
+          i = I.ReadFromProcessor ty.elem.signed r q a
+
+          at_entry : At g t (length e.code)
+          at_entry = found_at f found t here
+
+          carries : Carries (under g active) alive x info of a
+          carries = found.carries (with_instr i e) 1 (and_one g i e) (within_under g active within)
+
+          has_variable : (y : ℕ) → y < processors (shapes g) a.set → true ≡ true → field_number t.memory (place_of g a) y ≡ u.parallel x 0 y
+          has_variable y below all =
+              carries.numbers u t (sim_open g scope active known alive u t sim) (length e.code) (names_first g i a [] (length e.code) (stands_in g i e within refl) refl) (omega (arith, at_entry)) y (subst (λ (n : ℕ). y < processors (shapes g) n) carries.of_set below)
+
+      pub small_there : (u : State) (t : CodeState) (chosen : ℕ) → Sim g alive u t → u.parallel x 0 chosen < 2 ^ ty.elem.bits
+      small_there u t chosen sim = (fits t u sim).1 chosen
 
       -- what is read there
       reads_there : (d : Draft) (s : CodeState) (R : Value → State → Out → Draft → Type 0) (r : ℕ) → Dest g has alive ty.elem d s R r → (there : Target) (u : State) (q : ℕ) (f : Draft) → Found of x d s there u q f → Follows g R s (Gives (read u there) u) (read_in q r f)
-      unfolding Follows begun applied after step_of read number then_make
-      reads_there d s R r dest there u q f h = subst (λ (y : Target). Follows g R s (Gives (read u y) u) (read_in q r f)) (sym h.is) (by (finds t u h.arrives.sim f))
-        where
-          t : CodeState
-          t = h.arrives.t
-
-          w : ℕ
-          w = u.parallel x 0 h.position
-
-          stands : slice_index t.registers q ≡ h.position
-          stands =
-              let word = value_stands g has alive int_type false f u t h.position q h.arrives.holds in
-              word.0 u t h.arrives.sim (keeps_all g f t) (λ same. refl) ∙ held_wide int_type h.position refl word.1
-
-          code : Made Field → Made Out
-          code m = then_make m (λ source after. Makes (O.Scalar r) (reading_in q r source after))
-
-          by : FindsItOrFails f → Follows g R s (Gives (Scalar w) u) (read_in q r f)
-          by (inl none) = subst (λ (m : Made Out). Follows g R s (Gives (Scalar w) u) m) (sym (ap code none)) tt
-          by (inr found) =
-              subst (λ (m : Made Out). Follows g R s (Gives (Scalar w) u) m) (sym (ap code found.is))
-              (λ within. put_by g has alive dest e (h.arrives.extended.0 + 0) i t u w h.arrives.go at_entry h.arrives.sim (extended d f e h.arrives.extended.0 0 h.arrives.extended.1 found.grown) h.arrives.keeps within refl (reads within) ((fits t u h.arrives.sim).1 h.position))
-            where
-              e : Draft
-              e = found.e
-
-              a : Field
-              a = found.f
-
-              i : Instr
-              i = I.ReadFromProcessor ty.elem.signed r q a
-
-              at_entry : At g t (length e.code)
-              at_entry = subst (λ (c : List Step). At g t (length c)) (sym found.code) h.arrives.at
-
-              reads : Within g (with_instr i e) → begun g.image (placed_instr g i) t ≡ Goes (with_register r (held ty.elem w) t)
-              reads within =
-                  ap (λ (reply : Reply). replied (placed_instr g i) (record t { at = t.at + 1 }) reply)
-                  (ap (λ (n : ℕ). reply_of (shapes g) (placed_instr g i) (n ∷ []) t.memory) stands
-                  ∙ reads_of_positions (shapes g) t.memory [] r q (place_of g a) u x ty.elem h.position carries.len has_variable (subst (λ (n : ℕ). h.position < processors (shapes g) n) (sym carries.of_set) h.below))
-                where
-                  carries : Carries (under g active) alive x info of a
-                  carries = found.carries (with_instr i e) 1 (and_one g i e) (within_under g active within)
-
-                  has_variable : (y : ℕ) → y < processors (shapes g) a.set → true ≡ true → field_number t.memory (place_of g a) y ≡ u.parallel x 0 y
-                  has_variable y below all =
-                      carries.numbers u t (sim_open g scope active known alive u t h.arrives.sim) (length e.code) (names_first g i a [] (length e.code) (stands_in g i e within refl) refl) (omega (arith, at_entry)) y (subst (λ (n : ℕ). y < processors (shapes g) n) carries.of_set below)
+      unfolding Follows step_of read
+      reads_there d s R r dest there u q f h = subst (λ (y : Target). Follows g R s (Gives (read u y) u) (read_in q r f)) (sym h.is)
+          (with_field R s (Gives (Scalar (u.parallel x 0 h.position)) u) (λ source after. Makes (O.Scalar r) (reading_in q r source after)) h.arrives.t u h.arrives.sim f (λ found. λ within.
+          put_by g has alive dest found.e (h.arrives.extended.0 + 0) (I.ReadFromProcessor ty.elem.signed r q found.f) h.arrives.t u (u.parallel x 0 h.position) h.arrives.go (found_at f found h.arrives.t h.arrives.at) h.arrives.sim (extended d f found.e h.arrives.extended.0 0 h.arrives.extended.1 found.grown) h.arrives.keeps within refl
+          (reads_one f found h.arrives.t u r q h.position h.arrives.at h.arrives.sim h.below (h.stays u h.arrives.t h.arrives.sim (λ b low high. refl)) within) (small_there u h.arrives.t h.position h.arrives.sim)))
 
       pub reads_follow : (d : Draft) (s : CodeState) (st : State) (R : Value → State → Out → Draft → Type 0) (r : ℕ) → Begun g alive d → At g s (length d.code) → Sim g alive st s → Dest g has alive ty.elem d s R r
           → Follows g R s (evaluated scope single active st) (computed_to g.typed (layout g) (O.Scalar r) single d)

@@ -2,8 +2,6 @@
 -- with any names that open variables are among, where no statement is under a context.
 use Rattle.std.proofs.Common.{◌≡◌, ℕ, ◌+◌, Bool, true, false, IfSome, List, [], ◌∷◌, length, Option, Some, None, inl, inr, refl, arith}
 use Rattle.std.proofs.lemmas.Bool.Decides.{nat_tests}
-use Rattle.cstar_tree.specs.declared.syntax.AssignOp.{AssignOp}
-use Rattle.cstar_tree.specs.declared.syntax.AssignOp.TheVariants as A
 use Rattle.cstar_tree.specs.declared.typed.LocalVar.{LocalVar}
 use Rattle.cstar_tree.specs.declared.typed.TExpr.{TExpr, Row_of-TExpr, end_of-TExpr, more_of-TExpr}
 use Rattle.cstar_tree.specs.declared.typed.TExpr as T
@@ -12,7 +10,7 @@ use Rattle.cstar_tree.specs.declared.typed.TStmt as S
 use Rattle.cstar_tree.specs.declared.typed.Variable.{Variable}
 use Rattle.cstar_tree.specs.declared.typed.Variable.TheVariants as V
 use mathlib.Core.Former.{Count}
-use Rattle.code_follows.specs.Fragment.{AllAmong, AreIn, AreInStatements, AreInitials, IsBody, IsEffect, IsIn, IsInElse, IsInStatement, IsStore, IsTested, IsVariable, May, OrAmong, NamesAmong, naming, within}
+use Rattle.code_follows.specs.Fragment.{AllAmong, AreIn, AreInStatements, AreInitials, IsBody, IsEffect, IsIn, IsInElse, IsInStatement, IsPosition, IsTested, IsVariable, May, OrAmong, NamesAmong, naming, within}
 use Rattle.code_lengths.specs.NamingStatements.{behind}
 use Rattle.open_names.specs.Opens.{AllNameOpen, ElseNamesOpen, InitialsNameOpen, IsAmong, IsOpen, NamesOpen, Open, StatementNamesOpen, StatementsNameOpen, opened}
 use Rattle.source_meaning.specs.State.{is_among}
@@ -98,10 +96,10 @@ module _ (may : May) (names : Variable → Type 0) (blocks : Open) (fits : Fits 
     all_open end_of-TExpr h n = tt
     all_open (more_of-TExpr e rest) h n = (expression_open e h.0 n.0, all_open rest h.1 n.1)
 
-  store_open : (op : AssignOp) (target value : TExpr) → IsStore may op target value → NamesOpen blocks target → NamesOpen blocks value → IsStore (naming may names) op target value
-  unfolding IsStore
-  store_open A.Set (T.LeftIndex' ty place p indexes x of) value h n m = (expression_open (T.LeftIndex' ty place p indexes x of) h.0 n, expression_open value h.1 m, h.2)
-  store_open op target value h n m = absurd h
+  position_open : (target : TExpr) → IsPosition may target → NamesOpen blocks target → IsPosition (naming may names) target
+  unfolding IsPosition
+  position_open (T.LeftIndex' ty place p indexes x of) h n = expression_open (T.LeftIndex' ty place p indexes x of) h n
+  position_open target h n = absurd h
 
   effect_open : (e : TExpr) → IsEffect may e → NamesOpen blocks e → IsEffect (naming may names) e
   unfolding IsEffect NamesOpen
@@ -110,9 +108,10 @@ module _ (may : May) (names : Variable → Type 0) (blocks : Open) (fits : Fits 
   effect_open (T.Brackets' ty p inner) h n = effect_open inner h n
   effect_open (T.Assign' ty place op p target q value) (inl h) n = inl (expression_open (T.Assign' ty place op p target q value) h n)
   effect_open (T.Assign' ty place op p target q value) (inr (inl h)) n = inr (inl (h.0, among_open (T.Assign' ty place op p target q value) n))
-  effect_open (T.Assign' ty place op p target q value) (inr (inr h)) n = inr (inr (h.0, store_open op target value h.1 n.0 n.1))
+  effect_open (T.Assign' ty place op p target q value) (inr (inr h)) n = inr (inr (h.0, position_open target h.1 n.0, expression_open value h.2 n.1, h.3))
   effect_open (T.Step' ty op order p target) (inl h) n = inl (expression_open (T.Step' ty op order p target) h n)
-  effect_open (T.Step' ty op order p target) (inr h) n = inr (h.0, among_open (T.Step' ty op order p target) n)
+  effect_open (T.Step' ty op order p target) (inr (inl h)) n = inr (inl (h.0, among_open (T.Step' ty op order p target) n))
+  effect_open (T.Step' ty op order p target) (inr (inr h)) n = inr (inr (h.0, position_open target h.1 n))
   effect_open e h n = expression_open e h n
 
   tested_open : (e : Option TExpr) → IsTested may e → IfSome e (NamesOpen blocks) → IsTested (naming may names) e
