@@ -36,7 +36,7 @@ use Rattle.fields_follow.proofs.Places.{HoldsTheFields, PlacesFields}
 use Rattle.fields_follow.proofs.Promoted.{IsComputed, computed_after, promoted_stands}
 use Rattle.fields_follow.proofs.Spreading.{GivesWord}
 use Rattle.fields_follow.proofs.Starts.{Starts}
-use Rattle.fields_follow.proofs.Values.{operand_of}
+use Rattle.fields_follow.proofs.Values.{operand_after, operand_of}
 use Rattle.fields_follow.proofs.Writing.{Lands, lands_here}
 
 abbrev pub field_at : ℕ → ℕ → ℕ → Field
@@ -81,7 +81,7 @@ module _ (g : Setting) (has : HasRegisters g) (alive : Variable → Type 0) (n :
   unfolding put_value put_in_field step_of
   value_last set offset bits e pure c whole d s st here sim Q last ended =
       from_operand g has alive n ready places fields bits set e f (λ a. I.Move true f a) (λ v after. put_value (O.Field f) v after) (length d.fields) d s st (words_of set e st) (λ a. refl) (λ a. refl) (λ x after. value_put f x after) (λ a after. refl)
-      (λ a t numbers sim_there. puts_move g bits set true f a t (words_of set e st) refl numbers) pure c whole (omega arith) here sim Q last ended
+      (λ a t numbers sim_there. puts_move g bits set true f a t (words_of set e st) refl numbers) (operand bits e) (operand_after g has alive n ready places fields bits set e true pure c whole) (omega arith) here sim Q last ended
     where
       f : Field
       f = field_at set offset bits

@@ -255,7 +255,7 @@ module _ (g : Setting) (has : HasRegisters g) (alive : Variable → Type 0) (n :
         behind_test = let more = saves_more in (length saves.code, (named_test, omega (arith, more)))
 
         told : Tells g set a t v
-        told = numbers_tell g known set a t (words test) v (λ x below. zero_told g alive n places fields set test st s sim kinded parts.0 x) (gives_numbers g alive places fields known (length begun.fields) begun s set st (words test) a e gives behind_test)
+        told = numbers_tell g known set a t (words test) v (λ x below. zero_told g alive n places fields set test st s sim (inl kinded.0) (inl kinded.1) parts.0 x) (gives_numbers g alive places fields known (length begun.fields) begun s set st (words test) a e gives behind_test)
 
         tells_at : (u : CodeState) (last : ℕ) → Sim g alive st u → IsNamedAt g.unit a.offset last → length e.code ≤ last → u.at ≤ start g + last → Stays g alive places fields begun e t u last → Tells g set a u v
         tells_at u last sim_there named early late stays = (

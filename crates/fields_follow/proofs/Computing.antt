@@ -1,5 +1,6 @@
 -- The code of every pure parallel expression leaves the lowest bits of its words in a field, and that of its test leaves
 -- the test flags.
+use Rattle.fields_follow.proofs.Operands.{promoted_spread, promoted_spreads}
 use Rattle.std.proofs.Common.{◌≡◌, ◌∙◌, ℕ, ◌<◌, ◌≤◌, Bool, true, false, not, ◌==◌, ◌&&◌, ◌⊎◌, inl, inr, length, Option, Some, refl, sym, ap, subst, arith, if◌then◌else◌}
 use Rattle.std.specs.Int.{from_bool}
 use Rattle.std.specs.Prelude.{nat_lt, unwrap_or}
@@ -24,7 +25,7 @@ use Rattle.lower_expr.specs.Joined.{cleared, joined, operation_of, joins}
 use Rattle.lower_expr.specs.Kinds.{operation_bits}
 use Rattle.lower_expr.specs.Operands.{ignores_context, operand_by}
 use Rattle.lower_expr.specs.Steps.{has_truth, is_kept}
-use Rattle.lower_expr.specs.Values.{cast_by, cast_from, condition_by, condition_of, extended, flag_of, logical_by, next_of, register_cast_by, spread_by, spread_into, tested, tested_by, truth_of, truth_put, value_of, zero_tested}
+use Rattle.lower_expr.specs.Values.{cast_by, cast_from, condition_by, condition_of, extended, flag_of, logical_by, next_of, register_cast_by, spread_by, spread_into, tested, tested_by, truth_of, truth_put, value_of, zero_tested, nonzero_tested}
 use Rattle.paris_code.specs.declared.instr.Instr.TheVariants as I
 use Rattle.paris_code.specs.declared.operands.Field.{Field}
 use Rattle.paris_code.specs.declared.operands.Konst.TheVariants as K
@@ -32,18 +33,18 @@ use Rattle.paris_code.specs.declared.program.Owner.TheVariants as W
 use Rattle.paris_code.specs.Code.{CodeState}
 use Rattle.source_meaning.specs.Expressions.{evaluated}
 use Rattle.source_meaning.specs.State.{State}
-use Rattle.source_meaning.specs.Values.{Active, nonzero, unary_of}
+use Rattle.source_meaning.specs.Values.{Active, Value, nonzero, unary_of}
 use Rattle.source_meaning.proofs.ConstantLaws.{Boxed}
 use Rattle.code_follows.proofs.Following.{Extends, Follows, HasRegisters, Sim, follows_same, held}
 use Rattle.code_follows.proofs.Settings.{Setting, and_one, layout}
-use Rattle.fields_follow.specs.Fragment.{HasItsKind, HasKnownKind, IsNarrowed, IsOfFileOrBlock, IsOperation, IsPromoted, IsPure, IsRegistered, IsRelation, IsWide}
+use Rattle.fields_follow.specs.Fragment.{HasItsKind, HasKnownKind, IsNarrowed, IsOfFileOrBlock, IsOperation, IsPromoted, IsPure, IsRegistered, IsRelation, IsWide, IsOperand, IsSpread}
 use Rattle.fields_follow.proofs.Starts.{no_home, starts_entry, Starts}
 use Rattle.fields_follow.proofs.Choosing.{choice_valued, scalar_choice_valued}
 use Rattle.fields_follow.proofs.Clearing.{joined_more}
-use Rattle.fields_follow.proofs.ConditionCode.{Bit, Truth, bit_not_value, joined_value, operand_at, put_in, relation_value, word_not_value}
+use Rattle.fields_follow.proofs.ConditionCode.{Bit, Truth, bit_not_value, joined_value, operand_at, put_in, relation_value, word_not_value, nonzero_after}
 use Rattle.fields_follow.proofs.Conditions.{HaveTheirCode, and_codes, beside_scalar, conditions_join, joined_free, or_codes}
-use Rattle.fields_follow.proofs.Expressions.{Answers, answers_alike, binary_after, convert_after, convert_ended, convert_means, coordinate_after, dot_after, left_index_after, unary_after, unary_ended}
-use Rattle.fields_follow.proofs.Forms.{HasItsCode, pure_kept}
+use Rattle.fields_follow.proofs.Expressions.{Answers, answers_alike, binary_after, convert_after, convert_ended, convert_means, coordinate_after, dot_after, left_index_after, unary_after, unary_ended, converted_after}
+use Rattle.fields_follow.proofs.Forms.{HasItsCode, pure_kept, promoted_truth}
 use Rattle.fields_follow.proofs.Instructions.{alike_same, extents, shapes}
 use Rattle.fields_follow.proofs.Leaving.{fields_under, places_under, registers_under, under}
 use Rattle.fields_follow.proofs.Lengths.{operation_most, relates_plainly}
@@ -55,14 +56,14 @@ use Rattle.fields_follow.proofs.Outcomes.{Ended, Given, Known, given_weaker, kno
 use Rattle.fields_follow.proofs.Passing.{After, GivesField, after_same, gives_alike, passes_all}
 use Rattle.fields_follow.proofs.Places.{HoldsTheFields, PlacesFields}
 use Rattle.fields_follow.proofs.Pure.{and_meant, and_number, or_meant, or_number}
-use Rattle.fields_follow.proofs.Sizes.{binary_parts, brackets_part, cast_code, choice_parts, convert_part, pure_at, unary_part, value_small}
+use Rattle.fields_follow.proofs.Sizes.{binary_parts, brackets_part, cast_code, choice_parts, convert_part, pure_at, unary_part, operand_small}
 use Rattle.fields_follow.proofs.TestFlags.{LeavesTests, is_truth, truth_is}
-use Rattle.fields_follow.proofs.Testing.{IsDone, IsGiven, IsValued, Says, and_ended, and_given, and_right_ended, brackets_tested, flags_after, kinded_bit, not_truth, or_ended, or_given, or_right_ended, pure_tested, relation_truth, truth_tested, variable_tested}
+use Rattle.fields_follow.proofs.Testing.{IsDone, IsGiven, IsValued, Says, and_ended, and_given, and_right_ended, brackets_tested, flags_after, kinded_bit, not_truth, or_ended, or_given, or_right_ended, pure_tested, relation_truth, truth_tested, variable_tested, value_told}
 use Rattle.fields_follow.proofs.TruthFields.{ComesFrom, bit_joined, several_joined, tests_put, turned_put}
 use Rattle.fields_follow.proofs.TruthValues.{bool_bit, bool_nonzero, by_case}
 use Rattle.fields_follow.proofs.Undecided.{LogicalEnds, LogicalGives, LogicalMeans, LogicalValue, scalar_valued, undecided_valued}
 use Rattle.fields_follow.proofs.Truths.{either_or_both}
-use Rattle.fields_follow.proofs.Values.{IsFlag, next_field, operand_after, variable_after, with_entry}
+use Rattle.fields_follow.proofs.Values.{IsFlag, next_field, operand_after, variable_after, with_entry, Valued}
 
 module _ (g : Setting) (has : HasRegisters g) (alive : Variable → Type 0) (n : ℕ) (ready : (d : Draft) → IsReadyButForFields g.typed g.instance (layout g) n d) (places : PlacesFields g) (fields : HoldsTheFields g) where
   abbrev code : ℕ → TExpr → Draft → Made Out
@@ -198,18 +199,60 @@ module _ (g : Setting) (has : HasRegisters g) (alive : Variable → Type 0) (n :
       test : Bool → Draft → Made (Unit {0})
       test b = tested_by (has_truth inner) (truth_of g.typed (layout g) inner) (spread b (operand_by g.typed (layout g) (bits_of (kind_of inner)) (value_of g.typed (layout g) (bits_of (kind_of inner)) inner) true inner) (bits_of (kind_of inner)))
 
-  bool_valued : (bits set : ℕ) (ty : ValueType) (p : Boxed) (inner : TExpr) → ty.shape ≡ Some set → ty.elem.bits ≡ 1 → HasItsKind set inner → HasItsCode g.typed g.instance alive n inner → Done set inner → Valued_at bits set (T.Convert' ty p inner)
+  bool_put : (bits set : ℕ) (ty : ValueType) (p : Boxed) (inner : TExpr) → ty.shape ≡ Some set → ty.elem.bits ≡ 1 → IsOperand set inner → HasItsCode g.typed g.instance alive n inner → (test : Draft → Made (Unit {0})) → Says g has alive n ready places fields set inner (λ d s st _ f. LeavesTests g alive fields d s set st (number set inner st) f) test
+      → Valued g has alive n ready places fields bits set (T.Convert' ty p inner) (λ d. then_make (test (with_entry set bits W.Own d)) (put_in (next_field set bits d)))
   unfolding value_in
-  bool_valued bits set ty p inner shaped one kinded c done d s st here sim =
-      follows_same g (Given g (number set whole st) st (Gave bits set whole d s st)) s refl (bool_code bits set ty p inner d shaped one (pure_kept set inner kinded.0))
-      (tests_put g has alive n ready places fields set whole d s st (no_home g alive (length d.fields) (length d.fields) (omega arith) here) (λ x. bool_bit ty.elem (type_of inner).elem (value_in (extents g set) st inner x) one) inner
-      (λ x below. bool_nonzero ty.elem (type_of inner).elem (value_in (extents g set) st inner x) one (value_small g alive n places fields set inner st s sim kinded.0 c x))
+  bool_put bits set ty p inner shaped one operand c test tests d s st here sim =
+      tests_put g has alive n ready places fields set (T.Convert' ty p inner) d s st (no_home g alive (length d.fields) (length d.fields) (omega arith) here) (λ x. bool_bit ty.elem (type_of inner).elem (value_in (extents g set) st inner x) one) inner
+      (λ x below. bool_nonzero ty.elem (type_of inner).elem (value_in (extents g set) st inner x) one (operand_small g alive n places fields set inner st s sim operand c x))
       (record { gives = λ given. convert_means g has alive n ready places fields set ty p inner st shaped given; ends = λ early. convert_ended g has alive n ready places fields ty p inner s st early }) bits (with_entry set bits W.Own d) (Unit {0})
-      (passes_all g alive (length d.fields) (with_entry set bits W.Own d) s st (Unit {0}) (starts_entry g alive _ _ here) sim) (λ later named late. tt) (tested g.typed (layout g) inner (with_entry set bits W.Own d))
-      (done.tests kinded.1 (with_entry set bits W.Own d) s st (starts_entry g alive _ _ here) sim))
+      (passes_all g alive (length d.fields) (with_entry set bits W.Own d) s st (Unit {0}) (starts_entry g alive _ _ here) sim) (λ later named late. tt) (test (with_entry set bits W.Own d)) (tests (with_entry set bits W.Own d) s st (starts_entry g alive _ _ here) sim)
+
+  bool_valued : (bits set : ℕ) (ty : ValueType) (p : Boxed) (inner : TExpr) → ty.shape ≡ Some set → ty.elem.bits ≡ 1 → HasItsKind set inner → HasItsCode g.typed g.instance alive n inner → Done set inner → Valued_at bits set (T.Convert' ty p inner)
+  bool_valued bits set ty p inner shaped one kinded c done d s st here sim =
+      follows_same g (Given g (number set (T.Convert' ty p inner) st) st (Gave bits set (T.Convert' ty p inner) d s st)) s refl (bool_code bits set ty p inner d shaped one (pure_kept set inner kinded.0)) (bool_put bits set ty p inner shaped one (inl kinded.0) c (tested g.typed (layout g) inner) (done.tests kinded.1) d s st here sim)
+
+  -- a cast of a promoted scalar, which is spread over a field
+  spread_valued : (bits set : ℕ) (ty : ValueType) (p : Boxed) (inner : TExpr) → bits ≤ 32 → ty.shape ≡ Some set → ((ty.elem.bits == 1) ≡ false) ⊎ ((ty.elem.bits ≡ 1) × (HasKnownKind inner ⊎ IsSpread inner)) → IsPromoted set inner → HasItsCode g.typed g.instance alive n inner → Valued_at bits set (T.ParallelCast' ty p inner)
+  unfolding value_of value_in evaluated kind_of cast_from cast_by truth_put tested_by then_make an_entry
+  spread_valued bits set ty p inner most shaped kinds promoted c d s st here sim = by kinds
     where
       whole : TExpr
       whole = T.Convert' ty p inner
+
+      R : Value → State → Out → Draft → Type 0
+      R = Given g (number set whole st) st (Gave bits set whole d s st)
+
+      known : ℕ
+      known = bits_of (kind_of inner)
+
+      spread : ℕ → Draft → Made Out
+      spread m e = spread_by (operand m true inner) inner set m e
+
+      wanted : Draft → Made Out
+      wanted e = spread_by (code bits inner) inner set bits e
+
+      test : Draft → Made (Unit {0})
+      test e = nonzero_tested (spread known) e
+
+      made : Bool → Made Out
+      made b = if b then then_make (a_field set bits d) (λ dest begun. truth_put dest test begun) else if nat_lt ty.elem.bits bits then then_make (a_field set bits d) (λ dest begun. extended ty.elem.signed dest (spread ty.elem.bits) begun) else wanted d
+
+      is_made : code bits (T.ParallelCast' ty p inner) d ≡ made (ty.elem.bits == 1)
+      is_made =
+          ap (λ (o : Option ℕ). cast_by (unwrap_or o 0) bits ty.elem (tested_by (has_truth inner) (truth_of g.typed (layout g) inner) (spread_by (operand known true inner) inner (unwrap_or o 0) known)) (spread_by (operand ty.elem.bits true inner) inner (unwrap_or o 0) ty.elem.bits) (spread_by (code bits inner) inner (unwrap_or o 0) bits) d) shaped
+          ∙ ap (λ (b : Bool). cast_by set bits ty.elem (tested_by b (truth_of g.typed (layout g) inner) (spread known)) (spread ty.elem.bits) wanted d) (promoted_truth set inner promoted)
+
+      tests : HasKnownKind inner ⊎ IsSpread inner → Says g has alive n ready places fields set inner (λ d s st _ f. LeavesTests g alive fields d s set st (number set inner st) f) test
+      tests so e t u there same =
+          nonzero_after g alive places fields (meant g fields inner u) (number set inner u) set (number set inner u) (spread known) e t u
+          (value_told g has alive n ready places fields set inner (inr promoted) so c (spread known) (promoted_spread g has alive n ready places fields known set inner true promoted c) e t u there same)
+
+      by : ((ty.elem.bits == 1) ≡ false) ⊎ ((ty.elem.bits ≡ 1) × (HasKnownKind inner ⊎ IsSpread inner)) → Follows g R s (meant g fields whole st) (code bits (T.ParallelCast' ty p inner) d)
+      by (inl other) =
+          follows_same g R s refl (is_made ∙ ap made other)
+          (converted_after g has alive n ready places fields bits set ty p inner most shaped other (spread ty.elem.bits) wanted (promoted_spread g has alive n ready places fields ty.elem.bits set inner true promoted c) (promoted_spreads g has alive n ready places fields bits set inner promoted c) d s st here sim)
+      by (inr bool) = follows_same g R s refl (is_made ∙ ap (λ (k : ℕ). made (k == 1)) bool.0) (bool_put bits set ty p inner shaped bool.0 (inr promoted) c test (tests bool.1) d s st here sim)
 
   -- ---- all of them
 
@@ -259,13 +302,25 @@ module _ (g : Setting) (has : HasRegisters g) (alive : Variable → Type 0) (n :
   convert_done set ty p inner is shaped pure (inl other) c done = by_value set (T.Convert' ty p inner) is refl c (λ bits some most. convert_after g has alive n ready places fields bits set ty p inner some most other is c done.value)
   convert_done set ty p inner is shaped pure (inr bool) c done = by_value set (T.Convert' ty p inner) is refl c (λ bits some most. bool_valued bits set ty p inner shaped bool.0 (pure, bool.1) (convert_part g alive n places fields ty p inner c) done)
 
-  -- a cast to a type of the shape is done as such a conversion
-  cast_done : (set : ℕ) (ty : ValueType) (p : Boxed) (inner : TExpr) → IsPure set (T.ParallelCast' ty p inner) → IsPure set inner → HasItsCode g.typed g.instance alive n (T.ParallelCast' ty p inner) → Done set (T.Convert' ty p inner) → Done set (T.ParallelCast' ty p inner)
-  unfolding has_truth value_of value_in evaluated kind_of
-  cast_done set ty p inner is pure c done = by_value set (T.ParallelCast' ty p inner) is refl c (λ bits some most d s st here sim.
-      follows_same g (Given g (number set (T.Convert' ty p inner) st) st (Gave bits set (T.Convert' ty p inner) d s st)) s refl
-      (sym (ap (λ (b : Bool). if b then register_cast_by ty.elem (code bits inner) d else cast_from g.typed (layout g) bits ty inner (truth_of g.typed (layout g) inner) (λ m. value_of g.typed (layout g) m inner) d) (pure_kept set inner pure)))
-      (done.value bits some most d s st here sim))
+  -- a cast to a type of the shape is done as such a conversion, but for that of a promoted scalar
+  cast_done : (set : ℕ) (ty : ValueType) (p : Boxed) (inner : TExpr) → IsPure set (T.ParallelCast' ty p inner) → HasItsCode g.typed g.instance alive n (T.ParallelCast' ty p inner) → (IsPure set inner → Done set inner) → Done set (T.ParallelCast' ty p inner)
+  unfolding IsPure has_truth value_of value_in evaluated kind_of
+  cast_done set ty p inner is c done = by_value set (T.ParallelCast' ty p inner) is refl c (λ bits some most. by bits some most is.2)
+    where
+      converts : HasItsCode g.typed g.instance alive n (T.Convert' ty p inner)
+      converts = cast_code g alive n places fields set ty p inner is.0 is.2 c
+
+      known : IsPure set inner → ((ty.elem.bits == 1) ≡ false) ⊎ ((ty.elem.bits ≡ 1) × (HasKnownKind inner ⊎ IsSpread inner)) → ((ty.elem.bits == 1) ≡ false) ⊎ ((ty.elem.bits ≡ 1) × HasKnownKind inner)
+      known pure (inl other) = inl other
+      known pure (inr (one, inl so)) = inr (one, so)
+      known pure (inr (one, inr spread)) = let wrong = sym (pure_kept set inner pure) ∙ spread.0 in cc
+
+      by : (bits : ℕ) → 0 < bits → bits ≤ 32 → IsOperand set inner → Valued_at bits set (T.ParallelCast' ty p inner)
+      by bits some most (inl pure) d s st here sim =
+          follows_same g (Given g (number set (T.Convert' ty p inner) st) st (Gave bits set (T.Convert' ty p inner) d s st)) s refl
+          (sym (ap (λ (b : Bool). if b then register_cast_by ty.elem (code bits inner) d else cast_from g.typed (layout g) bits ty inner (truth_of g.typed (layout g) inner) (λ m. value_of g.typed (layout g) m inner) d) (pure_kept set inner pure)))
+          ((convert_done set ty p inner (is.0, known pure is.1, pure) is.0 pure (known pure is.1) converts (done pure)).value bits some most d s st here sim)
+      by bits some most (inr promoted) d s st here sim = spread_valued bits set ty p inner most is.0 is.1 promoted (convert_part g alive n places fields ty p inner converts) d s st here sim
 
 mutual
   unfolding IsPure IsNarrowed IsOfFileOrBlock has_truth value_of value_in kind_of AllCoded AllValued
@@ -315,8 +370,8 @@ mutual
       (λ calm. scalar_choice_valued g has alive n ready places fields bits set ty p q r test first second is c calm (λ pure. (done g has alive n ready places fields set first pure parts.1).value bits some most) (λ pure. (done g has alive n ready places fields set second pure parts.2).value bits some most)) is.1)
   done g has alive n ready places fields set (T.Convert' ty p operand) is c = convert_done g has alive n ready places fields set ty p operand is is.0 is.2 is.1 c (done g has alive n ready places fields set operand is.2 (convert_part g alive n places fields ty p operand c))
   done g has alive n ready places fields set (T.ParallelCast' ty p operand) is c =
-      let code = cast_code g alive n places fields set ty p operand is.0 is.2 c in
-      cast_done g has alive n ready places fields set ty p operand is is.2 c (convert_done g has alive n ready places fields set ty p operand is is.0 is.2 is.1 code (done g has alive n ready places fields set operand is.2 (convert_part g alive n places fields ty p operand code)))
+      let part = convert_part g alive n places fields ty p operand (cast_code g alive n places fields set ty p operand is.0 is.2 c) in
+      cast_done g has alive n ready places fields set ty p operand is c (λ pure. done g has alive n ready places fields set operand pure part)
   done g has alive n ready places fields set (T.Pcoord ty axis) is c = by_value g has alive n ready places fields set (T.Pcoord ty axis) is refl c (λ bits some most. coordinate_after g has alive n ready places fields bits set axis ty is)
   done g has alive n ready places fields set (T.Dot ty axis) is c = by_value g has alive n ready places fields set (T.Dot ty axis) is refl c (λ bits some most. dot_after g has alive n ready places fields bits set axis ty is)
   done g has alive n ready places fields set (T.LeftIndex' ty place p indexes x of) is c = by_value g has alive n ready places fields set (T.LeftIndex' ty place p indexes x of) is refl c (λ bits some most. left_index_after g has alive n ready places fields bits set ty place p indexes x of most is (each_after g has alive n ready places fields set indexes (all_coded g has alive n ready places fields ty place p indexes x of c)) c)

@@ -346,7 +346,7 @@ module _ (g : Setting) where
               alike : AreAlike g bits set (λ q. word_at (extents g set) st inner q) (words_of whole)
               alike q below few =
                   let m : ℕ = word_at (extents g set) st inner q % 2 ^ 1 in
-                  let tells : (m == 0) ≡ (words_of inner q == 0) = ap (λ (k : ℕ). word_at (extents g set) st inner q % 2 ^ k == 0) (sym flag) ∙ zero_told g alive n places fields set inner st s sim bool_of.1 part_code q in
+                  let tells : (m == 0) ≡ (words_of inner q == 0) = ap (λ (k : ℕ). word_at (extents g set) st inner q % 2 ^ k == 0) (sym flag) ∙ zero_told g alive n places fields set inner st s sim (inl bool_of.1.0) (inl bool_of.1.1) part_code q in
                   let is_m : words_of whole q ≡ m =
                   truth_bit (extents g set) st set bits whole q is ∙ ap from_bool (sym (bool_nonzero ty.elem (type_of inner).elem (words_of inner q) bool_of.0 (value_small g alive n places fields set inner st s sim bool_of.1.0 part_code q)))
                   ∙ ap (λ (b : Bool). from_bool (not b)) (sym tells) ∙ sym (is_bit m (mod_below (word_at (extents g set) st inner q) (2 ^ 1) (omega arith)) (m == 0) refl) in (

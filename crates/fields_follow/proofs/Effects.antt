@@ -64,7 +64,7 @@ use Rattle.fields_follow.proofs.Calm.{calm_alone}
 use Rattle.fields_follow.proofs.Writing.{lands_here}
 use Rattle.fields_follow.proofs.Sizes.{binary_parts, brackets_part, choice_parts, convert_part, unary_part}
 use Rattle.fields_follow.proofs.Totals.{held_below}
-use Rattle.fields_follow.proofs.Values.{FindsOrFails, and_entry, finds_read, next_field, one_more, operand_of, starts_found, variable_has, with_entry}
+use Rattle.fields_follow.proofs.Values.{FindsOrFails, and_entry, finds_read, next_field, one_more, operand_after, operand_of, starts_found, variable_has, with_entry}
 use Rattle.fields_follow.proofs.Expressions.{IsMeant, binary_at, convert_alike, convert_ended, convert_means, coordinate_means, operand_at, unary_ended, extended_after, negated_after, operand_grows, operands_keep, plus_alike, signed_as, unary_at, wide_operands}
 use Rattle.fields_follow.proofs.Computing.{each_after, pure_after}
 use Rattle.fields_follow.proofs.TruthValues.{IsPlain}
@@ -273,7 +273,8 @@ module _ (g : Setting) (has : HasRegisters g) (alive : Variable → Type 0) (n :
           (ap (λ (b : Bool). if b then computed_to g.typed (layout g) (O.Field f) inner d else converted_to g.typed (layout g) (O.Field f) e ty.elem inner d) (kept false less)
           ∙ ap (λ (b : Bool). if b then moved g.typed (layout g) (O.Field f) e d else if ty.elem.bits == 1 then truth_put f (tested g.typed (layout g) inner) d else extended ty.elem.signed f (next_of g.typed (layout g) ty.elem.bits true inner) d) fresh
           ∙ ap (λ (b : Bool). if b then truth_put f (tested g.typed (layout g) inner) d else extended ty.elem.signed f (next_of g.typed (layout g) ty.elem.bits true inner) d) no_truth)
-          (extended_after g has alive n ready places fields set ty p inner f (length d.fields) d s st is.0 no_truth most is.2 part (pure_after g has alive n ready places fields ty.elem.bits set inner (kind_bits ty.elem.bits ty.elem.signed ty.elem.kind).0 (kind_bits ty.elem.bits ty.elem.signed ty.elem.kind).1 is.2 part) (omega arith) here sim Q
+          (extended_after g has alive n ready places fields set ty p inner f (length d.fields) d s st is.0 no_truth most (operand ty.elem.bits true inner)
+          (operand_after g has alive n ready places fields ty.elem.bits set inner true is.2 part (pure_after g has alive n ready places fields ty.elem.bits set inner (kind_bits ty.elem.bits ty.elem.signed ty.elem.kind).0 (kind_bits ty.elem.bits ty.elem.signed ty.elem.kind).1 is.2 part)) (omega arith) here sim Q
           (λ given e2 i within passes puts. last given e2 i (with_instr i e2) within passes puts (lands_here g (with_instr i e2))) ended)
 
   -- a get from neighbours

@@ -171,13 +171,12 @@ module _ (g : Setting) (has : HasRegisters g) (alive : Variable → Type 0) (n :
   pub from_operand : (bits set : ℕ) (inner : TExpr) (dest : Field) (i : Field → Instr) (next : Out → Draft → Made Out) (bound : ℕ) (d : Draft) (s : CodeState) (st : State) (w : ℕ → ℕ) → ((a : Field) → step_of (i a) ≡ Plain (i a)) → ((a : Field) → fields_of (i a) ≡ dest ∷ a ∷ [])
       → ((x : Out) (after : Draft) → Extends g after (next x after)) → ((a : Field) (after : Draft) → next (O.Field a) after ≡ Makes (O.Field dest) (with_instr (i a) after))
       → ((a : Field) (t : CodeState) → HasNumbers g bits set a t (λ q. word_at (extents g set) st inner q) → Sim g alive st t → Puts g set (i a) dest t w)
-      → IsPure set inner → HasItsCode g.typed g.instance alive n inner → IsValued bits set inner → bound ≤ length d.fields → Starts g alive s (length d.code) d.regs (length d.fields) → Sim g alive st s → (Q : Out → Draft → Type 0)
+      → (given : Draft → Made Out) → Valued g has alive n ready places fields bits set inner given → bound ≤ length d.fields → Starts g alive s (length d.code) d.regs (length d.fields) → Sim g alive st s → (Q : Out → Draft → Type 0)
       → (IsMeant set inner st → (e1 : Draft) (i : Instr) → Within g (with_instr i e1) → (p : Passes g alive bound d e1 s st (Unit {0})) → Puts g set i dest p.t w → Q (O.Field dest) (with_instr i e1)) → (Ended g s (meant g fields inner st) → (x : Out) (f : Draft) → Q x f)
-      → After g Q (then_make (operand bits true inner d) (λ v after. next v after))
+      → After g Q (then_make (given d) (λ v after. next v after))
   unfolding step_of
-  from_operand bits set inner dest i next bound d s st w plain both grows is_next puts pure c whole less here sim Q last ended =
-      then_known g s (meant g fields inner st) (number set inner st) st (Answers (IsFlag inner) bits (length d.fields) d s set st v) Q (operand bits true inner d) (λ x after. next x after)
-      (operand_after g has alive n ready places fields bits set inner true pure c whole d s st here sim) grows
+  from_operand bits set inner dest i next bound d s st w plain both grows is_next puts given valued less here sim Q last ended =
+      then_known g s (meant g fields inner st) (number set inner st) st (Answers (IsFlag inner) bits (length d.fields) d s set st v) Q (given d) (λ x after. next x after) (valued d s st here sim) grows
       (λ is_meant x e1 (a, (is, (gives, apart))). after_same g Q (ap (λ (o : Out). next o e1) is ∙ is_next a e1) (made_after g Q (O.Field dest) (with_instr (i a) e1) (λ within.
       let there : StandsAt g.unit (length e1.code) (i a) = stands_here g (i a) e1 within (plain a) in
       let behind : Behind g a e1 = (length e1.code, (names_second g (i a) dest a [] (length e1.code) there (both a), omega arith)) in
@@ -210,7 +209,7 @@ module _ (g : Setting) (has : HasRegisters g) (alive : Variable → Type 0) (n :
       (λ a t numbers sim_there.
       puts_negating bits set op dest a t (λ q. value_in (extents g set) st inner q) most sign long
       (has_alike g bits set a t (λ q. word_at (extents g set) st inner q) (λ q. value_in (extents g set) st inner q) (alike_same g bits set _ _ (λ q below few. sym (pure_at g alive n places fields set inner st t sim_there pure wide c q))) numbers))
-      pure c whole less here sim Q (λ is. last (unary_means fields.scope fields.active set ty op p inner (number set inner st) st shaped is)) (λ early. ended (unary_ended ty op p inner s st early))
+      (operand bits true inner) (operand_after g has alive n ready places fields bits set inner true pure c whole) less here sim Q (λ is. last (unary_means fields.scope fields.active set ty op p inner (number set inner st) st shaped is)) (λ early. ended (unary_ended ty op p inner s st early))
     where
       one_more_instr : (op : UnaryOp) (f : Field) (after : Draft) → IsSign op → Extends g after (field_negated op dest f after)
       one_more_instr op f after sign = subst (λ (m : Made Out). Extends g after m) (sym (negated_is op dest f after sign)) (1, and_one g (negating op dest f) after)
@@ -408,18 +407,18 @@ module _ (g : Setting) (has : HasRegisters g) (alive : Variable → Type 0) (n :
   convert_ended ty p inner s st early = ended_on g s (meant g fields inner st) (λ v after. Source.Gives (convert_to ty (type_of inner).elem v) after) early
 
   -- a field of as many bits as the type has is extended
-  pub extended_after : (set : ℕ) (ty : ValueType) (p : Boxed) (inner : TExpr) (dest : Field) (bound : ℕ) (d : Draft) (s : CodeState) (st : State) → ty.shape ≡ Some set → (ty.elem.bits == 1) ≡ false → dest.len ≤ 32 → IsPure set inner → HasItsCode g.typed g.instance alive n inner → IsValued ty.elem.bits set inner
+  pub extended_after : (set : ℕ) (ty : ValueType) (p : Boxed) (inner : TExpr) (dest : Field) (bound : ℕ) (d : Draft) (s : CodeState) (st : State) → ty.shape ≡ Some set → (ty.elem.bits == 1) ≡ false → dest.len ≤ 32 → (given : Draft → Made Out) → Valued g has alive n ready places fields ty.elem.bits set inner given
       → bound ≤ length d.fields → Starts g alive s (length d.code) d.regs (length d.fields) → Sim g alive st s → (Q : Out → Draft → Type 0)
       → (IsMeant set (T.Convert' ty p inner) st → (e1 : Draft) (i : Instr) → Within g (with_instr i e1) → (passes : Passes g alive bound d e1 s st (Unit {0})) → Puts g set i dest passes.t (λ q. word_at (extents g set) st (T.Convert' ty p inner) q) → Q (O.Field dest) (with_instr i e1))
       → (Ended g s (meant g fields (T.Convert' ty p inner) st) → (x : Out) (f : Draft) → Q x f)
-      → After g Q (extended ty.elem.signed dest (operand ty.elem.bits true inner) d)
+      → After g Q (extended ty.elem.signed dest given d)
   unfolding extended in_field Extends step_of value_in
-  extended_after set ty p inner dest bound d s st shaped no_truth most pure c whole less here sim Q last ended =
+  extended_after set ty p inner dest bound d s st shaped no_truth most given valued less here sim Q last ended =
       from_operand ty.elem.bits set inner dest (λ a. I.Move ty.elem.signed dest a) (λ v after. in_field v (λ source. Makes (O.Field dest) (with_instr (I.Move ty.elem.signed dest source) after))) bound d s st w (λ a. refl) (λ a. refl) grows (λ a after. refl)
       (λ a t numbers sim_there.
       puts_extended g ty.elem set dest a t w most (λ q below on. held_has ty.elem (converted ty.elem (type_of inner).elem (value_in (extents g set) st inner q)) (converted_below ty.elem (type_of inner).elem (value_in (extents g set) st inner q)))
       (has_alike g ty.elem.bits set a t (λ q. word_at (extents g set) st inner q) w (convert_alike ty.elem.bits set ty p inner st no_truth (omega arith)) numbers))
-      pure c whole less here sim Q (λ is. last (convert_means set ty p inner st shaped is)) (λ early. ended (convert_ended ty p inner s st early))
+      given valued less here sim Q (λ is. last (convert_means set ty p inner st shaped is)) (λ early. ended (convert_ended ty p inner s st early))
     where
       w : ℕ → ℕ
       w = λ q. word_at (extents g set) st (T.Convert' ty p inner) q
@@ -429,9 +428,11 @@ module _ (g : Setting) (has : HasRegisters g) (alive : Variable → Type 0) (n :
       grows (O.Field f) after = (1, and_one g (I.Move ty.elem.signed dest f) after)
       grows O.Nothing after = tt
 
-  pub convert_after : (bits set : ℕ) (ty : ValueType) (p : Boxed) (inner : TExpr) → 0 < bits → bits ≤ 32 → (ty.elem.bits == 1) ≡ false → IsPure set (T.Convert' ty p inner) → HasItsCode g.typed g.instance alive n (T.Convert' ty p inner) → ((k : ℕ) → 0 < k → k ≤ 32 → IsValued k set inner) → IsValued bits set (T.Convert' ty p inner)
-  unfolding IsPure an_entry then_make kind_of
-  convert_after bits set ty p inner some most no_truth is c whole d s st here sim = follows_same g R s refl (convert_code bits ty p inner d no_truth (pure_kept set inner is.2)) (by (nat_lt ty.elem.bits bits) refl)
+  -- a conversion by code that gives as many bits as the type has, and by code that gives those that are wanted
+  pub converted_after : (bits set : ℕ) (ty : ValueType) (p : Boxed) (inner : TExpr) → bits ≤ 32 → ty.shape ≡ Some set → (ty.elem.bits == 1) ≡ false → (own wanted : Draft → Made Out) → Valued g has alive n ready places fields ty.elem.bits set inner own → Valued g has alive n ready places fields bits set inner wanted
+      → Valued g has alive n ready places fields bits set (T.Convert' ty p inner) (λ d. if nat_lt ty.elem.bits bits then then_make (a_field set bits d) (λ dest begun. extended ty.elem.signed dest own begun) else wanted d)
+  unfolding an_entry then_make kind_of
+  converted_after bits set ty p inner most shaped no_truth own wanted own_valued valued d s st here sim = by (nat_lt ty.elem.bits bits) refl
     where
       e : TExpr
       e = T.Convert' ty p inner
@@ -442,23 +443,30 @@ module _ (g : Setting) (has : HasRegisters g) (alive : Variable → Type 0) (n :
       R : Value → State → Out → Draft → Type 0
       R = Given g (number set e st) st (Answers (IsFlag e) bits (length d.fields) d s set st w)
 
-      part : HasItsCode g.typed g.instance alive n inner
-      part = convert_part g alive n places fields ty p inner c
-
       made : Bool → Made Out
-      made b = if b then then_make (a_field (unwrap_or ty.shape 0) bits d) (λ dest begun. extended ty.elem.signed dest (operand ty.elem.bits true inner) begun) else code bits inner d
+      made b = if b then then_make (a_field set bits d) (λ dest begun. extended ty.elem.signed dest own begun) else wanted d
 
       by : (b : Bool) → nat_lt ty.elem.bits bits ≡ b → Follows g R s (meant g fields e st) (made (nat_lt ty.elem.bits bits))
       by true more =
           known_follows g s (meant g fields e st) (number set e st) st (Answers (IsFlag e) bits (length d.fields) d s set st w) (made (nat_lt ty.elem.bits bits))
-          (after_same g (Knows bits d s set st e) (ap made more ∙ ap (λ (o : Option ℕ). then_make (a_field (unwrap_or o 0) bits d) (λ dest begun. extended ty.elem.signed dest (operand ty.elem.bits true inner) begun)) is.0)
-          (extended_after set ty p inner (next_field set bits d) (length d.fields) (with_entry set bits W.Own d) s st is.0 no_truth most is.2 part (whole ty.elem.bits (kind_bits ty.elem.bits ty.elem.signed ty.elem.kind).0 (kind_bits ty.elem.bits ty.elem.signed ty.elem.kind).1) (let one = one_more set bits W.Own d in omega (arith, one)) (starts_entry g alive _ _ here) sim (Knows bits d s set st e)
+          (after_same g (Knows bits d s set st e) (ap made more)
+          (extended_after set ty p inner (next_field set bits d) (length d.fields) (with_entry set bits W.Own d) s st shaped no_truth most own own_valued (let one = one_more set bits W.Own d in omega (arith, one)) (starts_entry g alive _ _ here) sim (Knows bits d s set st e)
           (λ is_meant e1 i within passes puts. inl (is_meant, own_result bits set d e1 s st w i within (no_home g alive (length d.fields) (length d.fields) (omega arith) here) passes puts)) (λ early x f. inr early)))
       by false enough =
           follows_same g R s refl (ap made enough)
-          (follows_like g s (meant g fields inner st) (meant g fields e st) (number set inner st) (number set e st) st (Answers (IsFlag inner) bits (length d.fields) d s set st (λ q. word_at (extents g set) st inner q)) (Answers (IsFlag e) bits (length d.fields) d s set st w) (code bits inner d)
-          (λ is_meant. convert_means set ty p inner st is.0 is_meant) (λ early. convert_ended ty p inner s st early)
-          (answers_alike (IsFlag inner) (IsFlag e) (λ one. flag_converted ty.elem (kind_of inner) no_truth one) bits (length d.fields) d s set st (λ q. word_at (extents g set) st inner q) w (convert_alike bits set ty p inner st no_truth (grind (arith, nat_tests, enough)))) (whole bits some most d s st here sim))
+          (follows_like g s (meant g fields inner st) (meant g fields e st) (number set inner st) (number set e st) st (Answers (IsFlag inner) bits (length d.fields) d s set st (λ q. word_at (extents g set) st inner q)) (Answers (IsFlag e) bits (length d.fields) d s set st w) (wanted d)
+          (λ is_meant. convert_means set ty p inner st shaped is_meant) (λ early. convert_ended ty p inner s st early)
+          (answers_alike (IsFlag inner) (IsFlag e) (λ one. flag_converted ty.elem (kind_of inner) no_truth one) bits (length d.fields) d s set st (λ q. word_at (extents g set) st inner q) w (convert_alike bits set ty p inner st no_truth (grind (arith, nat_tests, enough)))) (valued d s st here sim))
+
+  pub convert_after : (bits set : ℕ) (ty : ValueType) (p : Boxed) (inner : TExpr) → 0 < bits → bits ≤ 32 → (ty.elem.bits == 1) ≡ false → IsPure set (T.Convert' ty p inner) → HasItsCode g.typed g.instance alive n (T.Convert' ty p inner) → ((k : ℕ) → 0 < k → k ≤ 32 → IsValued k set inner) → IsValued bits set (T.Convert' ty p inner)
+  unfolding IsPure
+  convert_after bits set ty p inner some most no_truth is c whole d s st here sim =
+      let own = kind_bits ty.elem.bits ty.elem.signed ty.elem.kind in
+      follows_same g (Given g (number set (T.Convert' ty p inner) st) st (Answers (IsFlag (T.Convert' ty p inner)) bits (length d.fields) d s set st (λ q. word_at (extents g set) st (T.Convert' ty p inner) q))) s refl
+      (convert_code bits ty p inner d no_truth (pure_kept set inner is.2)
+      ∙ ap (λ (o : Option ℕ). if nat_lt ty.elem.bits bits then then_make (a_field (unwrap_or o 0) bits d) (λ dest begun. extended ty.elem.signed dest (operand ty.elem.bits true inner) begun) else code bits inner d) is.0)
+      (converted_after bits set ty p inner most is.0 no_truth (operand ty.elem.bits true inner) (code bits inner)
+      (operand_after g has alive n ready places fields ty.elem.bits set inner true is.2 (convert_part g alive n places fields ty p inner c) (whole ty.elem.bits own.0 own.1)) (whole bits some most) d s st here sim)
 
   -- a get
   pub left_index_after : (bits set : ℕ) (ty : ValueType) (place : Place) (p : _) (indexes : Row_of-TExpr _) (x : Variable) (of : ℕ) → bits ≤ 32 → IsPure set (T.LeftIndex' ty place p indexes x of) → AllValued g has alive n ready places fields set indexes

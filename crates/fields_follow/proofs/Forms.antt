@@ -19,7 +19,7 @@ use Rattle.lower_base.specs.Drafts.{Draft, an_entry, from}
 use Rattle.lower_base.specs.Layouts.{Layout, entered, entries_of, field_of, layout_of}
 use Rattle.lower_expr.specs.declared.operands.Own.{Own}
 use Rattle.lower_expr.specs.Operands.{held, own_of}
-use Rattle.lower_expr.specs.Steps.{is_kept, register_word, word_of}
+use Rattle.lower_expr.specs.Steps.{is_kept, register_word, word_of, has_truth}
 use Rattle.paris_code.specs.declared.program.Owner.TheVariants as W
 use Rattle.source_meaning.specs.Constants.{constant_of, is_constant, then_value}
 use Rattle.source_meaning.specs.Reductions.{int_type}
@@ -66,6 +66,13 @@ unfolding IsPromoted
 promoted_shape set (T.Promote' ty p operand) is = is.0
 promoted_shape set (T.Brackets' ty p inner) is = ap (λ (y : ValueType). y.shape) is.0 ∙ promoted_shape set inner is.1
 promoted_shape set _ is = absurd is
+
+-- no test flag tells whether it is zero
+pub promoted_truth : (set : ℕ) (e : TExpr) → IsPromoted set e → has_truth e ≡ false
+unfolding IsPromoted has_truth
+promoted_truth set (T.Promote' ty p operand) is = refl
+promoted_truth set (T.Brackets' ty p inner) is = promoted_truth set inner is.1
+promoted_truth set _ is = absurd is
 
 pub operand_shape : (set : ℕ) (e : TExpr) → IsPure set e ⊎ IsPromoted set e → (type_of e).shape ≡ Some set
 operand_shape set e (inl pure) = pure_shape set e pure

@@ -36,7 +36,7 @@ use Rattle.fields_follow.proofs.JoinedBits.{bitwise_has}
 use Rattle.fields_follow.proofs.Meaning.{AreOperands, decided_in, first_in, value_in, word_at, left_of, right_of}
 use Rattle.fields_follow.proofs.KnownKinds.{HasWord, bitwise_plain, common_has, convert_has, joined_kind, narrow_has, not_bit, truth_has}
 use Rattle.fields_follow.proofs.Places.{HoldsTheFields, PlacesFields}
-use Rattle.fields_follow.proofs.Sizes.{choice_parts, binary_parts, brackets_part, cast_code, convert_part, pure_at, value_small, promoted_small}
+use Rattle.fields_follow.proofs.Sizes.{choice_parts, binary_parts, brackets_part, cast_code, convert_part, operand_small, pure_at, value_small}
 use Rattle.fields_follow.proofs.TestFlags.{is_truth}
 use Rattle.fields_follow.proofs.Totals.{held_below}
 
@@ -68,25 +68,30 @@ are_related set op left right is operands wide other = (is.0, kinds operands, wi
     kinds (inr (promoted, pure)) = inr (promoted, kind_known set right pure is.2)
 
 module _ (g : Setting) (alive : Variable → Type 0) (n : ℕ) (places : PlacesFields g) (fields : HoldsTheFields g) where
-  -- the number of one of two values that are brought together
+  -- the word of a value, or of a promoted scalar that is computed
+  word_has : (set : ℕ) (e : TExpr) (st : State) (s : CodeState) → Sim g alive st s → IsPure set e ⊎ IsPromoted set e → IsNarrowed e ⊎ IsSpread e → HasItsCode g.typed g.instance alive n e → (q : ℕ)
+      → (IsPure set e → IsNarrowed e → (kind : Elem) → kind_of e ≡ Some kind → HasWord kind (word_at (extents g set) st e q)) → (kind : Elem) → kind_of e ≡ Some kind → HasWord kind (word_at (extents g set) st e q)
+  word_has set e st s sim (inl pure) (inl narrowed) c q has kind is = has pure narrowed kind is
+  word_has set e st s sim (inl pure) (inr spread) c q has kind is = let wrong = sym (pure_kept set e pure) ∙ spread.0 in cc
+  word_has set e st s sim (inr promoted) (inl narrowed) c q has kind is = absurd (not_promoted set e promoted narrowed)
+  word_has set e st s sim (inr promoted) (inr spread) c q has kind is = promoted_has g alive n set e st s sim promoted c spread.1 q kind is
+
+  -- the number of one of two that are brought together
   part_has : (set : ℕ) (e : TExpr) (st : State) (s : CodeState) → Sim g alive st s → IsPure set e ⊎ IsPromoted set e → IsNarrowed e ⊎ IsSpread e → IsWide set (type_of e) → HasItsCode g.typed g.instance alive n e → (q : ℕ)
       → (IsPure set e → IsNarrowed e → (kind : Elem) → kind_of e ≡ Some kind → HasWord kind (word_at (extents g set) st e q)) → (kind : Elem) → kind_of e ≡ Some kind → HasWord kind (value_in (extents g set) st e q)
-  part_has set e st s sim (inl pure) (inl narrowed) wide c q has kind is = subst (λ (x : ℕ). HasWord kind x) (pure_at g alive n places fields set e st s sim pure wide c q) (has pure narrowed kind is)
-  part_has set e st s sim (inl pure) (inr spread) wide c q has kind is = let wrong = sym (pure_kept set e pure) ∙ spread.0 in cc
-  part_has set e st s sim (inr promoted) (inl narrowed) wide c q has kind is = absurd (not_promoted set e promoted narrowed)
-  part_has set e st s sim (inr promoted) (inr spread) wide c q has kind is =
-      subst (λ (x : ℕ). HasWord kind x) (held_wide (type_of e).elem (value_in (extents g set) st e q) wide.1 (below_word (type_of e).elem.bits _ wide.1 (promoted_small g alive n places fields set e st s sim promoted c q)))
-      (promoted_has g alive n set e st s sim promoted c spread.1 q kind is)
+  part_has set e st s sim operand so wide c q has kind is =
+      subst (λ (x : ℕ). HasWord kind x) (held_wide (type_of e).elem (value_in (extents g set) st e q) wide.1 (below_word (type_of e).elem.bits _ wide.1 (operand_small g alive n places fields set e st s sim operand c q))) (word_has set e st s sim operand so c q has kind is)
 
   -- that of one that is converted
-  converts_has : (set : ℕ) (ty : ValueType) (operand : TExpr) (st : State) (s : CodeState) → Sim g alive st s → IsPure set operand → (kind_of operand ≡ None) ⊎ IsNarrowed operand → HasItsCode g.typed g.instance alive n operand → (q : ℕ)
-      → (IsNarrowed operand → (k : Elem) → kind_of operand ≡ Some k → HasWord k (word_at (extents g set) st operand q)) → (kind : Elem) → converted_kind ty.elem (kind_of operand) ≡ Some kind → HasWord kind (held ty.elem (converted ty.elem (type_of operand).elem (value_in (extents g set) st operand q)))
-  converts_has set ty operand st s sim pure so c q before kind is_kind =
-      convert_has ty.elem (type_of operand).elem (kind_of operand) (value_in (extents g set) st operand q) (value_small g alive n places fields set operand st s sim pure c q) (by so) kind is_kind
+  converts_has : (set : ℕ) (ty : ValueType) (operand : TExpr) (st : State) (s : CodeState) → Sim g alive st s → IsPure set operand ⊎ IsPromoted set operand → HasKnownKind operand ⊎ IsSpread operand → HasItsCode g.typed g.instance alive n operand → (q : ℕ)
+      → (IsPure set operand → IsNarrowed operand → (k : Elem) → kind_of operand ≡ Some k → HasWord k (word_at (extents g set) st operand q)) → (kind : Elem) → converted_kind ty.elem (kind_of operand) ≡ Some kind → HasWord kind (held ty.elem (converted ty.elem (type_of operand).elem (value_in (extents g set) st operand q)))
+  converts_has set ty operand st s sim is so c q before kind is_kind =
+      convert_has ty.elem (type_of operand).elem (kind_of operand) (value_in (extents g set) st operand q) (operand_small g alive n places fields set operand st s sim is c q) (by so) kind is_kind
     where
-      by : (kind_of operand ≡ None) ⊎ IsNarrowed operand → (k : Elem) → kind_of operand ≡ Some k → HasWord k (word_at (extents g set) st operand q)
-      by (inl none) k some = let wrong = sym none ∙ some in cc
-      by (inr narrowed) k some = before narrowed k some
+      by : HasKnownKind operand ⊎ IsSpread operand → (k : Elem) → kind_of operand ≡ Some k → HasWord k (word_at (extents g set) st operand q)
+      by (inl (inl none)) k some = let wrong = sym none ∙ some in cc
+      by (inl (inr narrowed)) k some = word_has set operand st s sim is (inl narrowed) c q before k some
+      by (inr spread) k some = word_has set operand st s sim is (inr spread) c q before k some
 
   pub kind_has : (set : ℕ) (e : TExpr) (st : State) (s : CodeState) → Sim g alive st s → IsPure set e → IsNarrowed e → HasItsCode g.typed g.instance alive n e → (q : ℕ) → (kind : Elem) → kind_of e ≡ Some kind → HasWord kind (word_at (extents g set) st e q)
   unfolding IsPure IsNarrowed kind_of value_in binary_kind
@@ -98,10 +103,10 @@ module _ (g : Setting) (alive : Variable → Type 0) (n : ℕ) (places : PlacesF
       subst (λ (y : ValueType). HasWord kind (held y.elem (value_in (extents g set) st inner q))) (sym is.0) (kind_has set inner st s sim is.1 so (brackets_part g alive n places fields ty p inner c) q kind is_kind)
   kind_has set (T.Convert' ty p operand) st s sim is so c q kind is_kind =
       let part = convert_part g alive n places fields ty p operand c in
-      converts_has set ty operand st s sim is.2 so part q (λ narrowed k is_k. kind_has set operand st s sim is.2 narrowed part q k is_k) kind is_kind
+      converts_has set ty operand st s sim (inl is.2) (inl so) part q (λ pure narrowed k is_k. kind_has set operand st s sim pure narrowed part q k is_k) kind is_kind
   kind_has set (T.ParallelCast' ty p operand) st s sim is so c q kind is_kind =
       let part = convert_part g alive n places fields ty p operand (cast_code g alive n places fields set ty p operand is.0 is.2 c) in
-      converts_has set ty operand st s sim is.2 so part q (λ narrowed k is_k. kind_has set operand st s sim is.2 narrowed part q k is_k) kind is_kind
+      converts_has set ty operand st s sim is.2 so part q (λ pure narrowed k is_k. kind_has set operand st s sim pure narrowed part q k is_k) kind is_kind
   kind_has set (T.Unary' ty op p operand) st s sim is so c q kind is_kind =
       truth_has ty.elem kind _ (value_in (extents g set) st operand q == 0) (not_bit op (value_in (extents g set) st operand q) so) is.0.1 (sym (ap (λ (b : Bool). if b then Some truth_type else None) so) ∙ is_kind)
   kind_has set (T.LogicalOr' ty p left r right) st s sim is so c q kind is_kind = truth_has ty.elem kind _ _ refl is.0.1 is_kind
@@ -146,18 +151,24 @@ module _ (g : Setting) (alive : Variable → Type 0) (n : ℕ) (places : PlacesF
   kind_has set _ st s sim is so c q kind is_kind = absurd so
 
   -- it is 0 where its lowest bits of that type are
-  pub zero_told : (set : ℕ) (e : TExpr) (st : State) (s : CodeState) → Sim g alive st s → HasItsKind set e → HasItsCode g.typed g.instance alive n e → (q : ℕ)
+  pub zero_told : (set : ℕ) (e : TExpr) (st : State) (s : CodeState) → Sim g alive st s → IsPure set e ⊎ IsPromoted set e → HasKnownKind e ⊎ IsSpread e → HasItsCode g.typed g.instance alive n e → (q : ℕ)
       → (word_at (extents g set) st e q % 2 ^ bits_of (kind_of e) == 0) ≡ (value_in (extents g set) st e q == 0)
   unfolding bits_of
-  zero_told set e st s sim is c q = by (kind_of e) refl is.1 ∙ held_zero (type_of e).elem (value_in (extents g set) st e q) (value_small g alive n places fields set e st s sim is.0 c q)
+  zero_told set e st s sim operand so c q = by (kind_of e) refl so ∙ held_zero (type_of e).elem (value_in (extents g set) st e q) (operand_small g alive n places fields set e st s sim operand c q)
     where
       w : ℕ
       w = word_at (extents g set) st e q
 
-      by : (o : Option Elem) → kind_of e ≡ o → (kind_of e ≡ None) ⊎ IsNarrowed e → (w % 2 ^ bits_of (kind_of e) == 0) ≡ (w == 0)
+      narrow_zero : (kind : Elem) → kind_of e ≡ Some kind → IsNarrowed e ⊎ IsSpread e → (w % 2 ^ bits_of (kind_of e) == 0) ≡ (w == 0)
+      narrow_zero kind some narrow =
+          ap (λ (o : Option Elem). w % 2 ^ bits_of o == 0) some
+          ∙ zero_test kind (w % 2 ^ kind.bits) w (word_has set e st s sim operand narrow c q (λ pure narrowed k is_k. kind_has set e st s sim pure narrowed c q k is_k) kind some).0 refl
+
+      by : (o : Option Elem) → kind_of e ≡ o → HasKnownKind e ⊎ IsSpread e → (w % 2 ^ bits_of (kind_of e) == 0) ≡ (w == 0)
       by None none any = ap (λ (o : Option Elem). w % 2 ^ bits_of o == 0) none ∙ ap (λ (m : ℕ). m == 0) (mod-eq_of_lt (held_below (type_of e).elem (value_in (extents g set) st e q)))
-      by (Some kind) some (inl none) = let wrong = sym none ∙ some in cc
-      by (Some kind) some (inr narrowed) = ap (λ (o : Option Elem). w % 2 ^ bits_of o == 0) some ∙ zero_test kind (w % 2 ^ kind.bits) w (kind_has set e st s sim is.0 narrowed c q kind some).0 refl
+      by (Some kind) some (inl (inl none)) = let wrong = sym none ∙ some in cc
+      by (Some kind) some (inl (inr narrowed)) = narrow_zero kind some (inl narrowed)
+      by (Some kind) some (inr spread) = narrow_zero kind some (inr spread)
 
   -- ---- the two sides of a relation
 

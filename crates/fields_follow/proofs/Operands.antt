@@ -16,13 +16,13 @@ use Rattle.lower_base.specs.declared.emit.Out.{Out}
 use Rattle.lower_base.specs.declared.emit.Out.TheVariants as O
 use Rattle.lower_base.specs.declared.operators.Machine.{Machine}
 use Rattle.lower_base.specs.declared.operators.Machine.TheVariants as M
-use Rattle.lower_base.specs.Drafts.{Draft, Made, Makes, from, step as step_of, then_make, with_instr}
+use Rattle.lower_base.specs.Drafts.{Draft, Made, Makes, an_entry, from, step as step_of, then_make, with_instr}
 use Rattle.lower_base.specs.Operators.{operation_of, relates}
 use Rattle.lower_expr.specs.declared.steps.Right.{Right}
 use Rattle.lower_expr.specs.declared.steps.Right.TheVariants as R
-use Rattle.lower_expr.specs.Operands.{is_quiet}
+use Rattle.lower_expr.specs.Operands.{in_place, is_quiet, operand_by}
 use Rattle.lower_expr.specs.Steps.{fields_operated, in_a_field, on_fields, on_word, right_operated, takes_word, with_field_check, word_taken}
-use Rattle.lower_expr.specs.Values.{Code, fields_by, right_by, right_given, spread_into}
+use Rattle.lower_expr.specs.Values.{Code, fields_by, right_by, right_given, spread_by, spread_into}
 use Rattle.paris_code.specs.declared.instr.Instr.{Instr}
 use Rattle.paris_code.specs.declared.instr.Instr.TheVariants as I
 use Rattle.paris_code.specs.declared.operands.Field.{Field}
@@ -43,16 +43,17 @@ use Rattle.code_follows.proofs.Growing.{as_it_was, extended}
 use Rattle.code_follows.proofs.Settings.{OpenAmong, Setting, Within, and_one, code_more, earlier, layout}
 use Rattle.fields_follow.specs.Fragment.{IsDivisor, IsOperation, IsPromoted, IsPure}
 use Rattle.fields_follow.proofs.Dividing.{divided_after, left_ended, never_zero, operator_ends, operator_gives, right_ended, zero_at}
-use Rattle.fields_follow.proofs.Forms.{HasItsCode, HasItsWord, divisor_word, pure_word}
+use Rattle.fields_follow.proofs.Forms.{HasItsCode, HasItsWord, divisor_word, promoted_kept, promoted_not_held, pure_word}
 use Rattle.fields_follow.proofs.Lengths.{Keeps}
+use Rattle.fields_follow.proofs.Hops.{puts_same}
 use Rattle.fields_follow.proofs.Instructions.{Puts, extents, operation_is, puts_constant, puts_operate, puts_operate_constant, shapes, word_in}
 use Rattle.fields_follow.proofs.Meaning.{AreOperands, value_in, word_at}
 use Rattle.fields_follow.proofs.Outcomes.{Ended, Given, given_follows, given_through, given_weaker, meant, then_known}
-use Rattle.fields_follow.proofs.Passing.{After, Behind, GivesField, Passes, after_same, code_longer, fields_longer, gives_numbers, gives_on, made_after, names_second, names_third, passes_all, passes_less, passes_on, puts_own, still_numbers, then_after, gives_set}
+use Rattle.fields_follow.proofs.Passing.{After, Behind, GivesField, HasOneBit, Passes, after_same, code_longer, fields_longer, gives_from, gives_numbers, gives_on, made_after, names_second, names_third, passes_all, passes_less, passes_on, puts_own, stands_less, still_numbers, then_after, gives_set, next_own}
 use Rattle.fields_follow.proofs.Places.{HoldsTheFields, PlacesFields, stands_here}
 use Rattle.fields_follow.proofs.Promoted.{IsComputed, computed_after, promoted_stands}
 use Rattle.fields_follow.proofs.Spreading.{GivesWord, HasBoth, spread_behind}
-use Rattle.fields_follow.proofs.Values.{Gives, IsFlag, Valued, code_of, next_field, one_more, operand_after, operand_of, taken, with_entry}
+use Rattle.fields_follow.proofs.Values.{Gives, IsFlag, Valued, and_entry, code_of, next_field, one_more, operand_after, operand_of, taken, with_entry}
 use Rattle.fields_follow.proofs.Starts.{no_home, starts_entry, Starts}
 use Rattle.fields_follow.proofs.Locals.{IsNoHome}
 
@@ -153,19 +154,25 @@ module _ (g : Setting) where
     abbrev IsValued : ℕ → ℕ → TExpr → Type 0
     IsValued bits set e = Valued g has alive n ready places fields bits set e (λ d. code_of g has alive n ready places fields bits e d)
 
+    -- the field is given by code, and a variable in which it stands has one bit
+    abbrev pub GivesOwn : ℕ → ℕ → Draft → CodeState → ℕ → State → (ℕ → ℕ) → Field → Draft → Type 0
+    GivesOwn bits bound d s set st v f e = (gives : GivesField g alive bits bound d s set st v f e) × HasOneBit g alive gives.stands
+
     -- a word at every position of a fresh entry, behind the code that gives it
     pub word_spread : (bits set : ℕ) (d e : Draft) (k : Konst) (v : ℕ → ℕ) (s : CodeState) (st : State) → IsNoHome g (OpenAmong g alive) (length d.fields) → GivesWord g alive (length d.fields) (with_entry set bits W.Own d) s st v k e → Within g (with_instr (I.MoveConstant (next_field set bits d) k) e)
-        → GivesField g alive bits (length d.fields) (with_entry set bits W.Own d) s set st v (next_field set bits d) (with_instr (I.MoveConstant (next_field set bits d) k) e)
+        → GivesOwn bits (length d.fields) (with_entry set bits W.Own d) s set st v (next_field set bits d) (with_instr (I.MoveConstant (next_field set bits d) k) e)
+    unfolding puts_own next_own gives_on stands_less
     word_spread bits set d e k v s st none h within =
         let d1 : Draft = with_entry set bits W.Own d in
         let i : Instr = I.MoveConstant (next_field set bits d) k in
-        let same_all : (λ (q : ℕ). word_in g k h.passes.t) ≡ v = λ j q. sym (h.same q) j in
         let first = one_more set bits W.Own d in
-        let more = fields_longer d1 e h.passes.grown.0 h.passes.grown.1 in
-        subst (λ (w : ℕ → ℕ). GivesField g alive bits (length d.fields) d1 s set st w (next_field set bits d) (with_instr i e)) same_all
-        (gives_on g alive bits (length d.fields) (length d.fields) d1 e (with_instr i e) s set st (λ q. word_in g k h.passes.t) (next_field set bits d) (Unit {0}) (omega arith) h.passes (λ behind. tt)
-        (puts_own g alive places fields bits (length d.fields) set i (next_field set bits d) e h.passes.t st (λ q. word_in g k h.passes.t) (omega arith) (omega (arith, first, more))
-        (taken g set bits W.Own d (with_instr i e) (h.passes.grown.0 + 1) within (extended d1 e (with_instr i e) h.passes.grown.0 1 h.passes.grown.1 (and_one g i e))) none refl refl within h.passes.at h.passes.sim (puts_constant g set (next_field set bits d) k h.passes.t h.small)))
+        let more = fields_longer d1 e h.passes.grown.0 h.passes.grown.1 in (
+          gives_on g alive bits (length d.fields) (length d.fields) d1 e (with_instr i e) s set st v (next_field set bits d) (Unit {0}) (omega arith) h.passes (λ behind. tt)
+              (puts_own g alive places fields bits (length d.fields) set i (next_field set bits d) e h.passes.t st v (omega arith) (omega (arith, first, more))
+              (taken g set bits W.Own d (with_instr i e) (h.passes.grown.0 + 1) within (extended d1 e (with_instr i e) h.passes.grown.0 1 h.passes.grown.1 (and_one g i e))) none refl refl within h.passes.at h.passes.sim
+              (puts_same g set i (next_field set bits d) h.passes.t (λ q. word_in g k h.passes.t) v (λ q below. sym (h.same q)) (puts_constant g set (next_field set bits d) k h.passes.t h.small))),
+          tt,
+        )
 
     -- a constant has its word wherever the code stands
     pub constant_given : (bound : ℕ) (set : ℕ) (e : TExpr) (h : HasItsWord e) (d : Draft) (s : CodeState) (st : State) → Starts g alive s (length d.code) d.regs (length d.fields) → Sim g alive st s → GivesWord g alive bound d s st (λ q. word_at (extents g set) st e q) (K.Imm h.word) d
@@ -192,10 +199,10 @@ module _ (g : Setting) where
         Q = GivesField g alive bits (length d.fields) d s set st (λ q. word_at (extents g set) st e q)
 
     -- one that is stands in the fresh one
-    pub promoted_left : (bits set : ℕ) (e : TExpr) (quiet : Bool) → IsPromoted set e → HasItsCode g.typed g.instance alive n e → (d : Draft) (s : CodeState) (st : State) → Starts g alive s (length d.code) d.regs (length d.fields) → Sim g alive st s
-        → Follows g (Given g (λ q. value_in (extents g set) st e q) st (GivesField g alive bits (length d.fields) (with_entry set bits W.Own d) s set st (λ q. word_at (extents g set) st e q))) s (meant g fields e st) (spread_into (operand bits quiet e) e (next_field set bits d) (with_entry set bits W.Own d))
+    promoted_own : (bits set : ℕ) (e : TExpr) (quiet : Bool) → IsPromoted set e → HasItsCode g.typed g.instance alive n e → (d : Draft) (s : CodeState) (st : State) → Starts g alive s (length d.code) d.regs (length d.fields) → Sim g alive st s
+        → Follows g (Given g (λ q. value_in (extents g set) st e q) st (GivesOwn bits (length d.fields) (with_entry set bits W.Own d) s set st (λ q. word_at (extents g set) st e q))) s (meant g fields e st) (spread_into (operand bits quiet e) e (next_field set bits d) (with_entry set bits W.Own d))
     unfolding spread_into in_a_field then_make
-    promoted_left bits set e quiet promoted c d s st here sim = by (promoted_stands g alive n set e promoted c)
+    promoted_own bits set e quiet promoted c d s st here sim = by (promoted_stands g alive n set e promoted c)
       where
         d1 : Draft
         d1 = with_entry set bits W.Own d
@@ -207,7 +214,7 @@ module _ (g : Setting) where
         v = λ q. value_in (extents g set) st e q
 
         Q : Field → Draft → Type 0
-        Q = GivesField g alive bits (length d.fields) d1 s set st (λ q. word_at (extents g set) st e q)
+        Q = GivesOwn bits (length d.fields) d1 s set st (λ q. word_at (extents g set) st e q)
 
         P : Out → Draft → Type 0
         P out f = (r : ℕ) × ((out ≡ O.Scalar r) × GivesWord g alive (length d.fields) d1 s st (λ q. word_at (extents g set) st e q) (K.Reg r) f)
@@ -225,6 +232,46 @@ module _ (g : Setting) where
             (λ part said. then_after g P Q part (λ x after. in_a_field x dest after) said (λ x after. in_field_extends x dest after) (λ x after (r, (is, gives)). after_same g Q (ap (λ (o : Out). in_a_field o dest after) is)
             (made_after g Q dest (with_instr (I.MoveConstant dest (K.Reg r)) after) (λ within. word_spread bits set d after (K.Reg r) (λ q. word_at (extents g set) st e q) s st (no_home g alive (length d.fields) (length d.fields) (omega arith) here) gives within))))
             (computed_after g alive n has ready fields set bits (length d.fields) quiet e h d1 s st (starts_entry g alive _ _ here) sim))
+
+    pub promoted_left : (bits set : ℕ) (e : TExpr) (quiet : Bool) → IsPromoted set e → HasItsCode g.typed g.instance alive n e → (d : Draft) (s : CodeState) (st : State) → Starts g alive s (length d.code) d.regs (length d.fields) → Sim g alive st s
+        → Follows g (Given g (λ q. value_in (extents g set) st e q) st (GivesField g alive bits (length d.fields) (with_entry set bits W.Own d) s set st (λ q. word_at (extents g set) st e q))) s (meant g fields e st) (spread_into (operand bits quiet e) e (next_field set bits d) (with_entry set bits W.Own d))
+    promoted_left bits set e quiet promoted c d s st here sim =
+        given_weaker g s (meant g fields e st) (λ q. value_in (extents g set) st e q) st (GivesOwn bits (length d.fields) (with_entry set bits W.Own d) s set st (λ q. word_at (extents g set) st e q)) (GivesField g alive bits (length d.fields) (with_entry set bits W.Own d) s set st (λ q. word_at (extents g set) st e q))
+        (spread_into (operand bits quiet e) e (next_field set bits d) (with_entry set bits W.Own d)) (λ f after own. own.0) (promoted_own bits set e quiet promoted c d s st here sim)
+
+    -- so it does where it is spread by itself, from the code of an operand and from that of the value
+    pub promoted_spread : (bits set : ℕ) (e : TExpr) (quiet : Bool) → IsPromoted set e → HasItsCode g.typed g.instance alive n e → Valued g has alive n ready places fields bits set e (λ d. spread_by (operand bits quiet e) e set bits d)
+    unfolding spread_by an_entry then_make Extends gives_from
+    promoted_spread bits set e quiet promoted c d s st here sim =
+        follows_same g (Given g v st Q) s refl
+        (ap (λ (b : Bool). if b then then_make (an_entry set bits W.Own d) (λ dest between. then_make (spread_into (operand bits quiet e) e dest between) put) else operand bits quiet e d) (promoted_kept set e promoted))
+        (given_through g s (meant g fields e st) v st P Q (spread_into (operand bits quiet e) e dest d1) put (λ f after. (0, as_it_was after))
+        (λ part h. then_after g P Q part put h (λ f after. (0, as_it_was after)) (λ f after own. made_after g Q (O.Field f) after (λ within. (f, (refl, (gives_from g alive bits (length d.fields) d d1 after s set st (λ q. word_at (extents g set) st e q) f (and_entry set bits W.Own d) own.0, λ one. own.1))))))
+        (promoted_own bits set e quiet promoted c d s st here sim))
+      where
+        d1 : Draft
+        d1 = with_entry set bits W.Own d
+
+        dest : Field
+        dest = next_field set bits d
+
+        put : Field → Draft → Made Out
+        put f after = Makes (O.Field f) after
+
+        v : ℕ → ℕ
+        v q = value_in (extents g set) st e q
+
+        P : Field → Draft → Type 0
+        P f after = GivesOwn bits (length d.fields) d1 s set st (λ q. word_at (extents g set) st e q) f after
+
+        Q : Out → Draft → Type 0
+        Q out f = Gives g has alive n ready places fields (IsFlag e) bits (length d.fields) d s set st (λ q. word_at (extents g set) st e q) out f
+
+    pub promoted_spreads : (bits set : ℕ) (e : TExpr) → IsPromoted set e → HasItsCode g.typed g.instance alive n e → Valued g has alive n ready places fields bits set e (λ d. spread_by (code_of g has alive n ready places fields bits e) e set bits d)
+    unfolding operand_by in_place
+    promoted_spreads bits set e promoted c =
+        subst (λ (code : Code). Valued g has alive n ready places fields bits set e (λ d. spread_by code e set bits d))
+        (λ j d. elim (promoted_not_held set (layout g) e promoted j) as (λ _. Made Out) [ Some r ↦ Makes (O.Scalar r) d | None ↦ code_of g has alive n ready places fields bits e d ]) (promoted_spread bits set e false promoted c)
 
     -- the right operand stands in a field, or is a word that is the same at every position
     abbrev pub GivesRight : ℕ → ℕ → Draft → CodeState → ℕ → State → (ℕ → ℕ) → Right → Draft → Type 0

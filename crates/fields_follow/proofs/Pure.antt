@@ -268,7 +268,7 @@ module _ (scope : Scope) (set : ℕ) (extents : Extents) (same : extents.own ≡
       by true one other = one
       by false one other = other
   pure_means active (T.Convert' ty p operand) st is free = converts active ty operand st is.0 (pure_means active operand st is.2 free)
-  pure_means active (T.ParallelCast' ty p operand) st is free = converts active ty operand st is.0 (pure_means active operand st is.2 free)
+  pure_means active (T.ParallelCast' ty p operand) st is free = converts active ty operand st is.0 (either (λ h. pure_means active operand st h free) (λ h. promoted_free scope active set extents operand st h free) is.2)
   pure_means active (T.Pcoord ty axis) st is free = ap (λ (o : Option ℕ). Gives (own_coordinate scope o axis) st) is.0 ∙ ap (λ (xs : List ℕ). Gives (Parallel (λ q. coordinate xs q axis)) st) (sym same)
   pure_means active (T.Dot ty axis) st is free = ap (λ (o : Option ℕ). Gives (own_coordinate scope o axis) st) is.0 ∙ ap (λ (xs : List ℕ). Gives (Parallel (λ q. coordinate xs q axis)) st) (sym same)
   pure_means active (T.LeftIndex' ty place p indexes x of) st is free = cc

@@ -1,23 +1,22 @@
 -- What is sent stands in a field behind its code: a pure value and a scan in their own, and a promoted scalar in one to
 -- which it is spread.
-use Rattle.std.proofs.Common.{◌≡◌, ◌∙◌, ℕ, ◌<◌, ◌≤◌, ◌^◌, ◌⊎◌, inl, inr, Bool, true, false, length, Some, None, refl, sym, ap, subst, if◌then◌else◌, Option}
+use Rattle.std.proofs.Common.{◌≡◌, ℕ, ◌<◌, ◌≤◌, ◌^◌, ◌⊎◌, inl, inr, Bool, true, false, length, Some, None, refl, sym, ap, subst, if◌then◌else◌, Option}
 use Rattle.cstar_tree.specs.declared.typed.TExpr.{TExpr}
 use Rattle.cstar_tree.specs.declared.typed.Variable.{Variable}
 use Rattle.cstar_tree.specs.Typed.{type_of}
 use Rattle.code_lengths.proofs.Agreeing.{lengths_if_made}
 use Rattle.code_lengths.specs.Ready.{IsReadyButForFields}
 use Rattle.lower_base.specs.declared.emit.Out.{Out}
-use Rattle.lower_expr.specs.Operands.{in_place, operand_by}
 use Rattle.lower_expr.specs.Steps.{in_a_field, is_kept, word_of}
 use Rattle.paris_code.specs.declared.operands.Konst.TheVariants as K
 use Rattle.code_follows.proofs.Following.{Follows, extends_made, Extends, HasRegisters, Sim, extends_then, follows_same, held}
 use Rattle.code_follows.proofs.Growing.{as_it_was}
 use Rattle.code_follows.proofs.Words.{below_bits, held_wide}
-use Rattle.fields_follow.specs.Fragment.{IsOperand, IsPromoted, IsPure, IsScan}
-use Rattle.fields_follow.proofs.Forms.{promoted_kept, promoted_not_held, HasItsCode, pure_kept}
-use Rattle.fields_follow.proofs.Outcomes.{Given, given_through, given_weaker, meant}
-use Rattle.fields_follow.proofs.Operands.{in_field_extends, promoted_left}
-use Rattle.fields_follow.proofs.Passing.{gives_from, GivesField, made_after, then_after}
+use Rattle.fields_follow.specs.Fragment.{IsOperand, IsScan}
+use Rattle.fields_follow.proofs.Forms.{HasItsCode, pure_kept}
+use Rattle.fields_follow.proofs.Outcomes.{Given, given_weaker, meant}
+use Rattle.fields_follow.proofs.Operands.{in_field_extends, promoted_spreads}
+use Rattle.fields_follow.proofs.Passing.{GivesField}
 use Rattle.lower_base.specs.declared.emit.Out.TheVariants as O
 use Rattle.lower_base.specs.Drafts.{Draft, Made, Makes, an_entry, then_make, with_instr}
 use Rattle.lower_expr.specs.Values.{spread_by, spread_into, value_of}
@@ -25,7 +24,6 @@ use Rattle.paris_code.specs.declared.instr.Instr.TheVariants as I
 use Rattle.paris_code.specs.declared.operands.Field.{Field}
 use Rattle.paris_code.specs.declared.program.Owner.TheVariants as W
 use Rattle.paris_code.specs.Code.{CodeState}
-use Rattle.paris_code.specs.Meaning.{after}
 use Rattle.source_meaning.specs.State.{State}
 use Rattle.code_follows.proofs.Settings.{Setting, and_one, layout}
 use Rattle.code_follows.proofs.Values.{extends_grown}
@@ -70,52 +68,15 @@ module _ (g : Setting) (has : HasRegisters g) (alive : Variable → Type 0) (n :
   abbrev spread_if : Bool → ℕ → ℕ → TExpr → Draft → Made Out
   spread_if kept bits set e d = if kept then then_make (an_entry set bits W.Own d) (λ dest between. then_make (spread_into (λ y. code_of bits e y) e dest between) (λ f after. Makes (O.Field f) after)) else code_of bits e d
 
-  pure_spreads : (bits set : ℕ) (e : TExpr) → 0 < bits → bits ≤ 32 → IsPure set e → HasItsCode g.typed g.instance alive n e → IsSpread bits set e (numbers_of set e)
-  unfolding spread_by
-  pure_spreads bits set e some most pure c d s st here sim =
-      follows_same g (Given g (λ q. value_in (extents g set) st e q) st (GivesSpread bits d s set st (λ q. word_at (extents g set) st e q))) s refl (ap (λ (b : Bool). spread_if b bits set e d) (pure_kept set e pure))
-      (given_weaker g s (meant g fields e st) (λ q. value_in (extents g set) st e q) st (GivesOut g has alive n ready places fields (IsFlag e) bits (length d.fields) d s set st (λ q. word_at (extents g set) st e q)) (GivesSpread bits d s set st (λ q. word_at (extents g set) st e q)) (code_of bits e d) (λ out f (a, (is, (gives, apart))). (a, (is, gives)))
-      (pure_after g has alive n ready places fields bits set e some most pure c d s st here sim))
-
-  -- the code of a promoted scalar is that of an operand behind which something may change
-  operand_alone : (bits set : ℕ) (e : TExpr) (d : Draft) → IsPromoted set e → operand_by g.typed (layout g) bits (λ y. code_of bits e y) false e d ≡ code_of bits e d
-  unfolding operand_by in_place
-  operand_alone bits set e d promoted = ap (λ (o : Option ℕ). elim o as (λ _. Made Out) [ Some r ↦ Makes (O.Scalar r) d | None ↦ code_of bits e d ]) (promoted_not_held set (layout g) e promoted)
-
-  promoted_spreads : (bits set : ℕ) (e : TExpr) → IsPromoted set e → HasItsCode g.typed g.instance alive n e → IsSpread bits set e (numbers_of set e)
-  unfolding spread_by an_entry then_make Extends
-  promoted_spreads bits set e promoted c d s st here sim =
-      follows_same g (Given g v st Q) s refl
-      (ap (λ (b : Bool). spread_if b bits set e d) (promoted_kept set e promoted)
-      ∙ ap (λ (code : Draft → Made Out). then_make (spread_into code e dest d1) put) (λ j y. sym (operand_alone bits set e y promoted) j))
-      (given_through g s (meant g fields e st) v st P Q (spread_into operand e dest d1) put (λ f after. (0, as_it_was after))
-      (λ part h. then_after g P Q part put h (λ f after. (0, as_it_was after)) (λ f after gives. made_after g Q (O.Field f) after (λ within. (f, (refl, gives_from g alive bits (length d.fields) d d1 after s set st (λ q. word_at (extents g set) st e q) f (and_entry set bits W.Own d) gives)))))
-      (promoted_left g has alive n ready places fields bits set e false promoted c d s st here sim))
-    where
-      d1 : Draft
-      d1 = with_entry set bits W.Own d
-
-      dest : Field
-      dest = next_field set bits d
-
-      operand : Draft → Made Out
-      operand y = operand_by g.typed (layout g) bits (λ z. code_of bits e z) false e y
-
-      put : Field → Draft → Made Out
-      put f after = Makes (O.Field f) after
-
-      v : ℕ → ℕ
-      v q = value_in (extents g set) st e q
-
-      P : Field → Draft → Type 0
-      P f after = GivesField g alive bits (length d.fields) d1 s set st (λ q. word_at (extents g set) st e q) f after
-
-      Q : Out → Draft → Type 0
-      Q out f = GivesSpread bits d s set st (λ q. word_at (extents g set) st e q) out f
-
   operand_spreads : (bits set : ℕ) (e : TExpr) → 0 < bits → bits ≤ 32 → IsOperand set e → HasItsCode g.typed g.instance alive n e → IsSpread bits set e (numbers_of set e)
-  operand_spreads bits set e some most (inl pure) c = pure_spreads bits set e some most pure c
-  operand_spreads bits set e some most (inr promoted) c = promoted_spreads bits set e promoted c
+  unfolding spread_by
+  operand_spreads bits set e some most operand c d s st here sim =
+      given_weaker g s (meant g fields e st) (λ q. value_in (extents g set) st e q) st (GivesOut g has alive n ready places fields (IsFlag e) bits (length d.fields) d s set st (λ q. word_at (extents g set) st e q)) (GivesSpread bits d s set st (λ q. word_at (extents g set) st e q)) (spread_of bits set e d) (λ out f (a, (is, (gives, apart))). (a, (is, gives)))
+      (by operand)
+    where
+      by : IsOperand set e → Follows g (Given g (λ q. value_in (extents g set) st e q) st (GivesOut g has alive n ready places fields (IsFlag e) bits (length d.fields) d s set st (λ q. word_at (extents g set) st e q))) s (meant g fields e st) (spread_of bits set e d)
+      by (inl pure) = follows_same g (Given g (λ q. value_in (extents g set) st e q) st (GivesOut g has alive n ready places fields (IsFlag e) bits (length d.fields) d s set st (λ q. word_at (extents g set) st e q))) s refl (ap (λ (b : Bool). spread_if b bits set e d) (pure_kept set e pure)) (pure_after g has alive n ready places fields bits set e some most pure c d s st here sim)
+      by (inr promoted) = promoted_spreads g has alive n ready places fields bits set e promoted c d s st here sim
 
   scan_spreads : (bits set : ℕ) (e : TExpr) → 0 < bits → bits ≤ 32 → IsScan set e → HasItsCode g.typed g.instance alive n e → IsSpread bits set e (λ st q. scanned_in g alive places fields set st e q)
   unfolding spread_by

@@ -29,7 +29,7 @@ use Rattle.code_follows.proofs.Following.{Sim}
 use Rattle.code_follows.proofs.Settings.{Setting}
 use Rattle.code_follows.proofs.Words.{below_bits, below_word, held_wide}
 use Rattle.fields_follow.specs.Fragment.{HasKnownKind, IsCalm, IsConstant, IsOfFileOrBlock, IsOperation, IsPromoted, IsPure, IsRelation, IsWide}
-use Rattle.fields_follow.proofs.Forms.{HasItsCode, pure_shape}
+use Rattle.fields_follow.proofs.Forms.{HasItsCode, operand_shape}
 use Rattle.fields_follow.proofs.Instructions.{extents, operation_below}
 use Rattle.fields_follow.proofs.Meaning.{computed_in, decided_in, first_in, nobody, nowhere, scalar_in, value_in, word_at, given_in}
 use Rattle.fields_follow.proofs.Places.{HoldsTheFields, PlacesFields}
@@ -66,9 +66,9 @@ module _ (g : Setting) (alive : Variable → Type 0) (n : ℕ) (places : PlacesF
   convert_part ty p inner h = record { code = record { shaped = h.code.shaped.1; lowerable = h.code.lowerable.1; names = h.code.names }; among = h.among }
 
   -- a cast to a type of the shape has what such a conversion has
-  pub cast_code : (set : ℕ) (ty : ValueType) (p : Boxed) (inner : TExpr) → ty.shape ≡ Some set → IsPure set inner → HasItsCode g.typed g.instance alive n (T.ParallelCast' ty p inner) → HasItsCode g.typed g.instance alive n (T.Convert' ty p inner)
+  pub cast_code : (set : ℕ) (ty : ValueType) (p : Boxed) (inner : TExpr) → ty.shape ≡ Some set → IsPure set inner ⊎ IsPromoted set inner → HasItsCode g.typed g.instance alive n (T.ParallelCast' ty p inner) → HasItsCode g.typed g.instance alive n (T.Convert' ty p inner)
   unfolding IsShaped IsLowerable NamesVariables NamesAmong
-  cast_code set ty p inner shaped pure h = record { code = record { shaped = (ap is_none shaped ∙ sym (ap is_none (pure_shape set inner pure)), h.code.shaped.1); lowerable = (h.code.lowerable.0, h.code.lowerable.2); names = h.code.names }; among = h.among }
+  cast_code set ty p inner shaped operand h = record { code = record { shaped = (ap is_none shaped ∙ sym (ap is_none (operand_shape set inner operand)), h.code.shaped.1); lowerable = (h.code.lowerable.0, h.code.lowerable.2); names = h.code.names }; among = h.among }
 
   pub choice_parts : (ty : ValueType) (p q r : Boxed) (test first second : TExpr) → HasItsCode g.typed g.instance alive n (T.Choice' ty p test q first r second) → HasItsCode g.typed g.instance alive n test × HasItsCode g.typed g.instance alive n first × HasItsCode g.typed g.instance alive n second
   unfolding IsShaped IsLowerable NamesVariables NamesAmong

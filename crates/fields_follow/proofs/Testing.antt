@@ -1,5 +1,5 @@
 -- The code of a condition leaves the test flags.
-use Rattle.std.proofs.Common.{[], ◌&&◌, ◌||◌, subst, ◌+◌, ◌%◌, ◌≡◌, ◌∙◌, ℕ, ◌<◌, ◌≤◌, ◌^◌, ◌==◌, Bool, true, false, length, Option, Some, None, refl, sym, ap, arith, if◌then◌else◌, inl, inr}
+use Rattle.std.proofs.Common.{[], ◌&&◌, ◌||◌, subst, ◌+◌, ◌%◌, ◌≡◌, ◌∙◌, ℕ, ◌<◌, ◌≤◌, ◌^◌, ◌==◌, Bool, true, false, length, Option, Some, None, refl, sym, ap, arith, if◌then◌else◌, inl, inr, ◌⊎◌}
 use Rattle.cstar_base.specs.declared.operators.Op.{Op}
 use Rattle.cstar_base.specs.declared.operators.Place.{Place}
 use Rattle.cstar_tree.specs.declared.typed.TExpr.{TExpr}
@@ -40,7 +40,7 @@ use Rattle.code_follows.proofs.Following.{Extends, Follows, HasRegisters, Sim, e
 use Rattle.code_follows.proofs.Values.{extends_grown}
 use Rattle.code_follows.proofs.Settings.{Setting, and_one, layout, start}
 use Rattle.code_follows.specs.Fragment.{NamesAmong}
-use Rattle.fields_follow.specs.Fragment.{HasItsKind, HasKnownKind, IsOfFileOrBlock, IsPure}
+use Rattle.fields_follow.specs.Fragment.{HasItsKind, HasKnownKind, IsOfFileOrBlock, IsPure, IsPromoted, IsSpread}
 use Rattle.fields_follow.proofs.Starts.{Starts}
 use Rattle.fields_follow.proofs.ConditionCode.{Bit, Told, Truth, bit_taken, flag_after, flag_extends, nonzero_after, operand_at, zero_after}
 use Rattle.fields_follow.proofs.Conditions.{HaveTheirCode}
@@ -94,12 +94,15 @@ module _ (g : Setting) (has : HasRegisters g) (alive : Variable → Type 0) (n :
 
   -- ---- words
 
-  pub pure_told : (set : ℕ) (e : TExpr) → HasItsKind set e → HasItsCode g.typed g.instance alive n e → IsValued (bits_of (kind_of e)) set e → Says set e (λ d s st. Told g alive places fields d s set st (numbers_of set e st)) (λ d. operand (bits_of (kind_of e)) true e d)
-  pure_told set e kinded c whole d s st here sim =
+  -- a field that has the lowest bits of the words of a value tells where it is zero
+  pub value_told : (set : ℕ) (e : TExpr) → IsPure set e ⊎ IsPromoted set e → HasKnownKind e ⊎ IsSpread e → HasItsCode g.typed g.instance alive n e → (code : Draft → Made Out) → Valued g has alive n ready places fields (bits_of (kind_of e)) set e code → Says set e (λ d s st. Told g alive places fields d s set st (numbers_of set e st)) code
+  value_told set e operand so c code valued d s st here sim =
       let bits : ℕ = bits_of (kind_of e) in
-      given_weaker g s (meant g fields e st) (numbers_of set e st) st (Gives g has alive n ready places fields (IsFlag e) bits (length d.fields) d s set st (λ q. word_at (extents g set) st e q)) (Told g alive places fields d s set st (numbers_of set e st)) (operand bits true e d)
-      (λ x e1 (a, (is, (gives, apart))). (a, (is, field_told g alive places fields bits d s set st (λ q. word_at (extents g set) st e q) (numbers_of set e st) a e1 (λ q below. zero_told g alive n places fields set e st s sim kinded c q) gives)))
-      (operand_after g has alive n ready places fields bits set e true kinded.0 c whole d s st here sim)
+      given_weaker g s (meant g fields e st) (numbers_of set e st) st (Gives g has alive n ready places fields (IsFlag e) bits (length d.fields) d s set st (λ q. word_at (extents g set) st e q)) (Told g alive places fields d s set st (numbers_of set e st)) (code d)
+      (λ x e1 (a, (is, (gives, apart))). (a, (is, field_told g alive places fields bits d s set st (λ q. word_at (extents g set) st e q) (numbers_of set e st) a e1 (λ q below. zero_told g alive n places fields set e st s sim operand so c q) gives))) (valued d s st here sim)
+
+  pub pure_told : (set : ℕ) (e : TExpr) → HasItsKind set e → HasItsCode g.typed g.instance alive n e → IsValued (bits_of (kind_of e)) set e → Says set e (λ d s st. Told g alive places fields d s set st (numbers_of set e st)) (λ d. operand (bits_of (kind_of e)) true e d)
+  pure_told set e kinded c whole = value_told set e (inl kinded.0) (inl kinded.1) c (operand (bits_of (kind_of e)) true e) (operand_after g has alive n ready places fields (bits_of (kind_of e)) set e true kinded.0 c whole)
 
   -- a variable, where it stands
   pub variable_tested : (set : ℕ) (x : Variable) (ty : ValueType) → IsOfFileOrBlock x → ty.shape ≡ Some set → HasItsCode g.typed g.instance alive n (T.Variable ty x) → (d : Draft) (s : CodeState) (st : State) → Starts g alive s (length d.code) d.regs (length d.fields) → Sim g alive st s
@@ -161,7 +164,7 @@ module _ (g : Setting) (has : HasRegisters g) (alive : Variable → Type 0) (n :
         (
           is,
           field_truth g alive places fields d s set st (λ q. word_at (extents g set) st e q) (numbers_of set e st) a e1
-              (λ q below. ap (λ (m : ℕ). word_at (extents g set) st e q % 2 ^ m == 0) (sym is_one) ∙ zero_told g alive n places fields set e st s sim kinded c q) gives (narrow is_one),
+              (λ q below. ap (λ (m : ℕ). word_at (extents g set) st e q % 2 ^ m == 0) (sym is_one) ∙ zero_told g alive n places fields set e st s sim (inl kinded.0) (inl kinded.1) c q) gives (narrow is_one),
         ),
       ))
       (operand_after g has alive n ready places fields 1 set e true kinded.0 c whole d s st here sim)

@@ -142,14 +142,14 @@ AreSteps set axis (more_of-TExpr index rest) = IsStepping set axis index × AreS
 abbrev pub IsSpread : TExpr → Type 0
 IsSpread e = (is_kept e ≡ true) × (word_of e ≡ None)
 
--- a value whose narrow type is that of a variable or of a conversion, one of truth values, or that of two such values, or
--- such scalars, that are joined bit by bit or of which one is chosen
+-- a value whose narrow type is that of a variable or of a conversion, also of such a scalar, one of truth values, or that
+-- of two such values, or such scalars, that are joined bit by bit or of which one is chosen
 unfoldable pub IsNarrowed : TExpr → Type 0
 IsNarrowed (T.Variable ty x) = Unit {0}
 IsNarrowed (T.LeftIndex' ty place p indexes x of) = Unit {0}
 IsNarrowed (T.Brackets' ty p inner) = IsNarrowed inner
 IsNarrowed (T.Convert' ty p operand) = (kind_of operand ≡ None) ⊎ IsNarrowed operand
-IsNarrowed (T.ParallelCast' ty p operand) = (kind_of operand ≡ None) ⊎ IsNarrowed operand
+IsNarrowed (T.ParallelCast' ty p operand) = ((kind_of operand ≡ None) ⊎ IsNarrowed operand) ⊎ IsSpread operand
 IsNarrowed (T.Unary' ty op p operand) = negates op ≡ true
 IsNarrowed (T.LogicalOr' ty p left q right) = Unit {0}
 IsNarrowed (T.LogicalAnd' ty p left q right) = Unit {0}
@@ -170,9 +170,10 @@ abbrev pub IsRelation : ℕ → Op → TExpr → TExpr → Type 0
 IsRelation set op left right = (relates op ≡ true) × (HasKnownKind left ⊎ IsPromoted set left) × (HasKnownKind right ⊎ IsPromoted set right) × ReadsSigns left right
 
 -- A parallel expression that is not promoted; of an operator's two operands one may be. Operators work at 32 bits, to
--- which narrower values are converted. Values are cast to any type of the shape. Truth values are relations, `!`,
--- conversions to `bool`, and two values that are joined by `&&` or `||`, of which the right one is computed where the
--- left one does not decide, and may be a promoted scalar; the left one may be a scalar that changes nothing.
+-- which narrower values are converted. Values and promoted scalars are cast to any type of the shape. Truth values are
+-- relations, `!`, conversions to `bool`, and two values that are joined by `&&` or `||`, of which the right one is
+-- computed where the left one does not decide, and may be a promoted scalar; the left one may be a scalar that changes
+-- nothing.
 -- A get is from neighbours, or its indexes, into any shape, are such expressions and promoted scalars, which fail where
 -- they do not lie within the extents at an active position. `?:` chooses one of two values at each position, or, by
 -- a scalar that changes nothing, for all of them; they may be promoted, and each is computed where it is chosen.
@@ -188,7 +189,7 @@ unfoldable mutual
       IsWide set ty × (IsOperation op right ⊎ IsRelation set op left right) × ((IsPure set left × (IsPure set right ⊎ IsPromoted set right)) ⊎ (IsPromoted set left × IsPure set right)) × IsWide set (type_of left) × IsWide set (type_of right)
   IsPure set (T.Choice' ty p test q first r second) = IsWide set ty × ((IsPure set test × HasKnownKind test) ⊎ IsCalm test) × (IsPure set first ⊎ IsPromoted set first) × (IsPure set second ⊎ IsPromoted set second) × IsWide set (type_of first) × IsWide set (type_of second)
   IsPure set (T.Convert' ty p operand) = (ty.shape ≡ Some set) × (((ty.elem.bits == 1) ≡ false) ⊎ ((ty.elem.bits ≡ 1) × HasKnownKind operand)) × IsPure set operand
-  IsPure set (T.ParallelCast' ty p operand) = (ty.shape ≡ Some set) × (((ty.elem.bits == 1) ≡ false) ⊎ ((ty.elem.bits ≡ 1) × HasKnownKind operand)) × IsPure set operand
+  IsPure set (T.ParallelCast' ty p operand) = (ty.shape ≡ Some set) × (((ty.elem.bits == 1) ≡ false) ⊎ ((ty.elem.bits ≡ 1) × (HasKnownKind operand ⊎ IsSpread operand))) × (IsPure set operand ⊎ IsPromoted set operand)
   IsPure set (T.Pcoord ty axis) = IsWide set ty
   IsPure set (T.Dot ty axis) = IsWide set ty
   IsPure set (T.LeftIndex' ty place p indexes x of) = (ty.shape ≡ Some set) × IsOfFileOrBlock x × (((of ≡ set) × AreSteps set 0 indexes) ⊎ ((all_go_by_news of 0 (items-the_row-TExpr _ indexes) ≡ false) × AreIndexes set indexes × HasPure set indexes))
