@@ -1,4 +1,5 @@
 -- The narrow type that is known of a scalar that changes nothing has its word, and so it has that of one that is promoted.
+use Rattle.source_meaning.specs.Constants.{constant_of}
 use Rattle.std.proofs.Common.{◌≡◌, ◌∙◌, ℕ, ◌<◌, ◌^◌, ◌==◌, ◌&&◌, Bool, true, false, not, Option, Some, None, refl, sym, ap, subst, if◌then◌else◌, inl, inr, ◌⊎◌}
 use Rattle.std.proofs.lemmas.Nat.{pow_pos}
 use Rattle.std.proofs.lemmas.Option.{none-some}
@@ -20,7 +21,6 @@ use Rattle.code_lengths.specs.Naming.{NamesVariables, plain}
 use Rattle.lower_base.specs.Kinds.{binary_kind, common_kind, is_bitwise, kind_of, truth_type}
 use Rattle.lower_base.specs.Operators.{negates, relates}
 use Rattle.lower_expr.specs.Kinds.{has_number}
-use Rattle.lower_expr.specs.Steps.{word_of}
 use Rattle.paris_code.specs.Code.{CodeState}
 use Rattle.source_meaning.specs.Expressions.{evaluated, mapped}
 use Rattle.source_meaning.specs.Narrowing.{and_then, choose, or_then}
@@ -33,15 +33,15 @@ use Rattle.code_follows.proofs.Following.{IsScalar, Sim, held}
 use Rattle.code_follows.proofs.Numbers.{zero_converted}
 use Rattle.code_follows.proofs.Settings.{Setting}
 use Rattle.code_follows.proofs.Words.{held_wide, within_word}
-use Rattle.fields_follow.specs.Fragment.{IsCalm, IsPromoted}
+use Rattle.fields_follow.specs.Fragment.{IsCalm, IsPromoted, IsConstant, IsRegistered}
 use Rattle.fields_follow.proofs.Calm.{IsCalmly, calm_gives, calm_scalar, scalar_operated}
-use Rattle.fields_follow.proofs.Forms.{HasItsCode, HasItsWord}
+use Rattle.fields_follow.proofs.Forms.{HasItsCode}
 use Rattle.fields_follow.proofs.Instructions.{extents, operation_below}
 use Rattle.fields_follow.proofs.JoinedBits.{bitwise_has}
 use Rattle.fields_follow.proofs.Lengths.{held_has}
-use Rattle.fields_follow.proofs.Meaning.{given_in, nobody, nowhere, value_in, word_at}
+use Rattle.fields_follow.proofs.Meaning.{given_in, nobody, nowhere, value_in, word_at, computed_in, constant_means, scalar_in}
 use Rattle.fields_follow.proofs.KnownKinds.{HasWord, common_has, convert_has, first_has, joined_kind, kind_few, narrow_has, not_bit, second_has, truth_has}
-use Rattle.fields_follow.proofs.Promoted.{IsComputed, promoted_stands}
+use Rattle.fields_follow.proofs.Promoted.{brackets_code}
 use Rattle.fields_follow.proofs.TestFlags.{is_truth}
 
 -- this holds of the number that an outcome gives, if it gives one
@@ -200,17 +200,23 @@ module _ (g : Setting) (alive : Variable → Type 0) (n : ℕ) where
         by has also false = holds_calmly (IsKinded second) (IsKinded whole) (type_of second).elem.bits st (evaluated scope second active st) (calmly second h.3 names.2 among.2) other also
     calm_has _ h names among = absurd h
 
-  -- a promoted scalar that is no constant has such a word
-  pub promoted_has : (set : ℕ) (e : TExpr) (st : State) (s : CodeState) → Sim g alive st s → IsPromoted set e → HasItsCode g.typed g.instance alive n e → word_of e ≡ None → (q : ℕ) (kind : Elem) → kind_of e ≡ Some kind → HasWord kind (word_at (extents g set) st e q)
-  promoted_has set e st s sim promoted c none q kind is = by (promoted_stands g alive n set e promoted c)
+  -- a promoted scalar whose code leaves it in a register has such a word
+  pub promoted_has : (set : ℕ) (e : TExpr) (st : State) (s : CodeState) → Sim g alive st s → IsPromoted set e → IsRegistered e → HasItsCode g.typed g.instance alive n e → (q : ℕ) (kind : Elem) → kind_of e ≡ Some kind → HasWord kind (word_at (extents g set) st e q)
+  unfolding IsPromoted IsRegistered value_in scalar_in kind_of given_in at NamesVariables NamesAmong
+  promoted_has set (T.Promote' ty p operand) st s sim is calm c q kind is_kind =
+      let calmly : IsCalmly (type_of operand).elem.bits st (evaluated nowhere operand nobody st) = calm_gives g alive n nowhere nobody st sim.small operand calm c.code.names c.among in
+      let Has : ℕ → Type 0 = λ w. HasWord kind (held (type_of operand).elem w) in
+      subst (λ (x : Elem). HasWord kind (held x (scalar_in st operand q))) (sym is.1)
+      (subst Has (sym (same is.2.1))
+      (given_holds Has (type_of operand).elem.bits st (evaluated nowhere operand nobody st) q calmly
+      (holds_calmly (IsKinded nowhere nobody st sim.small operand) Has (type_of operand).elem.bits st (evaluated nowhere operand nobody st) calmly (λ w few has. has kind is_kind) (calm_has nowhere nobody st sim.small operand calm c.code.names c.among)) (zero_has (type_of operand).elem kind (kind_few operand kind is_kind))))
     where
-      by : HasItsWord e ⊎ IsComputed g alive n set e → HasWord kind (word_at (extents g set) st e q)
-      by (inl word) = let wrong = sym none ∙ word.is in cc
-      by (inr h) =
-          let calm : IsCalmly (type_of h.operand).elem.bits st (evaluated nowhere h.operand nobody st) = calm_gives g alive n nowhere nobody st sim.small h.operand h.is h.has.names h.among in
-          let Has : ℕ → Type 0 = λ w. HasWord kind (held (type_of h.operand).elem w) in
-          subst (λ (x : Elem). HasWord kind (held x (value_in (extents g set) st e q))) (sym h.elem)
-          (subst Has (sym (h.value (extents g set) st q))
-          (given_holds Has (type_of h.operand).elem.bits st (evaluated nowhere h.operand nobody st) q calm
-          (holds_calmly (IsKinded nowhere nobody st sim.small h.operand) Has (type_of h.operand).elem.bits st (evaluated nowhere h.operand nobody st) calm (λ w few has. has kind (sym h.kind ∙ is)) (calm_has nowhere nobody st sim.small h.operand h.is h.has.names h.among))
-          (zero_has (type_of h.operand).elem kind (kind_few h.operand kind (sym h.kind ∙ is)))))
+      number : Option ℕ → ℕ
+      number o = elim o [ Some word ↦ word | None ↦ computed_in st operand q ]
+
+      same : IsConstant operand ⊎ ((constant_of operand ≡ None) × IsCalm operand) → scalar_in st operand q ≡ computed_in st operand q
+      same (inl constant) = ap number constant.1 ∙ sym (ap (λ (o : Outcome Value). at (given_in o) q) (constant_means nowhere nobody operand constant.0 st constant.1))
+      same (inr (none, also)) = ap number none
+  promoted_has set (T.Brackets' ty p inner) st s sim is calm c q kind is_kind =
+      subst (λ (y : ValueType). HasWord kind (held y.elem (value_in (extents g set) st inner q))) (sym is.0) (promoted_has set inner st s sim is.1 calm (brackets_code g alive n ty p inner c) q kind is_kind)
+  promoted_has set _ st s sim is calm c q kind is_kind = absurd is

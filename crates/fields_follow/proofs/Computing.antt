@@ -37,14 +37,14 @@ use Rattle.source_meaning.specs.Values.{Active, Value, nonzero, unary_of}
 use Rattle.source_meaning.proofs.ConstantLaws.{Boxed}
 use Rattle.code_follows.proofs.Following.{Extends, Follows, HasRegisters, Sim, follows_same, held}
 use Rattle.code_follows.proofs.Settings.{Setting, and_one, layout}
-use Rattle.fields_follow.specs.Fragment.{HasItsKind, HasKnownKind, IsNarrowed, IsOfFileOrBlock, IsOperation, IsPromoted, IsPure, IsRegistered, IsRelation, IsWide, IsOperand, IsSpread}
+use Rattle.fields_follow.specs.Fragment.{HasItsKind, HasKnownKind, IsNarrowed, IsOfFileOrBlock, IsOperation, IsPromoted, IsPure, IsRegistered, IsRelation, IsWide, IsOperand}
 use Rattle.fields_follow.proofs.Starts.{no_home, starts_entry, Starts}
 use Rattle.fields_follow.proofs.Choosing.{choice_valued, scalar_choice_valued}
 use Rattle.fields_follow.proofs.Clearing.{joined_more}
 use Rattle.fields_follow.proofs.ConditionCode.{Bit, Truth, bit_not_value, joined_value, operand_at, put_in, relation_value, word_not_value, nonzero_after}
 use Rattle.fields_follow.proofs.Conditions.{HaveTheirCode, and_codes, beside_scalar, conditions_join, joined_free, or_codes}
 use Rattle.fields_follow.proofs.Expressions.{Answers, answers_alike, binary_after, convert_after, convert_ended, convert_means, coordinate_after, dot_after, left_index_after, unary_after, unary_ended, converted_after}
-use Rattle.fields_follow.proofs.Forms.{HasItsCode, pure_kept, promoted_truth}
+use Rattle.fields_follow.proofs.Forms.{HasItsCode, pure_kept, promoted_truth, pure_unregistered}
 use Rattle.fields_follow.proofs.Instructions.{alike_same, extents, shapes}
 use Rattle.fields_follow.proofs.Leaving.{fields_under, places_under, registers_under, under}
 use Rattle.fields_follow.proofs.Lengths.{operation_most, relates_plainly}
@@ -213,7 +213,7 @@ module _ (g : Setting) (has : HasRegisters g) (alive : Variable → Type 0) (n :
       follows_same g (Given g (number set (T.Convert' ty p inner) st) st (Gave bits set (T.Convert' ty p inner) d s st)) s refl (bool_code bits set ty p inner d shaped one (pure_kept set inner kinded.0)) (bool_put bits set ty p inner shaped one (inl kinded.0) c (tested g.typed (layout g) inner) (done.tests kinded.1) d s st here sim)
 
   -- a cast of a promoted scalar, which is spread over a field
-  spread_valued : (bits set : ℕ) (ty : ValueType) (p : Boxed) (inner : TExpr) → bits ≤ 32 → ty.shape ≡ Some set → ((ty.elem.bits == 1) ≡ false) ⊎ ((ty.elem.bits ≡ 1) × (HasKnownKind inner ⊎ IsSpread inner)) → IsPromoted set inner → HasItsCode g.typed g.instance alive n inner → Valued_at bits set (T.ParallelCast' ty p inner)
+  spread_valued : (bits set : ℕ) (ty : ValueType) (p : Boxed) (inner : TExpr) → bits ≤ 32 → ty.shape ≡ Some set → ((ty.elem.bits == 1) ≡ false) ⊎ ((ty.elem.bits ≡ 1) × (HasKnownKind inner ⊎ IsRegistered inner)) → IsPromoted set inner → HasItsCode g.typed g.instance alive n inner → Valued_at bits set (T.ParallelCast' ty p inner)
   unfolding value_of value_in evaluated kind_of cast_from cast_by truth_put tested_by then_make an_entry
   spread_valued bits set ty p inner most shaped kinds promoted c d s st here sim = by kinds
     where
@@ -243,12 +243,12 @@ module _ (g : Setting) (has : HasRegisters g) (alive : Variable → Type 0) (n :
           ap (λ (o : Option ℕ). cast_by (unwrap_or o 0) bits ty.elem (tested_by (has_truth inner) (truth_of g.typed (layout g) inner) (spread_by (operand known true inner) inner (unwrap_or o 0) known)) (spread_by (operand ty.elem.bits true inner) inner (unwrap_or o 0) ty.elem.bits) (spread_by (code bits inner) inner (unwrap_or o 0) bits) d) shaped
           ∙ ap (λ (b : Bool). cast_by set bits ty.elem (tested_by b (truth_of g.typed (layout g) inner) (spread known)) (spread ty.elem.bits) wanted d) (promoted_truth set inner promoted)
 
-      tests : HasKnownKind inner ⊎ IsSpread inner → Says g has alive n ready places fields set inner (λ d s st _ f. LeavesTests g alive fields d s set st (number set inner st) f) test
+      tests : HasKnownKind inner ⊎ IsRegistered inner → Says g has alive n ready places fields set inner (λ d s st _ f. LeavesTests g alive fields d s set st (number set inner st) f) test
       tests so e t u there same =
           nonzero_after g alive places fields (meant g fields inner u) (number set inner u) set (number set inner u) (spread known) e t u
           (value_told g has alive n ready places fields set inner (inr promoted) so c (spread known) (promoted_spread g has alive n ready places fields known set inner true promoted c) e t u there same)
 
-      by : ((ty.elem.bits == 1) ≡ false) ⊎ ((ty.elem.bits ≡ 1) × (HasKnownKind inner ⊎ IsSpread inner)) → Follows g R s (meant g fields whole st) (code bits (T.ParallelCast' ty p inner) d)
+      by : ((ty.elem.bits == 1) ≡ false) ⊎ ((ty.elem.bits ≡ 1) × (HasKnownKind inner ⊎ IsRegistered inner)) → Follows g R s (meant g fields whole st) (code bits (T.ParallelCast' ty p inner) d)
       by (inl other) =
           follows_same g R s refl (is_made ∙ ap made other)
           (converted_after g has alive n ready places fields bits set ty p inner most shaped other (spread ty.elem.bits) wanted (promoted_spread g has alive n ready places fields ty.elem.bits set inner true promoted c) (promoted_spreads g has alive n ready places fields bits set inner promoted c) d s st here sim)
@@ -310,10 +310,10 @@ module _ (g : Setting) (has : HasRegisters g) (alive : Variable → Type 0) (n :
       converts : HasItsCode g.typed g.instance alive n (T.Convert' ty p inner)
       converts = cast_code g alive n places fields set ty p inner is.0 is.2 c
 
-      known : IsPure set inner → ((ty.elem.bits == 1) ≡ false) ⊎ ((ty.elem.bits ≡ 1) × (HasKnownKind inner ⊎ IsSpread inner)) → ((ty.elem.bits == 1) ≡ false) ⊎ ((ty.elem.bits ≡ 1) × HasKnownKind inner)
+      known : IsPure set inner → ((ty.elem.bits == 1) ≡ false) ⊎ ((ty.elem.bits ≡ 1) × (HasKnownKind inner ⊎ IsRegistered inner)) → ((ty.elem.bits == 1) ≡ false) ⊎ ((ty.elem.bits ≡ 1) × HasKnownKind inner)
       known pure (inl other) = inl other
       known pure (inr (one, inl so)) = inr (one, so)
-      known pure (inr (one, inr spread)) = let wrong = sym (pure_kept set inner pure) ∙ spread.0 in cc
+      known pure (inr (one, inr registered)) = absurd (pure_unregistered set inner pure registered)
 
       by : (bits : ℕ) → 0 < bits → bits ≤ 32 → IsOperand set inner → Valued_at bits set (T.ParallelCast' ty p inner)
       by bits some most (inl pure) d s st here sim =

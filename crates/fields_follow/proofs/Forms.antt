@@ -33,7 +33,7 @@ use Rattle.std.proofs.lemmas.Bool.{eqb-true}
 use Rattle.code_follows.proofs.Following.{held as word_of_type}
 use Rattle.code_follows.proofs.Numbers.{held_zero}
 use Rattle.fields_follow.proofs.Totals.{held_below}
-use Rattle.fields_follow.specs.Fragment.{IsCalm, IsConstant, IsDivisor, IsOfFileOrBlock, IsPromoted, IsPure}
+use Rattle.fields_follow.specs.Fragment.{IsCalm, IsConstant, IsDivisor, IsOfFileOrBlock, IsPromoted, IsPure, IsRegistered}
 use Rattle.fields_follow.specs.Fields.{IsElement, file_number}
 use Rattle.fields_follow.proofs.FileFields.{first_there}
 use Rattle.fields_follow.proofs.Meaning.{Extents, as_shaped, computed_in, constant_means, mapped_is, no_constant, read_is, scalar_in, value_in, word_at}
@@ -66,6 +66,23 @@ unfolding IsPromoted
 promoted_shape set (T.Promote' ty p operand) is = is.0
 promoted_shape set (T.Brackets' ty p inner) is = ap (λ (y : ValueType). y.shape) is.0 ∙ promoted_shape set inner is.1
 promoted_shape set _ is = absurd is
+
+-- code leaves one that is no constant in a register, and no value that is not promoted
+pub computed_registered : (set : ℕ) (e : TExpr) → IsPromoted set e → word_of e ≡ None → IsRegistered e
+unfolding IsPromoted IsRegistered word_of register_word
+computed_registered set (T.Promote' ty p operand) is none = by is.2.1
+  where
+    by : IsConstant operand ⊎ ((constant_of operand ≡ None) × IsCalm operand) → IsCalm operand
+    by (inl constant) = let wrong = sym none ∙ ap (λ (o : Option ℕ). then_value o (λ v. Some (converted int_type (type_of operand).elem v))) constant.1 in cc
+    by (inr (_, calm)) = calm
+computed_registered set (T.Brackets' ty p inner) is none = computed_registered set inner is.1 none
+computed_registered set _ is none = absurd is
+
+pub pure_unregistered : (set : ℕ) (e : TExpr) → IsPure set e → IsRegistered e → ⊥
+unfolding IsPure IsRegistered
+pure_unregistered set (T.Promote' ty p operand) is so = is
+pure_unregistered set (T.Brackets' ty p inner) is so = pure_unregistered set inner is.1 so
+pure_unregistered set _ is so = so
 
 -- no test flag tells whether it is zero
 pub promoted_truth : (set : ℕ) (e : TExpr) → IsPromoted set e → has_truth e ≡ false

@@ -28,9 +28,9 @@ use Rattle.code_follows.proofs.Numbers.{held_zero}
 use Rattle.code_follows.proofs.Settings.{Setting}
 use Rattle.code_follows.proofs.Standing.{some_same}
 use Rattle.code_follows.proofs.Words.{below_word, held_wide}
-use Rattle.fields_follow.specs.Fragment.{HasItsKind, HasKnownKind, IsNarrowed, IsPromoted, IsPure, IsRelation, IsWide, ReadsSigns, IsSpread}
+use Rattle.fields_follow.specs.Fragment.{HasItsKind, HasKnownKind, IsNarrowed, IsPromoted, IsPure, IsRelation, IsWide, ReadsSigns, IsRegistered}
 use Rattle.fields_follow.proofs.CalmKinds.{promoted_has}
-use Rattle.fields_follow.proofs.Forms.{HasItsCode, promoted_kept, pure_kept, pure_word}
+use Rattle.fields_follow.proofs.Forms.{HasItsCode, promoted_kept, pure_kept, pure_word, computed_registered, pure_unregistered}
 use Rattle.fields_follow.proofs.Instructions.{extents, shapes}
 use Rattle.fields_follow.proofs.JoinedBits.{bitwise_has}
 use Rattle.fields_follow.proofs.Meaning.{AreOperands, decided_in, first_in, value_in, word_at, left_of, right_of}
@@ -68,30 +68,30 @@ are_related set op left right is operands wide other = (is.0, kinds operands, wi
     kinds (inr (promoted, pure)) = inr (promoted, kind_known set right pure is.2)
 
 module _ (g : Setting) (alive : Variable → Type 0) (n : ℕ) (places : PlacesFields g) (fields : HoldsTheFields g) where
-  -- the word of a value, or of a promoted scalar that is computed
-  word_has : (set : ℕ) (e : TExpr) (st : State) (s : CodeState) → Sim g alive st s → IsPure set e ⊎ IsPromoted set e → IsNarrowed e ⊎ IsSpread e → HasItsCode g.typed g.instance alive n e → (q : ℕ)
+  -- the word of a value, or of a promoted scalar
+  word_has : (set : ℕ) (e : TExpr) (st : State) (s : CodeState) → Sim g alive st s → IsPure set e ⊎ IsPromoted set e → IsNarrowed e ⊎ IsRegistered e → HasItsCode g.typed g.instance alive n e → (q : ℕ)
       → (IsPure set e → IsNarrowed e → (kind : Elem) → kind_of e ≡ Some kind → HasWord kind (word_at (extents g set) st e q)) → (kind : Elem) → kind_of e ≡ Some kind → HasWord kind (word_at (extents g set) st e q)
   word_has set e st s sim (inl pure) (inl narrowed) c q has kind is = has pure narrowed kind is
-  word_has set e st s sim (inl pure) (inr spread) c q has kind is = let wrong = sym (pure_kept set e pure) ∙ spread.0 in cc
+  word_has set e st s sim (inl pure) (inr registered) c q has kind is = absurd (pure_unregistered set e pure registered)
   word_has set e st s sim (inr promoted) (inl narrowed) c q has kind is = absurd (not_promoted set e promoted narrowed)
-  word_has set e st s sim (inr promoted) (inr spread) c q has kind is = promoted_has g alive n set e st s sim promoted c spread.1 q kind is
+  word_has set e st s sim (inr promoted) (inr registered) c q has kind is = promoted_has g alive n set e st s sim promoted registered c q kind is
 
   -- the number of one of two that are brought together
-  part_has : (set : ℕ) (e : TExpr) (st : State) (s : CodeState) → Sim g alive st s → IsPure set e ⊎ IsPromoted set e → IsNarrowed e ⊎ IsSpread e → IsWide set (type_of e) → HasItsCode g.typed g.instance alive n e → (q : ℕ)
+  part_has : (set : ℕ) (e : TExpr) (st : State) (s : CodeState) → Sim g alive st s → IsPure set e ⊎ IsPromoted set e → IsNarrowed e ⊎ IsRegistered e → IsWide set (type_of e) → HasItsCode g.typed g.instance alive n e → (q : ℕ)
       → (IsPure set e → IsNarrowed e → (kind : Elem) → kind_of e ≡ Some kind → HasWord kind (word_at (extents g set) st e q)) → (kind : Elem) → kind_of e ≡ Some kind → HasWord kind (value_in (extents g set) st e q)
   part_has set e st s sim operand so wide c q has kind is =
       subst (λ (x : ℕ). HasWord kind x) (held_wide (type_of e).elem (value_in (extents g set) st e q) wide.1 (below_word (type_of e).elem.bits _ wide.1 (operand_small g alive n places fields set e st s sim operand c q))) (word_has set e st s sim operand so c q has kind is)
 
   -- that of one that is converted
-  converts_has : (set : ℕ) (ty : ValueType) (operand : TExpr) (st : State) (s : CodeState) → Sim g alive st s → IsPure set operand ⊎ IsPromoted set operand → HasKnownKind operand ⊎ IsSpread operand → HasItsCode g.typed g.instance alive n operand → (q : ℕ)
+  converts_has : (set : ℕ) (ty : ValueType) (operand : TExpr) (st : State) (s : CodeState) → Sim g alive st s → IsPure set operand ⊎ IsPromoted set operand → HasKnownKind operand ⊎ IsRegistered operand → HasItsCode g.typed g.instance alive n operand → (q : ℕ)
       → (IsPure set operand → IsNarrowed operand → (k : Elem) → kind_of operand ≡ Some k → HasWord k (word_at (extents g set) st operand q)) → (kind : Elem) → converted_kind ty.elem (kind_of operand) ≡ Some kind → HasWord kind (held ty.elem (converted ty.elem (type_of operand).elem (value_in (extents g set) st operand q)))
   converts_has set ty operand st s sim is so c q before kind is_kind =
       convert_has ty.elem (type_of operand).elem (kind_of operand) (value_in (extents g set) st operand q) (operand_small g alive n places fields set operand st s sim is c q) (by so) kind is_kind
     where
-      by : HasKnownKind operand ⊎ IsSpread operand → (k : Elem) → kind_of operand ≡ Some k → HasWord k (word_at (extents g set) st operand q)
+      by : HasKnownKind operand ⊎ IsRegistered operand → (k : Elem) → kind_of operand ≡ Some k → HasWord k (word_at (extents g set) st operand q)
       by (inl (inl none)) k some = let wrong = sym none ∙ some in cc
       by (inl (inr narrowed)) k some = word_has set operand st s sim is (inl narrowed) c q before k some
-      by (inr spread) k some = word_has set operand st s sim is (inr spread) c q before k some
+      by (inr registered) k some = word_has set operand st s sim is (inr registered) c q before k some
 
   pub kind_has : (set : ℕ) (e : TExpr) (st : State) (s : CodeState) → Sim g alive st s → IsPure set e → IsNarrowed e → HasItsCode g.typed g.instance alive n e → (q : ℕ) → (kind : Elem) → kind_of e ≡ Some kind → HasWord kind (word_at (extents g set) st e q)
   unfolding IsPure IsNarrowed kind_of value_in binary_kind
@@ -125,7 +125,7 @@ module _ (g : Setting) (alive : Variable → Type 0) (n : ℕ) (places : PlacesF
       Before : TExpr → Type 0
       Before e = IsPure set e → IsNarrowed e → (k : Elem) → kind_of e ≡ Some k → HasWord k (word_at (extents g set) st e q)
 
-      either : (relates op ≡ true) ⊎ ((is_bitwise op ≡ true) × (IsNarrowed left ⊎ IsSpread left) × (IsNarrowed right ⊎ IsSpread right)) → Before left → Before right → HasWord kind (held ty.elem (outcome op 32 (not (type_of left).elem.signed) v w))
+      either : (relates op ≡ true) ⊎ ((is_bitwise op ≡ true) × (IsNarrowed left ⊎ IsRegistered left) × (IsNarrowed right ⊎ IsRegistered right)) → Before left → Before right → HasWord kind (held ty.elem (outcome op 32 (not (type_of left).elem.signed) v w))
       either (inl related) one other =
           truth_has ty.elem kind _ (nonzero (outcome op 32 (not (type_of left).elem.signed) v w)) (is_truth op 32 (not (type_of left).elem.signed) v w related) is.0.1
           (sym (ap (λ (b : Bool). if b then Some truth_type else if is_bitwise op then common_kind (kind_of left) (kind_of right) else None) related) ∙ is_kind)
@@ -151,7 +151,7 @@ module _ (g : Setting) (alive : Variable → Type 0) (n : ℕ) (places : PlacesF
   kind_has set _ st s sim is so c q kind is_kind = absurd so
 
   -- it is 0 where its lowest bits of that type are
-  pub zero_told : (set : ℕ) (e : TExpr) (st : State) (s : CodeState) → Sim g alive st s → IsPure set e ⊎ IsPromoted set e → HasKnownKind e ⊎ IsSpread e → HasItsCode g.typed g.instance alive n e → (q : ℕ)
+  pub zero_told : (set : ℕ) (e : TExpr) (st : State) (s : CodeState) → Sim g alive st s → IsPure set e ⊎ IsPromoted set e → HasKnownKind e ⊎ IsRegistered e → HasItsCode g.typed g.instance alive n e → (q : ℕ)
       → (word_at (extents g set) st e q % 2 ^ bits_of (kind_of e) == 0) ≡ (value_in (extents g set) st e q == 0)
   unfolding bits_of
   zero_told set e st s sim operand so c q = by (kind_of e) refl so ∙ held_zero (type_of e).elem (value_in (extents g set) st e q) (operand_small g alive n places fields set e st s sim operand c q)
@@ -159,16 +159,16 @@ module _ (g : Setting) (alive : Variable → Type 0) (n : ℕ) (places : PlacesF
       w : ℕ
       w = word_at (extents g set) st e q
 
-      narrow_zero : (kind : Elem) → kind_of e ≡ Some kind → IsNarrowed e ⊎ IsSpread e → (w % 2 ^ bits_of (kind_of e) == 0) ≡ (w == 0)
+      narrow_zero : (kind : Elem) → kind_of e ≡ Some kind → IsNarrowed e ⊎ IsRegistered e → (w % 2 ^ bits_of (kind_of e) == 0) ≡ (w == 0)
       narrow_zero kind some narrow =
           ap (λ (o : Option Elem). w % 2 ^ bits_of o == 0) some
           ∙ zero_test kind (w % 2 ^ kind.bits) w (word_has set e st s sim operand narrow c q (λ pure narrowed k is_k. kind_has set e st s sim pure narrowed c q k is_k) kind some).0 refl
 
-      by : (o : Option Elem) → kind_of e ≡ o → HasKnownKind e ⊎ IsSpread e → (w % 2 ^ bits_of (kind_of e) == 0) ≡ (w == 0)
+      by : (o : Option Elem) → kind_of e ≡ o → HasKnownKind e ⊎ IsRegistered e → (w % 2 ^ bits_of (kind_of e) == 0) ≡ (w == 0)
       by None none any = ap (λ (o : Option Elem). w % 2 ^ bits_of o == 0) none ∙ ap (λ (m : ℕ). m == 0) (mod-eq_of_lt (held_below (type_of e).elem (value_in (extents g set) st e q)))
       by (Some kind) some (inl (inl none)) = let wrong = sym none ∙ some in cc
       by (Some kind) some (inl (inr narrowed)) = narrow_zero kind some (inl narrowed)
-      by (Some kind) some (inr spread) = narrow_zero kind some (inr spread)
+      by (Some kind) some (inr registered) = narrow_zero kind some (inr registered)
 
   -- ---- the two sides of a relation
 
@@ -177,7 +177,7 @@ module _ (g : Setting) (alive : Variable → Type 0) (n : ℕ) (places : PlacesF
       → HasWord kind (word_at (extents g set) st e q)
   side_has set e st s sim (inl (pure, inl none)) wide c no_word q below kind is = let wrong = sym none ∙ is in cc
   side_has set e st s sim (inl (pure, inr narrowed)) wide c no_word q below kind is = kind_has set e st s sim pure narrowed c q kind is
-  side_has set e st s sim (inr promoted) wide c no_word q below kind is = promoted_has g alive n set e st s sim promoted c no_word q kind is
+  side_has set e st s sim (inr promoted) wide c no_word q below kind is = promoted_has g alive n set e st s sim promoted (computed_registered set e promoted no_word) c q kind is
 
   kind_given : (o : Option Elem) (word : ℕ) (kind : Elem) → kind_with o word ≡ Some kind → (o ≡ Some kind) × (has_number kind word ≡ true)
   unfolding kind_with

@@ -40,7 +40,7 @@ use Rattle.code_follows.proofs.Following.{Extends, Follows, HasRegisters, Sim, e
 use Rattle.code_follows.proofs.Values.{extends_grown}
 use Rattle.code_follows.proofs.Settings.{Setting, and_one, layout, start}
 use Rattle.code_follows.specs.Fragment.{NamesAmong}
-use Rattle.fields_follow.specs.Fragment.{HasItsKind, HasKnownKind, IsOfFileOrBlock, IsPure, IsPromoted, IsSpread}
+use Rattle.fields_follow.specs.Fragment.{HasItsKind, HasKnownKind, IsOfFileOrBlock, IsPure, IsPromoted, IsRegistered}
 use Rattle.fields_follow.proofs.Starts.{Starts}
 use Rattle.fields_follow.proofs.ConditionCode.{Bit, Told, Truth, bit_taken, flag_after, flag_extends, nonzero_after, operand_at, zero_after}
 use Rattle.fields_follow.proofs.Conditions.{HaveTheirCode}
@@ -95,7 +95,7 @@ module _ (g : Setting) (has : HasRegisters g) (alive : Variable → Type 0) (n :
   -- ---- words
 
   -- a field that has the lowest bits of the words of a value tells where it is zero
-  pub value_told : (set : ℕ) (e : TExpr) → IsPure set e ⊎ IsPromoted set e → HasKnownKind e ⊎ IsSpread e → HasItsCode g.typed g.instance alive n e → (code : Draft → Made Out) → Valued g has alive n ready places fields (bits_of (kind_of e)) set e code → Says set e (λ d s st. Told g alive places fields d s set st (numbers_of set e st)) code
+  pub value_told : (set : ℕ) (e : TExpr) → IsPure set e ⊎ IsPromoted set e → HasKnownKind e ⊎ IsRegistered e → HasItsCode g.typed g.instance alive n e → (code : Draft → Made Out) → Valued g has alive n ready places fields (bits_of (kind_of e)) set e code → Says set e (λ d s st. Told g alive places fields d s set st (numbers_of set e st)) code
   value_told set e operand so c code valued d s st here sim =
       let bits : ℕ = bits_of (kind_of e) in
       given_weaker g s (meant g fields e st) (numbers_of set e st) st (Gives g has alive n ready places fields (IsFlag e) bits (length d.fields) d s set st (λ q. word_at (extents g set) st e q)) (Told g alive places fields d s set st (numbers_of set e st)) (code d)

@@ -37,7 +37,6 @@ use Rattle.lower_base.specs.Kinds.{is_bitwise, kind_of}
 use Rattle.lower_comm.specs.declared.news.NewsStep.{NewsStep}
 use Rattle.lower_comm.specs.News.{all_go_by_news, step_of}
 use Rattle.lower_expr.specs.Kinds.{operation_bits, relation_kind}
-use Rattle.lower_expr.specs.Steps.{is_kept, word_of}
 use Rattle.source_meaning.specs.Constants.{constant_of}
 use Rattle.source_meaning.specs.Values.{cast_type}
 use Rattle.code_follows.specs.Fragment.{Beside, IsOperand as OperatesOn, IsProgramBeside, IsScalarType, IsWord, IsIn, May}
@@ -138,23 +137,19 @@ unfoldable pub AreSteps : {k : _} → ℕ → ℕ → Row_of-TExpr k → Type 0
 AreSteps set axis end_of-TExpr = Unit {0}
 AreSteps set axis (more_of-TExpr index rest) = IsStepping set axis index × AreSteps set (axis + 1) rest
 
--- a promoted scalar that is computed
-abbrev pub IsSpread : TExpr → Type 0
-IsSpread e = (is_kept e ≡ true) × (word_of e ≡ None)
-
--- a value whose narrow type is that of a variable or of a conversion, also of such a scalar, one of truth values, or that
--- of two such values, or such scalars, that are joined bit by bit or of which one is chosen
+-- a value whose narrow type is that of a variable or of a conversion, also of a promoted scalar, one of truth values, or
+-- that of two such values, or promoted scalars, that are joined bit by bit or of which one is chosen
 unfoldable pub IsNarrowed : TExpr → Type 0
 IsNarrowed (T.Variable ty x) = Unit {0}
 IsNarrowed (T.LeftIndex' ty place p indexes x of) = Unit {0}
 IsNarrowed (T.Brackets' ty p inner) = IsNarrowed inner
 IsNarrowed (T.Convert' ty p operand) = (kind_of operand ≡ None) ⊎ IsNarrowed operand
-IsNarrowed (T.ParallelCast' ty p operand) = ((kind_of operand ≡ None) ⊎ IsNarrowed operand) ⊎ IsSpread operand
+IsNarrowed (T.ParallelCast' ty p operand) = ((kind_of operand ≡ None) ⊎ IsNarrowed operand) ⊎ IsRegistered operand
 IsNarrowed (T.Unary' ty op p operand) = negates op ≡ true
 IsNarrowed (T.LogicalOr' ty p left q right) = Unit {0}
 IsNarrowed (T.LogicalAnd' ty p left q right) = Unit {0}
-IsNarrowed (T.Binary' ty place op p left q right) = (relates op ≡ true) ⊎ ((is_bitwise op ≡ true) × (IsNarrowed left ⊎ IsSpread left) × (IsNarrowed right ⊎ IsSpread right))
-IsNarrowed (T.Choice' ty p test q first r second) = (IsNarrowed first ⊎ IsSpread first) × (IsNarrowed second ⊎ IsSpread second)
+IsNarrowed (T.Binary' ty place op p left q right) = (relates op ≡ true) ⊎ ((is_bitwise op ≡ true) × (IsNarrowed left ⊎ IsRegistered left) × (IsNarrowed right ⊎ IsRegistered right))
+IsNarrowed (T.Choice' ty p test q first r second) = (IsNarrowed first ⊎ IsRegistered first) × (IsNarrowed second ⊎ IsRegistered second)
 IsNarrowed _ = ⊥
 
 -- one of which no type of fewer than 32 bits is known, or one of such a type
@@ -189,7 +184,7 @@ unfoldable mutual
       IsWide set ty × (IsOperation op right ⊎ IsRelation set op left right) × ((IsPure set left × (IsPure set right ⊎ IsPromoted set right)) ⊎ (IsPromoted set left × IsPure set right)) × IsWide set (type_of left) × IsWide set (type_of right)
   IsPure set (T.Choice' ty p test q first r second) = IsWide set ty × ((IsPure set test × HasKnownKind test) ⊎ IsCalm test) × (IsPure set first ⊎ IsPromoted set first) × (IsPure set second ⊎ IsPromoted set second) × IsWide set (type_of first) × IsWide set (type_of second)
   IsPure set (T.Convert' ty p operand) = (ty.shape ≡ Some set) × (((ty.elem.bits == 1) ≡ false) ⊎ ((ty.elem.bits ≡ 1) × HasKnownKind operand)) × IsPure set operand
-  IsPure set (T.ParallelCast' ty p operand) = (ty.shape ≡ Some set) × (((ty.elem.bits == 1) ≡ false) ⊎ ((ty.elem.bits ≡ 1) × (HasKnownKind operand ⊎ IsSpread operand))) × (IsPure set operand ⊎ IsPromoted set operand)
+  IsPure set (T.ParallelCast' ty p operand) = (ty.shape ≡ Some set) × (((ty.elem.bits == 1) ≡ false) ⊎ ((ty.elem.bits ≡ 1) × (HasKnownKind operand ⊎ IsRegistered operand))) × (IsPure set operand ⊎ IsPromoted set operand)
   IsPure set (T.Pcoord ty axis) = IsWide set ty
   IsPure set (T.Dot ty axis) = IsWide set ty
   IsPure set (T.LeftIndex' ty place p indexes x of) = (ty.shape ≡ Some set) × IsOfFileOrBlock x × (((of ≡ set) × AreSteps set 0 indexes) ⊎ ((all_go_by_news of 0 (items-the_row-TExpr _ indexes) ≡ false) × AreIndexes set indexes × HasPure set indexes))
