@@ -65,6 +65,7 @@ pub mod Promoted
 pub mod Pure
 pub mod Reducing
 pub mod Reductions
+pub mod RegisterIndexes
 pub mod Relations
 pub mod Router
 pub mod RouterCode

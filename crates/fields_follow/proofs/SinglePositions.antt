@@ -1,7 +1,7 @@
 -- A single position of a parallel variable, which scalar indexes name: the code finds it, or both end as an index does
 -- not lie within its extent; it stands in a register, and what the variable has there is read.
 use denote.Hole.Carrier
-use Rattle.std.proofs.Common.{◌≤◌, ◌≡◌, ◌∙◌, ℕ, suc, ◌+◌, ◌*◌, ◌<◌, ◌^◌, ◌&&◌, Bool, true, false, not, List, [], ◌∷◌, length, map, slice_get, slice_index, Option, Some, None, ◌⊎◌, inl, inr, refl, sym, ap, subst, arith, if◌then◌else◌, Vec, Global}
+use Rattle.std.proofs.Common.{◌≤◌, ◌≡◌, ◌∙◌, ℕ, ◌+◌, ◌*◌, ◌<◌, ◌^◌, ◌&&◌, Bool, true, false, not, List, [], ◌∷◌, length, map, slice_get, slice_index, Option, Some, None, ◌⊎◌, inl, inr, refl, sym, ap, subst, arith, if◌then◌else◌, Vec, Global}
 use Rattle.std.specs.Prelude.{IfSome, is_none, is_some, nat_lt}
 use Rattle.cstar_base.specs.declared.elem.Elem.{Elem}
 use Rattle.cstar_base.specs.declared.faults.RunFault.TheVariants.{Index}
@@ -28,7 +28,6 @@ use Rattle.lower_base.specs.declared.emit.Out.TheVariants as O
 use Rattle.lower_base.specs.Constants.{constant_register, word_in}
 use Rattle.lower_base.specs.Drafts.{Draft, Fails, FrontChecksTarget, FrontMakesAddress, Made, Makes, Step, a_register, an_entry, fresh_for, in_register, step as step_of, then_make, with_instr, with_step}
 use Rattle.lower_base.specs.Layouts.{field_of}
-use Rattle.lower_base.specs.Operators.{is_signed}
 use Rattle.lower_comm.specs.Messages.{all_in_registers, communicated, front_located, index_register, located as located_code, located_at, read_at, signed_registers}
 use Rattle.lower_comm.specs.News.{all_go_by_news, goes_by_news}
 use Rattle.lower_expr.specs.declared.spots.Spot.{Spot}
@@ -80,47 +79,10 @@ use Rattle.fields_follow.proofs.Listed.{begins_there, front_check_stands, front_
 use Rattle.fields_follow.proofs.Locating.{and_step}
 use Rattle.fields_follow.proofs.Meaning.{then_ordered}
 use Rattle.fields_follow.proofs.Outcomes.{ended_follows}
+use Rattle.fields_follow.proofs.RegisterIndexes.{as_long, given_signs, item_signs, never_fails, signs_of, within_all}
 use Rattle.fields_follow.proofs.Places.{names_first, stands_here as stands_in}
 use Rattle.fields_follow.proofs.Values.{Finds, finds_extends, finds_read}
 use Rattle.fields_follow.proofs.Variables.{Carries, variable_fits}
-
--- ---- indexes in registers
-
--- how indexes of these types are read
-unfoldable signs_of : List Elem → List ℕ → List RegisterCoordinate
-signs_of [] registers = []
-signs_of (elem ∷ elems) [] = []
-signs_of (elem ∷ elems) (r ∷ registers) = record { register = r; signed = is_signed elem } ∷ signs_of elems registers
-
-given_signs : (given : List Operand) (registers : List ℕ) → registers_with_signs given registers ≡ signs_of (map (λ (o : Operand). o.elem) given) registers
-unfolding signs_of
-given_signs [] registers = refl
-given_signs (o ∷ given) [] = refl
-given_signs (o ∷ given) (r ∷ registers) = ap (λ (rest : List RegisterCoordinate). record { register = r; signed = is_signed o.elem } ∷ rest) (given_signs given registers)
-
-item_signs : (items : List TExpr) (registers : List ℕ) → signed_registers items registers ≡ signs_of (map (λ (e : TExpr). (type_of e).elem) items) registers
-unfolding signed_registers signs_of
-item_signs [] registers = refl
-item_signs (e ∷ items) [] = refl
-item_signs (e ∷ items) (r ∷ registers) = ap (λ (rest : List RegisterCoordinate). record { register = r; signed = is_signed (type_of e).elem } ∷ rest) (item_signs items registers)
-
-as_long : {A B : Type 0} (f : A → B) (xs : List A) → length (map f xs) ≡ length xs
-as_long f [] = refl
-as_long f (x ∷ xs) = ap suc (as_long f xs)
-
--- a scalar index that never fails lies within its extent
-within_all : (scope : Scope) (active : Active) (extents : List ℕ) (given : List Operand) → failing scope active None (λ p. not (are_within extents given p)) ≡ None → are_within extents given 0 ≡ true
-unfolding failing
-within_all scope active extents given never = by (are_within extents given 0) never
-  where
-    by : (b : Bool) → ◌≡◌ {A = Option (Option ℕ)} (if not b then Some None else None) None → b ≡ true
-    by true h = refl
-    by false h = cc
-
--- and one that does so never fails
-never_fails : (scope : Scope) (active : Active) (extents : List ℕ) (given : List Operand) → are_within extents given 0 ≡ true → failing scope active None (λ p. not (are_within extents given p)) ≡ None
-unfolding failing
-never_fails scope active extents given inside = ap (λ (b : Bool). if not b then Some None else None) inside
 
 module _ (g : Setting) (has : HasRegisters g) (alive : Variable → Type 0) (scope : Scope) (active : Active) where
   -- they have their words, and stand in registers
