@@ -1,6 +1,6 @@
 -- Parallel expressions beside scalar ones: what is known of the code of those that a program may have; and the same unit
 -- where something else is held.
-use Rattle.std.proofs.Common.{ℕ, length, ◌≡◌, ◌⊎◌, Bool, false, true, Some, None}
+use Rattle.std.proofs.Common.{ℕ, ◌+◌, length, ◌≡◌, ◌⊎◌, Bool, false, true, Some, None}
 use Rattle.cstar_base.specs.declared.operators.Place.{Place}
 use Rattle.cstar_tree.specs.declared.syntax.AssignOp.{AssignOp}
 use Rattle.cstar_tree.specs.declared.syntax.StepOp.{StepOp}
@@ -9,32 +9,47 @@ use Rattle.cstar_tree.specs.declared.typed.LocalVar.{LocalVar}
 use Rattle.cstar_tree.specs.declared.typed.TExpr.{TExpr, Row_of-TExpr}
 use Rattle.cstar_tree.specs.declared.typed.TExpr as T
 use Rattle.cstar_tree.specs.declared.typed.ValueType.{ValueType}
+use Rattle.cstar_tree.specs.declared.typed.VarInfo.{VarInfo}
 use Rattle.cstar_tree.specs.declared.typed.Variable.{Variable}
 use Rattle.cstar_tree.specs.declared.typed.Variable.TheVariants as V
 use Rattle.cstar_tree.specs.Typed.{type_of}
+use Rattle.code_lengths.specs.Lowerable.{IsValueFor}
 use Rattle.code_lengths.specs.Naming.{variable_named}
 use Rattle.code_lengths.specs.Ready.{HasCode, HasDeclared, IsReadyButForFields, NumbersVariables}
 use Rattle.lower_base.specs.declared.emit.Out.{Out}
 use Rattle.lower_base.specs.declared.emit.Out.TheVariants as O
-use Rattle.lower_base.specs.Drafts.{Draft, Makes}
-use Rattle.lower_expr.specs.Effects.{computed_to, effect_of}
+use Rattle.lower_base.specs.Drafts.{Draft, Made, Makes, then_make}
+use Rattle.lower_expr.specs.Effects.{computed_to, effect_of, put_to}
 use Rattle.lower_expr.specs.Operands.{are_quiet, operand_by}
 use Rattle.lower_expr.specs.Steps.{is_kept}
 use Rattle.lower_expr.specs.Values.{value_of}
-use Rattle.lower_stmt.specs.Variables.{cleared}
+use Rattle.lower_stmt.specs.Variables.{cleared, variable_of}
 use Rattle.paris_code.specs.Code.{CodeState}
 use Rattle.paris_code.specs.Memory.{BitMemory}
 use Rattle.source_meaning.specs.Expressions.{evaluated}
 use Rattle.source_meaning.specs.State.{State, zeroed}
+use Rattle.source_meaning.specs.Targets.{stored, variable_target}
 use Rattle.source_meaning.specs.Values.{Active, Scope, Value}
 use Rattle.source_meaning.proofs.ConstantLaws.{Boxed}
-use Rattle.code_follows.specs.Fragment.{IsGiven, IsIn, May, NamesAmong, naming}
+use Rattle.code_follows.specs.Fragment.{IsAssigned, IsGiven, IsIn, May, NamesAmong, naming}
 use Rattle.code_follows.proofs.Arguments.{AreDone}
 use Rattle.code_follows.proofs.Following.{Extends, Follows, HasRegisters, Ran, Sim}
 use Rattle.code_follows.proofs.Fresh.{IsClear}
 use Rattle.code_follows.proofs.Growing.{Extended}
 use Rattle.code_follows.proofs.Settings.{OpenAmong, At, Begun, Held, IsNewIn, Setting, Within, layout}
 use Rattle.code_follows.proofs.Values.{Dest, Does}
+
+module _ (g : Setting) where
+  -- an initialiser of the variable of a block of this number has code, and is a value for it
+  pub record IsCoded (n : ℕ) (info : VarInfo) (e : TExpr) : Type 0 where
+    pub code : HasCode g.typed g.instance (n + 1) e
+    pub named : variable_named g.typed g.instance (V.Local n) ≡ Some info
+    pub plain : info.array ≡ None
+    pub value : IsValueFor g.typed info.shape e
+
+  -- that code
+  abbrev pub initial_code : ℕ → VarInfo → TExpr → Draft → Made Out
+  initial_code n info e d = then_make (variable_of g.typed (layout g) info n d) (λ dest after. put_to g.typed (layout g) dest e after)
 
 module _ (g : Setting) (has : HasRegisters g) (scope : Scope) (active : Active) where
   -- what is known of the code of a number that is given to a position
@@ -49,7 +64,8 @@ module _ (g : Setting) (has : HasRegisters g) (scope : Scope) (active : Active) 
 
   -- Wherever they stand in the function, the code of an effect does what it does in the source, and that of a fold, and of
   -- a read of one position whose indexes are done so, leaves its number in the register that is to have it; so are
-  -- assignments to one done, where their values are, and steps of one.
+  -- assignments to one done, where their values are, and steps of one. That of an initialiser stores its value in a
+  -- parallel variable.
   pub record ExpressionsFollow : Type 1 where
     pub effects : (alive : Variable → Type 0) → ((k : ℕ) → alive (V.File k)) → (n : ℕ) → ((d : Draft) → IsReadyButForFields g.typed g.instance (layout g) n d)
         → (e : TExpr) → g.may.beside.effects e → NamesAmong alive e → HasCode g.typed g.instance n e
@@ -71,6 +87,10 @@ module _ (g : Setting) (has : HasRegisters g) (scope : Scope) (active : Active) 
         → (ty : ValueType) (place : Place) (op : StepOp) (order : StepOrder) (p : Boxed) (r : _) (indexes : Row_of-TExpr _) (x : Variable) (of : ℕ) → IsIn (naming g.may alive) (T.LeftIndex' ty place r indexes x of) → HasCode g.typed g.instance n (T.LeftIndex' ty place r indexes x of)
         → AreDone g has alive scope active false (are_quiet indexes) indexes
         → (quiet : Bool) (bits : ℕ) → Does g has alive ty.elem quiet (λ st. evaluated scope (T.Step' ty op order p (T.LeftIndex' ty place r indexes x of)) active st) (λ d. value_of g.typed (layout g) bits (T.Step' ty op order p (T.LeftIndex' ty place r indexes x of)) d)
+    pub initials : (alive : Variable → Type 0) → ((k : ℕ) → alive (V.File k)) → (n : ℕ) → ((d : Draft) → IsReadyButForFields g.typed g.instance (layout g) (n + 1) d)
+        → (info : VarInfo) (set : ℕ) (e : TExpr) → info.shape ≡ Some set → IsAssigned (naming g.may alive) n info e → IsCoded g n info e
+        → (d : Draft) (s : CodeState) (st : State) → Begun g alive d → At g s (length d.code) → Sim g alive st s
+        → Follows g (λ v u out f. Ran g alive d s (stored active (variable_target info.shape (V.Local n) 0) v u) f) s (evaluated scope e active st) (initial_code g n info e d)
 
 module _ (g : Setting) where
   -- The code that clears a parallel variable of a block is made, and that variable has its entry and is 0 behind it.

@@ -133,23 +133,23 @@ module _ (g : Setting) (has : HasRegisters g) (alive : Variable → Type 0) (fil
   abbrev pub begun_code : {k : Count} → List LocalVar → Row_of-TStmt k → Exits → ℕ → Draft → Made ℕ
   begun_code locals row f n d = then_make (then_make (all_initialised g.typed (layout g) locals n d) (λ v after. Makes (n + length locals) after)) (λ m after. statements_of g.typed (layout g) row f.frame contexts m after)
 
-  pub begun_grows : {k : Count} (locals : List LocalVar) (row : Row_of-TStmt k) (f : Exits) (n : ℕ) (d : Draft) → All (IsBlockLocal g.may.beside) locals → AreSettled g has alive files ready scope active calls_follow n locals → AreCoded g has alive files ready scope active calls_follow n locals → RowCode (n + length locals) row → StandsIn g f.frame → StandsAmong f.frame contexts → HasDeclared g.typed g.instance (layout g) (n + length locals) d
+  pub begun_grows : {k : Count} (locals : List LocalVar) (row : Row_of-TStmt k) (f : Exits) (n : ℕ) (d : Draft) → AreSettled g has alive files ready scope active calls_follow n locals → AreCoded g has alive files ready scope active calls_follow n locals → RowCode (n + length locals) row → StandsIn g f.frame → StandsAmong f.frame contexts → HasDeclared g.typed g.instance (layout g) (n + length locals) d
       → Extends g d (begun_code locals row f n d)
   unfolding then_make Extends DeclaredBy
-  begun_grows locals row f n d isin settled initial code framed among known = by (all_initialised g.typed (layout g) locals n d) refl
+  begun_grows locals row f n d settled initial code framed among known = by (all_initialised g.typed (layout g) locals n d) refl
     where
       by : (m : Made (Unit {0})) → all_initialised g.typed (layout g) locals n d ≡ m → Extends g d (then_make (then_make m (λ v after. Makes (n + length locals) after)) (λ m' after. statements_of g.typed (layout g) row f.frame contexts m' after))
       by Fails is = tt
       by (Makes u e) is =
-          let grows : (j : ℕ) × Extended d j e = subst (λ (m : Made (Unit {0})). Extends g d m) is (initials_grow g has alive files ready scope active calls_follow locals n d isin settled initial) in
-          extends_made g d e grows.0 (statements_of g.typed (layout g) row f.frame contexts (n + length locals) e) grows.1 (row_grows row f.frame (n + length locals) e framed among (subst (λ (m : Made (Unit {0})). DeclaredBy g (n + length locals) m) is (initials_declared g has alive files ready scope active calls_follow locals n (n + length locals) d isin settled initial known)) code)
+          let grows : (j : ℕ) × Extended d j e = subst (λ (m : Made (Unit {0})). Extends g d m) is (initials_grow g has alive files ready scope active calls_follow locals n d settled initial) in
+          extends_made g d e grows.0 (statements_of g.typed (layout g) row f.frame contexts (n + length locals) e) grows.1 (row_grows row f.frame (n + length locals) e framed among (subst (λ (m : Made (Unit {0})). DeclaredBy g (n + length locals) m) is (initials_declared g has alive files ready scope active calls_follow locals n (n + length locals) d settled initial known)) code)
 
-  pub begun_follows : {k : Count} (locals : List LocalVar) (row : Row_of-TStmt k) (f : Exits) (n : ℕ) (d : Draft) (s0 : CodeState) (st : State) → All (IsBlockLocal g.may.beside) locals → StandFrom (variables_of g.instance.body) n (map info_of locals) → AreSettled g has alive files ready scope active calls_follow n locals → AreCoded g has alive files ready scope active calls_follow n locals → RowCode (n + length locals) row
+  pub begun_follows : {k : Count} (locals : List LocalVar) (row : Row_of-TStmt k) (f : Exits) (n : ℕ) (d : Draft) (s0 : CodeState) (st : State) → AreSettled g has alive files ready scope active calls_follow n locals → AreCoded g has alive files ready scope active calls_follow n locals → RowCode (n + length locals) row
       → StandsIn g f.frame → StandsAmong f.frame contexts → HasDeclared g.typed g.instance (layout g) (n + length locals) d → Begun g alive d → At g s0 (length d.code) → Sim g (λ z. Now g has alive files ready scope active calls_follow locals n z) st s0
       → ((e : Draft) (t : CodeState) (u : State) → HasDeclared g.typed g.instance (layout g) (n + length locals) e → Begun g alive e → At g t (length e.code) → Sim g alive u t → Follows g (Left g alive f e t) t (all_executed scope row (n + length locals) active u) (statements_of g.typed (layout g) row f.frame contexts (n + length locals) e))
       → Follows g (Left g alive f d s0) s0 (then_go (initialised scope active n locals st) (all_executed scope row (n + length locals) active)) (begun_code locals row f n d)
   unfolding then_make Extends DeclaredBy
-  begun_follows locals row f n d s0 st isin stand settled initial code framed among known free at sim next = by (all_initialised g.typed (layout g) locals n d) refl
+  begun_follows locals row f n d s0 st settled initial code framed among known free at sim next = by (all_initialised g.typed (layout g) locals n d) refl
     where
       whole : Outcome Leaving
       whole = then_go (initialised scope active n locals st) (all_executed scope row (n + length locals) active)
@@ -157,11 +157,11 @@ module _ (g : Setting) (has : HasRegisters g) (alive : Variable → Type 0) (fil
       by : (m : Made (Unit {0})) → all_initialised g.typed (layout g) locals n d ≡ m → Follows g (Left g alive f d s0) s0 whole (then_make (then_make m (λ v after. Makes (n + length locals) after)) (λ m' after. statements_of g.typed (layout g) row f.frame contexts m' after))
       by Fails is = nothing_said g (Left g alive f d s0) s0 whole
       by (Makes u e) is =
-          let grows : (j : ℕ) × Extended d j e = subst (λ (m : Made (Unit {0})). Extends g d m) is (initials_grow g has alive files ready scope active calls_follow locals n d isin settled initial) in
-          let known_e : HasDeclared g.typed g.instance (layout g) (n + length locals) e = subst (λ (m : Made (Unit {0})). DeclaredBy g (n + length locals) m) is (initials_declared g has alive files ready scope active calls_follow locals n (n + length locals) d isin settled initial known) in
+          let grows : (j : ℕ) × Extended d j e = subst (λ (m : Made (Unit {0})). Extends g d m) is (initials_grow g has alive files ready scope active calls_follow locals n d settled initial) in
+          let known_e : HasDeclared g.typed g.instance (layout g) (n + length locals) e = subst (λ (m : Made (Unit {0})). DeclaredBy g (n + length locals) m) is (initials_declared g has alive files ready scope active calls_follow locals n (n + length locals) d settled initial known) in
           let made : Made ℕ = statements_of g.typed (layout g) row f.frame contexts (n + length locals) e in
           go_after g has alive files ready scope active calls_follow d s0 (Left g alive f d s0) (initialised scope active n locals st) (all_executed scope row (n + length locals) active) u e made
-          (subst (λ (m : Made (Unit {0})). Follows g (RanOn g alive d s0) s0 (initialised scope active n locals st) m) is (initials_follow g has alive files ready scope active calls_follow locals n d s0 st isin stand settled initial free at sim)) (row_grows row f.frame (n + length locals) e framed among known_e code)
+          (subst (λ (m : Made (Unit {0})). Follows g (RanOn g alive d s0) s0 (initialised scope active n locals st) m) is (initials_follow g has alive files ready scope active calls_follow locals n d s0 st settled initial free at sim)) (row_grows row f.frame (n + length locals) e framed among known_e code)
           (λ v one. follows_from g alive f d e grows.0 s0 one.t (all_executed scope row (n + length locals) active v) made grows.1 one.go one.keeps (next e one.t v known_e (begun_later g alive d e grows.0 grows.1 free) one.at one.sim))
 
   -- a block: its variables, and then its statements
@@ -176,16 +176,16 @@ module _ (g : Setting) (has : HasRegisters g) (alive : Variable → Type 0) (fil
       let whole : Outcome Leaving = then_go (initialised scope active n locals after_zero) (all_executed scope row (n + length locals) active) in
       let known_e : HasDeclared g.typed g.instance (layout g) (n + length locals) c.e = clears_declare g false locals n d c.e c.is stand numbers known in
       subst (λ (m : Made (Unit {0})). Follows g (Left g alive f d s0) s0 whole (then_make (then_make m (λ u between. then_make (all_initialised g.typed (layout g) locals n between) (λ v after. Makes (n + length locals) after))) (λ m' after. statements_of g.typed (layout g) row f.frame contexts m' after))) (sym c.is)
-      (delayed g (Left g alive f d s0) c.e s0 whole (begun_code locals row f n c.e) (begun_grows locals row f n c.e isin settled initial code framed among known_e) (λ within.
+      (delayed g (Left g alive f d s0) c.e s0 whole (begun_code locals row f n c.e) (begun_grows locals row f n c.e settled initial code framed among known_e) (λ within.
       let ran = c.runs s0 st free at sim within in
       let started : Sim g (λ z. Now g has alive files ready scope active calls_follow locals n z) after_zero ran.t = sim_fewer g (λ x. Alive before locals n x) (λ z. Now g has alive files ready scope active calls_follow locals n z) after_zero ran.t (λ x info named h. (covers x h.0, h.1)) ran.sim in
       follows_from g alive f d c.e c.count s0 ran.t whole (begun_code locals row f n c.e) c.grown ran.go ran.keeps
-      (begun_follows locals row f n c.e ran.t after_zero isin stand settled initial code framed among known_e (begun_fewer g (λ x. OrAmong before n (length locals) x) alive c.e covers (c.opened within free)) ran.at started next)))
+      (begun_follows locals row f n c.e ran.t after_zero settled initial code framed among known_e (begun_fewer g (λ x. OrAmong before n (length locals) x) alive c.e covers (c.opened within free)) ran.at started next)))
 
   -- what has code of a block's initialisers
   pub block_initials : (n : ℕ) (locals : Vec LocalVar Global) (p : Vec (Unit {0}) Global) (row : _) → HasStatementCode g.typed g.instance n (S.Block' locals p row) → AreCoded g has alive files ready scope active calls_follow n locals.items
   unfolding IsShapedStatement IsLowerableStatement StatementNamesVariables
-  block_initials n locals p row c = coded g has alive files ready scope active calls_follow n locals.items c.shaped.0 c.lowerable.0 c.names.0
+  block_initials n locals p row c = coded g has alive files ready scope active calls_follow n locals.items c.shaped.0 c.lowerable.0 c.names.0 (first_part (map info_of locals.items) (row_variables row) (block_stands n locals p row c))
 
   pub row_onward : {k : Count} (s : TStmt) (rest : Row_of-TStmt k) (f : Exits) (n : ℕ) (d : Draft) (s0 : CodeState) (st : State) → StandsIn g f.frame → StandsAmong f.frame contexts → HasDeclared g.typed g.instance (layout g) n d → Begun g alive d → RowCode n (more_of-TStmt s rest)
       → Follows g (Left g alive f d s0) s0 (executed scope s n active st) (statement_of g.typed (layout g) s f.frame contexts n d)

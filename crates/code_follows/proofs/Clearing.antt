@@ -136,5 +136,5 @@ module _ (g : Setting) where
       either : IsBlockLocal g.may.beside local → ((more : Variable → Type 0) → ((x : Variable) (info : VarInfo) → IsScalar g x info → more x) → (e : Draft) → HasDeclared g.typed g.instance (layout g) (n + 1) e → ClearsFirst more locals (n + 1) e) → ClearsFirst before (local ∷ locals) n d
       either (inl scalar) rest = keeps_one before local locals n d (named, scalar) (plain (V.Local n) local.info (named, scalar)) (rest before plain d (declared d (kept_so local scalar n d (λ after. Makes tt after))))
       either (inr parallel) rest =
-          let one = parallels true local n d parallel.0 named numbers known in
+          let one = parallels true local n d parallel named numbers known in
           clears_it before local locals n d one (rest (λ x. before x ⊎ (x ≡ V.Local n)) (λ x info h. inl (plain x info h)) one.e (declared one.e (ap (λ (m : Made (Unit {0})). then_make m (λ u after. Makes (tt {0}) after)) one.is)))

@@ -90,11 +90,15 @@ pub never_begins : (local : LocalVar) → local.initial ≡ None → begins_cons
 unfolding begins_constant
 never_begins local is = ap (λ (o : Option TExpr). elim o as (λ _. Bool) [ None ↦ false | Some e ↦ has_word true e ]) is
 
+-- a scalar variable that begins as a constant takes it only when its turn comes
+abbrev pub Waits : LocalVar → Type 0
+Waits local = (begins_constant local ≡ true) × IsScalarLocal local
+
 -- the variables that hold their values where so far into a block the initialiser of the first of these is
 -- next: all but those that begin as constants, whose turn is still to come
 unfoldable pub Started : List LocalVar → ℕ → Variable → Type 0
 Started [] n x = Unit {0}
-Started (local ∷ locals) n x = (begins_constant local ≡ true → x ≡ V.Local n → ⊥) × Started locals (n + 1) x
+Started (local ∷ locals) n x = (Waits local → x ≡ V.Local n → ⊥) × Started locals (n + 1) x
 
 pub local_same : (j k : ℕ) → V.Local j ≡ V.Local k → j ≡ k
 local_same j k e = ap (λ (x : Variable). elim x as (λ _. ℕ) [ V.File m ↦ 0 | V.Param m ↦ 0 | V.Local m ↦ m ]) e
@@ -340,7 +344,7 @@ module _ (g : Setting) (has : HasRegisters g) where
         let sim1 : Sim g others st1 s = waiting before st s sim in
         let ran = rest.runs s st1 (begun_fewer g before others d (λ x h. h.0) free) at sim1 within in
         ran_fewer g (λ x. Alive others locals (n + 1) x) (λ x. Alive before (local ∷ locals) n x) d s (zeroed (n + 1) (length locals) st1) (zeroed n (suc (length locals)) st) rest.e
-        (λ x h. (waiting_still x (h.1.0 begins) (first_or_later before n (length locals) x h.0), h.1.1)) (zeroed_more n (length locals) st) ((λ k e p. same_zeroed g n (suc (length locals)) (n + 1) (length locals) n 0 st k e p), (λ k is_open e p. zeroed_others n (length locals) st st1 (λ j f q. refl) k (other_one g n local.info scalar (λ x. Alive before (local ∷ locals) n x) k is_open) e p)) refl refl refl refl ran;
+        (λ x h. (waiting_still x (h.1.0 (begins, scalar.1)) (first_or_later before n (length locals) x h.0), h.1.1)) (zeroed_more n (length locals) st) ((λ k e p. same_zeroed g n (suc (length locals)) (n + 1) (length locals) n 0 st k e p), (λ k is_open e p. zeroed_others n (length locals) st st1 (λ j f q. refl) k (other_one g n local.info scalar (λ x. Alive before (local ∷ locals) n x) k is_open) e p)) refl refl refl refl ran;
   }
     where
       waiting_still : (x : Variable) → (x ≡ V.Local n → ⊥) → (before x ⊎ (is_among (n + 1) (length locals) x ≡ true)) ⊎ (x ≡ V.Local n) → (before x × (x ≡ V.Local n → ⊥)) ⊎ (is_among (n + 1) (length locals) x ≡ true)
@@ -406,9 +410,9 @@ module _ (g : Setting) (has : HasRegisters g) where
       was_alive y (inr e) other = let same : is_same (V.Local n) y ≡ true = ap (λ (z : Variable). is_same (V.Local n) z) e ∙ same_itself (V.Local n) in cc
 
   -- a parallel one becomes 0 at once
-  clears_parallel : (before : Variable → Type 0) (local : LocalVar) (locals : List LocalVar) (n : ℕ) (d : Draft) (one : ClearsOne g false local n d) → begins_constant local ≡ false → Clears (λ x. before x ⊎ (x ≡ V.Local n)) locals (n + 1) one.e → Clears before (local ∷ locals) n d
+  clears_parallel : (before : Variable → Type 0) (local : LocalVar) (locals : List LocalVar) (n : ℕ) (d : Draft) (one : ClearsOne g false local n d) → Clears (λ x. before x ⊎ (x ≡ V.Local n)) locals (n + 1) one.e → Clears before (local ∷ locals) n d
   unfolding all_cleared then_make Started zeroed
-  clears_parallel before local locals n d one begins rest = record {
+  clears_parallel before local locals n d one rest = record {
     e = rest.e;
     is = ap (λ (m : Made (Unit {0})). then_make m (λ u after. all_cleared (layout g) false locals (n + 1) after)) one.is ∙ rest.is;
     count = one.count + rest.count;
@@ -464,5 +468,5 @@ module _ (g : Setting) (has : HasRegisters g) where
       either : IsBlockLocal g.may.beside local → ((more : Variable → Type 0) (e : Draft) → HasDeclared g.typed g.instance (layout g) (n + 1) e → Clears more locals (n + 1) e) → Clears before (local ∷ locals) n d
       either (inl scalar) rest = scalar_cleared scalar (begins_constant local) refl rest
       either (inr parallel) rest =
-          let one = parallels false local n d parallel.0 (first_is_named g n local.info (map info_of locals) stand) numbers known in
-          clears_parallel before local locals n d one (never_begins local parallel.1) (rest (λ x. before x ⊎ (x ≡ V.Local n)) one.e (declared one.e (ap (λ (m : Made (Unit {0})). then_make m (λ u after. Makes (tt {0}) after)) one.is)))
+          let one = parallels false local n d parallel (first_is_named g n local.info (map info_of locals) stand) numbers known in
+          clears_parallel before local locals n d one (rest (λ x. before x ⊎ (x ≡ V.Local n)) one.e (declared one.e (ap (λ (m : Made (Unit {0})). then_make m (λ u after. Makes (tt {0}) after)) one.is)))

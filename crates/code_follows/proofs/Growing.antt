@@ -4,9 +4,15 @@ use Rattle.std.proofs.Common.{◌≡◌, ◌∙◌, ℕ, ◌+◌, ◌≤◌, Lis
 use Rattle.code_lengths.specs.Growth as Growth
 use Rattle.code_lengths.specs.Growth.{Advanced}
 use Rattle.code_lengths.proofs.Drafting.{append_nothing}
-use Rattle.lower_base.specs.Drafts.{Draft, Step, here, step, with_instr, with_step}
+use Rattle.lower_base.specs.Drafts.{Draft, Fails, Made, Makes, Step, here, step, then_make, with_instr, with_step}
 use Rattle.paris_code.specs.declared.instr.Instr.{Instr}
 use Rattle.paris_code.specs.declared.program.Virtual.{Virtual}
+
+-- a piece of two, and then another
+pub then_three : {A B D : Type 0} (made : Made A) (f : A → Draft → Made B) (h : B → Draft → Made D) → then_make (then_make made f) h ≡ then_make made (λ x e. then_make (f x e) h)
+unfolding then_make
+then_three (Makes x e) f h = refl
+then_three Fails f h = refl
 
 pub record Extended (d : Draft) (n : ℕ) (e : Draft) : Type 0 where
   pub more : List Step

@@ -283,7 +283,7 @@ module _ (t : Typed) (image : Image) {beside : Beside} (p : IsProgramBeside besi
       let never : ends_in_return p.main.body ≡ true → NeverOnward whole =
       λ ends. never_second (initialised here active 0 locals.items _) _ (λ u. body_never here active locals q row (sym (ap (λ (x : TStmt). ends_in_return x) is) ∙ ends) (0 + length locals.items) u) in
       let ends : EndsSo t image p codable compiled holding 0 p.main p.is_main [] turns whole made.e = ends_by t image p codable compiled holding 0 p.main p.is_main [] turns whole made.e made.unit never in
-      let grown : (j : ℕ) × Extended first.e j made.e = subst (λ (m : Made ℕ). Extends main_setting first.e m) made.is_made (begun_grows main_setting has_it wide one numbers is_ready here active calls_in_main (never_rises active) [] locals.items row out 0 first.e h.0.0 settled initial own_row framed_so among_so declared) in
+      let grown : (j : ℕ) × Extended first.e j made.e = subst (λ (m : Made ℕ). Extends main_setting first.e m) made.is_made (begun_grows main_setting has_it wide one numbers is_ready here active calls_in_main (never_rises active) [] locals.items row out 0 first.e settled initial own_row framed_so among_so declared) in
       let cleared_in : Within main_setting first.e = earlier main_setting first.e made.e grown.0 grown.1 ends.inside in
       let opens = opened_so (earlier main_setting begun_there first.e first.count first.grown cleared_in) in
       let free : Begun main_setting alive begun_there = record { regs = omega (arith, regs); code = omega arith; fields = omega arith; opened = (λ k is_open. absurd (is_open.0 k refl is_open.1.0 is_open.1.1.0 is_open.1.1.1.0 is_open.1.1.1.1), λ j k one other is_open. absurd (is_open.0 j refl is_open.1.0 is_open.1.1.0 is_open.1.1.1.0 is_open.1.1.1.1)) } in
@@ -296,7 +296,7 @@ module _ (t : Typed) (image : Image) {beside : Beside} (p : IsProgramBeside besi
       (runs_function t image p codable compiled holding 0 p.main p.is_main [] turns first.e made.e made.n ran.t whole ends closed
       (subst (λ (m : Made ℕ). Follows main_setting (Left main_setting OfFileOrParam out first.e ran.t) ran.t whole m) made.is_made
       (follows_fewer main_setting wide OfFileOrParam (λ x living. inl living) out first.e ran.t whole code
-      (begun_follows main_setting has_it wide one numbers is_ready here active calls_in_main (never_rises active) [] locals.items row out 0 first.e ran.t (begun_body locals.items row) h.0.0 stand settled initial own_row framed_so among_so declared (begun_fewer main_setting (λ x. OrAmong alive 0 (length locals.items) x) wide first.e (λ x living. was_alive (length locals.items) x living) (first.opened cleared_in free)) ran.at sim
+      (begun_follows main_setting has_it wide one numbers is_ready here active calls_in_main (never_rises active) [] locals.items row out 0 first.e ran.t (begun_body locals.items row) settled initial own_row framed_so among_so declared (begun_fewer main_setting (λ x. OrAmong alive 0 (length locals.items) x) wide first.e (λ x living. was_alive (length locals.items) x living) (first.opened cleared_in free)) ran.at sim
       (λ e there u none free at sim_there. row_follows here (λ g. besides.follows g here) main_setting active around [] wide one (0 + length locals.items) (among_before OfFileOrParam 0 (length locals.items) before_all) row h.0.2 out e there u framed_so (stands_wider main_setting OfFileOrParam wide (λ x living. inl living) out [] (stands_here t image p codable compiled holding 0 p.main p.is_main [] turns (calls_in_main.lasts (OpenAmong main_setting OfFileOrParam) 0 (omega arith) (λ k is_open. absurd is_open.0)))) none free at sim_there own_row))))))
   runs _ is h = absurd h
 
@@ -325,7 +325,7 @@ unfolding IsIn
 means_source t image p codable compiled memory input rest turns winner are =
     (program_follows t image p codable compiled nothing_held {Known = λ g scope a. NothingBeside g} memory input rest turns winner are (tt {0}) (record {
       follows = λ g scope a known has. record {
-        expressions = record { effects = λ alive files n ready e h. absurd (known.effects e h); folds = λ alive files n ready e h. absurd (known.folds e h); reads = λ alive files n ready ty place p indexes x of is. absurd (known.positions x is.1); stores = λ alive files n ready ty place sending op p q r indexes x of value is. absurd (known.positions x is.1); steps = λ alive files n ready ty place op order p r indexes x of is. absurd (known.positions x is.1) };
+        expressions = record { effects = λ alive files n ready e h. absurd (known.effects e h); folds = λ alive files n ready e h. absurd (known.folds e h); reads = λ alive files n ready ty place p indexes x of is. absurd (known.positions x is.1); stores = λ alive files n ready ty place sending op p q r indexes x of value is. absurd (known.positions x is.1); steps = λ alive files n ready ty place op order p r indexes x of is. absurd (known.positions x is.1); initials = λ alive files n ready info set e shaped is. absurd (known.effects _ is.1.1.1.0) };
         locals = λ at_start local n d h. absurd (known.locals local.info h);
         wheres = λ alive files n ready shape test q first second h. absurd (known.conditions shape test h);
         widenings = λ alive files n ready shape q body h. absurd (known.widens shape h);

@@ -170,7 +170,7 @@ bit_widened names more fits (Some x) h = fits x h
 mutual
   unfolding NamesAmong
 
-  among_widened : (names more : Variable → Type 0) → ((x : Variable) → names x → more x) → (e : TExpr) → NamesAmong names e → NamesAmong more e
+  pub among_widened : (names more : Variable → Type 0) → ((x : Variable) → names x → more x) → (e : TExpr) → NamesAmong names e → NamesAmong more e
   among_widened names more fits (T.Variable ty x) h = fits x h
   among_widened names more fits (T.Brackets' ty p inner) h = among_widened names more fits inner h
   among_widened names more fits (T.Convert' ty p operand) h = among_widened names more fits operand h

@@ -5,6 +5,7 @@
 use Rattle.std.specs.Prelude.{ℕ, List, map, slice_get, ◌≡◌, ◌<◌, ◌^◌, [], IfSome, Option, Some, None, ◌⊎◌, ◌+◌, ◌∷◌, length, true}
 use Rattle.std.specs.List.{All, AllZip, Contains}
 use Rattle.cstar_base.specs.declared.elem.Elem.{Elem}
+use Rattle.cstar_base.specs.declared.operators.Place.{Place}
 use Rattle.cstar_tree.specs.declared.syntax.AssignOp.{AssignOp}
 use Rattle.cstar_tree.specs.declared.syntax.AssignOp.TheVariants as A
 use Rattle.cstar_tree.specs.declared.typed.TExpr.{TExpr, Row_of-TExpr, end_of-TExpr, items-the_row-TExpr, more_of-TExpr}
@@ -173,18 +174,26 @@ IsScalarVariable info = info.shape ≡ None
 abbrev pub IsScalarLocal : LocalVar → Type 0
 IsScalarLocal local = IsScalarVariable local.info
 
--- one that a program may have; a parallel one has no initialiser
+-- one that a program may have
 abbrev pub IsBlockLocal : Beside → LocalVar → Type 0
-IsBlockLocal beside local = IsScalarLocal local ⊎ (beside.locals local.info × (local.initial ≡ None))
+IsBlockLocal beside local = IsScalarLocal local ⊎ beside.locals local.info
 
--- the number that a variable of a block begins with
-abbrev pub IsInitial : May → LocalVar → TExpr → Type 0
-IsInitial may local e = IsIn may e × Takes local.info.elem (type_of e).elem
+-- the type of a variable that is no array
+abbrev pub type_named : VarInfo → ValueType
+type_named info = record { elem = info.elem; shape = info.shape }
+
+-- the variable of a block of this number takes a value by an assignment that the program may have
+abbrev pub IsAssigned : May → ℕ → VarInfo → TExpr → Type 0
+IsAssigned may n info e = (place : Place) × ((p : _) × ((q : _) × IsBeside may (T.Assign' (type_named info) place A.Set p (T.Variable (type_named info) (V.Local n)) q e)))
+
+-- what a variable of a block, of this number, begins with: a number, or, if it is parallel, what may be assigned to it
+abbrev pub IsInitial : May → ℕ → LocalVar → TExpr → Type 0
+IsInitial may n local e = (IsScalarLocal local × IsIn may e × Takes local.info.elem (type_of e).elem) ⊎ ((set : ℕ) × ((local.info.shape ≡ Some set) × IsAssigned may n local.info e))
 
 -- the initialisers of a block's variables, from a number on: each may name those before it, and its own
 unfoldable pub AreInitials : May → ℕ → List LocalVar → Type 0
 AreInitials may n [] = Unit {0}
-AreInitials may n (local ∷ locals) = IfSome local.initial (λ e. IsInitial (within may n 1) local e) × AreInitials (within may n 1) (n + 1) locals
+AreInitials may n (local ∷ locals) = IfSome local.initial (λ e. IsInitial (within may n 1) n local e) × AreInitials (within may n 1) (n + 1) locals
 
 -- the condition of a loop, or none
 unfoldable pub IsTested : May → Option TExpr → Type 0

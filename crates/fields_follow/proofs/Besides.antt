@@ -1,5 +1,5 @@
 -- What is known of the code of parallel expressions and of contexts, wherever fields are known.
-use Rattle.std.proofs.Common.{Bool, ℕ, ◌+◌, ◌≡◌, ◌∙◌, inl, inr, length, arith, sym, subst, false}
+use Rattle.std.proofs.Common.{Bool, ℕ, ◌+◌, ◌≡◌, ◌∙◌, inl, inr, length, arith, sym, subst, false, Some}
 use Rattle.cstar_base.specs.declared.operators.Place.{Place}
 use Rattle.cstar_tree.specs.declared.syntax.AssignOp.{AssignOp}
 use Rattle.cstar_tree.specs.declared.syntax.StepOp.{StepOp}
@@ -7,6 +7,7 @@ use Rattle.cstar_tree.specs.declared.typed.StepOrder.{StepOrder}
 use Rattle.cstar_tree.specs.declared.typed.TExpr.{TExpr, Row_of-TExpr}
 use Rattle.cstar_tree.specs.declared.typed.TExpr as T
 use Rattle.cstar_tree.specs.declared.typed.ValueType.{ValueType}
+use Rattle.cstar_tree.specs.declared.typed.VarInfo.{VarInfo}
 use Rattle.cstar_tree.specs.declared.typed.Variable.{Variable}
 use Rattle.cstar_tree.specs.declared.typed.Variable.TheVariants as V
 use Rattle.cstar_tree.specs.Typed.{type_of}
@@ -20,23 +21,26 @@ use Rattle.lower_expr.specs.Values.{value_of}
 use Rattle.paris_code.specs.Code.{CodeState}
 use Rattle.source_meaning.specs.Expressions.{evaluated}
 use Rattle.source_meaning.specs.State.{State}
+use Rattle.source_meaning.specs.Targets.{stored, variable_target}
 use Rattle.source_meaning.specs.Values.{Active, Scalar, Scope, Value}
 use Rattle.source_meaning.proofs.ConstantLaws.{Boxed}
-use Rattle.code_follows.specs.Fragment.{IsGiven, IsIn, naming}
+use Rattle.code_follows.specs.Fragment.{IsAssigned, IsGiven, IsIn, NamesAmong, naming}
 use Rattle.code_follows.proofs.Arguments.{AreDone}
-use Rattle.code_follows.proofs.Besides.{IsValued}
+use Rattle.code_follows.proofs.Besides.{IsCoded, IsValued, initial_code}
 use Rattle.code_follows.proofs.Following.{Follows, HasRegisters, IsKept, Ran, Sim}
 use Rattle.code_follows.proofs.Growing.{extended}
 use Rattle.code_follows.proofs.Parts.{BesideFollows}
 use Rattle.code_follows.proofs.Settings.{At, Begun, Setting, Within, layout, onto}
 use Rattle.code_follows.proofs.Values.{Dest, Does}
-use Rattle.fields_follow.specs.Fragment.{IsFold, IsParallelEffect}
+use Rattle.fields_follow.specs.Fragment.{IsFold, IsOfFileOrBlock, IsParallelEffect}
 use Rattle.fields_follow.proofs.Updating.{updates_leave}
+use Rattle.fields_follow.proofs.Variables.{variable_fits}
 use Rattle.fields_follow.proofs.Contexts.{where_follows}
 use Rattle.fields_follow.proofs.Widening.{widening_follows}
 use Rattle.fields_follow.proofs.FoldingOnto.{onto_leaves}
 use Rattle.fields_follow.proofs.Onto.{LeavesScalars, scalars_stay}
 use Rattle.fields_follow.proofs.Forms.{HasItsCode}
+use Rattle.fields_follow.proofs.Initials.{assignment, assignment_coded, initial_follows}
 use Rattle.fields_follow.proofs.LocalsCleared.{locals_clear}
 use Rattle.fields_follow.proofs.Knowing.{KnowsFields, sim_close, sim_open}
 use Rattle.fields_follow.proofs.Leaving.{Leaves, fields_under, keeps_again, places_under, reaches_again, starts_again, registers_under, under}
@@ -148,6 +152,17 @@ single_step_follows : (g : Setting) (scope : Scope) (active : Active) → KnowsF
 unfolding IsIn
 single_step_follows g scope active known has alive files n ready ty place op order p r indexes x of is c done quiet bits = step_follows g has alive scope active known files n ready ty place r indexes x of is.0 (known.positions x is.1) is.2 is.3 c done op order p bits quiet
 
+-- an initialiser of a parallel variable
+initial_stores : (g : Setting) (scope : Scope) (active : Active) → KnowsFields g scope active → (has : HasRegisters g) (alive : Variable → Type 0) → ((k : ℕ) → alive (V.File k)) → (n : ℕ) → ((d : Draft) → IsReadyButForFields g.typed g.instance (layout g) (n + 1) d)
+    → (info : VarInfo) (set : ℕ) (e : TExpr) → info.shape ≡ Some set → IsAssigned (naming g.may alive) n info e → IsCoded g n info e → (d : Draft) (s : CodeState) (st : State) → Begun g alive d → At g s (length d.code) → Sim g alive st s
+    → Follows g (λ v u out f. Ran g alive d s (stored active (variable_target info.shape (V.Local n) 0) v u) f) s (evaluated scope e active st) (initial_code g n info e d)
+unfolding NamesAmong IsOfFileOrBlock
+initial_stores g scope active known has alive files n ready info set e shaped (place, (p, (q, is))) c d s st free here_at sim =
+    let e' : TExpr = assignment g n info set e place p q shaped c in
+    let exists = (variable_fits (under g active) alive (places_under g active known.places) (fields_under g active scope known.same_extents) set (V.Local n) info tt is.1.0 c.named shaped c.plain st s (sim_open g scope active known alive st s sim)).0 in
+    initial_follows g n info set e place p q shaped c scope active alive d s st
+    (effect_follows g scope active known has alive (n + 1) ready e' (record { code = assignment_coded g n info set e place p q shaped c known.places exists; among = is.1 }) d s st free here_at files sim (known.effects e' is.0))
+
 -- every effect, every fold and every context of it follows
 pub besides : (g : Setting) (scope : Scope) (active : Active) → KnowsFields g scope active → (has : HasRegisters g) → BesideFollows KnowsFields g has scope active
 besides g scope active known has = record {
@@ -157,6 +172,7 @@ besides g scope active known has = record {
     reads = λ alive files n ready ty place p indexes x of is c done d s st R r free here sim dest. read_follows g scope active known has alive n ready ty place p indexes x of is c done d s st R r free here sim dest;
     stores = λ alive files n ready ty place sending op p q r indexes x of value is c done given valued quiet bits. store_follows g scope active known has alive files n ready ty place sending op p q r indexes x of value is c done given valued quiet bits;
     steps = λ alive files n ready ty place op order p r indexes x of is c done quiet bits. single_step_follows g scope active known has alive files n ready ty place op order p r indexes x of is c done quiet bits;
+    initials = λ alive files n ready info set e shaped is c d s st free here sim. initial_stores g scope active known has alive files n ready info set e shaped is c d s st free here sim;
   };
   locals = locals_clear g scope active known;
   wheres = λ alive files n ready shape test p first second h among c f contexts one other. where_follows g has scope active known alive files n ready shape test p first second (known.conditions shape test h) among c f contexts one other;

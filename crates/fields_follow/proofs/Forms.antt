@@ -204,7 +204,7 @@ whole_element t i k set info known shaped one = record {
   within = subst (λ (o : Option ℕ). 0 < (elim o [ None ↦ 0 | Some s ↦ elim info.array [ None ↦ 1 | Some n ↦ n ] ])) (sym shaped) (subst (λ (o : Option ℕ). 0 < (elim o [ None ↦ 1 | Some n ↦ n ])) (sym one) (omega arith));
 }
 
-either_some : (a b : Bool) (own : Own) → b ≡ true → (if a || b then Some own else None) ≡ Some own
+pub either_some : (a b : Bool) (own : Own) → b ≡ true → (if a || b then Some own else None) ≡ Some own
 either_some true b own e = refl
 either_some false true own e = refl
 either_some false false own e = cc

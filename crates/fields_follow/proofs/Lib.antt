@@ -31,6 +31,7 @@ pub mod Halves
 pub mod Halving
 pub mod Hops
 pub mod Indexing
+pub mod Initials
 pub mod Instructions
 pub mod JoinedBits
 pub mod Joining

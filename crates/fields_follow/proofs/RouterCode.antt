@@ -26,6 +26,7 @@ use Rattle.lower_expr.specs.Values.{Codes, index_read_to, indexed_spot, news_to,
 use Rattle.paris_code.specs.declared.instr.Instr.TheVariants as I
 use Rattle.paris_code.specs.declared.operands.Field.{Field}
 use Rattle.paris_code.specs.declared.program.Owner.TheVariants as W
+use Rattle.code_follows.proofs.Growing.{then_three}
 use Rattle.code_follows.proofs.Settings.{Setting, layout}
 use Rattle.fields_follow.proofs.Values.{next_field, with_entry}
 
@@ -38,12 +39,6 @@ routed ty place p indexes x of goes = ap (λ (xs : List TExpr). is_some ty.shape
 pub unknown : (t : Typed) (ty : ValueType) (place : Place) (p : _) (indexes : Row_of-TExpr _) (x : Variable) (set of : ℕ) → ty.shape ≡ Some set → known_position t (T.LeftIndex' ty place p indexes x of) ≡ None
 unfolding known_position out-TExpr Carrier.out
 unknown t ty place p indexes x set of shaped = ap (λ (xs : List TExpr). if is_none ty.shape then position_in t of xs else None) (items_shown-the_row-TExpr-0 p indexes) ∙ ap (λ (o : Option ℕ). if is_none o then position_in t of (items-the_row-TExpr _ indexes) else None) shaped
-
--- three pieces of code
-pub then_three : {A B D : Type 0} (made : Made A) (f : A → Draft → Made B) (h : B → Draft → Made D) → then_make (then_make made f) h ≡ then_make made (λ x e. then_make (f x e) h)
-unfolding then_make
-then_three (Makes x e) f h = refl
-then_three Fails f h = refl
 
 -- the get of a field, straight to the destination, or to a field as long as it, from which it is extended
 abbrev pub plain_get : Field → Field → Field → Draft → Draft

@@ -74,7 +74,7 @@ module _ (g : Setting) (has : HasRegisters g) (fields : HoldsTheFields g) (m : B
     value = λ elem index given none. absurd none;
     effect = λ index given none. absurd none;
     returns = λ elem none. absurd none;
-    beside = λ registers. record { effects = λ alive files n ready e none. absurd none; folds = λ alive files n ready e none. absurd none; reads = λ alive files n ready ty place p indexes x of is. absurd is.1; stores = λ alive files n ready ty place sending op p q r indexes x of value is. absurd is.1; steps = λ alive files n ready ty place op order p r indexes x of is. absurd is.1 };
+    beside = λ registers. record { effects = λ alive files n ready e none. absurd none; folds = λ alive files n ready e none. absurd none; reads = λ alive files n ready ty place p indexes x of is. absurd is.1; stores = λ alive files n ready ty place sending op p q r indexes x of value is. absurd is.1; steps = λ alive files n ready ty place op order p r indexes x of is. absurd is.1; initials = λ alive files n ready info set e shaped is. absurd is.1.1.1.0 };
     lasts = λ live target behind named place jump stands jumps st memory h. (fields.closes live _ st memory (fields.opens live _ st memory h.0) (locals_landed g live place target jump stands jumps named st memory (fields.locals live _ st memory h.0)), h.1);
   }
 

@@ -10,7 +10,7 @@ use Rattle.lower_base.specs.Operators.{fold_of, assign_op_of, is_signed}
 use Rattle.lower_comm.specs.Messages.{sent_value, all_somewhere, assigned, communicated, each_located, index_coordinate, indexed, indexed_field, located, located_at, part_field, sent, sent_to}
 use Rattle.paris_code.specs.declared.instr.Instr.TheVariants as I
 use Rattle.code_follows.proofs.Following.{Extends, extends_then}
-use Rattle.code_follows.proofs.Growing.{as_it_was, extended}
+use Rattle.code_follows.proofs.Growing.{as_it_was, extended, then_three}
 use Rattle.code_follows.proofs.Settings.{and_one, Setting, layout}
 use Rattle.fields_follow.proofs.Values.{and_entry, next_field, with_entry}
 use Rattle.cstar_base.specs.declared.operators.Place.{Place}
@@ -39,7 +39,7 @@ use Rattle.source_meaning.specs.Expressions.{located as located_in}
 use Rattle.source_meaning.specs.State.{State}
 use Rattle.source_meaning.specs.Values.{Active, Scope}
 use Rattle.source_meaning.proofs.ConstantLaws.{Boxed}
-use Rattle.fields_follow.proofs.RouterCode.{then_three, unknown}
+use Rattle.fields_follow.proofs.RouterCode.{unknown}
 
 -- a target, maybe in brackets, is that of another expression
 pub record IsLike (t : Typed) (l : Layout) (target left : TExpr) : Type 0 where

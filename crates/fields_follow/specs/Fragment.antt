@@ -10,9 +10,9 @@
 -- `where`. Folds and scans are of the active positions. They are sent, as those scans are, to parallel variables of any
 -- shape, by such indexes, also with an operator that folds. Scalars that change variables, by assignments, steps and
 -- `getchar`, are assigned as parallel expressions are, also with operators. Scalar expressions read single positions of
--- parallel variables, by any scalar indexes, and scalars are assigned to these, also with operators and by steps. Parallel
--- variables of blocks have no initialisers. Under `where` and `everywhere` stand the statements of scalar programs with
--- these, also calls, `return` and jumps that lead out of them.
+-- parallel variables, by any scalar indexes, and scalars are assigned to these, also with operators and by steps. The
+-- initialiser of a parallel variable of a block is what may be assigned to it. Under `where` and `everywhere` stand the
+-- statements of scalar programs with these, also calls, `return` and jumps that lead out of them.
 use Rattle.std.specs.Prelude.{ℕ, ◌≡◌, ◌<◌, ◌≤◌, ◌+◌, ◌^◌, ◌⊎◌, ◌==◌, true, false, IfSome, Option, Some, None}
 use Rattle.cstar_base.specs.declared.elem.Elem.{Elem}
 use Rattle.cstar_base.specs.declared.operators.Combiner.TheVariants as C

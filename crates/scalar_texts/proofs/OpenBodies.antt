@@ -10,7 +10,8 @@ use Rattle.cstar_tree.specs.declared.typed.TStmt as S
 use Rattle.cstar_tree.specs.declared.typed.Variable.{Variable}
 use Rattle.cstar_tree.specs.declared.typed.Variable.TheVariants as V
 use mathlib.Core.Former.{Count}
-use Rattle.code_follows.specs.Fragment.{AllAmong, AreIn, AreInStatements, AreInitials, IsBody, IsEffect, IsIn, IsInElse, IsInStatement, IsPosition, IsTested, IsVariable, May, OrAmong, NamesAmong, naming, within}
+use Rattle.code_follows.specs.Fragment.{AllAmong, AreIn, AreInStatements, AreInitials, IsBody, IsEffect, IsIn, IsInElse, IsInitial, IsInStatement, IsPosition, IsTested, IsVariable, May, OrAmong, NamesAmong, naming, within}
+use Rattle.code_follows.proofs.Declaring.{itself_among}
 use Rattle.code_lengths.specs.NamingStatements.{behind}
 use Rattle.open_names.specs.Opens.{AllNameOpen, ElseNamesOpen, InitialsNameOpen, IsAmong, IsOpen, NamesOpen, Open, StatementNamesOpen, StatementsNameOpen, opened}
 use Rattle.source_meaning.specs.State.{is_among}
@@ -119,6 +120,11 @@ module _ (may : May) (names : Variable → Type 0) (blocks : Open) (fits : Fits 
   tested_open None h n = tt
   tested_open (Some e) h n = expression_open e h n
 
+  initial_open : (n : ℕ) (local : LocalVar) → names (V.Local n) → (e : TExpr) → IsInitial may n local e → NamesOpen blocks e → IsInitial (naming may names) n local e
+  unfolding NamesAmong
+  initial_open n local own e (inl h) known = inl (h.0, expression_open e h.1 known, h.2)
+  initial_open n local own e (inr (set, (shaped, (place, (p, (q, h)))))) known = inr (set, (shaped, (place, (p, (q, (h.0, (own, among_open e known)))))))
+
 -- ---- blocks
 
 -- where no variable of a block is declared yet, only those around it are open
@@ -153,7 +159,7 @@ initials_open may names blocks n before number fits is (local ∷ locals) h m =
     let now : May = within may number 1 in
     let known : Variable → Type 0 = OrAmong names number 1 in
     let fit = more_fit names blocks n before 1 (before + 1) number fits refl is in (
-      if_both local.initial (λ e initial open_there. (expression_open now known (opened blocks n (before + 1)) fit e initial.0 open_there, initial.1)) h.0 m.0,
+      if_both local.initial (initial_open now known (opened blocks n (before + 1)) fit number local (inr (itself_among number 0))) h.0 m.0,
       initials_open now known blocks n (before + 1) (number + 1) fit (omega (arith, is)) locals h.1 m.1,
     )
 

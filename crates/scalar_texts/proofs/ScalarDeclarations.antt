@@ -76,12 +76,12 @@ module _ (program : Program) (shapes : List (List ℕ)) (around : ℕ) (Called :
     pub scalars : All IsScalarLocal ls
     pub initials : HasInitials ls
 
-  initial_is : {here : Here} {ty : ValueType} {i : Option Initializer} {t : Option TExpr} (may : May) (local : LocalVar) → IsAllowing may → IsScalarPlace shapes around here → IfSome i (λ (i : Initializer). IsPlain i.value) →
-      IfSome i (λ (i : Initializer). ExpressionNamesShapes i.value) → IsCalledIf Called t → ty.shape ≡ None → local.info.elem ≡ ty.elem → TypesInitial program here ty i t → IfSome t (IsInitial may local)
-  initial_is may local a s n w c scalar same Y.no_initial = tt
-  initial_is may local a s n w c scalar same (Y.initial typed at_hand takes fit) =
+  initial_is : {here : Here} {ty : ValueType} {i : Option Initializer} {t : Option TExpr} (may : May) (n : ℕ) (local : LocalVar) → IsAllowing may → IsScalarPlace shapes around here → IfSome i (λ (i : Initializer). IsPlain i.value) →
+      IfSome i (λ (i : Initializer). ExpressionNamesShapes i.value) → IsCalledIf Called t → ty.shape ≡ None → local.info.elem ≡ ty.elem → IsScalarLocal local → TypesInitial program here ty i t → IfSome t (IsInitial may n local)
+  initial_is may m local a s n w c scalar same own Y.no_initial = tt
+  initial_is may m local a s n w c scalar same own (Y.initial typed at_hand takes fit) =
       let v = fitted may fit scalar (expression_is program shapes around Called may a.every a.calls s n w (fitted_called Called fit c) typed) in
-      (v.used, inl (v.elem_is ∙ sym same))
+      inl (own, v.used, inl (v.elem_is ∙ sym same))
 
   both_initials : (ls rest : List LocalVar) (may : May) (n : ℕ) → IsAllowing may → AreInitials may n ls → HasInitials rest → AreInitials may n (ls ++ rest)
   unfolding AreInitials
@@ -98,12 +98,13 @@ module _ (program : Program) (shapes : List (List ℕ)) (around : ℕ) (Called :
       let calls = both_called Called (concat (map calls_in (optional l.initial))) (initial_calls ls) (calls_append (optional l.initial) (initials_of ls)) c in
       let rest = locals_are place n.1 (All-tail DeclaratorNamesShapes d ds w) calls.1 scalar more in
       let names = All-head DeclaratorNamesShapes d ds w in
+      let own : IsScalarLocal l = ap (λ (info : VarInfo). info.shape) typed.info ∙ plain.0 in
       record {
         place = rest.place;
         loop = rest.loop;
-        scalars = All-cons IsScalarLocal l ls (ap (λ (info : VarInfo). info.shape) typed.info ∙ plain.0) rest.scalars;
+        scalars = All-cons IsScalarLocal l ls own rest.scalars;
         initials = λ may m a. (
-          initial_is (within may m 1) l (inside m 1 a) place n.0.1 names.1 (called_if Called l.initial calls.0) plain.0 (ap (λ (info : VarInfo). info.elem) typed.info) typed.initial,
+          initial_is (within may m 1) m l (inside m 1 a) place n.0.1 names.1 (called_if Called l.initial calls.0) plain.0 (ap (λ (info : VarInfo). info.elem) typed.info) own typed.initial,
           rest.initials (within may m 1) (m + 1) (inside m 1 a),
         );
       }
