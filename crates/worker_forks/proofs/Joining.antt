@@ -7,6 +7,11 @@ use Rattle.worker_forks.specs.Parts.{AcceptsFrom, ChangesFrom}
 use denote.Param.Members.{Shared}
 use denote.Ref.{MutBor}
 
+module _ {F T : Type 0} (g : Shared F (ℕ × (MutBor T × Unit {0})) ((Unit {0}) × (MutBor T × Unit {0}))) (f : F) where
+  -- the calls of a part that begins at the first place are those of the places
+  pub changes_from_first : (xs ys : List T) → ChangesFrom g f 0 xs ys → (i : ℕ) (d : T) → i < length xs → ChangesAt g f i (slice_index_or xs i d) (slice_index_or ys i d)
+  changes_from_first xs ys all i d less = subst (λ (j : ℕ). ChangesAt g f j (slice_index_or xs i d) (slice_index_or ys i d)) {x = 0 + i} (omega arith) (all.each i d less)
+
 module _ {F T : Type 0} (g : Shared F (ℕ × (MutBor T × Unit {0})) ((Unit {0}) × (MutBor T × Unit {0}))) (f : F) (base size : ℕ) where
   pub accepts_behind : (xs part rest : List T) → xs ≡ part ++ rest → length part ≡ size → AcceptsFrom g f base xs → AcceptsFrom g f (base + size) rest
   accepts_behind xs part rest is long all = record {

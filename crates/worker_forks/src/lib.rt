@@ -1,6 +1,7 @@
 //! Work on the places of a slice, or at the indices below a number, by several threads. One thread starts
-//! all others, each for its part, and does the last part itself; where threads that were started started
-//! more, these would begin late.
+//! all others; where threads that were started started more, these would begin late. Of a slice it does no
+//! part itself while the others work: the system may put the first thread that is started behind the one
+//! that starts it, where it would wait for that one's part.
 #![tactic(auto)]
 
 ghost use Rattle.std.specs.Prelude.{◌≡◌, ℕ, ◌+◌, ◌^◌, ◌<◌, ◌≤◌, IfOk, length, vec_len};
@@ -12,8 +13,8 @@ ghost use denote.Param.Send.{Frees, IsSend, IsSync};
 use std::alloc::{AllocError, Allocator};
 use std::thread::{Threads, join, join_mut};
 
-/// Calls f(i, &mut s[i]) at each place, in at most `threads` threads: each takes as many neighbours as the
-/// others, but the last one, which may take fewer.
+/// Calls f(i, &mut s[i]) at each place, in at most `threads` threads that are started, or in this one where
+/// it is to be one: each takes as many neighbours as the others, but the last one, which may take fewer.
 pub fn for_each_mut<R: Threads + Sync, T: Send, F: Fn(usize, &mut T) + Sync>(
     rt: &R,
     s: &mut [T],
@@ -24,13 +25,15 @@ pub fn for_each_mut<R: Threads + Sync, T: Send, F: Fn(usize, &mut T) + Sync>(
     requires accepts { AcceptsEach F.Fn f.now s.old }
     ensures { ChangesEach F.Fn f.now s.old s.new }
 {
-    if !s.is_empty() {
+    if threads == 1 {
+        in_turn(f, 0, s);
+    } else if !s.is_empty() {
         let size = s.len().div_ceil(threads);
         from_place(rt, f, size, 0, s);
     }
 }
 
-/// The same of the places from one on, in parts of so many.
+/// The same of the places from one on, in parts of so many, each in a thread of its own.
 #[cycle(parts)]
 fn from_place<R: Threads + Sync, T: Send, F: Fn(usize, &mut T) + Sync>(
     rt: &R,
@@ -44,12 +47,12 @@ fn from_place<R: Threads + Sync, T: Send, F: Fn(usize, &mut T) + Sync>(
     requires accepts { AcceptsFrom F.Fn f.now base s.old }
     ensures { ChangesFrom F.Fn f.now base s.old s.new }
 {
-    if s.len() <= size {
-        in_turn(f, base, s);
+    if s.is_empty() {
         return;
     }
-    let (part, rest) = s.split_at_mut(size);
-    part_and_rest(rt, f, size, base, part, base + size, rest);
+    let taken = size.min(s.len());
+    let (part, rest) = s.split_at_mut(taken);
+    part_and_rest(rt, f, size, base, part, base + taken, rest);
 }
 
 /// The same of a part, in a thread of its own where one can be made, and of the places behind it.
@@ -101,7 +104,7 @@ fn in_turn<T, F: Fn(usize, &mut T)>(f: &F, base: usize, s: &mut [T])
     }
 }
 
-/// Calls f(0) to f(n - 1), each in a thread of its own where one can be made, the last in this one, and
+/// Calls f(0) to f(n - 1), each in a thread of its own where one can be made and where they are several, and
 /// gives the results in order. The stack grows with `n`. On `Err`, which means that memory ran out, the
 /// results are dropped.
 pub fn map_indices<
@@ -114,8 +117,10 @@ pub fn map_indices<
     ensures len { IfOk result (λ v. vec_len v ≡ n) }
     ensures each { IfOk result (λ v. GivesEach F.Fn f.now n v.items) }
 {
-    if n == 0 {
-        return Ok(Vec::new(alloc));
+    if n == 1 {
+        let mut one = Vec::new(alloc);
+        one.push(f(0))?;
+        return Ok(one);
     }
     calls_from(rt, alloc, 0, n, f)
 }
@@ -129,15 +134,12 @@ fn calls_from<R: Threads + Sync, X: Send + Drop, A: Allocator + Send, F: Fn(usiz
     count: usize,
     f: &F,
 ) -> Result<Vec<X, A>, AllocError>
-    requires count { 0 < count }
     requires room { from + count < 2 ^ 64 }
     requires accepts { (i : ℕ) → from ≤ i → i < from + count → F.pre f.now i }
     ensures { IfOk result (λ v. GivesFrom F.Fn f.now from count v.items) }
 {
-    if count == 1 {
-        let mut one = Vec::new(alloc);
-        one.push(f(from))?;
-        return Ok(one);
+    if count == 0 {
+        return Ok(Vec::new(alloc));
     }
     let up = from + 1;
     let high = count - 1;
@@ -146,7 +148,7 @@ fn calls_from<R: Threads + Sync, X: Send + Drop, A: Allocator + Send, F: Fn(usiz
         ensures { F.post f.entry.now from result }
     { f(from) };
     let others = move || -> Result<Vec<X, A>, AllocError>
-        requires { IsSync R.row × IsSync F.row × IsSend X.row × IsSend A.row × Frees A.Allocator A.dealloc_token × (0 < high) × (up + high < 2 ^ 64) × ((i : ℕ) → up ≤ i → i < up + high → F.pre f.now i) }
+        requires { IsSync R.row × IsSync F.row × IsSend X.row × IsSend A.row × Frees A.Allocator A.dealloc_token × (up + high < 2 ^ 64) × ((i : ℕ) → up ≤ i → i < up + high → F.pre f.now i) }
         ensures { IfOk result (λ v. GivesFrom F.Fn f.entry.now up high v.items) }
     { calls_from(rt, alloc, up, high, f) };
     let (first, rest) = join(rt, own, others);
