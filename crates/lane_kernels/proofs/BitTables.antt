@@ -1,5 +1,5 @@
 -- One bit of a gate or a comparison, case by case.
-use Rattle.std.proofs.Common.{◌≡◌, ◌≢◌, ℕ, suc, zero, ◌+◌, ◌-◌, ◌*◌, ◌/◌, ◌%◌, ◌<◌, min, max, cond, nat_lt, nat_eq, Bool, true, false, refl, sym, ◌∙◌, ap, inl, inr, arith}
+use Rattle.std.proofs.Common.{◌≡◌, ◌≢◌, ℕ, suc, zero, ◌+◌, ◌-◌, ◌*◌, ◌/◌, ◌%◌, ◌<◌, min, cond, nat_lt, nat_eq, Bool, true, false, refl, sym, ◌∙◌, ap, inl, inr, arith}
 use Rattle.std.proofs.lemmas.Bool.{cases_lt, cases_eq, lt-ltb, le-ltb, eq-eqb}
 use Rattle.std.proofs.lemmas.Bool.Decides.{eqb_tells}
 
@@ -53,7 +53,7 @@ equal_step p zero (suc (suc b)) x y ab bb xb yb = absurd (omega arith)
 equal_step p (suc zero) (suc (suc b)) x y ab bb xb yb = absurd (omega arith)
 
 -- gates of bits
-pub carry_gate : (a b c : ℕ) → a < 2 → b < 2 → c < 2 → max (min a b) (min c ((a + b) % 2)) ≡ (a + b + c) / 2
+pub carry_gate : (a b c : ℕ) → a < 2 → b < 2 → c < 2 → (c + min ((a + c) % 2) ((b + c) % 2)) % 2 ≡ (a + b + c) / 2
 carry_gate a b c ab bb cb = omega arith
 
 pub choice_gate : (m a b : ℕ) → m < 2 → a < 2 → b < 2 → (b + min m ((a + b) % 2)) % 2 ≡ cond (nat_eq m 1) a b

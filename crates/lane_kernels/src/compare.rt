@@ -7,7 +7,7 @@ ghost use Rattle.lane_kernels.specs.Numbers.{is_less};
 use crate::gates::choose;
 use crate::target::Operand;
 use bit_planes::Plane;
-use bit_planes::plane::{both, differ, opposite, repeated};
+use bit_planes::plane::{both, differ, either, opposite, repeated};
 use std::simd::prelude::*;
 
 /// 1 where the first operand's number is below the second's, both of `len` bits.
@@ -49,18 +49,35 @@ fn decided(x: u64x8, y: u64x8, below: u64x8) -> u64x8
     choose(differ(x, y), y, below)
 }
 
-/// 1 where both operands have the same number of `len` bits.
+/// 1 where both operands have the same number of `len` bits. Two fields are compared by a loop of its own,
+/// which asks no plane what its operand is.
 pub fn equal(planes: &[Plane], a: &Operand, b: &Operand, len: u8) -> u64x8
     requires len { len ≤ 32 }
     requires a { IsWithin a.now len planes.now }
     requires b { IsWithin b.now len planes.now }
     ensures { (i : ℕ) → i < 512 → bit result i ≡ (if nat_eq (operand_of a.now planes.now len i) (operand_of b.now planes.now len i) then 1 else 0) }
 {
+    match (*a, *b) {
+        (Operand::Field(x), Operand::Field(y)) => {
+            equal_of(planes, &Operand::Field(x), &Operand::Field(y), len)
+        }
+        (x, y) => equal_of(planes, &x, &y, len),
+    }
+}
+
+/// The same plane by plane.
+#[inline(always)]
+fn equal_of(planes: &[Plane], a: &Operand, b: &Operand, len: u8) -> u64x8
+    requires len { len ≤ 32 }
+    requires a { IsWithin a.now len planes.now }
+    requires b { IsWithin b.now len planes.now }
+    ensures { (i : ℕ) → i < 512 → bit result i ≡ (if nat_eq (operand_of a.now planes.now len i) (operand_of b.now planes.now len i) then 1 else 0) }
+{
     let (a, b) = (*a, *b);
-    let mut alike = repeated(true);
+    let mut apart = repeated(false);
     for j in 0..len as usize {
         let change = differ(a.plane(planes, j), b.plane(planes, j));
-        alike = both(alike, opposite(change));
+        apart = either(apart, change);
     }
-    alike
+    opposite(apart)
 }

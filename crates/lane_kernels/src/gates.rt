@@ -34,15 +34,16 @@ impl Gate {
 pub fn sum_bit(a: u64x8, b: u64x8, c: u64x8) -> u64x8
     ensures { (i : ℕ) → i < 512 → bit result i ≡ (bit a i + bit b i + bit c i) % 2 }
 {
-    differ(differ(a, b), c)
+    differ(differ(a, c), b)
 }
 
-/// The upper bit of the sum of three bits.
+/// The upper bit of the sum of three bits: the third, unless both others differ from it. So it is what the
+/// lower bit begins with, and a loop that carries keeps all of its planes in registers.
 #[inline(always)]
 pub fn carry_bit(a: u64x8, b: u64x8, c: u64x8) -> u64x8
     ensures { (i : ℕ) → i < 512 → bit result i ≡ (bit a i + bit b i + bit c i) / 2 }
 {
-    either(both(a, b), both(c, differ(a, b)))
+    differ(c, both(differ(a, c), differ(b, c)))
 }
 
 /// The first where the mask is 1, and the second where it is 0.

@@ -18,9 +18,26 @@ use bit_planes::plane::{both, differ, opposite, repeated};
 use bit_planes::{Lanes, Plane, Rows};
 use std::simd::prelude::*;
 
-/// The sum of both operands, or with the second and a carry inverted, their difference.
+/// The sum of both operands, or with the second and a carry inverted, their difference. Of two fields by a
+/// loop of its own, which asks no plane what its operand is.
 #[inline(always)]
 fn ripple(planes: &mut [Plane], to: &Target, a: &Operand, b: &Operand, inverted: bool)
+    requires target { HasTarget to.now planes.old }
+    requires a { IsReadable a.now to.now planes.old }
+    requires b { IsReadable b.now to.now planes.old }
+    ensures { Becomes to.now (λ i. (operand_of a.now planes.old to.now.len i + addend inverted to.now.len (operand_of b.now planes.old to.now.len i)) % 2 ^ to.now.len) planes.old planes.new }
+{
+    match (*a, *b) {
+        (Operand::Field(x), Operand::Field(y)) => {
+            ripple_of(planes, to, &Operand::Field(x), &Operand::Field(y), inverted)
+        }
+        (x, y) => ripple_of(planes, to, &x, &y, inverted),
+    }
+}
+
+/// The same plane by plane.
+#[inline(always)]
+fn ripple_of(planes: &mut [Plane], to: &Target, a: &Operand, b: &Operand, inverted: bool)
     requires target { HasTarget to.now planes.old }
     requires a { IsReadable a.now to.now planes.old }
     requires b { IsReadable b.now to.now planes.old }
@@ -67,9 +84,25 @@ pub fn negate(planes: &mut [Plane], to: &Target, a: &Operand)
     ripple(planes, to, &Operand::Constant(0), a, true);
 }
 
-/// Both operands, bit by bit through a gate.
+/// Both operands, bit by bit through a gate; two fields by a loop of its own, as above.
 #[inline(always)]
 fn bitwise(planes: &mut [Plane], to: &Target, a: &Operand, b: &Operand, gate: Gate)
+    requires target { HasTarget to.now planes.old }
+    requires a { IsReadable a.now to.now planes.old }
+    requires b { IsReadable b.now to.now planes.old }
+    ensures { Becomes to.now (λ i. gate_of gate (operand_of a.now planes.old to.now.len i) (operand_of b.now planes.old to.now.len i)) planes.old planes.new }
+{
+    match (*a, *b) {
+        (Operand::Field(x), Operand::Field(y)) => {
+            bitwise_of(planes, to, &Operand::Field(x), &Operand::Field(y), gate)
+        }
+        (x, y) => bitwise_of(planes, to, &x, &y, gate),
+    }
+}
+
+/// The same plane by plane.
+#[inline(always)]
+fn bitwise_of(planes: &mut [Plane], to: &Target, a: &Operand, b: &Operand, gate: Gate)
     requires target { HasTarget to.now planes.old }
     requires a { IsReadable a.now to.now planes.old }
     requires b { IsReadable b.now to.now planes.old }

@@ -4,7 +4,7 @@ use Rattle.lane_kernels.proofs.Steps.{combined, all_small}
 use Rattle.lane_kernels.proofs.Lifted.{operand_of-lt}
 use Rattle.lane_kernels.specs.Gates.{gate_of, gate_bit}
 use Rattle.lane_kernels.proofs.Arithmetic.{gate_bits, gate_of-lt}
-use Rattle.lane_kernels.proofs.in_place.bitwise.Goals as goal
+use Rattle.lane_kernels.proofs.in_place.bitwise_of.Goals as goal
 
 pub loop-j-preserved : goal.loop-j-preserved
 loop-j-preserved c = combined c.args.to.now c.args.a.now c.args.b.now c.loop-j.j (λ i. gate_bit c.args.gate) (λ i. gate_of c.args.gate (operand_of c.args.a.now c.args.planes.now c.args.to.now.len i) (operand_of c.args.b.now c.args.planes.now c.args.to.now.len i))

@@ -1,6 +1,6 @@
 use Rattle.std.proofs.Common.{arith}
 use Rattle.lane_kernels.proofs.Rippling.{rippled, summed}
-use Rattle.lane_kernels.proofs.in_place.ripple.Goals as goal
+use Rattle.lane_kernels.proofs.in_place.ripple_of.Goals as goal
 
 pub loop-j-preserved : goal.loop-j-preserved
 loop-j-preserved c = rippled c.args.to.now c.args.a.now c.args.b.now c.args.inverted c.loop-j.j c.loop-j.carry c.repeated-flip.result c.plane-x.result c.plane.result c.differ-y.result c.sum_bit-sum.result c.carry_bit-carry.result

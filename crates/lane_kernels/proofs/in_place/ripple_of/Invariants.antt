@@ -1,5 +1,5 @@
 use Rattle.lane_kernels.proofs.Rippling.{Rippling}
-use Rattle.lane_kernels.proofs.in_place.ripple.Given as goal
+use Rattle.lane_kernels.proofs.in_place.ripple_of.Given as goal
 
 abbrev pub invariant-loop-j : goal.invariant-loop-j
 invariant-loop-j l = Rippling l.to l.a l.b l.inverted l.j l.carry l.initial.planes l.planes
