@@ -32,13 +32,12 @@ use Rattle.code_follows.proofs.Settings.{OpenAmong, Setting, Within, and_one, co
 use Rattle.code_follows.specs.Fragment.{NamesAmong}
 use Rattle.fields_follow.specs.Fragment.{IsCondition}
 use Rattle.fields_follow.proofs.Forms.{HasItsCode}
-use Rattle.fields_follow.proofs.Instructions.{extents, shapes}
+use Rattle.fields_follow.proofs.Instructions.{shapes}
 use Rattle.fields_follow.proofs.Knowing.{HasKept, Keeping, KnowsFields, Lasts, both_kept, first_kept, flags_last, lasts_both}
-use Rattle.fields_follow.proofs.Entering.{HasRun, TestMade, condition_runs, code_more_by, context_led, entered, entries_more, holds, holds_own, saved, saved_own, test_made, test_declares}
+use Rattle.fields_follow.proofs.Entering.{HasRun, TestMade, condition_runs, code_more_by, condition_in, context_led, entered, entries_more, holds, holds_own, saved, saved_own, test_made, test_declares}
 use Rattle.fields_follow.proofs.Saving.{Kept, arrives, arrives_now, kept_lasts, own_below, part_closed, test_below, was_kept}
 use Rattle.fields_follow.proofs.Leading.{Led, TestsAre, keeps_tests, led_weaker, loads_tests, named_next, narrows, tests_kept, turns}
 use Rattle.fields_follow.proofs.Leaving.{EndsBelow}
-use Rattle.fields_follow.proofs.Meaning.{value_in}
 use Rattle.fields_follow.proofs.Narrowing.{among, among_beside, others, others_beside}
 use Rattle.fields_follow.proofs.Passing.{code_longer, fields_longer}
 use Rattle.fields_follow.proofs.Places.{IsOwnField}
@@ -81,7 +80,7 @@ module _ (g : Setting) (has : HasRegisters g) (scope : Scope) (active : Active) 
       by w (condition_runs g shape d test tests scope active known alive begun s st has n ready condition c files at sim (earlier g after save 1 (and_one g (I.StoreContext (saved shape d)) after) w_saves))))
     where
       v : ℕ → ℕ
-      v = λ q. value_in (extents g shape) st test q
+      v = λ q. condition_in g scope active known alive shape st test q
 
       o : Outcome Leaving
       o = executed scope (S.Where' shape test p first None') n active st
@@ -174,7 +173,7 @@ module _ (g : Setting) (has : HasRegisters g) (scope : Scope) (active : Active) 
       by w (condition_runs g shape d test tests scope active known alive begun s st has n ready condition c files at sim (earlier g after save 1 (and_one g (I.StoreContext saved_in) after) w_save))))
     where
       v : ℕ → ℕ
-      v = λ x. value_in (extents g shape) st test x
+      v = λ x. condition_in g scope active known alive shape st test x
 
       m : ℕ
       m = behind (behind n first) second

@@ -45,7 +45,7 @@ use Rattle.code_follows.proofs.Following.{Extends, HasRegisters, Sim}
 use Rattle.code_follows.proofs.Growing.{Extended, extended}
 use Rattle.code_follows.proofs.Settings.{Setting, Within, and_one, earlier, layout}
 use Rattle.cstar_tree.specs.Typed.{type_of}
-use Rattle.fields_follow.specs.Fragment.{IsCondition, IsNarrowed, IsPure}
+use Rattle.fields_follow.specs.Fragment.{HasItsKind, IsNarrowed, IsPure}
 use Rattle.fields_follow.proofs.Starts.{Starts}
 use Rattle.fields_follow.proofs.Clearing.{both_pass, field_at, joined_behind, joined_more, variable_joined}
 use Rattle.fields_follow.proofs.Conditions.{HaveTheirCode, and_codes, conditions_join, joined_free, joined_kinded, joined_pure, or_codes}
@@ -186,7 +186,7 @@ module _ (g : Setting) where
       is_bit n few false e = (let one : n ≡ 1 = grind (arith, nat_tests, few, e) in one) ∙ sym (ap (λ (b : Bool). from_bool (not b)) e)
 
       -- by its test, and a bit that is moved, or the flags
-      by_tests : (e inner : TExpr) → IsCondition set inner → HasItsCode g.typed g.instance alive n inner → ((q : ℕ) → words_of e q ≡ from_bool (nonzero (words_of e q))) → ((q : ℕ) → q < processors (shapes g) set → nonzero (words_of inner q) ≡ nonzero (words_of e q))
+      by_tests : (e inner : TExpr) → HasItsKind set inner → HasItsCode g.typed g.instance alive n inner → ((q : ℕ) → words_of e q ≡ from_bool (nonzero (words_of e q))) → ((q : ℕ) → q < processors (shapes g) set → nonzero (words_of inner q) ≡ nonzero (words_of e q))
           → (IsGiven inner → IsGiven e) → (Ended g s (meant g fields inner st) → Ended g s (meant g fields e st)) → computed_to g.typed (layout g) (O.Field f) e d ≡ then_make (tested g.typed (layout g) inner d) (put_in f) → Last e → Ends e → After g Q (computed_to g.typed (layout g) (O.Field f) e d)
       unfolding step_of Extends
       by_tests e inner is c truth same_truth gives ends code last ended = after_same g Q code (by (bits == 1) refl)
@@ -218,14 +218,14 @@ module _ (g : Setting) where
               (takes_behind bits refl (I.Move false f kept) e2 (words_of e) (Behind g kept e2) bit.passes within
               (puts_bit g set f kept bit.passes.t (words_of e) bit.len (λ q below on. bit.are behind q below (sym (flags_of g alive places fields st bit.passes.t set q bit.passes.sim bit.exists below) ∙ on) ∙ ap from_bool (same_truth q below)) truth)))) (λ early. ended (ends early)))
 
-      by_test : (e : TExpr) → IsCondition set e → has_truth e ≡ true → HasItsCode g.typed g.instance alive n e → ((q : ℕ) → words_of e q ≡ from_bool (nonzero (words_of e q)))
+      by_test : (e : TExpr) → HasItsKind set e → has_truth e ≡ true → HasItsCode g.typed g.instance alive n e → ((q : ℕ) → words_of e q ≡ from_bool (nonzero (words_of e q)))
           → computed_to g.typed (layout g) (O.Field f) e d ≡ then_make (truth_of g.typed (layout g) e d) (put_in f) → Last e → Ends e → After g Q (computed_to g.typed (layout g) (O.Field f) e d)
       unfolding tested_by
       by_test e is told c truth code last ended =
           by_tests e e is c truth (λ q below. refl) (λ given. given) (λ early. early) (code ∙ sym (ap (λ (b : Bool). then_make (tested_by b (truth_of g.typed (layout g) e) (next_of g.typed (layout g) (bits_of (kind_of e)) true e) d) (put_in f)) told)) last ended
 
       -- by the complement of a bit
-      by_complement : (e operand : TExpr) → IsCondition set operand → (bits_of (kind_of operand) == 1) ≡ true → HasItsCode g.typed g.instance alive n operand → ◌≡◌ {A = ℕ → ℕ} (λ q. from_bool (words_of operand q == 0)) (words_of e)
+      by_complement : (e operand : TExpr) → HasItsKind set operand → (bits_of (kind_of operand) == 1) ≡ true → HasItsCode g.typed g.instance alive n operand → ◌≡◌ {A = ℕ → ℕ} (λ q. from_bool (words_of operand q == 0)) (words_of e)
           → computed_to g.typed (layout g) (O.Field (field_at set offset 1)) e d ≡ then_make (next_of g.typed (layout g) 1 true operand d) (bit_turned set offset) → bits ≡ 1 → (IsGiven operand → IsGiven e) → (Ended g s (meant g fields operand st) → Ended g s (meant g fields e st)) → Last e → Ends e → After g Q (computed_to g.typed (layout g) (O.Field f) e d)
       unfolding Extends step_of in_field
       by_complement e operand is one c value code is_one gives ends last ended =
@@ -247,7 +247,7 @@ module _ (g : Setting) where
           grows O.Nothing e2 = tt
 
       -- by the operation on two bits
-      by_operation : (is_or : Bool) (e left right : TExpr) → IsCondition set left → IsCondition set right → ignores_context right ≡ true → HaveTheirCode g.typed g.instance alive n left right
+      by_operation : (is_or : Bool) (e left right : TExpr) → HasItsKind set left → HasItsKind set right → ignores_context right ≡ true → HaveTheirCode g.typed g.instance alive n left right
           → ◌≡◌ {A = ℕ → ℕ} (λ q. from_bool (either_or_both is_or (nonzero (words_of left q)) (nonzero (words_of right q)))) (words_of e) → (IsGiven left → set < length (shapes g) → IsGiven e) → (Ended g s (meant g fields left st) → Ended g s (meant g fields e st)) → Last e → Ends e → After g Q (logical_to g.typed (layout g) (O.Field f) e is_or left right d)
       unfolding Extends step_of tests_on
       by_operation is_or e left right is also same codes value gives ends last ended = by (bits == 1) refl
@@ -324,7 +324,7 @@ module _ (g : Setting) where
           part_code = convert_part g alive n places fields ty p inner c
 
           -- of more than one bit, by its test
-          by_bool : (ty.elem.bits ≡ 1) × IsCondition set inner → unchanged ≡ false → After g Q (computed_to g.typed (layout g) (O.Field f) whole d)
+          by_bool : (ty.elem.bits ≡ 1) × HasItsKind set inner → unchanged ≡ false → After g Q (computed_to g.typed (layout g) (O.Field f) whole d)
           by_bool bool_of changed =
               by_tests whole inner bool_of.1 part_code (λ q. truth_bit (extents g set) st set bits whole q is)
               (λ q below. bool_nonzero ty.elem (type_of inner).elem (words_of inner q) bool_of.0 (value_small g alive n places fields set inner st s sim bool_of.1.0 part_code q))
@@ -335,7 +335,7 @@ module _ (g : Setting) where
               last ended
 
           -- of one bit, as that is computed
-          by_bit : (ty.elem.bits ≡ 1) × IsCondition set inner → IsPlain bits inner → unchanged ≡ true → bits ≡ 1 → bits_of (kind_of inner) ≡ 1 → After g Q (computed_to g.typed (layout g) (O.Field f) whole d)
+          by_bit : (ty.elem.bits ≡ 1) × HasItsKind set inner → IsPlain bits inner → unchanged ≡ true → bits ≡ 1 → bits_of (kind_of inner) ≡ 1 → After g Q (computed_to g.typed (layout g) (O.Field f) whole d)
           by_bit bool_of plain stays one flag =
               after_same g Q (ap goes stays)
               (computed_last g has alive n ready places fields set offset bits inner some (omega (arith, one)) bool_of.1.0 plain part_code d s st here sim Q
@@ -354,7 +354,7 @@ module _ (g : Setting) where
                     (let low = mod_below (word_at (extents g set) st inner q) (2 ^ 1) (omega arith) in omega (arith, is_m, low)),
                   )
 
-          by : ((bits ≤ ty.elem.bits) × ((ty.elem.bits == 1) ≡ false) × IsTruth set bits inner) ⊎ ((ty.elem.bits ≡ 1) × IsCondition set inner) → OfInner → After g Q (computed_to g.typed (layout g) (O.Field f) whole d)
+          by : ((bits ≤ ty.elem.bits) × ((ty.elem.bits == 1) ≡ false) × IsTruth set bits inner) ⊎ ((ty.elem.bits ≡ 1) × HasItsKind set inner) → OfInner → After g Q (computed_to g.typed (layout g) (O.Field f) whole d)
           by (inl part) of_inner = of_truth (kept (nat_le bits ty.elem.bits) (let long = part.0 in grind (arith, nat_tests, long)) (ty.elem.bits == 1) (bits_of (kind_of inner) == 1) part.1) part.2 of_inner
           by (inr bool_of) of_inner = chosen unchanged refl
             where
@@ -377,7 +377,7 @@ module _ (g : Setting) where
           part_of o code = unary_part g alive n places fields ty o p operand code
 
           -- `!`
-          negates_it : IsCondition set operand → HasItsCode g.typed g.instance alive n (T.Unary' ty U.Not p operand) → Last (T.Unary' ty U.Not p operand) → Ends (T.Unary' ty U.Not p operand) → After g Q (computed_to g.typed (layout g) (O.Field f) (T.Unary' ty U.Not p operand) d)
+          negates_it : HasItsKind set operand → HasItsCode g.typed g.instance alive n (T.Unary' ty U.Not p operand) → Last (T.Unary' ty U.Not p operand) → Ends (T.Unary' ty U.Not p operand) → After g Q (computed_to g.typed (layout g) (O.Field f) (T.Unary' ty U.Not p operand) d)
           negates_it condition code last ended = by (bits == 1) (bits_of (kind_of operand) == 1) refl refl
             where
               whole : TExpr
@@ -397,7 +397,7 @@ module _ (g : Setting) where
           OfOperand : Type 1
           OfOperand = IsTruth set bits operand → HasItsCode g.typed g.instance alive n operand → Last operand → Ends operand → After g Q (computed_to g.typed (layout g) (O.Field f) operand d)
 
-          chosen : (o : UnaryOp) → ((is_plus o ≡ true) × IsTruth set bits operand) ⊎ ((negates o ≡ true) × IsCondition set operand) → HasItsCode g.typed g.instance alive n (T.Unary' ty o p operand) → Last (T.Unary' ty o p operand) → Ends (T.Unary' ty o p operand) → OfOperand
+          chosen : (o : UnaryOp) → ((is_plus o ≡ true) × IsTruth set bits operand) ⊎ ((negates o ≡ true) × HasItsKind set operand) → HasItsCode g.typed g.instance alive n (T.Unary' ty o p operand) → Last (T.Unary' ty o p operand) → Ends (T.Unary' ty o p operand) → OfOperand
               → After g Q (computed_to g.typed (layout g) (O.Field f) (T.Unary' ty o p operand) d)
           chosen U.Plus (inl h) code last ended of_operand =
               of_operand h.1 (part_of U.Plus code) (λ given. last (unary_means fields.scope fields.active set ty U.Plus p operand (words_of operand) st is.0.0 given)) (λ early. ended (unary_ended g has alive n ready places fields ty U.Plus p operand s st early))

@@ -27,7 +27,6 @@ use Rattle.code_follows.proofs.Growing.{Extended, extended, from_growth}
 use Rattle.code_follows.proofs.Settings.{OpenAmong, At, Begun, Setting, Within, and_one, code_more, earlier, layout}
 use Rattle.fields_follow.specs.Fragment.{IsCondition}
 use Rattle.fields_follow.proofs.Forms.{HasItsCode}
-use Rattle.fields_follow.proofs.Instructions.{extents}
 use Rattle.fields_follow.proofs.Ending.{ended_so}
 use Rattle.fields_follow.proofs.Outcomes.{Ended, Known, follows_known}
 use Rattle.source_meaning.specs.Expressions.{evaluated}
@@ -36,11 +35,11 @@ use Rattle.fields_follow.proofs.Knowing.{HasKept, Keeping, KnowsFields, kept_ope
 use Rattle.fields_follow.proofs.Saving.{Kept}
 use Rattle.fields_follow.proofs.Leading.{Led, TestsAre, saves_context}
 use Rattle.fields_follow.proofs.Leaving.{fields_under, keeps_again, places_under, reaches_again, registers_under, under, within_under}
-use Rattle.fields_follow.proofs.Meaning.{value_in}
 use Rattle.fields_follow.proofs.Passing.{After, code_longer, fields_longer}
 use Rattle.fields_follow.proofs.Places.{IsOwnField}
 use Rattle.fields_follow.proofs.TestFlags.{LeavesTests}
-use Rattle.fields_follow.proofs.Computing.{condition_tested}
+use Rattle.fields_follow.proofs.ScanConditions.{condition_after}
+use Rattle.fields_follow.proofs.Scanning.{scanned_in}
 use Rattle.fields_follow.proofs.Values.{and_entry, next_field, one_more, taken, with_entry}
 use Rattle.fields_follow.proofs.Starts.{Starts, starts_entry}
 use Rattle.fields_follow.proofs.Locals.{behind_homes}
@@ -56,6 +55,10 @@ pub declared_entry : (g : Setting) (set len : ℕ) (owner : Owner) (n : ℕ) (d 
 declared_entry g set len owner n d known =
     still_declared g.typed g.instance (layout g) n d (with_entry set len owner d) 0
     (record { name = refl; more = []; code = append_nothing d.code; long = refl; entries = record { set = set; len = len; owner = owner } ∷ []; fields = refl; regs = omega arith; homes = refl }) known
+
+-- the numbers of a condition
+abbrev pub condition_in : (g : Setting) (scope : Scope) (active : Active) → KnowsFields g scope active → (Variable → Type 0) → ℕ → State → TExpr → ℕ → ℕ
+condition_in g scope active known alive set st e q = scanned_in (under g active) alive (places_under g active known.places) (fields_under g active scope known.same_extents) set st e q
 
 -- the code of `where` takes an entry for the context, and one for the tests
 module _ (shape : ℕ) (d : Draft) where
@@ -115,13 +118,13 @@ module _ (g : Setting) (shape : ℕ) (d : Draft) (test : TExpr) where
     module _ (scope : Scope) (active : Active) (known : KnowsFields g scope active) (alive : Variable → Type 0) (begun : Begun g alive d) (s : CodeState) (st : State) where
       -- what is kept, and the test flags
       abbrev Tested : Keeping → BitMemory → Type 0
-      Tested kept m = HasKept g alive kept m × TestsAre g shape active (λ q. value_in (extents g shape) st test q) m
+      Tested kept m = HasKept g alive kept m × TestsAre g shape active (λ q. condition_in g scope active known alive shape st test q) m
 
       -- the condition gives its numbers in the source, and its code leaves the test flags
       abbrev pub HasRun : Type 0
       HasRun =
-          (evaluated scope test active st ≡ Source.Gives (Parallel (λ q. value_in (extents g shape) st test q)) st)
-          × LeavesTests (under g active) alive (fields_under g active scope known.same_extents) (for_test shape d) s shape st (λ q. value_in (extents g shape) st test q) after
+          (evaluated scope test active st ≡ Source.Gives (Parallel (λ q. condition_in g scope active known alive shape st test q)) st)
+          × LeavesTests (under g active) alive (fields_under g active scope known.same_extents) (for_test shape d) s shape st (λ q. condition_in g scope active known alive shape st test q) after
 
       -- so it is, or both end early
       pub condition_runs : (has : HasRegisters g) (n : ℕ) (ready : (d : Draft) → IsReadyButForFields g.typed g.instance (layout g) n d) → IsCondition shape test → HasItsCode g.typed g.instance alive n test → ((k : ℕ) → alive (V.File k)) → At g s (length d.code) → Sim g alive st s → Within g after → HasRun ⊎ Ended g s (evaluated scope test active st)
@@ -131,11 +134,11 @@ module _ (g : Setting) (shape : ℕ) (d : Draft) (test : TExpr) where
           by
           (subst (λ (m : Made (Unit {0})). After (under g active) (Known (under g active) s (evaluated scope test active st) v st R) m) made.1.1.0
           (follows_known (under g active) s (evaluated scope test active st) v st R (tested g.typed (layout g) test (for_test shape d))
-          (condition_tested (under g active) (registers_under g active has) alive n ready (places_under g active known.places) (fields_under g active scope known.same_extents) shape test condition c (for_test shape d) s st (starts_entry (under g active) alive _ _ (starts_entry (under g active) alive _ _ here)) (sim_open g scope active known alive st s sim)))
+          (condition_after (under g active) (registers_under g active has) alive n ready (places_under g active known.places) (fields_under g active scope known.same_extents) shape test condition c (for_test shape d) s st (starts_entry (under g active) alive _ _ (starts_entry (under g active) alive _ _ here)) (sim_open g scope active known alive st s sim)))
           (within_under g active w))
         where
           v : ℕ → ℕ
-          v = λ q. value_in (extents g shape) st test q
+          v = λ q. condition_in g scope active known alive shape st test q
 
           R : Unit {0} → Draft → Type 0
           R u f = LeavesTests (under g active) alive (fields_under g active scope known.same_extents) (for_test shape d) s shape st v f
@@ -173,5 +176,5 @@ module _ (g : Setting) (shape : ℕ) (d : Draft) (test : TExpr) where
           → (later : ℕ) → Within g saves → IsNamedAt g.unit (saved shape d).offset later → length after.code < later → Led g scope active known alive active (λ m. Tested (Kept g scope active known alive (saved shape d)) m) d saves s st
       context_led run sim later w named behind_it =
           let w_after : Within g after = earlier g after saves 1 (and_one g (I.StoreContext (saved shape d)) after) w in
-          saves_context g scope active known alive active known.kept g.from g.entries g.upto known.lasts d after s st (λ m. TestsAre g shape active (λ q. value_in (extents g shape) st test q) m) (saved shape d) later (let b = begun.code in let l = code_more_by in omega (arith, b, l)) begun.fields
+          saves_context g scope active known alive active known.kept g.from g.entries g.upto known.lasts d after s st (λ m. TestsAre g shape active (λ q. condition_in g scope active known alive shape st test q) m) (saved shape d) later (let b = begun.code in let l = code_more_by in omega (arith, b, l)) begun.fields
           (let up = w.upto in let one = code_more g (I.StoreContext (saved shape d)) after in omega (arith, up, one)) (saved_own w_after) (behind_homes g (OpenAmong g alive) (length d.code) (length d.fields) (length d.fields) begun.opened (omega arith)) refl named behind_it (λ m other same tests p below on. same shape p ∙ tests p below on) w (condition_leads run sim w_after)

@@ -85,7 +85,7 @@ lift_is heap =
           tt,
           (
             (
-              (((refl, refl), inr (refl, inl (inl refl), inr (refl, refl, (refl, inl (2, refl, omega arith))), tt), inl (refl, inr (refl, refl, (refl, inl (2, refl, omega arith)))), (refl, refl), (refl, refl)), inr (inl refl)),
+              inl (((refl, refl), inr (refl, inl (inl refl), inr (refl, refl, (refl, inl (2, refl, omega arith))), tt), inl (refl, inr (refl, refl, (refl, inl (2, refl, omega arith)))), (refl, refl), (refl, refl)), inr (inl refl)),
               (inl tt, tt),
               (
                 All-nil (IsBlockLocal fields_beside),
@@ -122,7 +122,7 @@ main_is heap =
                   inr (inl (inl (0, (refl, refl, ((refl, inl refl), refl, refl, refl), inr (refl, refl, (refl, inl (1, refl, omega arith))))), (inl (inl tt), tt))),
                   (
                     (
-                      (((refl, refl), inr (refl, inl (inl refl), inr (refl, refl, (refl, inl (3, refl, omega arith))), tt), inl (refl, inr (refl, refl, (refl, inl (3, refl, omega arith)))), (refl, refl), (refl, refl)), inr (inl refl)),
+                      inl (((refl, refl), inr (refl, inl (inl refl), inr (refl, refl, (refl, inl (3, refl, omega arith))), tt), inl (refl, inr (refl, refl, (refl, inl (3, refl, omega arith)))), (refl, refl), (refl, refl)), inr (inl refl)),
                       (inl (inl tt), tt),
                       ((lift heap, (refl, omega arith, called, tt, tt)), tt),
                       inr (inl (inl (0, (refl, refl, refl, inl ((refl, refl), inl (refl, inr tt), inr ((refl, refl, (refl, inl (12, refl, omega arith))), refl), (refl, refl), (refl, refl)))), (inl (inl tt), (tt, inl (inl tt))))),

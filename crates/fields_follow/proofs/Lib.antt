@@ -77,6 +77,7 @@ pub mod ScalarAssigning
 pub mod Scalars
 pub mod Scanning
 pub mod ScanAssigning
+pub mod ScanConditions
 pub mod ScanForms
 pub mod ScanOperands
 pub mod Scanned

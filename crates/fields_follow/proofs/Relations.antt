@@ -68,7 +68,7 @@ relation_operands set left right (inl (one, inr other)) = inl (one.0, inr other)
 relation_operands set left right (inr (one, other)) = inr (one, other.0)
 
 -- how it reads them, at so many bits
-read_as : (op : Op) (left right : TExpr) → relates op ≡ true → reads_signed op left right ≡ (elim (relation_kind left right) as (λ _. Bool) [ None ↦ is_signed (type_of left).elem | Some kind ↦ kind.signed ])
+pub read_as : (op : Op) (left right : TExpr) → relates op ≡ true → reads_signed op left right ≡ (elim (relation_kind left right) as (λ _. Bool) [ None ↦ is_signed (type_of left).elem | Some kind ↦ kind.signed ])
 unfolding reads_signed
 read_as op left right related = ap (λ (c : Bool). if c then elim (relation_kind left right) as (λ _. Bool) [ None ↦ is_signed (type_of left).elem | Some kind ↦ kind.signed ] else is_signed (type_of left).elem) related
 
@@ -98,7 +98,7 @@ module _ (g : Setting) (has : HasRegisters g) (alive : Variable → Type 0) (n :
   Compares bits set relation v w u = (q : ℕ) → q < processors (shapes g) set → outcome (comparison_of relation).0 bits (comparison_of relation).1 (v q % 2 ^ bits) (w q % 2 ^ bits) ≡ from_bool (nonzero (u q))
 
   -- both operands stand in fields
-  field_compared : (bits set : ℕ) (relation : Compare) (bound : ℕ) (a b : Field) (v w u : ℕ → ℕ) (d e1 e2 : Draft) (s : CodeState) (st : State) → Compares bits set relation v w u → length d.fields ≤ bound → bound ≤ length e1.fields
+  pub field_compared : (bits set : ℕ) (relation : Compare) (bound : ℕ) (a b : Field) (v w u : ℕ → ℕ) (d e1 e2 : Draft) (s : CodeState) (st : State) → Compares bits set relation v w u → length d.fields ≤ bound → bound ≤ length e1.fields
       → (left : GivesField g alive bits bound (with_entry set bits W.Own d) s set st v a e1) → GivesField g alive bits (length e1.fields) e1 left.passes.t set st w b e2 → Within g (with_instr (I.Compare relation a b) e2)
       → Tests d s set st u (with_instr (I.Compare relation a b) e2)
   unfolding step_of passes_on passes_from
@@ -129,12 +129,12 @@ module _ (g : Setting) (has : HasRegisters g) (alive : Variable → Type 0) (n :
       numbers = still_numbers g alive places fields bits bound (length e1.fields) d1 s set st v a e1 e2 (Behind g b e2) left right.passes behind_b (omega arith) behind_a
 
   -- the left operand stands in a field, and the right one is a word, which is spread first
-  word_compared : (bits set : ℕ) (relation : Compare) (a : Field) (k : Konst) (v w u : ℕ → ℕ) (d e1 e2 : Draft) (s : CodeState) (st : State) → IsNoHome g (OpenAmong g alive) (length d.fields) → Compares bits set relation v w u
-      → (left : GivesField g alive bits (length (with_entry set bits W.Own d).fields) (with_entry set bits W.Own d) s set st v a e1) → GivesWord g alive (length e1.fields) e1 left.passes.t st w k e2
+  pub word_compared : (bits set : ℕ) (relation : Compare) (bound : ℕ) (a : Field) (k : Konst) (v w u : ℕ → ℕ) (d e1 e2 : Draft) (s : CodeState) (st : State) → IsNoHome g (OpenAmong g alive) (length d.fields) → Compares bits set relation v w u → length (with_entry set bits W.Own d).fields ≤ bound → bound ≤ length e1.fields
+      → (left : GivesField g alive bits bound (with_entry set bits W.Own d) s set st v a e1) → GivesWord g alive (length e1.fields) e1 left.passes.t st w k e2
       → Within g (with_instr (I.Compare relation a (next_field set bits d)) (with_instr (I.MoveConstant (next_field set bits d) k) e2))
       → Tests d s set st u (with_instr (I.Compare relation a (next_field set bits d)) (with_instr (I.MoveConstant (next_field set bits d) k) e2))
   unfolding step_of passes_from
-  word_compared bits set relation a k v w u d e1 e2 s st none same left right within =
+  word_compared bits set relation bound a k v w u d e1 e2 s st none same low less left right within =
       tested_last g alive fields places (length d.fields) set d e3 compare s st u (Unit {0}) (omega arith) (passes_from g alive (length d.fields) d d1 e3 s st (Unit {0}) (and_entry set bits W.Own d) both.passes) tt both.left.exists within
       (puts_compare g bits set relation a spare both.passes.t v w u same both.left both.right)
     where
@@ -155,11 +155,11 @@ module _ (g : Setting) (has : HasRegisters g) (alive : Variable → Type 0) (n :
 
       both : HasBoth g alive bits set (length d.fields) a spare d1 e3 s st v w
       both =
-          spread_behind g alive places fields bits set (length d1.fields) a k v w d e1 e2 s st none (omega arith) (fields_longer d1 e1 left.passes.grown.0 left.passes.grown.1) left right (length e3.code) (earlier g e3 (with_instr compare e3) 1 (and_one g compare e3) within) (names_first g compare a (spare ∷ []) (length e3.code) there refl)
+          spread_behind g alive places fields bits set bound a k v w d e1 e2 s st none low less left right (length e3.code) (earlier g e3 (with_instr compare e3) 1 (and_one g compare e3) within) (names_first g compare a (spare ∷ []) (length e3.code) there refl)
           (names_second g compare a spare [] (length e3.code) there refl) (omega arith)
 
   -- the comparison, wherever the operands stand
-  compared_extends : (relation : Compare) (a : Field) (right : Right) (spare : Field) (e : Draft) → Extends g e (compared (M.Compare relation) a right spare e)
+  pub compared_extends : (relation : Compare) (a : Field) (right : Right) (spare : Field) (e : Draft) → Extends g e (compared (M.Compare relation) a right spare e)
   unfolding Extends compared
   compared_extends relation a (R.Field b) spare e = (1, and_one g (I.Compare relation a b) e)
   compared_extends relation a (R.Word k) spare e = (2, and_instr (I.Compare relation a spare) e (with_instr (I.MoveConstant spare k) e) 1 (and_one g (I.MoveConstant spare k) e))
@@ -264,7 +264,7 @@ module _ (g : Setting) (has : HasRegisters g) (alive : Variable → Type 0) (n :
             (made_after g (Known g s o u st Q) tt (with_instr (I.Compare c.relation a f) e2) (λ within. inl (is_given, field_compared bits set c.relation (length d1.fields) a f v w u d e1 e2 s st words_compare (let more = one_more set bits W.Own d in omega (arith, more)) (fields_longer d1 e1 one.passes.grown.0 one.passes.grown.1) one gives within)))
         by is_given a e1 one b e2 (inr (k, (same, gives))) =
             after_same g (Known g s o u st Q) (ap (λ (x : Right). compared (M.Compare c.relation) a x spare e2) same)
-            (made_after g (Known g s o u st Q) tt (with_instr (I.Compare c.relation a spare) (with_instr (I.MoveConstant spare k) e2)) (λ within. inl (is_given, word_compared bits set c.relation a k v w u d e1 e2 s st (no_home g alive (length d.fields) (length d.fields) (omega arith) here) words_compare one gives within)))
+            (made_after g (Known g s o u st Q) tt (with_instr (I.Compare c.relation a spare) (with_instr (I.MoveConstant spare k) e2)) (λ within. inl (is_given, word_compared bits set c.relation (length d1.fields) a k v w u d e1 e2 s st (no_home g alive (length d.fields) (length d.fields) (omega arith) here) words_compare (omega arith) (fields_longer d1 e1 one.passes.grown.0 one.passes.grown.1) one gives within)))
     chosen o gives left_ends right_ends (inr (promoted, pure)) =
         then_known g s (meant g fields left st) (number left) st (GivesField g alive bits (length d.fields) d1 s set st v) (Known g s o u st Q) (spread_into (operand bits (is_quiet right) left) left spare d1) (λ a e. next a e)
         (promoted_left g has alive n ready places fields bits set left (is_quiet right) promoted c_left d s st here sim) next_extends

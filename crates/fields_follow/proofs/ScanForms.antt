@@ -93,12 +93,12 @@ scan_kept set (T.Binary' ty place op p left q right) is = ap (λ (o : Option ℕ
 scan_kept set _ is = absurd is
 
 -- no narrow type is known of it
-common_none : (a : Option Elem) → common_kind a None ≡ None
+pub common_none : (a : Option Elem) → common_kind a None ≡ None
 unfolding common_kind
 common_none None = refl
 common_none (Some kind) = refl
 
-none_common : (b : Option Elem) → common_kind None b ≡ None
+pub none_common : (b : Option Elem) → common_kind None b ≡ None
 unfolding common_kind
 none_common None = refl
 none_common (Some kind) = refl

@@ -33,8 +33,8 @@ use Rattle.source_meaning.specs.Values.{Parallel}
 use Rattle.source_meaning.proofs.ConstantLaws.{Boxed}
 use Rattle.code_follows.proofs.Following.{Extends, Follows, HasRegisters, Sim, extends_then, follows_same}
 use Rattle.code_follows.proofs.Growing.{as_it_was}
-use Rattle.code_follows.proofs.Settings.{Setting, Within, layout}
-use Rattle.fields_follow.specs.Fragment.{IsOperand, IsOperation, IsPure, IsScan, IsWide}
+use Rattle.code_follows.proofs.Settings.{Reaches, Setting, Within, layout}
+use Rattle.fields_follow.specs.Fragment.{IsDivisor, IsOperand, IsOperation, IsPure, IsScan, IsWide}
 use Rattle.fields_follow.proofs.Dividing.{left_ended, operator_ends, operator_gives, right_ended}
 use Rattle.fields_follow.proofs.Expressions.{operand_at, operand_grows, operands_keep}
 use Rattle.fields_follow.proofs.Computing.{pure_after}
@@ -139,12 +139,12 @@ module _ (g : Setting) (has : HasRegisters g) (alive : Variable → Type 0) (n :
       given (Some right) after = (0, as_it_was after)
       given None after = tt
 
-  plain_right : (bits : ℕ) (op : Op) (e : TExpr) → 0 < bits → bits ≤ 32 → IsOperation op e → IsOperand set e → IsWide set (type_of e) → HasItsCode g.typed g.instance alive n e → (d : Draft) (s : CodeState) (st : State) → Starts g alive s (length d.code) d.regs (length d.fields) → Sim g alive st s
+  plain_right : (bits : ℕ) (op : Op) (e : TExpr) → 0 < bits → bits ≤ 32 → (divides op ≡ false) ⊎ IsDivisor e → IsOperand set e → IsWide set (type_of e) → HasItsCode g.typed g.instance alive n e → (d : Draft) (s : CodeState) (st : State) → Starts g alive s (length d.code) d.regs (length d.fields) → Sim g alive st s
       → Follows g (Given g (λ q. number e st q) st (IsRight bits op e d s st)) s (meant g fields e st) (right_by (operand bits true e) op e d)
   plain_right bits op e some most operates is wide c d s st here sim =
       subst (λ (v : ℕ → ℕ). Follows g (Given g v st (IsRight bits op e d s st)) s (meant g fields e st) (right_by (operand bits true e) op e d)) (own_numbers e st is)
       (subst (λ (w : ℕ → ℕ). Follows g (Given g (λ q. value_in (extents g set) st e q) st (λ right f. Takes op right × GivesRight g has alive n ready places fields bits (length d.fields) d s set st w right f)) s (meant g fields e st) (right_by (operand bits true e) op e d)) (own_words e st s sim is wide c)
-      (right_after g has alive n ready places fields bits set op e operates.1 is c (λ pure. pure_after g has alive n ready places fields bits set e some most pure c) d s st here sim))
+      (right_after g has alive n ready places fields bits set op e operates is c (λ pure. pure_after g has alive n ready places fields bits set e some most pure c) d s st here sim))
 
   -- an operation keeps the lowest bits
   pub right_keeps : (bits : ℕ) (op : Op) (signed : Bool) (right : TExpr) (st : State) (s : CodeState) → Sim g alive st s → bits ≤ 32 → IsOperation op right → IsScan set right ⊎ IsOperand set right → IsWide set (type_of right) → HasItsCode g.typed g.instance alive n right → (q : ℕ) → Keeps op signed (operation_bits bits op right) (number right st q)
@@ -156,25 +156,21 @@ module _ (g : Setting) (has : HasRegisters g) (alive : Variable → Type 0) (n :
   abbrev pub AreSides : TExpr → TExpr → Type 0
   AreSides left right = (IsScan set left × (IsScan set right ⊎ IsOperand set right)) ⊎ (IsOperand set left × IsScan set right)
 
-  pub sides_after : (bits : ℕ) (ty : ValueType) (place : Place) (op : Op) (p q : Boxed) (dest : Field) (left right : TExpr) (d : Draft) (s : CodeState) (st : State) → 0 < bits → bits ≤ 32 → ty.shape ≡ Some set → IsOperation op right → (divides op ≡ true → bits ≡ 32)
-      → ((x : ℕ) → Keeps op (type_of left).elem.signed bits (number right st x)) → dest.len ≡ bits → AreSides left right → IsWide set (type_of left) → IsWide set (type_of right) → HasItsCode g.typed g.instance alive n left → HasItsCode g.typed g.instance alive n right
+  -- What is said behind both is said of their code.
+  pub sides_given : {C : Type 0} (bits : ℕ) (op : Op) (left right : TExpr) (d : Draft) (s : CodeState) (st : State) → 0 < bits → bits ≤ 32 → (divides op ≡ false) ⊎ IsDivisor right → AreSides left right → IsWide set (type_of left) → IsWide set (type_of right) → HasItsCode g.typed g.instance alive n left → HasItsCode g.typed g.instance alive n right
       → (IsScan set left → ScanValued bits left (λ d. value_of g.typed (layout g) bits left d)) → (IsScan set right → ScanValued bits right (λ d. value_of g.typed (layout g) bits right d))
-      → Starts g alive s (length d.code) d.regs (length d.fields) → Sim g alive st s → (Q : Out → Draft → Type 0)
-      → (meant g fields (T.Binary' ty place op p left q right) st ≡ Source.Gives (Parallel (λ x. outcome op 32 (not (type_of left).elem.signed) (number left st x) (number right st x))) st → (e2 : Draft) (i : Instr) → Within g (with_instr i e2) → (passes : Passes g alive (length d.fields) (with_entry set bits W.Own d) e2 s st (Unit {0}))
-      → Puts g set i dest passes.t (λ x. outcome op 32 (not (type_of left).elem.signed) (number left st x) (number right st x)) → Q (O.Field dest) (with_instr i e2))
-      → (Ended g s (meant g fields (T.Binary' ty place op p left q right) st) → (x : Out) (f : Draft) → Q x f)
-      → After g Q (fields_by op (type_of left).elem.signed place dest (next_field set bits d) (operand bits (is_quiet right) left) left (operand bits true right) right (with_entry set bits W.Own d))
-  unfolding fields_by
-  sides_after bits ty place op p q dest left right d s st some most shaped is wide keeps long sides wide_left wide_right c_left c_right left_valued right_valued here sim Q last ended = by sides
+      → Starts g alive s (length d.code) d.regs (length d.fields) → Sim g alive st s → (Q : C → Draft → Type 0) (last : Field → Right → Draft → Made C) → ((a : Field) (b : Right) (after : Draft) → Extends g after (last a b after))
+      → ((bound : ℕ) (a : Field) (e1 : Draft) → length d.fields ≤ bound → bound ≤ length e1.fields → meant g fields left st ≡ Source.Gives (Parallel (λ x. number left st x)) st → meant g fields right st ≡ Source.Gives (Parallel (λ x. number right st x)) st
+      → (one : GivesField g alive bits bound (with_entry set bits W.Own d) s set st (λ x. number left st x) a e1) (b : Right) (e2 : Draft) → Spares g has alive n ready places fields bits set bound d b → IsRight bits op right e1 one.passes.t st b e2 → After g Q (last a b e2))
+      → (Ended g s (meant g fields left st) → (z : C) (f : Draft) → Q z f) → (meant g fields left st ≡ Source.Gives (Parallel (λ x. number left st x)) st → (t : CodeState) → Reaches g s t → Ended g t (meant g fields right st) → (z : C) (f : Draft) → Q z f)
+      → After g Q (then_make (spread_into (operand bits (is_quiet right) left) left (next_field set bits d) (with_entry set bits W.Own d)) (λ a between. then_make (right_by (operand bits true right) op right between) (λ b after. last a b after)))
+  sides_given {C = C} bits op left right d s st some most is sides wide_left wide_right c_left c_right left_valued right_valued here sim Q last grows given left_ends right_ends = by sides
     where
       d1 : Draft
       d1 = with_entry set bits W.Own d
 
       spare : Field
       spare = next_field set bits d
-
-      signed : Bool
-      signed = (type_of left).elem.signed
 
       v : ℕ → ℕ
       v = λ x. number left st x
@@ -185,28 +181,20 @@ module _ (g : Setting) (has : HasRegisters g) (alive : Variable → Type 0) (n :
       first : length d1.fields ≡ length d.fields + 1
       first = one_more set bits W.Own d
 
-      operates : Field → Right → Draft → Made Out
-      operates a b after = right_operated op signed place dest a b spare after
-
-      next : Field → Draft → Made Out
-      next a between = then_make (right_by (operand bits true right) op right between) (λ b after. operates a b after)
+      next : Field → Draft → Made C
+      next a between = then_make (right_by (operand bits true right) op right between) (λ b after. last a b after)
 
       next_extends : (a : Field) (between : Draft) → Extends g between (next a between)
       next_extends a between =
-          extends_then g between (right_by (operand bits true right) op right between) (λ b after. operates a b after) (right_extends g (operand bits true right) op right (λ after. operand_grows g has alive n ready places fields bits right c_right true after) between) (λ b after. operated_extends g op signed place dest a spare b after is.0)
+          extends_then g between (right_by (operand bits true right) op right between) (λ b after. last a b after) (right_extends g (operand bits true right) op right (λ after. operand_grows g has alive n ready places fields bits right c_right true after) between) (λ b after. grows a b after)
 
       -- behind the left one
       behind : (bound : ℕ) → length d.fields ≤ bound → (a : Field) (e1 : Draft) → meant g fields left st ≡ Source.Gives (Parallel v) st → bound ≤ length e1.fields → (one : GivesField g alive bits bound d1 s set st v a e1)
           → Follows g (Given g w st (λ b f. Spares g has alive n ready places fields bits set bound d b × IsRight bits op right e1 one.passes.t st b f)) one.passes.t (meant g fields right st) (right_by (operand bits true right) op right e1)
           → After g Q (next a e1)
       behind bound low a e1 is_left less one follows =
-          then_known g one.passes.t (meant g fields right st) w st (λ b f. Spares g has alive n ready places fields bits set bound d b × IsRight bits op right e1 one.passes.t st b f) Q (right_by (operand bits true right) op right e1) (λ b after. operates a b after) follows
-          (λ b after. operated_extends g op signed place dest a spare b after is.0)
-          (λ is_right b e2 two.
-          operated_after g has alive n ready places fields bits bound set op signed place dest a v w d e1 e2 s st (no_home g alive (length d.fields) (length d.fields) (omega arith) here) is.0 wide keeps long low less one b two.0 two.1.0 two.1.1 Q
-          (λ there never e3 i within passes puts. last (operator_gives g fields set ty place op p q left right v w w st shaped there (λ x below. refl) never is_left is_right) e3 i within passes puts)
-          (λ there divided x none ends. ended (record { early = Source.Fault DivZero place (Some x); state = st; is = operator_ends g fields set ty place op p q left right v w w st x shaped there (λ y below. refl) divided none is_left is_right; finishes = ends })))
-          (λ early z f. ended (right_ended g fields ty place op p q left right v s one.passes.t st one.passes.go is_left early) z f)
+          then_known g one.passes.t (meant g fields right st) w st (λ b f. Spares g has alive n ready places fields bits set bound d b × IsRight bits op right e1 one.passes.t st b f) Q (right_by (operand bits true right) op right e1) (λ b after. last a b after) follows (λ b after. grows a b after)
+          (λ is_right b e2 two. given bound a e1 low less is_left is_right one b e2 two.0 two.1) (λ early z f. right_ends is_left one.passes.t one.passes.go early z f)
 
       -- a scan behind it is in a field
       scan_behind : (bound : ℕ) (e1 : Draft) (t : CodeState) → IsScan set right → Starts g alive t (length e1.code) e1.regs (length e1.fields) → Sim g alive st t
@@ -225,10 +213,9 @@ module _ (g : Setting) (has : HasRegisters g) (alive : Variable → Type 0) (n :
 
       -- a left one in a field
       in_field : LeftGiven bits left (is_quiet right) spare → IsScan set right ⊎ IsOperand set right → After g Q (then_make (spread_into (operand bits (is_quiet right) left) left spare d1) (λ a between. next a between))
-      in_field given any =
-          then_known g s (meant g fields left st) v st (GivesField g alive bits (length d1.fields) d1 s set st v) Q (spread_into (operand bits (is_quiet right) left) left spare d1) (λ a between. next a between) (given d1 s st (starts_entry g alive _ _ here) sim) next_extends
-          (λ is_left a e1 one. behind (length d1.fields) (omega (arith, first)) a e1 is_left (fields_longer d1 e1 one.passes.grown.0 one.passes.grown.1) one (any_behind e1 one.passes.t any one.passes.at one.passes.sim))
-          (λ early z f. ended (left_ended g fields ty place op p q left right s st early) z f)
+      in_field follows any =
+          then_known g s (meant g fields left st) v st (GivesField g alive bits (length d1.fields) d1 s set st v) Q (spread_into (operand bits (is_quiet right) left) left spare d1) (λ a between. next a between) (follows d1 s st (starts_entry g alive _ _ here) sim) next_extends
+          (λ is_left a e1 one. behind (length d1.fields) (omega (arith, first)) a e1 is_left (fields_longer d1 e1 one.passes.grown.0 one.passes.grown.1) one (any_behind e1 one.passes.t any one.passes.at one.passes.sim)) left_ends
 
       by : AreSides left right → After g Q (then_make (spread_into (operand bits (is_quiet right) left) left spare d1) (λ a between. next a between))
       by (inl (scans, any)) = in_field (scan_left bits left (is_quiet right) spare scans (left_valued scans)) any
@@ -238,5 +225,29 @@ module _ (g : Setting) (has : HasRegisters g) (alive : Variable → Type 0) (n :
           (subst (λ (f : ℕ → ℕ). Follows g (Given g f st (GivesField g alive bits (length d.fields) d1 s set st v)) s (meant g fields left st) (spread_into (operand bits (is_quiet right) left) left spare d1)) (own_numbers left st (inr promoted))
           (subst (λ (f : ℕ → ℕ). Follows g (Given g (λ q. value_in (extents g set) st left q) st (GivesField g alive bits (length d.fields) d1 s set st f)) s (meant g fields left st) (spread_into (operand bits (is_quiet right) left) left spare d1)) (own_words left st s sim (inr promoted) wide_left c_left)
           (promoted_left g has alive n ready places fields bits set left (is_quiet right) promoted c_left d s st here sim))) next_extends
-          (λ is_left a e1 one. behind (length d.fields) (omega arith) a e1 is_left (let more = fields_longer d1 e1 one.passes.grown.0 one.passes.grown.1 in omega (arith, first, more)) one (scan_behind (length d.fields) e1 one.passes.t scans one.passes.at one.passes.sim))
-          (λ early z f. ended (left_ended g fields ty place op p q left right s st early) z f)
+          (λ is_left a e1 one. behind (length d.fields) (omega arith) a e1 is_left (let more = fields_longer d1 e1 one.passes.grown.0 one.passes.grown.1 in omega (arith, first, more)) one (scan_behind (length d.fields) e1 one.passes.t scans one.passes.at one.passes.sim)) left_ends
+
+  -- and an operator on them
+  pub sides_after : (bits : ℕ) (ty : ValueType) (place : Place) (op : Op) (p q : Boxed) (dest : Field) (left right : TExpr) (d : Draft) (s : CodeState) (st : State) → 0 < bits → bits ≤ 32 → ty.shape ≡ Some set → IsOperation op right → (divides op ≡ true → bits ≡ 32)
+      → ((x : ℕ) → Keeps op (type_of left).elem.signed bits (number right st x)) → dest.len ≡ bits → AreSides left right → IsWide set (type_of left) → IsWide set (type_of right) → HasItsCode g.typed g.instance alive n left → HasItsCode g.typed g.instance alive n right
+      → (IsScan set left → ScanValued bits left (λ d. value_of g.typed (layout g) bits left d)) → (IsScan set right → ScanValued bits right (λ d. value_of g.typed (layout g) bits right d))
+      → Starts g alive s (length d.code) d.regs (length d.fields) → Sim g alive st s → (Q : Out → Draft → Type 0)
+      → (meant g fields (T.Binary' ty place op p left q right) st ≡ Source.Gives (Parallel (λ x. outcome op 32 (not (type_of left).elem.signed) (number left st x) (number right st x))) st → (e2 : Draft) (i : Instr) → Within g (with_instr i e2) → (passes : Passes g alive (length d.fields) (with_entry set bits W.Own d) e2 s st (Unit {0}))
+      → Puts g set i dest passes.t (λ x. outcome op 32 (not (type_of left).elem.signed) (number left st x) (number right st x)) → Q (O.Field dest) (with_instr i e2))
+      → (Ended g s (meant g fields (T.Binary' ty place op p left q right) st) → (x : Out) (f : Draft) → Q x f)
+      → After g Q (fields_by op (type_of left).elem.signed place dest (next_field set bits d) (operand bits (is_quiet right) left) left (operand bits true right) right (with_entry set bits W.Own d))
+  unfolding fields_by
+  sides_after bits ty place op p q dest left right d s st some most shaped is wide keeps long sides wide_left wide_right c_left c_right left_valued right_valued here sim Q last ended =
+      sides_given bits op left right d s st some most is.1 sides wide_left wide_right c_left c_right left_valued right_valued here sim Q (λ a b after. right_operated op (type_of left).elem.signed place dest a b (next_field set bits d) after)
+      (λ a b after. operated_extends g op (type_of left).elem.signed place dest a (next_field set bits d) b after is.0)
+      (λ bound a e1 low less is_left is_right one b e2 spares two.
+      operated_after g has alive n ready places fields bits bound set op (type_of left).elem.signed place dest a v w d e1 e2 s st (no_home g alive (length d.fields) (length d.fields) (omega arith) here) is.0 wide keeps long low less one b spares two.0 two.1 Q
+      (λ there never e3 i within passes puts. last (operator_gives g fields set ty place op p q left right v w w st shaped there (λ x below. refl) never is_left is_right) e3 i within passes puts)
+      (λ there divided x none ends. ended (record { early = Source.Fault DivZero place (Some x); state = st; is = operator_ends g fields set ty place op p q left right v w w st x shaped there (λ y below. refl) divided none is_left is_right; finishes = ends })))
+      (λ early z f. ended (left_ended g fields ty place op p q left right s st early) z f) (λ is_left t go early z f. ended (right_ended g fields ty place op p q left right v s t st go is_left early) z f)
+    where
+      v : ℕ → ℕ
+      v = λ x. number left st x
+
+      w : ℕ → ℕ
+      w = λ x. number right st x

@@ -66,9 +66,13 @@ use Rattle.fields_follow.proofs.Values.{IsFlag, and_entry, first_given, next_fie
 no_flag : (elem : Elem) → elem.bits ≡ 32 → (elem.bits == 1) ≡ false
 no_flag elem wide = ap (λ (n : ℕ). n == 1) wide
 
-right_side : (set : ℕ) (left right : TExpr) → (IsScan set left × (IsScan set right ⊎ IsOperand set right)) ⊎ (IsOperand set left × IsScan set right) → IsScan set right ⊎ IsOperand set right
+pub right_side : (set : ℕ) (left right : TExpr) → (IsScan set left × (IsScan set right ⊎ IsOperand set right)) ⊎ (IsOperand set left × IsScan set right) → IsScan set right ⊎ IsOperand set right
 right_side set left right (inl h) = h.1
 right_side set left right (inr h) = inl h.1
+
+pub left_side : (set : ℕ) (left right : TExpr) → (IsScan set left × (IsScan set right ⊎ IsOperand set right)) ⊎ (IsOperand set left × IsScan set right) → IsScan set left ⊎ IsOperand set left
+left_side set left right (inl h) = inl h.0
+left_side set left right (inr h) = inr h.0
 
 module _ (g : Setting) (has : HasRegisters g) (alive : Variable → Type 0) (n : ℕ) (ready : (d : Draft) → IsReadyButForFields g.typed g.instance (layout g) n d) (places : PlacesFields g) (fields : HoldsTheFields g) (set : ℕ) where
   abbrev number : TExpr → State → ℕ → ℕ
@@ -92,7 +96,10 @@ module _ (g : Setting) (has : HasRegisters g) (alive : Variable → Type 0) (n :
       (whole (length d.fields) (with_entry set 32 W.Own d) s st (let one = one_more set 32 W.Own d in omega (arith, one)) (starts_entry g alive _ _ here) sim (λ out f. (ScanGives g alive places fields set e st × ScanGiven 32 e d s st out f) ⊎ Ended g s (meant g fields e st))
       (λ given e2 i within passes puts. inl (given, own_result g has alive n ready places fields 32 set d e2 s st (λ q. number e st q) i within (no_home g alive (length d.fields) (length d.fields) (omega arith) here) passes puts)) (λ early x f. inr early)))
 
-  -- its numbers are those of its type
+  -- the numbers of operands and of such values are words
+  pub plain_few : (e : TExpr) (st : State) (s : CodeState) → Sim g alive st s → IsOperand set e → IsWide set (type_of e) → HasItsCode g.typed g.instance alive n e → (q : ℕ) → number e st q < 2 ^ 32
+  plain_few e st s sim plain wide code q = subst (λ (m : ℕ). m < 2 ^ 32) (sym (operand_number g alive places fields set e st q plain)) (below_word (type_of e).elem.bits _ wide.1 (operand_small g alive n places fields set e st s sim plain code q))
+
   pub scan_words : (e : TExpr) (st : State) (s : CodeState) → Sim g alive st s → IsScan set e → HasItsCode g.typed g.instance alive n e → (q : ℕ) → number e st q < 2 ^ 32
   unfolding IsScan scanned_in
   scan_words (T.Brackets' ty p inner) st s sim is c q = scan_words inner st s sim is.1 (brackets_part g alive n places fields ty p inner c) q
@@ -106,16 +113,13 @@ module _ (g : Setting) (has : HasRegisters g) (alive : Variable → Type 0) (n :
       let parts = binary_parts g alive n places fields ty place op p r left right c in
       operation_below op (type_of left).elem.signed (number left st q) (number right st q) is.1.0 (left_few is.2 parts.0 (λ h. scan_words left st s sim h parts.0 q)) (right_few (right_side set left right is.2) parts.1 (λ h. scan_words right st s sim h parts.1 q))
     where
-      plain_few : (e : TExpr) → IsOperand set e → IsWide set (type_of e) → HasItsCode g.typed g.instance alive n e → number e st q < 2 ^ 32
-      plain_few e plain wide code = subst (λ (m : ℕ). m < 2 ^ 32) (sym (operand_number g alive places fields set e st q plain)) (below_word (type_of e).elem.bits _ wide.1 (operand_small g alive n places fields set e st s sim plain code q))
-
       left_few : (IsScan set left × (IsScan set right ⊎ IsOperand set right)) ⊎ (IsOperand set left × IsScan set right) → HasItsCode g.typed g.instance alive n left → (IsScan set left → number left st q < 2 ^ 32) → number left st q < 2 ^ 32
       left_few (inl h) code rest = rest h.0
-      left_few (inr h) code rest = plain_few left h.0 is.3 code
+      left_few (inr h) code rest = plain_few left st s sim h.0 is.3 code q
 
       right_few : IsScan set right ⊎ IsOperand set right → HasItsCode g.typed g.instance alive n right → (IsScan set right → number right st q < 2 ^ 32) → number right st q < 2 ^ 32
       right_few (inl h) code rest = rest h
-      right_few (inr h) code rest = plain_few right h is.4 code
+      right_few (inr h) code rest = plain_few right st s sim h is.4 code q
   scan_words _ st s sim is c q = absurd is
 
   -- what a scan is of

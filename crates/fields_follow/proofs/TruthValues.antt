@@ -22,7 +22,7 @@ use Rattle.source_meaning.specs.State.{State}
 use Rattle.source_meaning.specs.Values.{nonzero, unary_of}
 use Rattle.code_follows.proofs.Numbers.{zero_converted}
 use Rattle.cstar_tree.specs.Typed.{type_of}
-use Rattle.fields_follow.specs.Fragment.{HasKnownKind, IsCondition, IsOperation, IsPure, IsRelation, IsWide}
+use Rattle.fields_follow.specs.Fragment.{HasKnownKind, HasItsKind, IsOperation, IsPure, IsRelation, IsWide}
 use Rattle.fields_follow.proofs.Instructions.{extents, place}
 use Rattle.fields_follow.proofs.Meaning.{value_in}
 use Rattle.fields_follow.proofs.TestFlags.{is_truth, truth_is}
@@ -87,8 +87,8 @@ bool_nonzero to from w one few = by (w == 0) refl (number_of from.bits from.sign
 -- one of these behind `+` or converted to other types than `bool` that have so many, or a value that is converted to `bool`.
 unfoldable pub IsTruth : ℕ → ℕ → TExpr → Type 0
 IsTruth set bits (T.Brackets' ty p inner) = (ty ≡ type_of inner) × IsTruth set bits inner
-IsTruth set bits (T.Convert' ty p operand) = (ty.shape ≡ Some set) × (((bits ≤ ty.elem.bits) × ((ty.elem.bits == 1) ≡ false) × IsTruth set bits operand) ⊎ ((ty.elem.bits ≡ 1) × IsCondition set operand))
-IsTruth set bits (T.Unary' ty op p operand) = IsWide set ty × (((is_plus op ≡ true) × IsTruth set bits operand) ⊎ ((negates op ≡ true) × IsCondition set operand))
+IsTruth set bits (T.Convert' ty p operand) = (ty.shape ≡ Some set) × (((bits ≤ ty.elem.bits) × ((ty.elem.bits == 1) ≡ false) × IsTruth set bits operand) ⊎ ((ty.elem.bits ≡ 1) × HasItsKind set operand))
+IsTruth set bits (T.Unary' ty op p operand) = IsWide set ty × (((is_plus op ≡ true) × IsTruth set bits operand) ⊎ ((negates op ≡ true) × HasItsKind set operand))
 IsTruth set bits (T.LogicalOr' ty p left q right) = IsPure set (T.LogicalOr' ty p left q right) × (joins left right ≡ true)
 IsTruth set bits (T.LogicalAnd' ty p left q right) = IsPure set (T.LogicalAnd' ty p left q right) × (joins left right ≡ true)
 IsTruth set bits (T.Binary' ty place op p left q right) = (relates op ≡ true) × IsPure set (T.Binary' ty place op p left q right)
@@ -156,7 +156,7 @@ truth_bit extents st set bits (T.Convert' ty p inner) x is = by is.1 (λ part. t
     v : ℕ
     v = value_in extents st inner x
 
-    by : ((bits ≤ ty.elem.bits) × ((ty.elem.bits == 1) ≡ false) × IsTruth set bits inner) ⊎ ((ty.elem.bits ≡ 1) × IsCondition set inner) → (IsTruth set bits inner → v ≡ from_bool (nonzero v)) → converted ty.elem (type_of inner).elem v ≡ from_bool (nonzero (converted ty.elem (type_of inner).elem v))
+    by : ((bits ≤ ty.elem.bits) × ((ty.elem.bits == 1) ≡ false) × IsTruth set bits inner) ⊎ ((ty.elem.bits ≡ 1) × HasItsKind set inner) → (IsTruth set bits inner → v ≡ from_bool (nonzero v)) → converted ty.elem (type_of inner).elem v ≡ from_bool (nonzero (converted ty.elem (type_of inner).elem v))
     by (inl part) bit_of =
         let bit = bit_of part.2 in
         ap (λ (w : ℕ). converted ty.elem (type_of inner).elem w) bit ∙ bit_converted ty.elem (type_of inner).elem (nonzero v) ∙ truth_is (nonzero v)
@@ -164,7 +164,7 @@ truth_bit extents st set bits (T.Convert' ty p inner) x is = by is.1 (λ part. t
     by (inr whole) bit_of = bool_bit ty.elem (type_of inner).elem v whole.0
 truth_bit extents st set bits (T.Unary' ty op p operand) x is = by op is.1 (λ part. truth_bit extents st set bits operand x part)
   where
-    by : (op : UnaryOp) → ((is_plus op ≡ true) × IsTruth set bits operand) ⊎ ((negates op ≡ true) × IsCondition set operand) → (IsTruth set bits operand → value_in extents st operand x ≡ from_bool (nonzero (value_in extents st operand x)))
+    by : (op : UnaryOp) → ((is_plus op ≡ true) × IsTruth set bits operand) ⊎ ((negates op ≡ true) × HasItsKind set operand) → (IsTruth set bits operand → value_in extents st operand x ≡ from_bool (nonzero (value_in extents st operand x)))
         → unary_of op (value_in extents st operand x) ≡ from_bool (nonzero (unary_of op (value_in extents st operand x)))
     by U.Plus (inl h) bit_of = bit_of h.1
     by U.Minus (inl h) bit_of = let wrong = h.0 in cc

@@ -7,7 +7,7 @@
 -- each of the other operands fails only where it is chosen, as the right one of `&&` and `||` does where the left one does
 -- not decide, which may be a scalar. They are assigned to variables of the file and of blocks, and folded into numbers and
 -- onto scalar variables, as scans of them and of ones with operators on these are, and they are the conditions of
--- `where`. Folds and scans are of the active positions. They are sent, as those scans are, to parallel variables of any
+-- `where`, as those scans and relations of them are. Folds and scans are of the active positions. They are sent, as those scans are, to parallel variables of any
 -- shape, by such indexes, also with an operator that folds. Scalars that change variables, by assignments, steps and
 -- `getchar`, are assigned as parallel expressions are, also with operators. Scalar expressions read single positions of
 -- parallel variables, by any scalar indexes, and scalars are assigned to these, also with operators and by steps. The
@@ -222,10 +222,6 @@ HasOperation op elem value = elim (assign_op_of op) [
   | Some o ↦ IsOperation o value × ((type_of value).elem.bits ≡ 32) × ((elem.bits == 1) ≡ false) × (operation_bits elem.bits o value ≡ elem.bits)
 ]
 
--- a condition: it holds where the value is not zero
-abbrev pub IsCondition : ℕ → TExpr → Type 0
-IsCondition set e = HasItsKind set e
-
 -- an assignment to a parallel variable, or a step of one
 unfoldable pub IsUpdate : TExpr → Type 0
 IsUpdate (T.Assign' ty place op p target q value) = (set : ℕ) × ((ty ≡ type_of target) × IsTarget set target × HasOperation op ty.elem value × IsOperand set value)
@@ -247,6 +243,17 @@ IsScan set (T.Unary' ty op p operand) = IsWide set ty × (negates op ≡ false) 
 IsScan set (T.Binary' ty place op p left q right) =
     IsWide set ty × IsOperation op right × ((IsScan set left × (IsScan set right ⊎ IsOperand set right)) ⊎ (IsOperand set left × IsScan set right)) × IsWide set (type_of left) × IsWide set (type_of right)
 IsScan set _ = ⊥
+
+-- a relation of two such values, or of one and an operand
+unfoldable pub IsScanRelation : ℕ → TExpr → Type 0
+IsScanRelation set (T.Brackets' ty p inner) = (ty ≡ type_of inner) × IsScanRelation set inner
+IsScanRelation set (T.Binary' ty place op p left q right) =
+    IsWide set ty × (relates op ≡ true) × ((IsScan set left × (IsScan set right ⊎ IsOperand set right)) ⊎ (IsOperand set left × IsScan set right)) × IsWide set (type_of left) × IsWide set (type_of right)
+IsScanRelation set _ = ⊥
+
+-- a condition: it holds where the value is not zero
+abbrev pub IsCondition : ℕ → TExpr → Type 0
+IsCondition set e = HasItsKind set e ⊎ (IsScan set e ⊎ IsScanRelation set e)
 
 -- such a value, or one that is converted to a type of at least so many bits, which is no `bool`
 unfoldable pub IsScanned : ℕ → ℕ → TExpr → Type 0
