@@ -92,7 +92,7 @@ module _ (g : Setting) (scope : Scope) (active : Active) (known : KnowsFields g 
         (sends_leave (under g active) (registers_under g active has) alive n ready (places_under g active known.places) there e is c d s st here (sim_open g scope active known alive st s sim))
     effect_follows (inr (inr (inr (inl is)))) =
         follows_so g scope active known (λ v u out f. Leaves (under g active) alive d f s u) (λ v u out f. Ran g alive d s u f) s (evaluated scope e active st) (effect_of g.typed (layout g) e d) (λ v u out f within leaves. leaves_ran g scope active known alive d s st begun at_place files sim f u within leaves)
-        (changing_leaves (under g active) (registers_under g active has) alive n ready (places_under g active known.places) there e is c d s st here (sim_open g scope active known alive st s sim))
+        (changing_leaves (under g active) (registers_under g active has) alive n ready (places_under g active known.places) there known.meant e is c d s st here (sim_open g scope active known alive st s sim))
     effect_follows (inr (inl is)) =
         follows_so g scope active known (λ v u out f. LeavesScalars (under g active) alive d s st u f) (λ v u out f. Ran g alive d s u f) s (evaluated scope e active st) (effect_of g.typed (layout g) e d) (λ v u out f within leaves. onto_ran f u within leaves)
         (onto_leaves (under g active) alive n (registers_under g active has) ready (places_under g active known.places) there e is c d s st begun.regs here (sim_open g scope active known alive st s sim))

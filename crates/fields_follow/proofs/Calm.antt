@@ -26,7 +26,7 @@ use Rattle.code_follows.proofs.Following.{IsScalar}
 use Rattle.code_follows.proofs.Operators.{machine_below, machine_same}
 use Rattle.code_follows.proofs.Settings.{Setting}
 use Rattle.code_follows.proofs.Words.{below_bits, through_below, within_word, scalar_of}
-use Rattle.fields_follow.specs.Fragment.{IsCalm, alone}
+use Rattle.fields_follow.specs.Fragment.{IsCalm, alone, calling_nothing}
 use Rattle.source_meaning.specs.Reductions.{divides_by_zero, folded_into, promoted, updated}
 use Rattle.cstar_tree.specs.declared.syntax.AssignOp.{AssignOp}
 
@@ -66,34 +66,34 @@ calm_alone (T.Choice' ty p test q first r second) h = (h.0, calm_alone test h.1,
 calm_alone _ h = absurd h
 
 -- one that calls nothing is one of the variables that it names
-target_in : (names : Variable → Type 0) (e : TExpr) → IsVariable alone e → NamesAmong names e → IsVariable (naming alone names) e
+target_in : (folds : TExpr → Type 0) (names : Variable → Type 0) (e : TExpr) → IsVariable (calling_nothing folds) e → NamesAmong names e → IsVariable (naming (calling_nothing folds) names) e
 unfolding IsVariable NamesAmong
-target_in names (T.Variable ty x) h among = (h.0, among)
-target_in names (T.Brackets' ty p inner) h among = (h.0, target_in names inner h.1 among)
-target_in names _ h among = absurd h
+target_in folds names (T.Variable ty x) h among = (h.0, among)
+target_in folds names (T.Brackets' ty p inner) h among = (h.0, target_in folds names inner h.1 among)
+target_in folds names _ h among = absurd h
 
-pub alone_in : (names : Variable → Type 0) (e : TExpr) → IsIn alone e → NamesAmong names e → IsIn (naming alone names) e
+pub alone_in : (folds : TExpr → Type 0) (names : Variable → Type 0) (e : TExpr) → IsIn (calling_nothing folds) e → NamesAmong names e → IsIn (naming (calling_nothing folds) names) e
 unfolding NamesAmong IsIn
-alone_in names (T.Number ty value) h among = h
-alone_in names (T.PositionsOf ty shape value) h among = h
-alone_in names (T.RankOf ty shape value) h among = h
-alone_in names (T.DimOf ty shape axis value) h among = h
-alone_in names (T.Variable ty x) h among = (h.0, among)
-alone_in names (T.GetChar ty) h among = h
-alone_in names (T.Brackets' ty p inner) h among = (h.0, alone_in names inner h.1 among)
-alone_in names (T.Convert' ty p operand) h among = (h.0, alone_in names operand h.1 among)
-alone_in names (T.Casts' ty elems p operand) h among = (h.0, h.1, alone_in names operand h.2 among)
-alone_in names (T.Unary' ty op p operand) h among = (h.0, alone_in names operand h.1 among, h.2)
-alone_in names (T.Binary' ty place op p left q right) h among = (h.0, alone_in names left h.1 among.0, alone_in names right h.2 among.1, h.3, h.4)
-alone_in names (T.LogicalOr' ty p left q right) h among = (h.0, alone_in names left h.1 among.0, alone_in names right h.2 among.1)
-alone_in names (T.LogicalAnd' ty p left q right) h among = (h.0, alone_in names left h.1 among.0, alone_in names right h.2 among.1)
-alone_in names (T.Choice' ty p test q first r second) h among = (h.0, alone_in names test h.1 among.0, alone_in names first h.2 among.1, alone_in names second h.3 among.2, h.4, h.5)
-alone_in names (T.Assign' ty place op p target q value) h among = (h.0, h.1, target_in names target h.2 among.0, alone_in names value h.3 among.1, h.4)
-alone_in names (T.Step' ty op order p target) h among = (h.0, h.1, target_in names target h.2 among)
-alone_in names (T.Call' ty index p arguments) h among = absurd h.1
-alone_in names (T.Reduce' ty op p operand) h among = absurd h.1
-alone_in names (T.LeftIndex' ty place p indexes x of) h among = absurd h.1
-alone_in names _ h among = absurd h
+alone_in folds names (T.Number ty value) h among = h
+alone_in folds names (T.PositionsOf ty shape value) h among = h
+alone_in folds names (T.RankOf ty shape value) h among = h
+alone_in folds names (T.DimOf ty shape axis value) h among = h
+alone_in folds names (T.Variable ty x) h among = (h.0, among)
+alone_in folds names (T.GetChar ty) h among = h
+alone_in folds names (T.Brackets' ty p inner) h among = (h.0, alone_in folds names inner h.1 among)
+alone_in folds names (T.Convert' ty p operand) h among = (h.0, alone_in folds names operand h.1 among)
+alone_in folds names (T.Casts' ty elems p operand) h among = (h.0, h.1, alone_in folds names operand h.2 among)
+alone_in folds names (T.Unary' ty op p operand) h among = (h.0, alone_in folds names operand h.1 among, h.2)
+alone_in folds names (T.Binary' ty place op p left q right) h among = (h.0, alone_in folds names left h.1 among.0, alone_in folds names right h.2 among.1, h.3, h.4)
+alone_in folds names (T.LogicalOr' ty p left q right) h among = (h.0, alone_in folds names left h.1 among.0, alone_in folds names right h.2 among.1)
+alone_in folds names (T.LogicalAnd' ty p left q right) h among = (h.0, alone_in folds names left h.1 among.0, alone_in folds names right h.2 among.1)
+alone_in folds names (T.Choice' ty p test q first r second) h among = (h.0, alone_in folds names test h.1 among.0, alone_in folds names first h.2 among.1, alone_in folds names second h.3 among.2, h.4, h.5)
+alone_in folds names (T.Assign' ty place op p target q value) h among = (h.0, h.1, target_in folds names target h.2 among.0, alone_in folds names value h.3 among.1, h.4)
+alone_in folds names (T.Step' ty op order p target) h among = (h.0, h.1, target_in folds names target h.2 among)
+alone_in folds names (T.Call' ty index p arguments) h among = absurd h.1
+alone_in folds names (T.Reduce' ty op p operand) h among = (h.0, h.1, among)
+alone_in folds names (T.LeftIndex' ty place p indexes x of) h among = absurd h.1
+alone_in folds names _ h among = absurd h
 
 -- where its targets stand
 located_is : (target : TExpr) → IsVariable alone target → (x : Variable) × ((scope : Scope) (active : Active) (st : State) → located scope target active st ≡ Gives (OfScalar x) st)

@@ -11,6 +11,7 @@ use Rattle.paris_code.specs.declared.operands.Field.{Field}
 use Rattle.paris_code.specs.Code.{CodeState}
 use Rattle.paris_code.specs.Memory.{BitMemory, field_number, processors}
 use Rattle.paris_code.specs.Spans.{IsNamedAt, StandsAt}
+use Rattle.source_meaning.specs.Programs.{calls}
 use Rattle.source_meaning.specs.State.{Early, State}
 use Rattle.source_meaning.specs.Values.{Active, Scope}
 use Rattle.code_follows.proofs.Besides.{sim_saying, under_held}
@@ -101,11 +102,13 @@ module _ (g : Setting) where
     fewer = λ more less at st m among h. ((fields_held g a).fewer more less at st m among h.0, (h.1.0, λ entry saved k home living. h.1.1 entry saved k home (among k living)));
   }
 
--- What is known of a unit of such a program, where these positions are active: what is kept of the memory beside the
--- fields of the file lasts as long as the code of which the setting speaks.
+-- What is known of a unit of such a program, where these positions are active: calls mean what the source says of as many
+-- turns as are left at most, and what is kept of the memory beside the fields of the file lasts as long as the code of
+-- which the setting speaks.
 pub record KnowsFields (g : Setting) (scope : Scope) (a : Active) : Type 1 where
   pub places : PlacesFields g
   pub same_extents : SameExtents g scope
+  pub meant : scope.call ≡ calls g.typed g.most
   pub effects : (e : TExpr) → g.may.beside.effects e → IsParallelEffect e
   pub folds : (e : TExpr) → g.may.beside.folds e → IsFold e
   pub positions : (x : Variable) → g.may.beside.positions x → IsOfFileOrBlock x
@@ -138,6 +141,7 @@ module _ (g : Setting) (scope : Scope) (a : Active) (k : KnowsFields g scope a) 
     knows_inner lasts = record {
       places = let p = k.places in record { ends = p.ends; scans = p.scans; exists = p.exists; files_end = p.files_end; file = p.file; files_apart = p.files_apart; own_file = p.own_file; owns_apart = p.owns_apart; owns_apart_at = p.owns_apart_at; own_and_below = p.own_and_below; file_and_below = p.file_and_below; own_below_called = p.own_below_called; few = p.few; address_ends = p.address_ends; geometry = p.geometry; grids = p.grids };
       same_extents = k.same_extents;
+      meant = k.meant;
       effects = k.effects;
       folds = k.folds;
       positions = k.positions;

@@ -24,6 +24,7 @@ pub mod FileFields
 pub mod Flags
 pub mod Folded
 pub mod FoldingOnto
+pub mod FoldingScalars
 pub mod Folds
 pub mod Forms
 pub mod Gets

@@ -63,6 +63,10 @@ module _ (t : Typed) (image : Image) (p : IsParallelProgram t) (codable : IsCoda
     unfolding scope_of
     same_extents set exists = sym (extents_are t compiled.lowered.words compiled.before compiled.after image made set exists)
 
+    meant : scope.call ≡ calls t most
+    unfolding scope_of
+    meant = refl
+
   -- what `main` holds
   abbrev main_held : ℕ → Held
   main_held turns = fields_held (g nothing_held 0 p.main p.is_main [] turns) everywhere
@@ -72,6 +76,7 @@ module _ (t : Typed) (image : Image) (p : IsParallelProgram t) (codable : IsCoda
   known turns = record {
     places = places (main_held turns) 0 p.main p.is_main [] turns;
     same_extents = same_extents (main_held turns) 0 p.main p.is_main [] turns;
+    meant = meant (main_held turns) 0 p.main p.is_main [] turns;
     effects = λ e h. h;
     folds = λ e h. h;
     positions = λ x h. h;
@@ -128,6 +133,7 @@ module _ (t : Typed) (image : Image) (p : IsParallelProgram t) (codable : IsCoda
       known_called = record {
         places = places held_called number b is back m;
         same_extents = same_extents held_called number b is back m;
+        meant = meant held_called number b is back m;
         effects = λ e h. h;
         folds = λ e h. h;
         positions = λ x h. h;

@@ -35,7 +35,7 @@ use Rattle.source_meaning.specs.Values.{Active, Parallel, Scalar, Scope, Value, 
 use Rattle.code_follows.specs.Fragment.{NamesAmong, IsIn}
 use Rattle.code_follows.proofs.Following.{Follows, HasRegisters, Sim, follows_same, held, knowing, then_gives}
 use Rattle.code_follows.proofs.Settings.{Setting, layout}
-use Rattle.fields_follow.specs.Fragment.{IsCalm, IsConstant, IsPromoted, IsChanging, IsRegistered, alone}
+use Rattle.fields_follow.specs.Fragment.{IsCalm, IsConstant, IsPromoted, IsChanging, IsFold, IsRegistered, calling_nothing}
 use Rattle.fields_follow.proofs.Calm.{calm_same}
 use Rattle.fields_follow.proofs.Forms.{HasItsCode, HasItsWord, constant_word, not_held, promoted_not_held}
 use Rattle.fields_follow.proofs.Instructions.{extents}
@@ -189,11 +189,11 @@ module _ (g : Setting) (alive : Variable → Type 0) (n : ℕ) where
       by (inr h) = inr (spread_within IsCalm set ty p inner is.0 h)
   promoted_stands set _ is c = absurd is
 
-  -- so it is of one that may change variables
-  pub changing_stands : (set : ℕ) (e : TExpr) → IsChanging set e → HasItsCode g.typed g.instance alive n e → Spreads (λ operand. IsIn alone operand) set e
+  -- so it is of one that may change variables, and fold
+  pub changing_stands : (set : ℕ) (e : TExpr) → IsChanging set e → HasItsCode g.typed g.instance alive n e → Spreads (λ operand. IsIn (calling_nothing IsFold) operand) set e
   unfolding IsChanging
-  changing_stands set (T.Promote' ty p operand) is c = spread_over (λ operand. IsIn alone operand) set ty p operand is.0 is.1 is.2 is.3 c
-  changing_stands set (T.Brackets' ty p inner) is c = spread_within (λ operand. IsIn alone operand) set ty p inner is.0 (changing_stands set inner is.1 (brackets_code ty p inner c))
+  changing_stands set (T.Promote' ty p operand) is c = spread_over (λ operand. IsIn (calling_nothing IsFold) operand) set ty p operand is.0 is.1 is.2 is.3 c
+  changing_stands set (T.Brackets' ty p inner) is c = spread_within (λ operand. IsIn (calling_nothing IsFold) operand) set ty p inner is.0 (changing_stands set inner is.1 (brackets_code ty p inner c))
   changing_stands set _ is c = absurd is
 
   module _ (has : HasRegisters g) (ready : (d : Draft) → IsReadyButForFields g.typed g.instance (layout g) n d) (fields : HoldsTheFields g) where

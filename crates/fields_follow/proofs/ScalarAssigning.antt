@@ -1,5 +1,5 @@
--- Assignments of a scalar that may change variables to a parallel variable, also with an operator: the scalar is computed, and
--- then it goes to each active position.
+-- Assignments of a scalar that may change variables, and fold, to a parallel variable, also with an operator: the scalar is
+-- computed, and then it goes to each active position.
 use Rattle.std.proofs.Common.{◌≡◌, ◌∙◌, ℕ, ◌<◌, ◌^◌, ◌==◌, true, false, length, Option, Some, None, refl, sym, ap, subst, arith, inl, inr, ◌⊎◌, not, Bool, ◌&&◌, if◌then◌else◌, ◌≤◌, ◌+◌, ◌%◌}
 use Rattle.std.proofs.Math.Nat.{mod-eq_of_lt}
 use Rattle.cstar_base.specs.declared.elem.Elem.{Elem}
@@ -36,7 +36,7 @@ use Rattle.source_meaning.proofs.ConstantLaws.{Boxed}
 use Rattle.code_follows.specs.Fragment.{IsIn}
 use Rattle.code_follows.proofs.Following.{Follows, HasRegisters, Sim, follows_same, held, then_follows, Extends}
 use Rattle.code_follows.proofs.Settings.{Setting, Within, layout, stay, earlier}
-use Rattle.fields_follow.specs.Fragment.{HasOperation, IsChanging, IsOperation, alone, IsChangingAssigned}
+use Rattle.fields_follow.specs.Fragment.{HasOperation, IsChanging, IsFold, IsOperation, calling_nothing, IsChangingAssigned}
 use Rattle.fields_follow.proofs.Assigning.{Begins, carried, code, code_is, entry_of, is_elem, leaves_value, plainly, shaped, where_assigned}
 use Rattle.fields_follow.proofs.Arms.{value_put}
 use Rattle.fields_follow.proofs.Forms.{HasItsCode}
@@ -45,7 +45,9 @@ use Rattle.fields_follow.proofs.Leaving.{Leaves, UpdateLeaves}
 use Rattle.fields_follow.proofs.Lengths.{held_first, Keeps, divides_wide, operation_keeps}
 use Rattle.fields_follow.proofs.Places.{HoldsTheFields, PlacesFields}
 use Rattle.fields_follow.proofs.Promoted.{Spreads, changing_stands, everywhere}
-use Rattle.fields_follow.proofs.Scalars.{GivesChanged, changed_follows}
+use Rattle.fields_follow.proofs.Scalars.{GivesChanged}
+use Rattle.fields_follow.proofs.FoldingScalars.{folding_follows}
+use Rattle.source_meaning.specs.Programs.{calls}
 use Rattle.fields_follow.proofs.Starts.{starts_entry, Starts, no_home}
 use Rattle.fields_follow.proofs.Updates.{assigned_is, divides_never, assigned_divides, divides_as, updated_is}
 use Rattle.fields_follow.proofs.Values.{next_field, with_entry, and_entry, one_more}
@@ -76,7 +78,7 @@ unfolding then_make
 make_both (Makes x e) f k = refl
 make_both Fails f k = refl
 
-module _ (g : Setting) (has : HasRegisters g) (alive : Variable → Type 0) (n : ℕ) (ready : (d : Draft) → IsReadyButForFields g.typed g.instance (layout g) n d) (places : PlacesFields g) (fields : HoldsTheFields g) where
+module _ (g : Setting) (has : HasRegisters g) (alive : Variable → Type 0) (n : ℕ) (ready : (d : Draft) → IsReadyButForFields g.typed g.instance (layout g) n d) (places : PlacesFields g) (fields : HoldsTheFields g) (around : fields.scope.call ≡ calls g.typed g.most) where
   made_follows : {A B : Type 0} (Q : A → State → B → Draft → Type 0) (s : CodeState) (x : A) (u : State) (y : B) (e : Draft) → (Within g e → Q x u y e) → Follows g Q s (Source.Gives x u) (Makes y e)
   unfolding Follows
   made_follows Q s x u y e h = h
@@ -91,7 +93,7 @@ module _ (g : Setting) (has : HasRegisters g) (alive : Variable → Type 0) (n :
     abbrev whole : TExpr
     whole = T.Assign' ty place op p target q value
 
-    v : Spreads g alive n (λ operand. IsIn alone operand) set value
+    v : Spreads g alive n (λ operand. IsIn (calling_nothing IsFold) operand) set value
     v = changing_stands g alive n set value is c
 
     abbrev y : Variable
@@ -143,7 +145,7 @@ module _ (g : Setting) (has : HasRegisters g) (alive : Variable → Type 0) (n :
         (effect ∙ ap (λ (o : Option Op). code g has alive n ready places fields ty place op p q target value set same operates d s st b o) none
         ∙ ap (λ (o : Option ℕ). elim o as (λ _. Made Out) [ Some word ↦ word_put (O.Field f) word b.found.e | None ↦ computed_to g.typed (layout g) (O.Field f) value b.found.e ]) v.no_word ∙ v.computed f b.found.e)
         (then_follows g R Done s s (evaluated fields.scope v.operand fields.active st) assigns_it (made b.found.e) (λ x after. put_value (O.Field f) x after) (stay g s)
-        (changed_follows g has alive n ready fields true elem.bits (length b.found.e.fields) v.operand v.is v.among v.has b.found.e s st b.here b.sim) (λ x after. value_put g has alive n ready places fields f x after) gives)
+        (folding_follows g has places fields around alive n ready true elem.bits v.operand v.is v.among v.has b.found.e s st b.here b.sim) (λ x after. value_put g has alive n ready places fields f x after) gives)
       where
         R : Value → State → Out → Draft → Type 0
         R = GivesChanged g has alive n ready fields (length b.found.e.fields) b.found.e s v.operand
@@ -173,7 +175,7 @@ module _ (g : Setting) (has : HasRegisters g) (alive : Variable → Type 0) (n :
         ∙ make_both (operand_by g.typed (layout g) elem.bits (λ after. value_of g.typed (layout g) elem.bits value after) true value d2) (λ z after. from (right_given z) (λ right. Makes right after)) (λ a e. right_operated x signed place f f a spare e)
         ∙ ap (λ (m : Made Out). then_make m (λ z after. next z after)) (v.code true elem.bits d2))
         (then_follows g R Done s s (evaluated fields.scope v.operand fields.active st) assigns_it (made d2) (λ z after. next z after) (stay g s)
-        (changed_follows g has alive n ready fields true elem.bits (length d2.fields) v.operand v.is v.among v.has d2 s st (starts_entry g alive _ _ b.here) b.sim) grows gives)
+        (folding_follows g has places fields around alive n ready true elem.bits v.operand v.is v.among v.has d2 s st (starts_entry g alive _ _ b.here) b.sim) grows gives)
       where
         d2 : Draft
         d2 = with_entry set elem.bits W.Own b.found.e

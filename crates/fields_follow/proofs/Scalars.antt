@@ -168,11 +168,11 @@ module _ (g : Setting) (has : HasRegisters g) (alive : Variable → Type 0) (n :
   abbrev begun : (d : Draft) (s : CodeState) → Starts g alive s (length d.code) d.regs (length d.fields) → Begun (calm g has fields s.memory) alive d
   begun d s here = record { regs = here.free; code = here.low; fields = omega arith; opened = here.opened }
 
-  pub changed_follows : (quiet : Bool) (bits bound : ℕ) (e : TExpr) → IsIn alone e → NamesAmong alive e → HasCode g.typed g.instance n e → (d : Draft) (s : CodeState) (st : State) → Starts g alive s (length d.code) d.regs (length d.fields) → Sim g alive st s
+  changed_follows : (quiet : Bool) (bits bound : ℕ) (e : TExpr) → IsIn alone e → NamesAmong alive e → HasCode g.typed g.instance n e → (d : Draft) (s : CodeState) (st : State) → Starts g alive s (length d.code) d.regs (length d.fields) → Sim g alive st s
       → Follows g (GivesChanged bound d s e) s (evaluated fields.scope e fields.active st) (operand_by g.typed (layout g) bits (λ after. value_of g.typed (layout g) bits e after) quiet e d)
   changed_follows quiet bits bound e is among code d s st here sim =
       arrived_follows quiet bound e is d s st here (operand_by g.typed (layout g) bits (λ after. value_of g.typed (layout g) bits e after) quiet e d)
-      (operand (calm g has fields s.memory) (calm_registers g has fields s.memory) alive n here.files ready (around g has fields s.memory) fields.active (nothing_called g has fields s.memory) quiet bits e (alone_in alive e is among) code d s st
+      (operand (calm g has fields s.memory) (calm_registers g has fields s.memory) alive n here.files ready (around g has fields s.memory) fields.active (nothing_called g has fields s.memory) quiet bits e (alone_in (λ x. ⊥) alive e is among) code d s st
       (begun d s here) here.stands (sim_calm g has fields s.memory alive st s refl sim))
 
   -- where it changes nothing the state is as it was
@@ -207,5 +207,5 @@ module _ (g : Setting) (has : HasRegisters g) (alive : Variable → Type 0) (n :
   value_follows bits bound e is among code d s st here sim =
       scalar_so bound e is among code d s st sim (value_of g.typed (layout g) bits e d)
       (arrived_follows false bound e (calm_alone e is) d s st here (value_of g.typed (layout g) bits e d)
-      (value_does (calm g has fields s.memory) (calm_registers g has fields s.memory) alive n here.files ready (around g has fields s.memory) fields.active (nothing_called g has fields s.memory) false bits e (alone_in alive e (calm_alone e is) among) code d s st
+      (value_does (calm g has fields s.memory) (calm_registers g has fields s.memory) alive n here.files ready (around g has fields s.memory) fields.active (nothing_called g has fields s.memory) false bits e (alone_in (λ x. ⊥) alive e (calm_alone e is) among) code d s st
       (begun d s here) here.stands (sim_calm g has fields s.memory alive st s refl sim)))

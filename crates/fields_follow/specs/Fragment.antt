@@ -9,8 +9,8 @@
 -- onto scalar variables, as scans of them and of ones with operators on these are, and they are the conditions of
 -- `where`, as those scans and relations of them are. Folds and scans are of the active positions. They are sent, as those scans are, to parallel variables of any
 -- shape, by such indexes, also with an operator that folds. Scalars that change variables, by assignments, steps and
--- `getchar`, are assigned as parallel expressions are, also with operators. Scalar expressions read single positions of
--- parallel variables, by any scalar indexes, and scalars are assigned to these, also with operators and by steps. The
+-- `getchar`, or in which values are folded, are assigned as parallel expressions are, also with operators. Scalar
+-- expressions read single positions of parallel variables, by any scalar indexes, and scalars are assigned to these, also with operators and by steps. The
 -- initialiser of a parallel variable of a block is what may be assigned to it. Under `where` and `everywhere` stand the
 -- statements of scalar programs with these, also calls, `return` and jumps that lead out of them.
 use Rattle.std.specs.Prelude.{ℕ, ◌≡◌, ◌<◌, ◌≤◌, ◌+◌, ◌^◌, ◌⊎◌, ◌==◌, true, false, IfSome, Option, Some, None}
@@ -83,14 +83,18 @@ IsCalm (T.LogicalAnd' ty p left q right) = IsWord ty × IsCalm left × IsCalm ri
 IsCalm (T.Choice' ty p test q first r second) = IsWord ty × IsCalm test × IsCalm first × IsCalm second × IsWord (type_of first) × IsWord (type_of second)
 IsCalm _ = ⊥
 
--- scalar expressions that call nothing, with no parallel expression among them
-abbrev pub alone : May
-alone = record {
+-- scalar expressions that call nothing, with no parallel expression among them but such folds
+abbrev pub calling_nothing : (TExpr → Type 0) → May
+calling_nothing folds = record {
   calls = λ used index given. ⊥;
   returns = λ elem. ⊥;
   names = λ x. Unit {0};
-  beside = record { effects = λ e. ⊥; folds = λ e. ⊥; positions = λ x. ⊥; conditions = λ set e. ⊥; widens = λ set. ⊥; variables = λ info. ⊥; locals = λ info. ⊥ };
+  beside = record { effects = λ e. ⊥; folds = folds; positions = λ x. ⊥; conditions = λ set e. ⊥; widens = λ set. ⊥; variables = λ info. ⊥; locals = λ info. ⊥ };
 }
+
+-- with none
+abbrev pub alone : May
+alone = calling_nothing (λ e. ⊥)
 
 -- a scalar: a constant, or one that is computed
 abbrev pub IsEverywhere : TExpr → Type 0
@@ -269,17 +273,6 @@ unfoldable pub IsScanAssigned : TExpr → Type 0
 IsScanAssigned (T.Assign' ty place op p target q value) = (ty ≡ type_of target) × HasOperation op ty.elem value × ((set : ℕ) × (IsTarget set target × IsScanFor set ty.elem.bits op value))
 IsScanAssigned _ = ⊥
 
--- a promoted scalar that may change variables: with assignments and steps of scalar variables, and `getchar`
-unfoldable pub IsChanging : ℕ → TExpr → Type 0
-IsChanging set (T.Promote' ty p operand) = (ty.shape ≡ Some set) × (ty.elem ≡ (type_of operand).elem) × (constant_of operand ≡ None) × IsIn alone operand
-IsChanging set (T.Brackets' ty p inner) = (ty ≡ type_of inner) × IsChanging set inner
-IsChanging set _ = ⊥
-
--- it is assigned to a parallel variable of as many bits, or with an operator
-unfoldable pub IsChangingAssigned : TExpr → Type 0
-IsChangingAssigned (T.Assign' ty place op p target q value) = (ty ≡ type_of target) × HasOperation op ty.elem value × ((set : ℕ) × (IsTarget set target × IsChanging set value))
-IsChangingAssigned _ = ⊥
-
 -- a value of 32 bits that is folded: a pure one, or one with scans in it
 abbrev pub IsFolded : ℕ → TExpr → Type 0
 IsFolded set e = (HasItsKind set e × IsWide set (type_of e)) ⊎ IsScan set e
@@ -288,6 +281,18 @@ IsFolded set e = (HasItsKind set e × IsWide set (type_of e)) ⊎ IsScan set e
 unfoldable pub IsFold : TExpr → Type 0
 IsFold (T.Reduce' ty op p operand) = IsWord ty × ((set : ℕ) × IsFolded set operand)
 IsFold _ = ⊥
+
+-- a promoted scalar that may change variables, with assignments and steps of scalar variables, and `getchar`, and in which
+-- values are folded
+unfoldable pub IsChanging : ℕ → TExpr → Type 0
+IsChanging set (T.Promote' ty p operand) = (ty.shape ≡ Some set) × (ty.elem ≡ (type_of operand).elem) × (constant_of operand ≡ None) × IsIn (calling_nothing IsFold) operand
+IsChanging set (T.Brackets' ty p inner) = (ty ≡ type_of inner) × IsChanging set inner
+IsChanging set _ = ⊥
+
+-- it is assigned to a parallel variable of as many bits, or with an operator
+unfoldable pub IsChangingAssigned : TExpr → Type 0
+IsChangingAssigned (T.Assign' ty place op p target q value) = (ty ≡ type_of target) × HasOperation op ty.elem value × ((set : ℕ) × (IsTarget set target × IsChanging set value))
+IsChangingAssigned _ = ⊥
 
 -- the assignment with the operator of a reduction
 abbrev pub assignment_of : ReduceOp → AssignOp
