@@ -1,6 +1,6 @@
 -- The code of assignments to scalar variables, and of steps.
 use Rattle.std.specs.List.{All}
-use Rattle.std.proofs.Common.{◌≡◌, ◌∙◌, ℕ, ◌+◌, ◌<◌, ◌^◌, ◌&&◌, Bool, true, false, not, inl, inr, length-append, Vec, Global, length, slice_index, Option, Some, None, refl, sym, ap, subst, if◌then◌else◌, arith}
+use Rattle.std.proofs.Common.{◌≡◌, ◌∙◌, ℕ, ◌+◌, ◌<◌, ◌^◌, ◌&&◌, Bool, true, not, inl, inr, length-append, Vec, Global, length, slice_index, Option, Some, None, refl, sym, ap, subst, if◌then◌else◌, arith}
 use Rattle.std.specs.Prelude.{IfSome, is_none, ◌||◌, ◌==◌}
 use Rattle.cstar_base.specs.declared.elem.Elem.{Elem}
 use Rattle.cstar_base.specs.declared.operators.Op.{Op}
@@ -24,7 +24,6 @@ use Rattle.code_lengths.specs.Lowerable.{Calls, IsLowerable}
 use Rattle.code_lengths.proofs.Drafting.{fresh_grows}
 use Rattle.cstar_tree.specs.Typed.{type_of}
 use Rattle.code_lengths.specs.Naming.{HasVariable, NamesVariables, plain}
-use Rattle.code_lengths.specs.Shaped.{IsShaped, IsTarget}
 use Rattle.cstar_tree.specs.StatementTypes.{variable_info}
 use Rattle.code_lengths.specs.Ready.{HasCode, HaveCode, IsReadyButForFields}
 use Rattle.lower_base.specs.declared.emit.Out.{Out}
@@ -50,7 +49,7 @@ use Rattle.source_meaning.proofs.ConstantLaws.{Boxed}
 use Rattle.code_follows.specs.Fragment.{AreIn, IsBeside, IsEffect, IsGiven, IsIn, IsPosition, IsWord, Takes, elems_of, naming}
 use Rattle.code_follows.proofs.Changing.{no_place, only_set, operated_set_is, scalar_type, set_is, stepped_is, stepping, variable_holds}
 use Rattle.code_follows.proofs.CallValues.{call_code}
-use Rattle.code_follows.proofs.Expressions.{arguments_do, assign_names, brackets_code, index_code, operand, step_names, value_follows, valued}
+use Rattle.code_follows.proofs.Expressions.{arguments_do, assign_names, brackets_code, operand, step_names, value_follows}
 use Rattle.code_follows.proofs.Growing.{Extended, extended, from_growth}
 use Rattle.code_follows.proofs.Printing.{printf_code, printf_follows}
 use Rattle.code_follows.proofs.Arguments.{AreDone}
@@ -246,7 +245,7 @@ module _ (g : Setting) (has : HasRegisters g) (alive : Variable → Type 0) (n :
   valued_runs elem part code does d s st free here sim =
       follows_other g (Value_of g has alive elem true d s) (λ v u out e. Ran g alive d s u e) s (part st) (code d) (does d s st free here sim) (λ v u out f arr. record { grown = arr.extended; t = arr.t; go = arr.go; at = arr.at; sim = arr.sim; keeps = arr.keeps })
 
-  -- an expression without effects
+  -- an expression of the fragment by its value
   pure_follows : (e : TExpr) → (IsIn (naming g.may alive)) e → HasCode g.typed g.instance n e → Runs (λ st. evaluated scope e active st) (λ d. value_of g.typed (layout g) (type_of e).elem.bits e d)
   pure_follows e isin c = valued_runs (type_of e).elem _ _ (value_follows g has alive n files ready scope active calls_follow true (type_of e).elem.bits e isin c)
 
@@ -298,13 +297,28 @@ module _ (g : Setting) (has : HasRegisters g) (alive : Variable → Type 0) (n :
           (call_follows g has alive files scope active calls_follow m row done known.1 info is info.elem (inl refl) (with_reg d) s st (Value_of g has alive info.elem true d s) d.regs (begun_later g alive d (with_reg d) 0 (and_register d) free) here sim (fresh_dest g has alive info.elem true d s free))
           (λ v u out f arr. record { grown = arr.extended; t = arr.t; go = arr.go; at = arr.at; sim = arr.sim; keeps = arr.keeps }))
 
+  -- an assignment to a single position, and a step of one
+  store_runs : (ty : ValueType) (place : Place) (op : AssignOp) (p q : Boxed) (target value : TExpr) → IsPosition (naming g.may alive) target → IsIn (naming g.may alive) (T.Assign' ty place op p target q value) → HasCode g.typed g.instance n (T.Assign' ty place op p target q value)
+      → Runs (λ st. evaluated scope (T.Assign' ty place op p target q value) active st) (λ d. effect_of g.typed (layout g) (T.Assign' ty place op p target q value) d)
+  unfolding IsPosition effect_of assignment_effect own_of
+  store_runs ty place op p q (T.LeftIndex' left at r indexes x of) value h isin c = pure_follows (T.Assign' ty place op p (T.LeftIndex' left at r indexes x of) q value) isin c
+  store_runs ty place op p q _ value h isin c = absurd h
+
+  position_steps : (ty : ValueType) (op : StepOp) (order : StepOrder) (p : Boxed) (target : TExpr) → IsPosition (naming g.may alive) target → IsIn (naming g.may alive) (T.Step' ty op order p target) → HasCode g.typed g.instance n (T.Step' ty op order p target)
+      → Runs (λ st. evaluated scope (T.Step' ty op order p target) active st) (λ d. effect_of g.typed (layout g) (T.Step' ty op order p target) d)
+  unfolding IsPosition effect_of step_effect own_of
+  position_steps ty op order p (T.LeftIndex' left at r indexes x of) h isin c = pure_follows (T.Step' ty op order p (T.LeftIndex' left at r indexes x of)) isin c
+  position_steps ty op order p _ h isin c = absurd h
+
   -- what has a value of the fragment
   value_effect : (e : TExpr) → (IsIn (naming g.may alive)) e → HasCode g.typed g.instance n e → Runs (λ st. evaluated scope e active st) (λ d. effect_of g.typed (layout g) e d)
   unfolding effect_of evaluated IsIn
-  value_effect (T.Assign' ty place op p target q value) h c =
+  value_effect (T.Assign' ty place op p target q value) (scalar, same, inl to, isin, given) c =
       let names = assign_names g has alive n files ready scope active calls_follow ty place op p q target value c in
-      assign_runs target (variable_in g alive n target h.2) ty place op p q value names.0 h.1 h.4 h.3 names.1
-  value_effect (T.Step' ty op order p target) h c = step_runs target (variable_in g alive n target h.2) ty op order p (step_names g has alive n files ready scope active calls_follow ty op order p target c) h.1
+      assign_runs target (variable_in g alive n target to) ty place op p q value names.0 same given isin names.1
+  value_effect (T.Assign' ty place op p target q value) (scalar, same, inr to, isin, given) c = store_runs ty place op p q target value to (scalar, same, inr to, isin, given) c
+  value_effect (T.Step' ty op order p target) (scalar, same, inl to) c = step_runs target (variable_in g alive n target to) ty op order p (step_names g has alive n files ready scope active calls_follow ty op order p target c) same
+  value_effect (T.Step' ty op order p target) (scalar, same, inr to) c = position_steps ty op order p target to (scalar, same, inr to) c
   value_effect (T.Brackets' ty p inner) h c = value_effect inner h.1 (brackets_code g has alive n files ready scope active calls_follow ty p inner c)
   value_effect (T.Number ty value) h c = pure_follows (T.Number ty value) h c
   value_effect (T.PositionsOf ty shape value) h c = pure_follows (T.PositionsOf ty shape value) h c
@@ -328,31 +342,6 @@ module _ (g : Setting) (has : HasRegisters g) (alive : Variable → Type 0) (n :
   beside : (e : TExpr) → IsBeside (naming g.may alive) e → HasCode g.typed g.instance n e → Runs (λ st. evaluated scope e active st) (λ d. effect_of g.typed (layout g) e d)
   beside e may c d s st free here sim = (calls_follow.beside has).effects alive files n ready e may.0 may.1 c d s st free here sim
 
-  -- an assignment to a single position, and a step of one
-  store_runs : (ty : ValueType) (place : Place) (op : AssignOp) (p q : Boxed) (target value : TExpr) → ty ≡ type_of target → IsPosition (naming g.may alive) target → IsIn (naming g.may alive) value → IsGiven op (type_of target) (type_of value) → HasCode g.typed g.instance n (T.Assign' ty place op p target q value)
-      → Runs (λ st. evaluated scope (T.Assign' ty place op p target q value) active st) (λ d. effect_of g.typed (layout g) (T.Assign' ty place op p target q value) d)
-  unfolding IsPosition IsIn IsShaped IsTarget IsLowerable NamesVariables effect_of assignment_effect own_of
-  store_runs ty place op p q (T.LeftIndex' left at r indexes x of) value same h isin given c =
-      let part = assign_names g has alive n files ready scope active calls_follow ty place op p q (T.LeftIndex' left at r indexes x of) value c in
-      let target : HasCode g.typed g.instance n (T.LeftIndex' left at r indexes x of) = record { shaped = c.shaped.2; lowerable = c.lowerable.2; names = part.0 } in
-      subst (λ (t : ValueType). Runs (λ st. evaluated scope (T.Assign' t place op p (T.LeftIndex' left at r indexes x of) q value) active st) (λ d. effect_of g.typed (layout g) (T.Assign' t place op p (T.LeftIndex' left at r indexes x of) q value) d)) (sym same)
-      (valued_runs left.elem _ _
-      ((calls_follow.beside has).stores alive files n ready left at place op p q r indexes x of value h target
-      (arguments_do g has alive n files ready scope active calls_follow false (are_quiet indexes) indexes h.3 (index_code g has alive n files ready scope active calls_follow left at r indexes x of target)) given
-      (valued g has alive n files ready scope active calls_follow value isin part.1) true left.elem.bits))
-  store_runs ty place op p q target value same h isin given c = absurd h
-
-  position_steps : (ty : ValueType) (op : StepOp) (order : StepOrder) (p : Boxed) (target : TExpr) → ty ≡ type_of target → IsPosition (naming g.may alive) target → HasCode g.typed g.instance n (T.Step' ty op order p target)
-      → Runs (λ st. evaluated scope (T.Step' ty op order p target) active st) (λ d. effect_of g.typed (layout g) (T.Step' ty op order p target) d)
-  unfolding IsPosition IsIn IsShaped IsTarget IsLowerable NamesVariables effect_of step_effect own_of
-  position_steps ty op order p (T.LeftIndex' left at r indexes x of) same h c =
-      let target : HasCode g.typed g.instance n (T.LeftIndex' left at r indexes x of) = record { shaped = c.shaped.1; lowerable = c.lowerable.1; names = step_names g has alive n files ready scope active calls_follow ty op order p (T.LeftIndex' left at r indexes x of) c } in
-      subst (λ (t : ValueType). Runs (λ st. evaluated scope (T.Step' t op order p (T.LeftIndex' left at r indexes x of)) active st) (λ d. effect_of g.typed (layout g) (T.Step' t op order p (T.LeftIndex' left at r indexes x of)) d)) (sym same)
-      (valued_runs left.elem _ _
-      ((calls_follow.beside has).steps alive files n ready left at op order p r indexes x of h target
-      (arguments_do g has alive n files ready scope active calls_follow false (are_quiet indexes) indexes h.3 (index_code g has alive n files ready scope active calls_follow left at r indexes x of target)) true left.elem.bits))
-  position_steps ty op order p target same h c = absurd h
-
   pub effect_follows : (e : TExpr) → (IsEffect (naming g.may alive)) e → HasCode g.typed g.instance n e → Runs (λ st. evaluated scope e active st) (λ d. effect_of g.typed (layout g) e d)
   unfolding IsEffect IsIn effect_of evaluated
   effect_follows (T.Printf' ty pieces p arguments) h c = printf_runs ty pieces p arguments h.0 h.1 (printf_code g has alive n files ready scope active calls_follow ty pieces p arguments c)
@@ -372,11 +361,9 @@ module _ (g : Setting) (has : HasRegisters g) (alive : Variable → Type 0) (n :
   effect_follows (T.LogicalAnd' ty p left q right) h c = value_effect (T.LogicalAnd' ty p left q right) h c
   effect_follows (T.Choice' ty p test q first r second) h c = value_effect (T.Choice' ty p test q first r second) h c
   effect_follows (T.Assign' ty place op p target q value) (inl h) c = value_effect (T.Assign' ty place op p target q value) h c
-  effect_follows (T.Assign' ty place op p target q value) (inr (inl h)) c = beside (T.Assign' ty place op p target q value) h c
-  effect_follows (T.Assign' ty place op p target q value) (inr (inr h)) c = store_runs ty place op p q target value h.0 h.1 h.2 h.3 c
+  effect_follows (T.Assign' ty place op p target q value) (inr h) c = beside (T.Assign' ty place op p target q value) h c
   effect_follows (T.Step' ty op order p target) (inl h) c = value_effect (T.Step' ty op order p target) h c
-  effect_follows (T.Step' ty op order p target) (inr (inl h)) c = beside (T.Step' ty op order p target) h c
-  effect_follows (T.Step' ty op order p target) (inr (inr h)) c = position_steps ty op order p target h.0 h.1 c
+  effect_follows (T.Step' ty op order p target) (inr h) c = beside (T.Step' ty op order p target) h c
   effect_follows (T.Reduce' ty op p operand) h c = value_effect (T.Reduce' ty op p operand) h c
   effect_follows (T.LeftIndex' ty place p indexes x of) h c = value_effect (T.LeftIndex' ty place p indexes x of) h c
   effect_follows _ h c = absurd h

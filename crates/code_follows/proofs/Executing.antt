@@ -1,5 +1,6 @@
 -- How statements are left, and what one behind another does.
-use Rattle.std.proofs.Common.{◌≡◌, ◌∙◌, ℕ, ◌+◌, Bool, true, false, length, slice_index, refl, sym, ap, subst, Option, Some, None, if◌then◌else◌, ◌≤◌}
+use Rattle.std.proofs.Common.{◌≡◌, ◌∙◌, ℕ, ◌+◌, Bool, true, false, length, slice_index, refl, sym, ap, subst, Option, Some, None, if◌then◌else◌, ◌≤◌, ◌⊎◌, inl, inr}
+use Rattle.std.specs.Prelude.{is_some}
 use Rattle.cstar_tree.specs.declared.typed.TExpr.{TExpr}
 use Rattle.cstar_tree.specs.declared.typed.TExpr as T
 use Rattle.cstar_tree.specs.declared.typed.VarInfo.{VarInfo}
@@ -16,7 +17,7 @@ use Rattle.lower_base.specs.declared.emit.Out.{Out}
 use Rattle.lower_base.specs.declared.emit.Out.TheVariants as O
 use Rattle.lower_base.specs.Drafts.{Draft, Fails, Made, Makes, here, in_register, then_make}
 use Rattle.lower_base.specs.Layouts.{result_register}
-use Rattle.lower_expr.specs.Lengths.{used_length_of}
+use Rattle.lower_expr.specs.Lengths.{bare, is_send, is_sent, used_length_of}
 use Rattle.lower_expr.specs.Steps.{is_kept}
 use Rattle.lower_expr.specs.Values.{next_of}
 use Rattle.lower_stmt.specs.declared.statement.Frame.{Frame}
@@ -28,7 +29,7 @@ use Rattle.source_meaning.specs.State as Source
 use Rattle.source_meaning.specs.State.{Outcome, State}
 use Rattle.source_meaning.specs.Statements.{Broke, Continued, Leaving, Onward, Returned, passes, then_go}
 use Rattle.source_meaning.specs.Values.{Active, Scope, Value, nonzero, number}
-use Rattle.code_follows.specs.Fragment.{IsIn, May, elems_of, naming}
+use Rattle.code_follows.specs.Fragment.{IsIn, IsPosition, IsVariable, May, elems_of, naming}
 use Rattle.code_follows.proofs.Expressions.{operand}
 use Rattle.code_follows.proofs.Callees.{CallsFollow}
 use Rattle.code_follows.proofs.Following.{Arrives, Extends, Follows, HasNumber, HasRegisters, Keeps, Ran, Sim, finishes_later, follows_other, keeps_all, keeps_on, then_follows, spared_kept, result_kept, delayed, finished}
@@ -209,6 +210,12 @@ module _ (g : Setting) (alive : Variable → Type 0) where
             (subst (λ (o : Out). Follows g (Tested d s) s (Source.Gives (nonzero arr.holds.word) u) (in_register o (λ r. Makes r e))) (sym arr.holds.is)
             (λ within. record { grown = arr.extended; t = arr.t; go = arr.go; at = arr.at; sim = arr.sim; keeps = arr.keeps; is = there }))
 
+    sends_nothing : (target : TExpr) → IsVariable (naming g.may alive) target ⊎ IsPosition (naming g.may alive) target → is_send target ≡ false
+    unfolding IsPosition is_send is_sent bare
+    sends_nothing target (inl h) = (variable_in g alive n target h).sends
+    sends_nothing (T.LeftIndex' ty place p indexes x of) (inr h) = ap is_some h.0
+    sends_nothing _ (inr h) = absurd h
+
     pub gives : (e : TExpr) → (IsIn (naming g.may alive)) e → GivesValue g.typed e
     unfolding GivesValue IsIn
     gives (T.Number ty value) h = tt
@@ -225,7 +232,7 @@ module _ (g : Setting) (alive : Variable → Type 0) where
     gives (T.LogicalOr' ty p left q right) h = tt
     gives (T.LogicalAnd' ty p left q right) h = tt
     gives (T.Choice' ty p test q first r second) h = tt
-    gives (T.Assign' ty place op p target q value) h = (variable_in g alive n target h.2).sends
+    gives (T.Assign' ty place op p target q value) h = sends_nothing target h.2
     gives (T.Step' ty op order p target) h = tt
     gives (T.Call' ty index p arguments) h = (calls_follow.value ty.elem index (elems_of arguments) h.1).1.0
     gives (T.Reduce' ty op p operand) h = tt

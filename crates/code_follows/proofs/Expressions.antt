@@ -1,5 +1,5 @@
 -- The code of every expression of the fragment gives its value, as a value and as an operand.
-use Rattle.std.proofs.Common.{◌≡◌, ◌∙◌, ℕ, ◌<◌, ◌^◌, Bool, true, false, List, [], ◌∷◌, length, Option, Some, None, refl, sym, ap, subst, if◌then◌else◌, arith, Vec, Global, inl, ◌⊎◌}
+use Rattle.std.proofs.Common.{◌≡◌, ◌∙◌, ℕ, ◌<◌, ◌^◌, Bool, true, false, List, [], ◌∷◌, length, Option, Some, None, refl, sym, ap, subst, if◌then◌else◌, arith, Vec, Global, inl, inr, ◌⊎◌}
 use Rattle.std.specs.Prelude.{IfSome, is_none, is_some, ◌&&◌, ◌||◌, nat_le}
 use Rattle.cstar_base.specs.declared.elem.Elem.{Elem}
 use Rattle.cstar_base.specs.declared.operators.Op.{Op}
@@ -22,8 +22,8 @@ use Rattle.cstar_tree.specs.declared.syntax.AssignOp.{AssignOp}
 use Rattle.cstar_tree.specs.declared.syntax.StepOp.{StepOp}
 use Rattle.cstar_tree.specs.declared.typed.StepOrder.{StepOrder}
 use Rattle.code_lengths.specs.Naming.{HasVariable, NamesVariables, plain}
-use Rattle.code_lengths.specs.Ready.{HasCode, HaveCode, IsReadyButForFields}
-use Rattle.code_lengths.specs.Shaped.{IsShaped}
+use Rattle.code_lengths.specs.Ready.{HasCode, HaveCode, IsPlace, IsReadyButForFields}
+use Rattle.code_lengths.specs.Shaped.{IsShaped, IsTarget}
 use Rattle.code_lengths.proofs.Agreeing.{lengths_if_made}
 use Rattle.code_lengths.proofs.OperandPieces.{operand_grows as operand_grown}
 use Rattle.constant_trees.proofs.Words.{converted_below}
@@ -59,7 +59,7 @@ use Rattle.source_meaning.specs.State as Source
 use Rattle.source_meaning.specs.State.{Outcome, State, then_do}
 use Rattle.source_meaning.specs.Values.{Active, Scalar, Scope, Value, at, convert_to, nonzero, number, unary_of}
 use Rattle.source_meaning.proofs.ConstantLaws.{Boxed, value_means}
-use Rattle.code_follows.specs.Fragment.{AreIn, IsGiven, IsIn, IsOperand, IsWord, naming}
+use Rattle.code_follows.specs.Fragment.{AreIn, IsGiven, IsIn, IsOperand, IsPosition, IsVariable, IsWord, naming}
 use Rattle.code_follows.proofs.Arguments.{AreDone}
 use Rattle.code_follows.proofs.Besides.{IsValued}
 use Rattle.code_follows.proofs.Branching.{IsMadeWord, made_word}
@@ -79,6 +79,7 @@ use Rattle.code_follows.proofs.Numbers.{held_zero}
 use Rattle.code_follows.proofs.Conversions.{conversion_follows, fresh_conversion}
 use Rattle.std.proofs.lemmas.Bool.{eqb-true}
 use Rattle.code_follows.proofs.Fresh.{IsFresh, fresh_binary, fresh_byte, fresh_choice, fresh_constant, fresh_logical, fresh_unary, fresh_variable, IsClear, clear_fresh}
+use Rattle.code_follows.proofs.FreshStores.{assigned_left, step_fresh, stepped_left, store_fresh}
 use Rattle.code_follows.proofs.ConstantRegisters.{below_values}
 use Rattle.code_follows.proofs.Changing.{scalar_type}
 use Rattle.code_follows.proofs.Nested.{assigned_value, fresh_assigned, fresh_stepped, stepped_value}
@@ -313,6 +314,14 @@ module _ (g : Setting) (has : HasRegisters g) (alive : Variable → Type 0) (n :
   unfolding NamesVariables
   step_names ty op order p target c = c.names
 
+  assigned_place : (ty : ValueType) (place : Place) (op : AssignOp) (p q : Boxed) (target value : TExpr) → HasCode g.typed g.instance n (T.Assign' ty place op p target q value) → IsPlace g.typed g.instance n target
+  unfolding IsShaped IsLowerable NamesVariables
+  assigned_place ty place op p q target value c = record { target = c.shaped.2; lowerable = c.lowerable.2; names = c.names.0 }
+
+  stepped_place : (ty : ValueType) (op : StepOp) (order : StepOrder) (p : Boxed) (target : TExpr) → HasCode g.typed g.instance n (T.Step' ty op order p target) → IsPlace g.typed g.instance n target
+  unfolding IsShaped IsLowerable NamesVariables
+  stepped_place ty op order p target c = record { target = c.shaped.1; lowerable = c.lowerable.1; names = c.names }
+
   pub operand_grows : (quiet : Bool) (bits : ℕ) (e : TExpr) → HasCode g.typed g.instance n e → (d : Draft) → Extends g d (operand_by g.typed (layout g) bits (value_of g.typed (layout g) bits e) quiet e d)
   operand_grows quiet bits e h d = extends_grown g has alive _ d _ _ ((lengths_if_made g.typed g.instance (layout g)).operand bits n quiet e d h (ready d))
 
@@ -421,6 +430,23 @@ module _ (g : Setting) (has : HasRegisters g) (alive : Variable → Type 0) (n :
       subst (λ (made : Made Out). IsFresh d made) (sym (step_code g alive n target v ty op order p bits d))
       (fresh_stepped g has alive v.variable (variable_info w.word (plain (type_of target)) w.start) v.living (w.named, v.scalar) scope active op order (T.Step' ty op order p target) bits d)
 
+  -- to a variable or at a position
+  fresh_assigning : (bits : ℕ) (ty : ValueType) (place : Place) (op : AssignOp) (p q : Boxed) (target value : TExpr) → IsVariable (naming g.may alive) target ⊎ IsPosition (naming g.may alive) target → (IsIn (naming g.may alive)) value → HasCode g.typed g.instance n (T.Assign' ty place op p target q value)
+      → ((m : ℕ) (d : Draft) → IsFresh d (value_of g.typed (layout g) m value d)) → (d : Draft) → IsFresh d (value_of g.typed (layout g) bits (T.Assign' ty place op p target q value) d)
+  unfolding IsPosition
+  fresh_assigning bits ty place op p q target value (inl h) isin c fresh d =
+      let names = assign_names ty place op p q target value c in
+      fresh_assign bits ty place op p q target value (variable_in g alive n target h) names.0 isin names.1 fresh d
+  fresh_assigning bits ty place op p q (T.LeftIndex' left at r indexes x of) value (inr h) isin c fresh d =
+      store_fresh g n left at r indexes x of (assigned_left g n left at r indexes x of ty place op p q value c) h.0 has alive ready ty place op p q value bits (kept (naming g.may alive) value isin) fresh (λ m k b. other_grows m k value (assign_names ty place op p q (T.LeftIndex' left at r indexes x of) value c).1 b) d
+  fresh_assigning bits ty place op p q _ value (inr h) isin c fresh d = absurd h
+
+  fresh_stepping : (bits : ℕ) (ty : ValueType) (op : StepOp) (order : StepOrder) (p : Boxed) (target : TExpr) → IsVariable (naming g.may alive) target ⊎ IsPosition (naming g.may alive) target → HasCode g.typed g.instance n (T.Step' ty op order p target) → (d : Draft) → IsFresh d (value_of g.typed (layout g) bits (T.Step' ty op order p target) d)
+  unfolding IsPosition
+  fresh_stepping bits ty op order p target (inl h) c d = fresh_step bits ty op order p target (variable_in g alive n target h) (step_names ty op order p target c) d
+  fresh_stepping bits ty op order p (T.LeftIndex' left at r indexes x of) (inr h) c d = step_fresh g n left at r indexes x of (stepped_left g n left at r indexes x of ty op order p c) h.0 has alive ready ty op order p bits d
+  fresh_stepping bits ty op order p _ (inr h) c d = absurd h
+
   -- the code of a fold puts its number in a fresh register
   abbrev folded : ReduceOp → TExpr → Code
   folded op operand d = next_of g.typed (layout g) (reduced_bits op operand) true operand d
@@ -517,8 +543,8 @@ module _ (g : Setting) (has : HasRegisters g) (alive : Variable → Type 0) (n :
       fresh_choice g has alive ty bits (is_kept test) _ _ _ first second _ _ d h.0.0 (kept (naming g.may alive) test h.1) (operand_grows (is_kept test || is_quiet first) (bits_of (kind_of test)) test parts.condition) (operand_grows true bits first parts.one) (operand_grows true bits second parts.other)
   fresh_value bits (T.Assign' ty place op p target q value) h c d =
       let names = assign_names ty place op p q target value c in
-      fresh_assign bits ty place op p q target value (variable_in g alive n target h.2) names.0 h.3 names.1 (λ m e. fresh_value m value h.3 names.1 e) d
-  fresh_value bits (T.Step' ty op order p target) h c d = fresh_step bits ty op order p target (variable_in g alive n target h.2) (step_names ty op order p target c) d
+      fresh_assigning bits ty place op p q target value h.2 h.3 c (λ m e. fresh_value m value h.3 names.1 e) d
+  fresh_value bits (T.Step' ty op order p target) h c d = fresh_stepping bits ty op order p target h.2 c d
   fresh_value bits (T.Call' ty index p arguments) h c d = fresh_call g has alive n files ready scope active calls_follow bits ty index p arguments h.0 h.1 c d
   fresh_value bits (T.Reduce' ty op p operand) h c d = fold_fresh ty op p operand bits h.0.0 c d
   fresh_value bits (T.LeftIndex' ty place p indexes x of) h c d = read_fresh ty place p indexes x of bits h.0 c d
@@ -611,8 +637,47 @@ module _ (g : Setting) (has : HasRegisters g) (alive : Variable → Type 0) (n :
       (follows_same g (Value_of g has alive (type_of target).elem quiet d s) s (step_means g alive n target v ty op order p same scope active st) (step_code g alive n target v ty op order p bits d)
       (stepped_value g has alive v.variable (variable_info w.word (plain (type_of target)) w.start) v.living (w.named, v.scalar) scope active op order quiet bits (T.Step' ty op order p target) d s st free here sim))
 
+  -- a number that is given to a position
+  valued : (value : TExpr) → (IsIn (naming g.may alive)) value → HasCode g.typed g.instance n value → ((calm : Bool) (m : ℕ) → Agrees calm m value) → IsValued g has scope active alive n value
+  valued value isin c agrees = record {
+    scalar = scalar_of (naming g.may alive) value isin;
+    kept = kept (naming g.may alive) value isin;
+    code = c;
+    does = λ bits. agrees false bits;
+    grows = λ bits m d. other_grows m bits value c d;
+    operand = λ bits m. operand_follows true m value (value_of g.typed (layout g) bits value) isin c.names (agrees true bits);
+    clear = λ bits m st s sim d. clear_operand m value (value_of g.typed (layout g) bits value) isin c.names (λ d. fresh_value bits value isin c d) st sim.small d;
+  }
+
+  -- where a target is a position, its indexes are done
+  unfoldable TargetDone : TExpr → Type 0
+  TargetDone (T.LeftIndex' ty place p indexes x of) = AreDone g has alive scope active false (are_quiet indexes) indexes
+  TargetDone _ = Unit {0}
+
+  -- an assignment and a step, to a variable or at a position
+  assigning_value : (quiet : Bool) (bits : ℕ) (ty : ValueType) (place : Place) (op : AssignOp) (p q : Boxed) (target value : TExpr) → IsVariable (naming g.may alive) target ⊎ IsPosition (naming g.may alive) target → ty ≡ type_of target → (IsIn (naming g.may alive)) value → IsGiven op (type_of target) (type_of value)
+      → HasCode g.typed g.instance n (T.Assign' ty place op p target q value) → TargetDone target → ((calm : Bool) (m : ℕ) → Agrees calm m value) → Agrees quiet bits (T.Assign' ty place op p target q value)
+  unfolding IsIn IsPosition TargetDone
+  assigning_value quiet bits ty place op p q target value (inl h) same isin given c done agrees =
+      let names = assign_names ty place op p q target value c in
+      assign_value quiet bits ty place op p q target value (variable_in g alive n target h) names.0 same isin given names.1 (λ m d. fresh_value m value isin names.1 d) agrees
+  assigning_value quiet bits ty place op p q (T.LeftIndex' left at r indexes x of) value (inr h) same isin given c done agrees =
+      let names = assign_names ty place op p q (T.LeftIndex' left at r indexes x of) value c in
+      subst (λ (t : ValueType). Agrees quiet bits (T.Assign' t place op p (T.LeftIndex' left at r indexes x of) q value)) (sym same)
+      ((calls_follow.beside has).stores alive files n ready left at place op p q r indexes x of value h (assigned_left g n left at r indexes x of ty place op p q value c) done given (valued value isin names.1 agrees) quiet bits)
+  assigning_value quiet bits ty place op p q _ value (inr h) same isin given c done agrees = absurd h
+
+  stepping_value : (quiet : Bool) (bits : ℕ) (ty : ValueType) (op : StepOp) (order : StepOrder) (p : Boxed) (target : TExpr) → IsVariable (naming g.may alive) target ⊎ IsPosition (naming g.may alive) target → ty ≡ type_of target
+      → HasCode g.typed g.instance n (T.Step' ty op order p target) → TargetDone target → Agrees quiet bits (T.Step' ty op order p target)
+  unfolding IsIn IsPosition TargetDone
+  stepping_value quiet bits ty op order p target (inl h) same c done = step_value_follows quiet bits ty op order p target (variable_in g alive n target h) (step_names ty op order p target c) same
+  stepping_value quiet bits ty op order p (T.LeftIndex' left at r indexes x of) (inr h) same c done =
+      subst (λ (t : ValueType). Agrees quiet bits (T.Step' t op order p (T.LeftIndex' left at r indexes x of))) (sym same)
+      ((calls_follow.beside has).steps alive files n ready left at op order p r indexes x of h (stepped_left g n left at r indexes x of ty op order p c) done quiet bits)
+  stepping_value quiet bits ty op order p _ (inr h) same c done = absurd h
+
   mutual
-    unfolding evaluated value_of IsIn AreIn AreDone HaveCode
+    unfolding evaluated value_of IsIn IsVariable IsPosition AreIn AreDone HaveCode TargetDone IsShaped IsTarget
 
     pub value_follows : (quiet : Bool) (bits : ℕ) (e : TExpr) → (IsIn (naming g.may alive)) e → HasCode g.typed g.instance n e → Agrees quiet bits e
     value_follows quiet bits (T.Number ty value) h c = λ d s st free here sim. constant_follows g has alive ty.elem quiet value d s st h.0.1 h.1 free here sim
@@ -652,14 +717,19 @@ module _ (g : Setting) (has : HasRegisters g) (alive : Variable → Type 0) (n :
         choice_value ty quiet bits p q r test first second h.0 h.1 h.2 h.3 h.4 h.5 o (value_follows true (bits_of (kind_of test)) test h.1 o.condition) (value_follows true bits first h.2 o.one) (value_follows true bits second h.3 o.other)
     value_follows quiet bits (T.Assign' ty place op p target q value) h c =
         let names = assign_names ty place op p q target value c in
-        assign_value quiet bits ty place op p q target value (variable_in g alive n target h.2) names.0 h.1 h.3 h.4 names.1 (λ m d. fresh_value m value h.3 names.1 d) (λ calm m. value_follows calm m value h.3 names.1)
-    value_follows quiet bits (T.Step' ty op order p target) h c = step_value_follows quiet bits ty op order p target (variable_in g alive n target h.2) (step_names ty op order p target c) h.1
+        assigning_value quiet bits ty place op p q target value h.2 h.1 h.3 h.4 c (target_done target h.2 (assigned_place ty place op p q target value c)) (λ calm m. value_follows calm m value h.3 names.1)
+    value_follows quiet bits (T.Step' ty op order p target) h c = stepping_value quiet bits ty op order p target h.2 h.1 c (target_done target h.2 (stepped_place ty op order p target c))
     value_follows quiet bits (T.Call' ty index p arguments) h c = call_value g has alive n files ready scope active calls_follow quiet bits ty index p arguments h.0 h.1 (arguments_do true (are_quiet arguments) arguments h.2 (call_code g has alive n files ready scope active calls_follow ty index p arguments c)) c
     value_follows quiet bits (T.Reduce' ty op p operand) h c = put_value quiet bits (T.Reduce' ty op p operand) (fold_code ty op p operand bits h.0.0) ((calls_follow.beside has).folds alive files n ready (T.Reduce' ty op p operand) h.1 h.2 c)
     value_follows quiet bits (T.LeftIndex' ty place p indexes x of) h c =
         put_value quiet bits (T.LeftIndex' ty place p indexes x of) (read_code ty place p indexes x of bits h.0)
         ((calls_follow.beside has).reads alive files n ready ty place p indexes x of h c (arguments_do false (are_quiet indexes) indexes h.3 (index_code ty place p indexes x of c)))
     value_follows quiet bits _ h c = absurd h
+
+    target_done : (target : TExpr) → IsVariable (naming g.may alive) target ⊎ IsPosition (naming g.may alive) target → IsPlace g.typed g.instance n target → TargetDone target
+    target_done (T.LeftIndex' ty place p indexes x of) (inl h) c = absurd h
+    target_done (T.LeftIndex' ty place p indexes x of) (inr h) c = arguments_do false (are_quiet indexes) indexes h.3 (index_code ty place p indexes x of (record { shaped = c.target; lowerable = c.lowerable; names = c.names }))
+    target_done _ h c = tt
 
     -- each argument is done as one of a list
     pub arguments_do : {k : Count} (own quiet : Bool) (row : Row_of-TExpr k) → (AreIn (naming g.may alive)) row → HaveCode g.typed g.instance n row → AreDone g has alive scope active own quiet row
@@ -674,15 +744,3 @@ module _ (g : Setting) (has : HasRegisters g) (alive : Variable → Type 0) (n :
 
   pub operand : (quiet : Bool) (bits : ℕ) (e : TExpr) → (IsIn (naming g.may alive)) e → HasCode g.typed g.instance n e → Does g has alive (type_of e).elem quiet (λ st. evaluated scope e active st) (λ d. operand_by g.typed (layout g) bits (value_of g.typed (layout g) bits e) quiet e d)
   operand quiet bits e h c = operand_value quiet bits e h c (value_follows quiet bits e h c)
-
-  -- a number that is given to a position
-  pub valued : (value : TExpr) → (IsIn (naming g.may alive)) value → HasCode g.typed g.instance n value → IsValued g has scope active alive n value
-  valued value isin c = record {
-    scalar = scalar_of (naming g.may alive) value isin;
-    kept = kept (naming g.may alive) value isin;
-    code = c;
-    does = λ bits. value_follows false bits value isin c;
-    grows = λ bits m d. other_grows m bits value c d;
-    operand = λ bits m. operand_follows true m value (value_of g.typed (layout g) bits value) isin c.names (value_follows true bits value isin c);
-    clear = λ bits m st s sim d. clear_operand m value (value_of g.typed (layout g) bits value) isin c.names (λ d. fresh_value bits value isin c d) st sim.small d;
-  }

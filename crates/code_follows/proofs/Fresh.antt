@@ -12,12 +12,12 @@ use Rattle.cstar_tree.specs.declared.typed.Variable.{Variable}
 use Rattle.lower_base.specs.declared.emit.Out.{Out}
 use Rattle.lower_base.specs.declared.emit.Out.TheVariants as O
 use Rattle.lower_base.specs.Constants.{word_in, first_free}
-use Rattle.lower_base.specs.Drafts.{Draft, Fails, Made, Makes, a_register, fresh_for, in_register, then_make, with_instr}
+use Rattle.lower_base.specs.Drafts.{Draft, Fails, Made, Makes, a_register, fresh_for, in_register, shortened, then_make, with_instr}
 use Rattle.lower_base.specs.Layouts.{register_of, Layout}
 use Rattle.lower_expr.specs.Operands.{is_plus}
 use Rattle.lower_expr.specs.Spots.{variable_spot}
 use Rattle.lower_expr.specs.Steps.{constant_in, negated, put_value, register_negated, register_word, word_for, word_put}
-use Rattle.lower_expr.specs.Values.{Code, Condition, arm_by, binary_by, byte_in, choice_by, decided, jump_if_decided, logical_by, logical_ended, read_by, registers_by, scalar_choice_by, scalar_logical_by, unary_by}
+use Rattle.lower_expr.specs.Values.{Code, Condition, arm_by, binary_by, byte_in, choice_by, decided, jump_if_decided, logical_by, logical_ended, lowest, read_by, registers_by, scalar_choice_by, scalar_logical_by, unary_by}
 use Rattle.std.specs.Int.{from_bool}
 use Rattle.code_follows.proofs.Branching.{jump_more}
 use Rattle.code_follows.proofs.Choosing.{choice_is}
@@ -51,6 +51,14 @@ clear_fresh l d (Makes (O.Scalar r) e) h = inr h.0
 clear_fresh l d (Makes (O.Field f) e) h = tt
 clear_fresh l d (Makes O.Nothing e) h = tt
 clear_fresh l d Fails h = tt
+
+-- shortened to no fewer bits it stands there too
+pub fresh_lowest : (bits : ℕ) (d : Draft) (made : Made Out) → IsFresh d made → IsFresh d (lowest bits made)
+unfolding IsFresh lowest then_make shortened
+fresh_lowest bits d (Makes (O.Scalar r) e) h = h
+fresh_lowest bits d (Makes (O.Field f) e) h = tt
+fresh_lowest bits d (Makes O.Nothing e) h = tt
+fresh_lowest bits d Fails h = tt
 
 module _ (g : Setting) (has : HasRegisters g) (alive : Variable → Type 0) where
   -- what is known of code that is made, beside what it does

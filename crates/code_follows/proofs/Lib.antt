@@ -27,6 +27,7 @@ pub mod Expressions
 pub mod Following
 pub mod ForLoops
 pub mod Fresh
+pub mod FreshStores
 pub mod Functions
 pub mod Given
 pub mod Growing

@@ -18,7 +18,7 @@ use Rattle.cstar_tree.specs.Typed.{type_of}
 use Rattle.lower_base.specs.declared.emit.Out.{Out}
 use Rattle.lower_base.specs.declared.emit.Out.TheVariants as O
 use Rattle.lower_base.specs.Constants.{first_free, word_in}
-use Rattle.lower_base.specs.Drafts.{Draft, Fails, Made, Makes, a_register, fresh_for, in_register, shortened, step as step_of, then_make, with_instr}
+use Rattle.lower_base.specs.Drafts.{Draft, Fails, Made, Makes, a_register, fresh_for, in_register, step as step_of, then_make, with_instr}
 use Rattle.lower_base.specs.Layouts.{register_of}
 use Rattle.lower_base.specs.Operators.{assign_op_of}
 use Rattle.lower_expr.specs.declared.spots.Spot.TheVariants as S
@@ -40,7 +40,7 @@ use Rattle.code_follows.specs.Fragment.{IsGiven, IsWord, Takes}
 use Rattle.code_follows.proofs.Changing.{no_place, only_set, operated_set_is, scalar_type, set_is, stepped_is, stepping, variable_holds}
 use Rattle.code_follows.proofs.Operated.{Loaded, Placed, apart_from, applied_then, given_arrives, in_place, loaded_by, lowest_follows, place_more, placed_arrives, same_operation, then_same}
 use Rattle.code_follows.proofs.Following.{Arrives, Extends, Follows, HasRegisters, IsScalar, Keeps, Sim, delayed, extends_then, held, keeps_all, keeps_on, then_follows, keeps_less, value_kept}
-use Rattle.code_follows.proofs.Fresh.{IsClear, IsFresh, fresh_register, fresh_then, made_so}
+use Rattle.code_follows.proofs.Fresh.{IsClear, IsFresh, fresh_lowest, fresh_register, fresh_then, made_so}
 use Rattle.code_follows.proofs.Growing.{Extended, as_it_was, extended}
 use Rattle.code_follows.proofs.Settings.{At, Begun, Reaches, Setting, Within, and_one, begun_later, layout, one, onto, regs_more, stay}
 use Rattle.code_follows.proofs.Stores.{IsPut, variable_dest}
@@ -322,13 +322,6 @@ module _ (g : Setting) (has : HasRegisters g) (alive : Variable → Type 0) (x :
       (λ o some. lowest_follows g has alive info.elem quiet d s bits _ _ (operated_value scope active place op o some (type_of value) (given_word op o (scalar_type info.elem) (type_of value) some given) quiet (λ b. operand_by g.typed (layout g) (operator_bits o None value) code true value b) part (λ st s sim. clear (operator_bits o None value) st s sim) (operand (operator_bits o None value)) d s st free here sim))
 
   -- ---- the register of the value
-
-  fresh_lowest : (bits : ℕ) (d : Draft) (made : Made Out) → IsFresh d made → IsFresh d (lowest bits made)
-  unfolding IsFresh lowest then_make shortened
-  fresh_lowest bits d (Makes (O.Scalar r) e) h = h
-  fresh_lowest bits d (Makes (O.Field f) e) h = tt
-  fresh_lowest bits d (Makes O.Nothing e) h = tt
-  fresh_lowest bits d Fails h = tt
 
   fresh_stored : (d : Draft) (made : Made Out) → IsFresh d made → IsFresh d (then_make made (λ v after. kept_store v after))
   unfolding IsFresh then_make put_value in_register

@@ -1,5 +1,5 @@
 -- Numbers and the words of 32 bits that hold them, and constants.
-use Rattle.std.proofs.Common.{◌≡◌, ◌∙◌, ℕ, ◌<◌, ◌^◌, ◌==◌, true, not, Bool, false, Option, Some, None, refl, sym, ap, subst, if◌then◌else◌, arith, List, [], ◌∷◌}
+use Rattle.std.proofs.Common.{◌≡◌, ◌∙◌, ◌⊎◌, ℕ, inl, inr, ◌<◌, ◌^◌, ◌==◌, true, not, Bool, false, Option, Some, None, refl, sym, ap, subst, if◌then◌else◌, arith, List, [], ◌∷◌}
 use Rattle.std.specs.Prelude.{IfSome, is_none}
 use Rattle.std.specs.Int.{from_bool}
 use Rattle.cstar_base.specs.declared.elem.Elem.{Elem}
@@ -14,7 +14,7 @@ use Rattle.lower_expr.specs.Steps.{is_kept}
 use Rattle.source_meaning.specs.Constants.{then_value, value_of}
 use Rattle.source_meaning.specs.Reductions.{int_type}
 use Rattle.source_meaning.specs.Values.{nonzero, cast_through, cast_type}
-use Rattle.code_follows.specs.Fragment.{AllAmong, AreIn, IsIn, IsScalarType, IsVariable, May, NamesAmong, naming}
+use Rattle.code_follows.specs.Fragment.{AllAmong, AreIn, IsIn, IsPosition, IsScalarType, IsVariable, May, NamesAmong, naming}
 use Rattle.cstar_tree.specs.declared.typed.Variable.{Variable}
 use mathlib.Core.Former.{Count}
 use Rattle.code_follows.proofs.Following.{held}
@@ -195,7 +195,7 @@ mutual
   all_among_widened names more fits (more_of-TExpr e rest) h = (among_widened names more fits e h.0, all_among_widened names more fits rest h.1)
 
 mutual
-  unfolding IsIn AreIn
+  unfolding IsIn IsPosition AreIn
 
   pub widened : (may : May) (more : Variable → Type 0) → ((x : Variable) → may.names x → more x) → (e : TExpr) → IsIn may e → IsIn (naming may more) e
   widened may more fits (T.Number ty value) h = h
@@ -212,12 +212,17 @@ mutual
   widened may more fits (T.LogicalOr' ty p left q right) h = (h.0, widened may more fits left h.1, widened may more fits right h.2)
   widened may more fits (T.LogicalAnd' ty p left q right) h = (h.0, widened may more fits left h.1, widened may more fits right h.2)
   widened may more fits (T.Choice' ty p test q first r second) h = (h.0, widened may more fits test h.1, widened may more fits first h.2, widened may more fits second h.3, h.4, h.5)
-  widened may more fits (T.Assign' ty place op p target q value) h = (h.0, h.1, target_widened may more fits target h.2, widened may more fits value h.3, h.4)
-  widened may more fits (T.Step' ty op order p target) h = (h.0, h.1, target_widened may more fits target h.2)
+  widened may more fits (T.Assign' ty place op p target q value) h = (h.0, h.1, place_widened may more fits target h.2, widened may more fits value h.3, h.4)
+  widened may more fits (T.Step' ty op order p target) h = (h.0, h.1, place_widened may more fits target h.2)
   widened may more fits (T.Call' ty index p arguments) h = (h.0, h.1, all_widened may more fits arguments h.2)
   widened may more fits (T.Reduce' ty op p operand) h = (h.0, h.1, among_widened may.names more fits (T.Reduce' ty op p operand) h.2)
   widened may more fits (T.LeftIndex' ty place p indexes x of) h = (h.0, h.1, fits x h.2, all_widened may more fits indexes h.3)
   widened may more fits _ h = absurd h
+
+  place_widened : (may : May) (more : Variable → Type 0) → ((x : Variable) → may.names x → more x) → (target : TExpr) → IsVariable may target ⊎ IsPosition may target → IsVariable (naming may more) target ⊎ IsPosition (naming may more) target
+  place_widened may more fits target (inl h) = inl (target_widened may more fits target h)
+  place_widened may more fits (T.LeftIndex' ty place p indexes x of) (inr h) = inr (h.0, h.1, fits x h.2, all_widened may more fits indexes h.3)
+  place_widened may more fits _ (inr h) = absurd h
 
   all_widened : {n : Count} (may : May) (more : Variable → Type 0) → ((x : Variable) → may.names x → more x) → (row : Row_of-TExpr n) → AreIn may row → AreIn (naming may more) row
   all_widened may more fits end_of-TExpr h = tt

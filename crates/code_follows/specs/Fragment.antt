@@ -119,7 +119,8 @@ unfoldable mutual
   AllAmong names (more_of-TExpr e rest) = NamesAmong names e × AllAmong names rest
 
 -- An expression whose value is used: of numbers, variables, `getchar`, operators, conversions and casts to any
--- scalar types, assignments and steps of scalar variables, calls, folds of parallel values, and reads of single positions.
+-- scalar types, assignments to scalar variables and to single positions of parallel ones, and steps of these, calls, folds
+-- of parallel values, and reads of single positions.
 unfoldable mutual
   pub IsIn : May → TExpr → Type 0
   IsIn may (T.Number ty value) = IsWord ty × (value < 2 ^ 32)
@@ -136,12 +137,17 @@ unfoldable mutual
   IsIn may (T.LogicalOr' ty p left q right) = IsWord ty × IsIn may left × IsIn may right
   IsIn may (T.LogicalAnd' ty p left q right) = IsWord ty × IsIn may left × IsIn may right
   IsIn may (T.Choice' ty p test q first r second) = IsWord ty × IsIn may test × IsIn may first × IsIn may second × IsWord (type_of first) × IsWord (type_of second)
-  IsIn may (T.Assign' ty place op p target q value) = IsScalarType ty × (ty ≡ type_of target) × IsVariable may target × IsIn may value × IsGiven op (type_of target) (type_of value)
-  IsIn may (T.Step' ty op order p target) = IsScalarType ty × (ty ≡ type_of target) × IsVariable may target
+  IsIn may (T.Assign' ty place op p target q value) = IsScalarType ty × (ty ≡ type_of target) × (IsVariable may target ⊎ IsPosition may target) × IsIn may value × IsGiven op (type_of target) (type_of value)
+  IsIn may (T.Step' ty op order p target) = IsScalarType ty × (ty ≡ type_of target) × (IsVariable may target ⊎ IsPosition may target)
   IsIn may (T.Call' ty index p arguments) = IsScalarType ty × may.calls (Some ty.elem) index (elems_of arguments) × AreIn may arguments
   IsIn may (T.Reduce' ty op p operand) = IsWord ty × may.beside.folds (T.Reduce' ty op p operand) × NamesAmong may.names (T.Reduce' ty op p operand)
   IsIn may (T.LeftIndex' ty place p indexes x of) = IsScalarType ty × may.beside.positions x × may.names x × AreIn may indexes
   IsIn may _ = ⊥
+
+  -- a single position of a variable
+  pub IsPosition : May → TExpr → Type 0
+  IsPosition may (T.LeftIndex' ty place p indexes x of) = IsScalarType ty × may.beside.positions x × may.names x × AreIn may indexes
+  IsPosition may _ = ⊥
 
   pub AreIn : {n : _} → May → Row_of-TExpr n → Type 0
   AreIn may end_of-TExpr = Unit {0}
@@ -151,19 +157,14 @@ unfoldable mutual
 abbrev pub IsBeside : May → TExpr → Type 0
 IsBeside may e = may.beside.effects e × NamesAmong may.names e
 
--- a single position of a variable, to which numbers are assigned
-unfoldable pub IsPosition : May → TExpr → Type 0
-IsPosition may (T.LeftIndex' ty place p indexes x of) = IsIn may (T.LeftIndex' ty place p indexes x of)
-IsPosition may _ = ⊥
-
 -- what is evaluated without its value being used: `printf` of numbers of 32 bits too, a call of a function without a
--- result, a parallel assignment or step, and one at a single position
+-- result, and a parallel assignment or step
 unfoldable pub IsEffect : May → TExpr → Type 0
 IsEffect may (T.Printf' ty pieces p arguments) = AreIn may arguments × All (λ (elem : Elem). elem.bits ≡ 32) (elems_of arguments)
 IsEffect may (T.Call' ty index p arguments) = may.calls None index (elems_of arguments) × AreIn may arguments
 IsEffect may (T.Brackets' ty p inner) = IsEffect may inner
-IsEffect may (T.Assign' ty place op p target q value) = IsIn may (T.Assign' ty place op p target q value) ⊎ (IsBeside may (T.Assign' ty place op p target q value) ⊎ ((ty ≡ type_of target) × IsPosition may target × IsIn may value × IsGiven op (type_of target) (type_of value)))
-IsEffect may (T.Step' ty op order p target) = IsIn may (T.Step' ty op order p target) ⊎ (IsBeside may (T.Step' ty op order p target) ⊎ ((ty ≡ type_of target) × IsPosition may target))
+IsEffect may (T.Assign' ty place op p target q value) = IsIn may (T.Assign' ty place op p target q value) ⊎ IsBeside may (T.Assign' ty place op p target q value)
+IsEffect may (T.Step' ty op order p target) = IsIn may (T.Step' ty op order p target) ⊎ IsBeside may (T.Step' ty op order p target)
 IsEffect may e = IsIn may e
 
 -- a scalar variable, as it is declared

@@ -1,5 +1,5 @@
 -- Scalars that change nothing: what they mean wherever they stand, and how the laws of scalar programs see them.
-use Rattle.std.proofs.Common.{◌≡◌, ◌∙◌, ℕ, ◌<◌, ◌^◌, ◌==◌, ◌&&◌, Bool, true, false, not, Option, Some, None, refl, sym, ap, subst, if◌then◌else◌}
+use Rattle.std.proofs.Common.{◌≡◌, ◌∙◌, ◌⊎◌, ℕ, inl, inr, ◌<◌, ◌^◌, ◌==◌, ◌&&◌, Bool, true, false, not, Option, Some, None, refl, sym, ap, subst, if◌then◌else◌}
 use Rattle.std.specs.Int.{from_bool}
 use Rattle.constant_trees.proofs.Words.{converted_below, from_bool_below, unary_below}
 use Rattle.cstar_base.specs.declared.faults.RunFault.TheVariants.{DivZero}
@@ -21,7 +21,7 @@ use Rattle.source_meaning.specs.Narrowing.{Operand, and_then, choose, or_then}
 use Rattle.source_meaning.specs.State.{Ends, Fault, Gives, Outcome, State, then_do, with_scalar}
 use Rattle.source_meaning.specs.Targets.{read, variable_target, OfScalar, Target, assign_to, assigned, new_value, step_op, step_value, stepped, stored}
 use Rattle.source_meaning.specs.Values.{Active, Scalar, Scope, Value, at, cast_through, convert_to, each, failing, nonzero, number, unary_of, unless, positions}
-use Rattle.code_follows.specs.Fragment.{IsIn, NamesAmong, naming, IsVariable}
+use Rattle.code_follows.specs.Fragment.{IsIn, IsPosition, IsVariable, NamesAmong, naming}
 use Rattle.code_follows.proofs.Following.{IsScalar}
 use Rattle.code_follows.proofs.Operators.{machine_below, machine_same}
 use Rattle.code_follows.proofs.Settings.{Setting}
@@ -72,6 +72,13 @@ target_in folds names (T.Variable ty x) h among = (h.0, among)
 target_in folds names (T.Brackets' ty p inner) h among = (h.0, target_in folds names inner h.1 among)
 target_in folds names _ h among = absurd h
 
+-- it has no position
+variable_alone : (folds : TExpr → Type 0) (target : TExpr) → IsVariable (calling_nothing folds) target ⊎ IsPosition (calling_nothing folds) target → IsVariable (calling_nothing folds) target
+unfolding IsPosition
+variable_alone folds target (inl h) = h
+variable_alone folds (T.LeftIndex' ty place p indexes x of) (inr h) = absurd h.1
+variable_alone folds _ (inr h) = absurd h
+
 pub alone_in : (folds : TExpr → Type 0) (names : Variable → Type 0) (e : TExpr) → IsIn (calling_nothing folds) e → NamesAmong names e → IsIn (naming (calling_nothing folds) names) e
 unfolding NamesAmong IsIn
 alone_in folds names (T.Number ty value) h among = h
@@ -88,8 +95,8 @@ alone_in folds names (T.Binary' ty place op p left q right) h among = (h.0, alon
 alone_in folds names (T.LogicalOr' ty p left q right) h among = (h.0, alone_in folds names left h.1 among.0, alone_in folds names right h.2 among.1)
 alone_in folds names (T.LogicalAnd' ty p left q right) h among = (h.0, alone_in folds names left h.1 among.0, alone_in folds names right h.2 among.1)
 alone_in folds names (T.Choice' ty p test q first r second) h among = (h.0, alone_in folds names test h.1 among.0, alone_in folds names first h.2 among.1, alone_in folds names second h.3 among.2, h.4, h.5)
-alone_in folds names (T.Assign' ty place op p target q value) h among = (h.0, h.1, target_in folds names target h.2 among.0, alone_in folds names value h.3 among.1, h.4)
-alone_in folds names (T.Step' ty op order p target) h among = (h.0, h.1, target_in folds names target h.2 among)
+alone_in folds names (T.Assign' ty place op p target q value) h among = (h.0, h.1, inl (target_in folds names target (variable_alone folds target h.2) among.0), alone_in folds names value h.3 among.1, h.4)
+alone_in folds names (T.Step' ty op order p target) h among = (h.0, h.1, inl (target_in folds names target (variable_alone folds target h.2) among))
 alone_in folds names (T.Call' ty index p arguments) h among = absurd h.1
 alone_in folds names (T.Reduce' ty op p operand) h among = (h.0, h.1, among)
 alone_in folds names (T.LeftIndex' ty place p indexes x of) h among = absurd h.1
@@ -166,12 +173,12 @@ module _ (scope other : Scope) (active others : Active) where
   alone_same (T.Choice' ty p test q first r second) h st =
       λ i. then_do (alone_same test h.1 st i) (λ v after. choose_same (type_of test).shape v (λ a u. evaluated scope first a u) (λ a u. evaluated scope second a u) (λ a u. evaluated other first a u) (λ a u. evaluated other second a u) after (scalar_of alone test h.1) (alone_same first h.2 after) (alone_same second h.3 after) i)
   alone_same (T.Assign' ty place op p target q value) h st =
-      let there = located_is target h.2 in
+      let there = located_is target (variable_alone (λ e. ⊥) target h.2) in
       ap (λ (o : Outcome Target). then_do o (λ at between. then_do (evaluated scope value active between) (λ v after. assigned scope active place op ty (type_of value) at v after))) (there.1 scope active st)
       ∙ (λ i. then_do (alone_same value h.3 st i) (λ v after. assigned_same place op ty (type_of value) there.0 v after h.0 (scalar_of alone value h.3) i))
       ∙ sym (ap (λ (o : Outcome Target). then_do o (λ at between. then_do (evaluated other value others between) (λ v after. assigned other others place op ty (type_of value) at v after))) (there.1 other others st))
   alone_same (T.Step' ty op order p target) h st =
-      let there = located_is target h.2 in
+      let there = located_is target (variable_alone (λ e. ⊥) target h.2) in
       ap (λ (o : Outcome Target). then_do o (λ at after. stepped scope active op order ty at after)) (there.1 scope active st)
       ∙ ap (λ (o : Outcome Value). then_do o (λ new after. Gives (step_value order (read st (OfScalar there.0)) new) after)) (assign_same (step_op op) ty (record { elem = promoted ty.elem; shape = ty.shape }) there.0 (each ty.shape (λ _. 1)) st h.0 h.0)
       ∙ sym (ap (λ (o : Outcome Target). then_do o (λ at after. stepped other others op order ty at after)) (there.1 other others st))

@@ -90,7 +90,7 @@ lift_is heap =
               (
                 All-nil (IsBlockLocal fields_beside),
                 tt,
-                (inr (inl (inl (0, (refl, refl, ((refl, inl refl), refl, refl, refl), inr (refl, refl, (refl, inl (10, refl, omega arith))))), (inl (inl tt), tt))), (tt, tt)),
+                (inr (inl (0, (refl, refl, ((refl, inl refl), refl, refl, refl), inr (refl, refl, (refl, inl (10, refl, omega arith))))), (inl (inl tt), tt)), (tt, tt)),
               ),
               tt,
             ),
@@ -117,17 +117,17 @@ main_is heap =
               All-nil (IsBlockLocal fields_beside),
               tt,
               (
-                inr (inl (inl (0, (refl, refl, refl, inl (refl, refl))), (inl (inl tt), tt))),
+                inr (inl (0, (refl, refl, refl, inl (refl, refl))), (inl (inl tt), tt)),
                 (
-                  inr (inl (inl (0, (refl, refl, ((refl, inl refl), refl, refl, refl), inr (refl, refl, (refl, inl (1, refl, omega arith))))), (inl (inl tt), tt))),
+                  inr (inl (0, (refl, refl, ((refl, inl refl), refl, refl, refl), inr (refl, refl, (refl, inl (1, refl, omega arith))))), (inl (inl tt), tt)),
                   (
                     (
                       inl (((refl, refl), inr (refl, inl (inl refl), inr (refl, refl, (refl, inl (3, refl, omega arith))), tt), inl (refl, inr (refl, refl, (refl, inl (3, refl, omega arith)))), (refl, refl), (refl, refl)), inr (inl refl)),
                       (inl (inl tt), tt),
                       ((lift heap, (refl, omega arith, called, tt, tt)), tt),
-                      inr (inl (inl (0, (refl, refl, refl, inl ((refl, refl), inl (refl, inr tt), inr ((refl, refl, (refl, inl (12, refl, omega arith))), refl), (refl, refl), (refl, refl)))), (inl (inl tt), (tt, inl (inl tt))))),
+                      inr (inl (0, (refl, refl, refl, inl ((refl, refl), inl (refl, inr tt), inr ((refl, refl, (refl, inl (12, refl, omega arith))), refl), (refl, refl), (refl, refl)))), (inl (inl tt), (tt, inl (inl tt)))),
                     ),
-                    (inl (refl, refl, (refl, inl (inl tt)), ((refl, refl), ((refl, refl), (0, inl ((refl, inl refl), (refl, refl)))), inl (inl tt)), inl refl), tt),
+                    (inl (refl, refl, inl (refl, inl (inl tt)), ((refl, refl), ((refl, refl), (0, inl ((refl, inl refl), (refl, refl)))), inl (inl tt)), inl refl), tt),
                   ),
                 ),
               ),

@@ -3,7 +3,7 @@
 -- the position is active or not.
 use denote.Hole.Carrier
 use Rattle.std.proofs.Common.{◌≡◌, ◌∙◌, ℕ, ◌+◌, ◌<◌, ◌^◌, ◌==◌, Bool, true, false, not, [], ◌∷◌, ◌≤◌, length, slice_index, Option, Some, None, refl, sym, ap, subst, arith, if◌then◌else◌}
-use Rattle.std.specs.Prelude.{◌⊎◌, is_some, unwrap_or}
+use Rattle.std.specs.Prelude.{◌⊎◌}
 use Rattle.cstar_base.specs.declared.elem.Elem.{Elem}
 use Rattle.cstar_base.specs.declared.operators.Place.{Place}
 use Rattle.cstar_base.specs.Numbers.{converted}
@@ -26,7 +26,7 @@ use Rattle.cstar_tree.specs.Typed.{type_of}
 use Rattle.lower_base.specs.declared.emit.Out.{Out}
 use Rattle.lower_base.specs.declared.emit.Out.TheVariants as O
 use Rattle.lower_base.specs.Constants.{first_free, word_in}
-use Rattle.lower_base.specs.Drafts.{Draft, Fails, Made, Makes, a_register, fresh_for, from, in_register, step as step_of, then_make, with_instr}
+use Rattle.lower_base.specs.Drafts.{Draft, Fails, Made, Makes, a_register, from, in_register, step as step_of, then_make, with_instr}
 use Rattle.lower_base.specs.Layouts.{field_of}
 use Rattle.lower_base.specs.Operators.{assign_op_of}
 use Rattle.lower_comm.specs.Messages.{assigned as assigned_code, communicated, indexed, indexed_field, part_register, stored as stored_at}
@@ -34,10 +34,9 @@ use Rattle.lower_expr.specs.declared.spots.Spot.{Spot}
 use Rattle.lower_expr.specs.declared.spots.Spot.TheVariants as S
 use Rattle.lower_expr.specs.Kinds.{operator_bits}
 use Rattle.lower_expr.specs.Steps.{assigned_signed, converted_in_place, is_kept, operated as operated_in}
-use Rattle.lower_expr.specs.Lengths.{bare, is_send, is_sent}
 use Rattle.lower_expr.specs.Operands.{are_quiet, operand_by}
 use Rattle.lower_expr.specs.Spots.{stored as stored_code}
-use Rattle.lower_expr.specs.Values.{assign_by, assigned_by, lowest, plainly_set_by, register_folded, register_updated, sent_by, set_by, spot_of, spread_by, step_by, step_operation, stepped_at, stepped_in, stepped_once, taken_bits, updated_by, value_of}
+use Rattle.lower_expr.specs.Values.{assigned_by, lowest, plainly_set_by, register_folded, register_updated, set_by, spot_of, step_operation, stepped_at, stepped_in, stepped_once, taken_bits, updated_by, value_of}
 use Rattle.paris_code.specs.declared.instr.Instr.{Instr}
 use Rattle.paris_code.specs.declared.instr.Instr.TheVariants as I
 use Rattle.paris_code.specs.declared.operands.Field.{Field}
@@ -57,6 +56,7 @@ use Rattle.code_follows.specs.Fragment.{AreIn, IsGiven, IsWord, Takes, naming}
 use Rattle.code_follows.proofs.Besides.{IsValued}
 use Rattle.code_follows.proofs.Effects.{promoted_wide, working_wide}
 use Rattle.code_follows.proofs.Fresh.{IsClear, made_so}
+use Rattle.code_follows.proofs.FreshStores.{single_step_code, store_code}
 use Rattle.code_follows.proofs.Given.{given_set, given_word}
 use Rattle.code_follows.proofs.Operated.{Loaded, apart_from, applied_then, given_arrives, in_place, loaded_by, lowest_follows, place_more, placed_arrives, same_operation, then_same}
 use Rattle.code_follows.proofs.Arguments.{AreDone}
@@ -333,12 +333,6 @@ module _ (g : Setting) (has : HasRegisters g) (alive : Variable → Type 0) (sco
     unfolding communicated out-TExpr Carrier.out assigned_code
     stores to v d = refl
 
-    assign_code : (d : Draft) → value_of g.typed (layout g) bits whole d ≡ lowest bits (assigned_by g.typed (layout g) whole took (assign_op_of op) sending left value None spot computes d)
-    unfolding value_of assign_by is_send is_sent bare
-    assign_code d =
-        ap (λ (b : Bool). if b then sent_by g.typed (layout g) whole spot (λ z. spread_by computes value (unwrap_or ty.shape 0) took z) d else lowest bits (assigned_by g.typed (layout g) whole took (assign_op_of op) sending left value ty.shape spot computes d)) (ap is_some scalar)
-        ∙ ap (λ (o : Option ℕ). lowest bits (assigned_by g.typed (layout g) whole took (assign_op_of op) sending left value o spot computes d)) scalar
-
     abbrev gives : Target → Value → State → Outcome Value
     gives there v after = assigned scope active sending op ty (type_of value) there v after
 
@@ -473,7 +467,7 @@ module _ (g : Setting) (has : HasRegisters g) (alive : Variable → Type 0) (sco
       where
         by : (m : Option Op) → assign_op_of op ≡ m → Follows g (Value_of g has alive ty.elem quiet d s) s (evaluated scope whole active st) (value_of g.typed (layout g) bits whole d)
         by m is =
-            follows_same g (Value_of g has alive ty.elem quiet d s) s refl (assign_code d ∙ ap (λ (m : Option Op). lowest bits (assigned_by g.typed (layout g) whole took m sending left value None spot computes d)) is)
+            follows_same g (Value_of g has alive ty.elem quiet d s) s refl (store_code g n ty place r indexes x of c scalar ty sending op p q value bits d ∙ ap (λ (m : Option Op). lowest bits (assigned_by g.typed (layout g) whole took m sending left value None spot computes d)) is)
             (lowest_follows g has alive ty.elem quiet d s bits _ _ (either m is))
           where
             either : (m : Option Op) → assign_op_of op ≡ m → Follows g (Value_of g has alive ty.elem quiet d s) s (evaluated scope whole active st) (assigned_by g.typed (layout g) whole took m sending left value None spot computes d)
@@ -565,14 +559,10 @@ module _ (g : Setting) (has : HasRegisters g) (alive : Variable → Type 0) (sco
           then_follows g (Found g has alive scope active of x (taken_both d) s) (Value_of g has alive ty.elem quiet d s) s s (located scope left active st) (λ there after. stepped scope active op order ty there after) (finds (taken_both d)) (λ to f. steps old new res to f) (stay g s)
           (found_follows g has alive scope active known n ready ty place r indexes x of scalar read_so living isin c done (taken_both d) s st (begun_later g alive d (taken_both d) (0 + 0) (both_taken d) free) here sim) (λ to f. loads_grow s st sim to old (λ y. behind_load old new res to y) f (λ y. step_grows to y)) (λ there u to f h. with_old there u to f h)
 
-    step_code : (d : Draft) → value_of g.typed (layout g) bits stepping_whole d ≡ then_make (spot (taken_both d)) (λ there after. lowest bits (stepped_in g.typed (layout g) stepping_whole op order left there (O.Scalar d.regs) (O.Scalar (d.regs + 1)) after))
-    unfolding value_of step_by fresh_for a_register then_make
-    step_code d = ap (λ (o : Option ℕ). then_make (fresh_for o 32 d) (λ outcome begun. then_make (fresh_for o 32 begun) (λ second next. then_make (spot next) (λ there after. lowest bits (stepped_in g.typed (layout g) stepping_whole op order left there outcome second after))))) scalar
-
     lowest_then : (old new res : ℕ) (d : Draft) → ((to : ℕ) (f : Draft) → stepped_in g.typed (layout g) stepping_whole op order left (S.Indexed (O.Scalar to)) (O.Scalar d.regs) (O.Scalar (d.regs + 1)) f ≡ steps old new res to f)
         → value_of g.typed (layout g) bits stepping_whole d ≡ lowest bits (then_make (finds (taken_both d)) (λ to f. steps old new res to f))
     unfolding lowest then_make
-    lowest_then old new res d same = step_code d ∙ behind_spot (λ there after. lowest bits (stepped_in g.typed (layout g) stepping_whole op order left there (O.Scalar d.regs) (O.Scalar (d.regs + 1)) after)) (λ to f. lowest bits (steps old new res to f)) (taken_both d) (λ to f. ap (lowest bits) (same to f)) ∙ by (finds (taken_both d))
+    lowest_then old new res d same = single_step_code g n ty place r indexes x of c scalar ty op order p bits d ∙ behind_spot (λ there after. lowest bits (stepped_in g.typed (layout g) stepping_whole op order left there (O.Scalar d.regs) (O.Scalar (d.regs + 1)) after)) (λ to f. lowest bits (steps old new res to f)) (taken_both d) (λ to f. ap (lowest bits) (same to f)) ∙ by (finds (taken_both d))
       where
         by : (m : Made ℕ) → then_make m (λ to f. lowest bits (steps old new res to f)) ≡ lowest bits (then_make m (λ to f. steps old new res to f))
         by (Makes to f) = refl

@@ -1,6 +1,6 @@
 -- What is of the fragment, whatever variables it may name there, and names open variables alone is of the fragment
 -- with any names that open variables are among, where no statement is under a context.
-use Rattle.std.proofs.Common.{◌≡◌, ℕ, ◌+◌, Bool, true, false, IfSome, List, [], ◌∷◌, length, Option, Some, None, inl, inr, refl, arith}
+use Rattle.std.proofs.Common.{◌≡◌, ◌⊎◌, ℕ, ◌+◌, Bool, true, false, IfSome, List, [], ◌∷◌, length, Option, Some, None, inl, inr, refl, arith}
 use Rattle.std.proofs.lemmas.Bool.Decides.{nat_tests}
 use Rattle.cstar_tree.specs.declared.typed.LocalVar.{LocalVar}
 use Rattle.cstar_tree.specs.declared.typed.TExpr.{TExpr, Row_of-TExpr, end_of-TExpr, more_of-TExpr}
@@ -69,7 +69,7 @@ module _ (may : May) (names : Variable → Type 0) (blocks : Open) (fits : Fits 
     all_among_open (more_of-TExpr e rest) n = (among_open e n.0, all_among_open rest n.1)
 
   mutual
-    unfolding IsIn AreIn NamesOpen AllNameOpen
+    unfolding IsIn IsPosition AreIn NamesOpen AllNameOpen
 
     expression_open : (e : TExpr) → IsIn may e → NamesOpen blocks e → IsIn (naming may names) e
     expression_open (T.Number ty value) h n = h
@@ -86,21 +86,21 @@ module _ (may : May) (names : Variable → Type 0) (blocks : Open) (fits : Fits 
     expression_open (T.LogicalOr' ty p left q right) h n = (h.0, expression_open left h.1 n.0, expression_open right h.2 n.1)
     expression_open (T.LogicalAnd' ty p left q right) h n = (h.0, expression_open left h.1 n.0, expression_open right h.2 n.1)
     expression_open (T.Choice' ty p test q first r second) h n = (h.0, expression_open test h.1 n.0, expression_open first h.2 n.1, expression_open second h.3 n.2, h.4, h.5)
-    expression_open (T.Assign' ty place op p target q value) h n = (h.0, h.1, variable_open target h.2 n.0, expression_open value h.3 n.1, h.4)
-    expression_open (T.Step' ty op order p target) h n = (h.0, h.1, variable_open target h.2 n)
+    expression_open (T.Assign' ty place op p target q value) h n = (h.0, h.1, place_open target h.2 n.0, expression_open value h.3 n.1, h.4)
+    expression_open (T.Step' ty op order p target) h n = (h.0, h.1, place_open target h.2 n)
     expression_open (T.Call' ty index p arguments) h n = (h.0, h.1, all_open arguments h.2 n)
     expression_open (T.Reduce' ty op p operand) h n = (h.0, h.1, among_open (T.Reduce' ty op p operand) n)
     expression_open (T.LeftIndex' ty place p indexes x of) h n = (h.0, h.1, fits x n.0, all_open indexes h.3 n.1)
     expression_open _ h n = absurd h
 
+    place_open : (target : TExpr) → IsVariable may target ⊎ IsPosition may target → NamesOpen blocks target → IsVariable (naming may names) target ⊎ IsPosition (naming may names) target
+    place_open target (inl h) n = inl (variable_open target h n)
+    place_open (T.LeftIndex' ty place p indexes x of) (inr h) n = inr (h.0, h.1, fits x n.0, all_open indexes h.3 n.1)
+    place_open _ (inr h) n = absurd h
+
     all_open : {k : Count} (row : Row_of-TExpr k) → AreIn may row → AllNameOpen blocks row → AreIn (naming may names) row
     all_open end_of-TExpr h n = tt
     all_open (more_of-TExpr e rest) h n = (expression_open e h.0 n.0, all_open rest h.1 n.1)
-
-  position_open : (target : TExpr) → IsPosition may target → NamesOpen blocks target → IsPosition (naming may names) target
-  unfolding IsPosition
-  position_open (T.LeftIndex' ty place p indexes x of) h n = expression_open (T.LeftIndex' ty place p indexes x of) h n
-  position_open target h n = absurd h
 
   effect_open : (e : TExpr) → IsEffect may e → NamesOpen blocks e → IsEffect (naming may names) e
   unfolding IsEffect NamesOpen
@@ -108,11 +108,9 @@ module _ (may : May) (names : Variable → Type 0) (blocks : Open) (fits : Fits 
   effect_open (T.Call' ty index p arguments) h n = (h.0, all_open arguments h.1 n)
   effect_open (T.Brackets' ty p inner) h n = effect_open inner h n
   effect_open (T.Assign' ty place op p target q value) (inl h) n = inl (expression_open (T.Assign' ty place op p target q value) h n)
-  effect_open (T.Assign' ty place op p target q value) (inr (inl h)) n = inr (inl (h.0, among_open (T.Assign' ty place op p target q value) n))
-  effect_open (T.Assign' ty place op p target q value) (inr (inr h)) n = inr (inr (h.0, position_open target h.1 n.0, expression_open value h.2 n.1, h.3))
+  effect_open (T.Assign' ty place op p target q value) (inr h) n = inr (h.0, among_open (T.Assign' ty place op p target q value) n)
   effect_open (T.Step' ty op order p target) (inl h) n = inl (expression_open (T.Step' ty op order p target) h n)
-  effect_open (T.Step' ty op order p target) (inr (inl h)) n = inr (inl (h.0, among_open (T.Step' ty op order p target) n))
-  effect_open (T.Step' ty op order p target) (inr (inr h)) n = inr (inr (h.0, position_open target h.1 n))
+  effect_open (T.Step' ty op order p target) (inr h) n = inr (h.0, among_open (T.Step' ty op order p target) n)
   effect_open e h n = expression_open e h n
 
   tested_open : (e : Option TExpr) → IsTested may e → IfSome e (NamesOpen blocks) → IsTested (naming may names) e

@@ -129,7 +129,7 @@ module _ (program : Program) (shapes : List (List ℕ)) (around : ℕ) (Called :
         let x = fitted may fit g.scalar (expression_is (in_part s) n.1 w.1 (fitted_called Called fit calls.1) typed_value) in
         let to = place_target place g in
         let given = is_given op (type_of t.value) (type_of f.value) (type_of v).elem x.scalar x.elem_is in
-        no_target g.scalar (λ has. (g.scalar, refl, to, x.used, given)) (inl (g.scalar, refl, to, x.used, given)) refl
+        no_target g.scalar (λ has. (g.scalar, refl, inl to, x.used, given)) (inl (g.scalar, refl, inl to, x.used, given)) refl
     expression_is s n w c (X.choice {a = a} {b = b} test second third u x y typed_test typed_second typed_third is fit_second fit_third) =
         let calls = both_called Called (calls_in u.value) (calls_in x.value ++ calls_in y.value) (choice_calls _ _ u x y refl) c in
         let others = both_called Called (calls_in x.value) (calls_in y.value) refl calls.1 in
@@ -178,10 +178,10 @@ module _ (program : Program) (shapes : List (List ℕ)) (around : ℕ) (Called :
         elim (none-some shape (sym g.scalar ∙ parallel)) [ ]
     expression_is s n w c (X.step_before operand x typed is) =
         let g = expression_is (in_part s) n w (same_called Called (step_calls _ _ _ _ x refl) c) typed in
-        no_target g.scalar (λ has. (g.scalar, refl, g.target one is)) (inl (g.scalar, refl, g.target one is)) refl
+        no_target g.scalar (λ has. (g.scalar, refl, inl (g.target one is))) (inl (g.scalar, refl, inl (g.target one is))) refl
     expression_is s n w c (X.step_behind operand x typed is) =
         let g = expression_is (in_part s) n w (same_called Called (step_calls _ _ _ _ x refl) c) typed in
-        no_target g.scalar (λ has. (g.scalar, refl, g.target one is)) (inl (g.scalar, refl, g.target one is)) refl
+        no_target g.scalar (λ has. (g.scalar, refl, inl (g.target one is))) (inl (g.scalar, refl, inl (g.target one is))) refl
     expression_is s n w c (X.casts chain operand elems x typed scalar_operand are) =
         let g = expression_is (in_part s) n w (same_called Called (operand_calls _ x (inr (inr (inl (_, elems, refl))))) c) typed in
         let elem_is = cast_same chain.items (type_of x.value).elem ∙ ap (λ (es : List Elem). cast_type es (type_of x.value).elem) (sym are) in
